@@ -1,31 +1,28 @@
 -- Files come to no ruleset or no body; and a manifest's files come to rules with their apps.
-use Rattle.std.proofs.Common.{◌≡◌, ℕ, List, [], Some, None, sym, subst}
+use Rattle.std.proofs.Common.{◌≡◌, ℕ, List, [], Some, sym, subst}
 use Rattle.bounded_files.specs.Files.{KnownFiles, Gives, regular_files}
 use Rattle.bounded_files.specs.declared.fault.ResourceFault.TheVariants.{File}
 use Rattle.bounded_files.specs.declared.fault.ResourceFault.TheVariants as resource
 use Rattle.bpf_semantics.specs.Program.{ShapedProgram}
 use Rattle.cells.specs.Arrays.{AppShape}
-use Rattle.cells.specs.declared.array.ArrayNo.{ArrayNo}
 use Rattle.cells.specs.declared.array.CellArray.{CellArray}
 use Rattle.acceptance.specs.Rule.{IsTextOf}
-use Rattle.load.specs.Gathered.{AreGathered, IsGathered, IsGatheredApp, no_app, next_app}
-use Rattle.load.specs.Judged.{AreJudged, GatheredIsLoaded, IsJudged, apps_of}
-use Rattle.load.specs.Judged.{no_program, next_program}
-use Rattle.load.specs.Kept.{IsKeptFrom, Keeps, most_of}
+use Rattle.load.specs.Gathered.{IsGathered}
+use Rattle.load.specs.Judged.{AreJudged, apps_of, no_program, next_program}
+use Rattle.load.specs.Kept.{IsProgramKept}
 use Rattle.load.specs.Folder.{known_beside}
 use Rattle.load.specs.Loaded.{IsLoadedFrom}
 use Rattle.load.specs.Made.{GatheredIsMade, IsMadeOf}
-use Rattle.load.specs.Source.{Given, IsProgramGiven}
 use Rattle.load.specs.declared.gathering.Gathered.{Gathered}
 use Rattle.load.specs.declared.gathering.GatheredApp.{GatheredApp}
 use Rattle.load.specs.declared.kept.KeptFile.{KeptFile}
+use Rattle.load.specs.declared.kept.KeptFile.TheVariants.{Unread, Whole, Longer}
 use Rattle.load.specs.declared.made.MadeRuleset.{MadeRuleset}
-use Rattle.manifest.specs.App.{AppEntry}
 use Rattle.manifest.specs.declared.app.ProgramSource.{ProgramSource}
 use Rattle.manifest.specs.declared.app.ProgramSource.TheVariants as source
 use Rattle.ruleset.specs.Rules.{AppRule, Rules}
 use Rattle.dry_run.specs.Files.{IsBodyFault, IsLoadable, IsOpenFault}
-use Rattle.dry_run.specs.KeptRules.{AreReadFrom, IsReadFrom, IsReadOf, nothing_read, next_read}
+use Rattle.dry_run.specs.KeptRules.{AreReadFrom, IsReadOf, nothing_read, next_read}
 use Rattle.dry_run.specs.Meanings.{AreRulesKept, HasMeaning, HaveMeanings, IsLoadedWhy}
 use Rattle.dry_run.specs.Meanings.{IsRuleKept, KnownRule, no_meaning, next_meaning, no_rule}
 use Rattle.dry_run.specs.Meanings.{next_rule}
@@ -59,45 +56,32 @@ no_body_why known manifest request rules arrays meanings why is wanting =
 -- ---- the rule of an app
 
 rule_from : (from : ProgramSource) (kept : KeptFile) (shape : AppShape) (program : ShapedProgram)
-    (rule : KnownRule) (given : Given) → Keeps (most_of from) given kept
-    → IsProgramGiven from given program → program.shape ≡ shape → IsReadOf from kept shape rule
-    → IsRuleKept from kept program rule
-rule_from (source.Program file) kept shape program rule given keeps is same read = read
-rule_from (source.Rule file) kept shape program rule None keeps is same read = absurd is
-rule_from (source.Rule file) kept shape program rule (Some bytes) keeps is same read = (
-  bytes,
-  keeps,
+    (rule : KnownRule) → IsProgramKept from kept program → program.shape ≡ shape
+    → IsReadOf from kept shape rule → IsRuleKept from kept program rule
+rule_from (source.Program file) kept shape program rule is same read = read
+rule_from (source.Rule file) Unread shape program rule is same read = absurd is
+rule_from (source.Rule file) (Longer v count is_text) shape program rule is same read = absurd is
+rule_from (source.Rule file) (Whole v) shape program rule is same read = (
   is,
-  read bytes keeps is.rule
-      (subst (λ (s : AppShape). IsTextOf bytes s is.rule) same is.text),
+  read is.rule (subst (λ (s : AppShape). IsTextOf v.items s is.rule) same is.text),
 )
 
-module _ (known : KnownFiles) (directory : List CellArray) (numbers : List ArrayNo) where
-  one_rule : (entry : AppEntry) (app : GatheredApp) (program : ShapedProgram) (rule : KnownRule)
-      → IsGatheredApp known directory numbers entry app → IsJudged app program
-      → IsReadFrom app rule → IsRuleKept app.entry.source app.kept program rule
-  one_rule entry app program rule is judged read =
-      let kept : IsKeptFrom known app.entry.source app.kept =
-      subst (λ (e : AppEntry). IsKeptFrom known e.source app.kept) (sym is.entry_is) is.kept_is in
-      rule_from app.entry.source app.kept app.shape program rule kept.0 kept.2
-      (judged.program_is kept.0 kept.2) judged.shape_is read
-
-  pub rules_in : {entries : List AppEntry} {apps : List GatheredApp}
-      {programs : List ShapedProgram} {rules : List KnownRule}
-      → AreGathered known directory numbers entries apps → AreJudged apps programs
-      → AreReadFrom apps rules → AreRulesKept apps programs rules
-  rules_in no_app no_program nothing_read = no_rule
-  rules_in (next_app {entry} {app} g gs) (next_program {program} j js)
-      (next_read {rule} r rs) =
-      next_rule (one_rule entry app program rule g j r) (rules_in gs js rs)
+pub rules_in : {apps : List GatheredApp} {programs : List ShapedProgram} {rules : List KnownRule}
+    → AreJudged apps programs → AreReadFrom apps rules → AreRulesKept apps programs rules
+rules_in no_program nothing_read = no_rule
+rules_in (next_program {app} {program} judged others) (next_read {rule} read more) =
+    next_rule (rule_from app.entry.source app.kept app.shape program rule judged.program_is
+    judged.shape_is read) (rules_in others more)
 
 -- ---- what they mean
 
-has_meaning : (from : ProgramSource) (kept : KeptFile) (program : ShapedProgram) (rule : KnownRule)
-    → IsRuleKept from kept program rule → HasMeaning program rule
+has_meaning : (from : ProgramSource) (kept : KeptFile) (program : ShapedProgram)
+    (rule : KnownRule) → IsRuleKept from kept program rule → HasMeaning program rule
 has_meaning (source.Program file) kept program rule is = subst (HasMeaning program) (sym is) tt
-has_meaning (source.Rule file) kept program rule is =
-    subst (HasMeaning program) (sym is.3) is.2.means
+has_meaning (source.Rule file) Unread program rule is = absurd is
+has_meaning (source.Rule file) (Longer v count is_text) program rule is = absurd is
+has_meaning (source.Rule file) (Whole v) program rule is =
+    subst (HasMeaning program) (sym is.1) is.0.means
 
 pub have_meanings : {apps : List GatheredApp} {programs : List ShapedProgram}
     {rules : List KnownRule} → AreRulesKept apps programs rules
@@ -109,45 +93,37 @@ have_meanings (next_rule {app} {program} {rule} is more) =
 -- ---- a load
 
 pub loaded : (known : KnownFiles) (path bytes : List ℕ) (g : Gathered) (made : MadeRuleset)
-    (rules : List KnownRule) → GatheredIsLoaded → GatheredIsMade
-    → Gives (regular_files known) path (Some bytes)
+    (rules : List KnownRule) → GatheredIsMade → Gives (regular_files known) path (Some bytes)
     → IsGathered (known_beside known path) [] bytes g → IsMadeOf bytes g made
     → AreReadFrom g.apps.items rules
     → IsLoadedWhy known path made.rules made.directory rules
-loaded known path bytes g made rules law makes given is of read =
-    let beside = known_beside known path in
-    let each = (law.manifest beside [] bytes g is).gathered of.programs of.judged in
-    record {
-      load = record {
-        bytes = bytes;
-        given = given;
-        loaded = (makes beside [] bytes g is).made made of;
-      };
-      digest = made.digest;
-      made = record {
-        bytes = bytes;
-        given = given;
-        gathered = g;
-        is_gathered = is;
-        made_of = record {
-          programs = of.programs;
-          judged = of.judged;
-          server_is = of.server_is;
-          apps_are = of.apps_are;
-          directory_is = of.directory_is;
-          digest_is = of.digest_is;
-        };
-      };
-      rules_are = rules_in beside g.directory is.numbers each of.judged read;
-    }
+loaded known path bytes g made rules makes given is of read = record {
+  load = record {
+    bytes = bytes;
+    given = given;
+    loaded = (makes (known_beside known path) [] bytes g is).made made of;
+  };
+  digest = made.digest;
+  made = record {
+    bytes = bytes;
+    given = given;
+    gathered = g;
+    is_gathered = is;
+    made_of = record {
+      programs = of.programs;
+      judged = of.judged;
+      server_is = of.server_is;
+      apps_are = of.apps_are;
+      directory_is = of.directory_is;
+      digest_is = of.digest_is;
+    };
+  };
+  rules_are = rules_in of.judged read;
+}
 
-pub loaded_meanings : (known : KnownFiles) (path bytes : List ℕ) (g : Gathered)
-    (made : MadeRuleset) (rules : List KnownRule) → GatheredIsLoaded
-    → Gives (regular_files known) path (Some bytes)
-    → IsGathered (known_beside known path) [] bytes g → IsMadeOf bytes g made
-    → AreReadFrom g.apps.items rules → HaveMeanings made.rules.apps rules
-loaded_meanings known path bytes g made rules law given is of read =
-    let beside = known_beside known path in
-    let each = (law.manifest beside [] bytes g is).gathered of.programs of.judged in
+pub loaded_meanings : (bytes : List ℕ) (g : Gathered) (made : MadeRuleset)
+    (rules : List KnownRule) → IsMadeOf bytes g made → AreReadFrom g.apps.items rules
+    → HaveMeanings made.rules.apps rules
+loaded_meanings bytes g made rules of read =
     subst (λ (apps : List AppRule). HaveMeanings apps rules) (sym of.apps_are)
-    (have_meanings (rules_in beside g.directory is.numbers each of.judged read))
+    (have_meanings (rules_in of.judged read))

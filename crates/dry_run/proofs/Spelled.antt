@@ -1,23 +1,18 @@
 -- A text spells one rule, and what is read of apps are their rules.
 use Rattle.std.proofs.Common.{◌≡◌, ◌∙◌, ℕ, List, [], ◌∷◌, ◌++◌, Some, None, Ok, Err, ap, sym, subst}
-use Rattle.std.proofs.Common.{append_assoc, append-nil, refl, length, ◌≤◌, ◌<◌, Bool, IsUtf8, arith}
+use Rattle.std.proofs.Common.{append_assoc, append-nil, length, ◌<◌, IsUtf8, arith}
 use Rattle.std.proofs.Common.{inl, inr}
 use Rattle.std.proofs.Common.{◌-◌, get_or, take, drop}
 use Rattle.std.proofs.Math.Seq.{take-length}
-use Rattle.std.specs.Prelude.{Vec}
-use Rattle.std.specs.declared.alloc.Global.{Global}
 use Rattle.cells.specs.Arrays.{AppShape}
 use Rattle.rule_lang.specs.Parts.{OrFault}
 use Rattle.rule_lang.specs.Verdicts.{IsVerdict, IsRuleFault, RuleHasOneVerdict}
-use Rattle.rule_lang.specs.Verdicts.{too_long, no_token, no_rule as not_rule, a_rule}
 use Rattle.rule_lang.specs.declared.fault.RuleFault.TheVariants.{At}
 use Rattle.rule_lang.specs.declared.fault.RuleFaultKind.{RuleFaultKind}
 use Rattle.rule_lang.specs.declared.rule.Statement.{Statement}
 use Rattle.load.specs.declared.gathering.GatheredApp.{GatheredApp}
-use Rattle.dry_run.specs.KeptRules.{AreReadFrom, IsReadFrom, IsReadOfKept, IsRuleOfText}
+use Rattle.dry_run.specs.KeptRules.{AreReadFrom, IsReadFrom, IsRuleOfText}
 use Rattle.dry_run.specs.KeptRules.{nothing_read, next_read}
-use Rattle.load.specs.declared.kept.KeptFile.{KeptFile}
-use Rattle.load.specs.declared.kept.KeptFile.TheVariants.{Whole, Longer}
 use Rattle.dry_run.specs.Meanings.{KnownRule}
 
 abbrev rule_or : List Statement → OrFault (List Statement) → List Statement
@@ -50,31 +45,6 @@ same_text s text bytes rule same is = subst (λ (t : List ℕ). IsRuleOfText t s
 
 pub no_text : (s : AppShape) (bytes : List ℕ) → ¬ IsUtf8 bytes → IsRuleOfText bytes s None
 no_text s bytes not_text spelled other = absurd (not_text other.utf8)
-
--- ---- of what is kept
-
-pub whole_read : (s : AppShape) (v : Vec ℕ Global) (rule : KnownRule)
-    → IsRuleOfText v.items s rule → IsReadOfKept (Whole v) s rule
-whole_read s v rule is bytes keeps =
-    subst (λ (t : List ℕ). IsRuleOfText t s rule) keeps.0 is
-
-within : (s : AppShape) (bytes : List ℕ) (v : OrFault (List Statement)) (rule : List Statement)
-    → IsVerdict s bytes v → v ≡ Ok rule → length bytes ≤ 65536
-within s bytes v rule (too_long long) is = absurd cc
-within s bytes v rule (no_token few found) is = absurd cc
-within s bytes v rule (not_rule before after p few found begins stops) is = absurd cc
-within s bytes v rule (a_rule few found r) is = few
-
-longer : (s : AppShape) (v : Vec ℕ Global) (count : ℕ) (is_text : Bool)
-    → IsReadOfKept (Longer v count is_text) s None
-longer s v count is_text bytes keeps spelled other =
-    let few = within s bytes (Ok spelled) spelled other.spelled refl in
-    let many = keeps.1 in absurd (omega (arith, few, many))
-
-pub longer_read : (s : AppShape) (kept : KeptFile) (v : Vec ℕ Global) (count : ℕ)
-    (is_text : Bool) → kept ≡ Longer v count is_text → IsReadOfKept kept s None
-longer_read s kept v count is_text is =
-    subst (λ (k : KeptFile). IsReadOfKept k s None) (sym is) (longer s v count is_text)
 
 -- ---- the rules of apps, one app more
 

@@ -2,9 +2,9 @@
 use Rattle.std.specs.Prelude.{◌≡◌, ℕ, List, [], ◌∷◌, Some, None}
 use Rattle.acceptance.specs.Rule.{IsTextOf}
 use Rattle.cells.specs.Arrays.{AppShape}
-use Rattle.load.specs.Kept.{Keeps}
 use Rattle.load.specs.declared.gathering.GatheredApp.{GatheredApp}
 use Rattle.load.specs.declared.kept.KeptFile.{KeptFile}
+use Rattle.load.specs.declared.kept.KeptFile.TheVariants.{Whole}
 use Rattle.manifest.specs.declared.app.ProgramSource.{ProgramSource}
 use Rattle.manifest.specs.declared.app.ProgramSource.TheVariants as source
 use Rattle.rule_lang.specs.declared.rule.Statement.{Statement}
@@ -15,10 +15,11 @@ abbrev pub IsRuleOfText : (bytes : List ℕ) → AppShape → KnownRule → Type
 IsRuleOfText bytes shape rule =
     (spelled : List Statement) → IsTextOf bytes shape spelled → rule ≡ Some spelled
 
--- the one that the bytes spell of which this is kept
+-- the one that a file spells which is kept whole; of another one nothing is said, since its app has
+-- no program
 abbrev pub IsReadOfKept : KeptFile → AppShape → KnownRule → Type 0
-IsReadOfKept kept shape rule =
-    (bytes : List ℕ) → Keeps 65536 (Some bytes) kept → IsRuleOfText bytes shape rule
+IsReadOfKept (Whole v) shape rule = IsRuleOfText v.items shape rule
+IsReadOfKept kept shape rule = Unit {0}
 
 -- and none of a program's file
 abbrev pub IsReadOf : ProgramSource → KeptFile → AppShape → KnownRule → Type 0

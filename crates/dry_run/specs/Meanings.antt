@@ -6,11 +6,11 @@ use Rattle.acceptance.specs.Rule.{IsProgramOfRule}
 use Rattle.bounded_files.specs.Files.{KnownFiles}
 use Rattle.bpf_semantics.specs.Program.{ShapedProgram}
 use Rattle.cells.specs.declared.array.CellArray.{CellArray}
-use Rattle.load.specs.Kept.{Keeps}
 use Rattle.load.specs.Loaded.{IsLoadedFrom}
 use Rattle.load.specs.Made.{IsMadeFrom}
 use Rattle.load.specs.declared.gathering.GatheredApp.{GatheredApp}
 use Rattle.load.specs.declared.kept.KeptFile.{KeptFile}
+use Rattle.load.specs.declared.kept.KeptFile.TheVariants.{Whole}
 use Rattle.manifest.specs.declared.app.ProgramSource.{ProgramSource}
 use Rattle.manifest.specs.declared.app.ProgramSource.TheVariants as source
 use Rattle.rule_compile.specs.Means.{Means}
@@ -45,9 +45,9 @@ pub data HaveMeanings : List AppRule → List KnownRule → Type 0 where
 -- file is a program
 abbrev pub IsRuleKept : ProgramSource → KeptFile → ShapedProgram → KnownRule → Type 0
 IsRuleKept (source.Program file) kept program rule = rule ≡ None
-IsRuleKept (source.Rule file) kept program rule =
-    (bytes : List ℕ) × Keeps 65536 (Some bytes) kept
-    × (is : IsProgramOfRule bytes program) × (rule ≡ Some is.rule)
+IsRuleKept (source.Rule file) (Whole v) program rule =
+    (is : IsProgramOfRule v.items program) × (rule ≡ Some is.rule)
+IsRuleKept (source.Rule file) kept program rule = ⊥
 
 -- of each app that was gathered, with its program
 pub data AreRulesKept : List GatheredApp → List ShapedProgram → List KnownRule → Type 0 where

@@ -49,7 +49,7 @@ fn rule_from(
     }
 }
 
-#[tactic(auto, using(crate::proofs::Spelled::whole_read))]
+#[tactic(auto, using(crate::proofs::Spelled::same_text))]
 fn rule_kept(alloc: Global, kept: &KeptFile, shape: &Shape) -> Result<Option<Rule>, AllocError>
     ensures { IfOk result (specs.IsReadOfKept kept.now shape.now) }
 {

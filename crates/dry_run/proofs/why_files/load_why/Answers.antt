@@ -23,7 +23,7 @@ returns-in-Ok-make_ruleset-clause-loaded g c =
     let is : IsGathered (known_beside known c.args.path.now) [] c.in-Ok.bytes.items gathered =
     search rules in
     loaded known c.args.path.now c.in-Ok.bytes.items gathered made meanings
-    c.gathered_is_loaded.ensures c.gathered_is_made.ensures c.in-Ok.ensures.given is
+    c.gathered_is_made.ensures c.in-Ok.ensures.given is
     (subst (λ (b : List ℕ). IsMadeOf b gathered made) c.deref-3.ensures.value
     c.in-Ok-make_ruleset.ensures.made)
     (subst (λ (apps : List GatheredApp). AreReadFrom apps meanings) c.deref-2.ensures.value
