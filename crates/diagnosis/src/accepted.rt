@@ -1,16 +1,15 @@
 //! What is told of a manifest that is accepted.
 
-ghost use Rattle.std.specs.Prelude.{◌≡◌, ◌++◌, flat_map, All, IfOk, OnOk, Some, string_bytes};
+ghost use Rattle.std.specs.Prelude.{◌≡◌, ◌++◌, flat_map, All, IfOk, OnOk, string_bytes};
 ghost use Rattle.diagnosis.specs.Check.{PassesApps};
 ghost use Rattle.diagnosis.specs.Texts.{accepted_text, array_line, printed_app_line};
-ghost use Rattle.load.specs.Digest.{digest_of};
 ghost use Rattle.load.specs.Gathered.{HasItsReleases};
 ghost use Rattle.load.specs.Judged.{AreJudged};
 
 use crate::warned::{tell_warnings, told_of_apps};
 use bpf_verify::Verified;
 use declarations::ArrayDeclaration;
-use load::{Gathered, supply};
+use load::{Gathered, judged_digest, supply};
 use printing::Printed;
 use ruleset::App;
 use std::alloc::{AllocError, Global};
@@ -45,7 +44,7 @@ pub(crate) fn tell_accepted(
     ensures { IfOk result (PassesApps manifest.now gathered) }
 {
     let told = told_of_apps(alloc, gathered.apps.as_slice())?;
-    let digest = digest_told(manifest, &gathered)?;
+    let digest = judged_digest(manifest, &gathered.apps, &programs);
     let Gathered {
         server: _server,
         arrays,
@@ -63,17 +62,6 @@ pub(crate) fn tell_accepted(
         warnings,
         digest,
     })
-}
-
-// Of an accepted app all bytes of its file are kept: were they not, nothing would be told.
-fn digest_told(manifest: &[u8], gathered: &Gathered) -> Result<[u8; 32], AllocError>
-    ensures { IfOk result (λ digest.
-        digest_of manifest.now gathered.now.apps.items ≡ Some digest) }
-{
-    match load::digest_of(manifest, gathered.apps.as_slice()) {
-        Some(digest) => Ok(digest),
-        None => Err(AllocError),
-    }
 }
 
 fn tell_loaded(
