@@ -1,6 +1,6 @@
 -- What is told of an app, and of one app more.
 use Rattle.std.proofs.Common.{◌≡◌, ◌∙◌, ℕ, ◌+◌, ◌<◌, List, [], ◌∷◌, ◌++◌, length, take, get_or}
-use Rattle.std.proofs.Common.{refl, ap, sym, subst, Bool, true, false, Option, Some, None}
+use Rattle.std.proofs.Common.{ap, sym, subst, Bool, true, false, Option, Some, None}
 use Rattle.std.proofs.Common.{if◌then◌else◌, arith, ◌≤◌}
 use Rattle.std.proofs.lemmas.List.{length-take-le, take_all, take_more}
 use Rattle.std.specs.Prelude.{ℤ, slice_index_or}

@@ -16,10 +16,8 @@ use Rattle.told_cells.specs.Told.{Told}
 use Rattle.dry_run.specs.Counters.{AreSetAsTold, with_cells, with_known}
 use Rattle.dry_run.specs.Meanings.{KnownRule}
 use Rattle.dry_run.specs.Reply.{RepliesToBodyOn}
-use Rattle.dry_run.specs.Told.{RepliesAsTold}
-use Rattle.dry_run.specs.Why.{ExplainsApp, ExplainsApps, TellsTheReply, TellsWhy}
+use Rattle.dry_run.specs.Why.{ExplainsApp, ExplainsApps, TellsTheReply}
 use Rattle.dry_run.specs.Why.{not_known, not_asked, was_run, no_reason, next_reason}
-use Rattle.dry_run.specs.declared.why_files.OpenedWhy.{OpenedWhy}
 use Rattle.dry_run.proofs.Requests.{one_reply_to_body}
 
 -- ---- counters as they are told are the same

@@ -1,5 +1,5 @@
 -- Whole runs of an app's program: step by step, and by a rule that means the same.
-use Rattle.std.proofs.Common.{◌≡◌, ◌∙◌, ℕ, ◌≤◌, List, [], ◌∷◌, length, ap, sym, subst, arith}
+use Rattle.std.proofs.Common.{◌≡◌, ◌∙◌, ℕ, ◌≤◌, List, [], length, ap, sym, subst, arith}
 use Rattle.std.proofs.Common.{Option, Some, None, true}
 use Rattle.std.specs.Prelude.{ℤ, All}
 use Rattle.std.proofs.lemmas.List.Elements.{All-head, All-tail}
@@ -12,7 +12,7 @@ use Rattle.answering.specs.Apps.{RunsApp, ran}
 use Rattle.bpf_semantics.specs.Program.{ShapedProgram}
 use Rattle.bpf_semantics.specs.Run.{Ends, last, more, asked}
 use Rattle.bpf_semantics.specs.State.{State, opening}
-use Rattle.bpf_verify.specs.Covers.{AreLawful, HasPossibleReply, IsCovered}
+use Rattle.bpf_verify.specs.Covers.{HasPossibleReply, IsCovered}
 use Rattle.bpf_verify.specs.Covers.{EndsWell, RunsAreLawful, RunsEndWell, ends, goes, asks}
 use Rattle.cells.specs.Arrays.{AppShape}
 use Rattle.cells.specs.Events.{CanReply}

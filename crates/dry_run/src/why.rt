@@ -1,6 +1,6 @@
 //! Why the apps of a request get what they get.
 
-ghost use Rattle.std.specs.Prelude.{◌≡◌, ◌++◌, ℕ, Option, IfOk, IfErr, map, string_bytes};
+ghost use Rattle.std.specs.Prelude.{◌≡◌, ◌++◌, Option, IfOk, IfErr, map, string_bytes};
 ghost use Rattle.std.specs.Prelude.{option_copied};
 ghost use Rattle.attrs.specs.Facts.{attributes_of};
 ghost use Rattle.dry_run.specs.AppLines as lines;

@@ -1,6 +1,6 @@
 //! The files of a dry run, with the rule of each app of the manifest.
 
-ghost use Rattle.std.specs.Prelude.{◌≡◌, [], IfOk, IfErr};
+ghost use Rattle.std.specs.Prelude.{[], IfOk, IfErr};
 ghost use Rattle.load.specs.Loaded.{RefusesPath};
 ghost use Rattle.dry_run.specs.Files.{IsOpenFault};
 ghost use Rattle.dry_run.specs.Meanings as specs;
