@@ -1,7 +1,9 @@
 //! What the log tells of what is served: that the server is ready, and each load.
 
-ghost use Rattle.std.specs.Prelude.{◌≡◌, IfOk, option_map, string_bytes};
+ghost use Rattle.std.specs.Prelude.{◌≡◌, IfOk, option_copied, option_map, string_bytes};
 ghost use Rattle.hex.specs.Hex.{encode_lower};
+ghost use Rattle.server_log.specs.Loads.{IsExcerptOf, IsToldBeside};
+ghost use Rattle.server_log.specs.Loads.{TellsInstalledLoad, TellsRefusedLoad};
 
 use crate::clock::seconds_from_now;
 use crate::heard::Heard;
@@ -68,7 +70,9 @@ where
 }
 
 // What is told of a refused load beside the refusal.
-fn cause_of<'x, L: Loader>(loader: &L, refusal: &'x OperatorRefusal<L::Fault>) -> Option<&'x str> {
+fn cause_of<'x, L: Loader>(loader: &L, refusal: &'x OperatorRefusal<L::Fault>) -> Option<&'x str>
+    ensures { IsToldBeside L.has_cause refusal.now (option_copied result) }
+{
     match refusal {
         OperatorRefusal::Load(fault) => loader.cause(fault),
         _ => None,
@@ -103,7 +107,10 @@ pub fn digest_text(alloc: Global, digest: Option<[u8; 32]>) -> Result<Option<Str
     }
 }
 
-fn installed<'x>(path: &'x str, generation: Generation, digest: Option<&'x str>) -> Load<'x> {
+// One that is installed.
+fn installed<'x>(path: &'x str, generation: Generation, digest: Option<&'x str>) -> Load<'x>
+    ensures { TellsInstalledLoad path.now generation (option_copied digest.entry) result }
+{
     Load {
         path: Excerpt::of(path),
         generation,
@@ -113,7 +120,10 @@ fn installed<'x>(path: &'x str, generation: Generation, digest: Option<&'x str>)
     }
 }
 
-fn refused<'x>(path: &'x str, refusal: &'x str, cause: Option<&'x str>) -> Load<'x> {
+// One that is refused.
+fn refused<'x>(path: &'x str, refusal: &'x str, cause: Option<&'x str>) -> Load<'x>
+    ensures { TellsRefusedLoad path.now refusal.now (option_copied cause.entry) result }
+{
     Load {
         path: Excerpt::of(path),
         generation: 0,
@@ -131,7 +141,9 @@ where
     let _noted = queue.note_until(rt, &LogEvent::Load(load), until);
 }
 
-fn excerpt_of<'x>(cause: Option<&'x str>) -> Option<Excerpt<'x>> {
+fn excerpt_of<'x>(cause: Option<&'x str>) -> Option<Excerpt<'x>>
+    ensures { IsExcerptOf (option_copied cause.entry) result }
+{
     match cause {
         Some(cause) => Some(Excerpt::of(cause)),
         None => None,
