@@ -21,6 +21,7 @@ const TEXTS: &[(&str, &str)] = &[
     ),
     ("~\u{7f}\u{80}\u{9b}31m", "~\\u007f\\u0080\\u009b31m"),
     ("\u{9f}\u{a0}", "\\u009f\u{a0}"),
+    ("\u{61b}\u{61c}\u{61d}", "\u{61b}\\u061c\u{61d}"),
     (
         "\u{200d}\u{200e}\u{200f}\u{2010}",
         "\u{200d}\\u200e\\u200f\u{2010}",
@@ -49,10 +50,12 @@ const TEXTS: &[(&str, &str)] = &[
 ];
 
 /// The first and the last character of each range that is escaped.
-const CONTROLS: &str = "\u{0}\u{1f}\u{7f}\u{9f}\u{200e}\u{200f}\u{2028}\u{202e}\u{2066}\u{2069}";
+const CONTROLS: &str =
+    "\u{0}\u{1f}\u{7f}\u{9f}\u{61c}\u{200e}\u{200f}\u{2028}\u{202e}\u{2066}\u{2069}";
 
 /// The last one before each, and the first one behind it.
-const OTHERS: &str = " ~\u{a0}\u{200d}\u{2010}\u{2027}\u{202f}\u{2065}\u{206a}\u{10ffff}";
+const OTHERS: &str =
+    " ~\u{a0}\u{61b}\u{61d}\u{200d}\u{2010}\u{2027}\u{202f}\u{2065}\u{206a}\u{10ffff}";
 
 #[test]
 fn controls_are_those_of_what_is_printed(rt: HostRuntime) -> Result<(), Fail> {
