@@ -7,7 +7,7 @@ use std::test::Fail;
 
 /// Characters, the last before and the first of each range of controls, the last of it and the
 /// first behind; and how each is printed.
-const CHARACTERS: [(&str, &str); 27] = [
+const CHARACTERS: [(&str, &str); 30] = [
     ("\u{0}", "\\u{0}"),
     ("\n", "\\u{a}"),
     ("\u{1b}", "\\u{1b}"),
@@ -18,6 +18,9 @@ const CHARACTERS: [(&str, &str); 27] = [
     ("\u{9b}", "\\u{9b}"),
     ("\u{9f}", "\\u{9f}"),
     ("\u{a0}", "\u{a0}"),
+    ("\u{61b}", "\u{61b}"),
+    ("\u{61c}", "\\u{61c}"),
+    ("\u{61d}", "\u{61d}"),
     ("\u{200d}", "\u{200d}"),
     ("\u{200e}", "\\u{200e}"),
     ("\u{200f}", "\\u{200f}"),
