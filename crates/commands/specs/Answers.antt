@@ -20,6 +20,7 @@ use Rattle.commands.specs.declared.answer.Answer.TheVariants.{Ordered, Replayed,
 use Rattle.commands.specs.declared.fault.Fault.{Fault}
 use Rattle.commands.specs.declared.fault.Fault.TheVariants.{Manifest, Program, Resource, Serving}
 use Rattle.load.specs.Loaded.{IsLoadedFrom}
+use Rattle.load.specs.Made.{IsMadeFrom}
 use Rattle.program_tools.specs.Programs.{IsProgramRefusal, IsRunRefusal}
 use Rattle.manifest_tools.specs.CheckObjects.{AreTold, AreToldRefusal}
 use Rattle.manifest_tools.specs.Manifests.{HasReplayed}
@@ -69,7 +70,12 @@ module _ (known : KnownFiles) where
   IsAnswer (request.Ask asked port) (Told text) = IsDoneAs asked (string_bytes text)
   IsAnswer (request.StopAndWait port) (Told text) = IsDoneAs sent.Stop (string_bytes text)
   IsAnswer (request.Serve manifest plan) (Ready server kept) =
-      IsLoadedFrom known manifest.now [] server.rules server.directory × (kept ≡ plan)
+      IsLoadedFrom known manifest.now [] server.rules server.directory
+      × IsMadeFrom known manifest.now [] (record {
+        rules = server.rules;
+        directory = server.directory;
+        digest = server.digest;
+      }) × (kept ≡ plan)
   IsAnswer asked answer = ⊥
 
   abbrev pub IsRefused : CommandRequest → Fault → Type 0
