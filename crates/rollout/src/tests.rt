@@ -20,6 +20,7 @@ mod stops;
 mod strict;
 mod texts;
 mod usage;
+mod whys;
 
 use bpf_text::assemble;
 use commands::{Device, LogOutput, command};

@@ -123,7 +123,8 @@ rollout ask a.toml a_no.json -> refused O1 Json
 rollout ask a.toml a_shape.json -> refused O2 Shape
 rollout ask a.toml a_old.json -> refused O3 Protocol";
 
-fn write_all<R: Files + AllocGlobal>(rt: &R) -> Result<(), Fail> {
+/// Writes the manifest, the files that it names, and the bodies.
+pub(super) fn write_all<R: Files + AllocGlobal>(rt: &R) -> Result<(), Fail> {
     fs::write(rt, "a.toml", MANIFEST)?;
     fs::write(rt, "a_take.rule", RULE)?;
     write_program(rt, "a_hour.bin", HOUR)?;
