@@ -24,7 +24,7 @@ class Build:
         self.kit, self.way, self.crates = kit, way, crates
         recorded = seconds_recorded()
         # A crate that has none counts as an average one, so that it isn't left for the end.
-        average = sum(recorded.values()) // len(recorded)
+        average = sum(recorded.values()) // max(1, len(recorded))
         names = {it: it.crate.name if isinstance(it, Runs) else it.name for it in crates}
         self.recorded = {it: recorded.get(names[it], average) + 1 for it in crates}
         self.chain = {}
