@@ -28,7 +28,7 @@ use Rattle.abs_value.specs.Numbers.{up_to}
 use Rattle.abs_value.specs.States.{register_at, value_at}
 use Rattle.abs_value.specs.Lookups.{lookup, lookup_value, value_given, call_value}
 use Rattle.abs_value.specs.Lookups.{called_registers, called}
-use Rattle.abs_value.specs.Covers.{Answers, Answered, AreBefore, answering, Holds}
+use Rattle.abs_value.specs.Covers.{Returns, Answered, AreBefore, answering, Holds}
 use Rattle.abs_value.specs.Covers.{Includes, CoversValue, CoversRegisters, Covers}
 use Rattle.abs_value.proofs.ResultsHold.{up_to_holds}
 use Rattle.abs_value.proofs.Computes.{covers_some}
@@ -46,7 +46,7 @@ any None = tt
 any (Some x) = tt
 
 -- 0, or the address of a cell of the array
-found : (g : Answers) (slot index key : ℕ) (o : Option CellArray)
+found : (g : Returns) (slot index key : ℕ) (o : Option CellArray)
     → slice_get g.shape.arrays index ≡ o
     → IfSome (o >>= λ a. Some (if nat_lt key a.length then cell_address (a.base + key) else 0))
     (λ x. Answered (answering g slot x) (lookup index slot) x)
@@ -71,13 +71,13 @@ map_is shape map index e =
     let le : nat_le map_start map ≡ true = grind arith in
     let is : map - map_start ≡ index = omega arith in rw (le, is) refl
 
-in_array : (g : Answers) (slot index map key : ℕ) → map ≡ map_start + index
+in_array : (g : Returns) (slot index map key : ℕ) → map ≡ map_start + index
     → IfSome (calls.lookup g.shape map key)
     (λ x. Answered (answering g slot x) (lookup index slot) x)
 in_array g slot index map key e =
     rw (map_is g.shape map index e) (found g slot index key (slice_get g.shape.arrays index) refl)
 
-looked_up : (g : Answers) (slot : ℕ) (v : Abs) (o key : Option ℕ) → CoversValue g v o
+looked_up : (g : Returns) (slot : ℕ) (v : Abs) (o key : Option ℕ) → CoversValue g v o
     → IfSome (o >>= λ map. key >>= λ k. calls.lookup g.shape map k)
     (λ x. Includes (answering g slot x) (lookup_value slot v) x)
 looked_up g slot (Map index) None key h = tt
@@ -117,7 +117,7 @@ small_holds hi x lt le = up_to_holds hi x (omega (arith, lt, le)) le
 
 -- ---- R0
 
-given_includes : (g : Answers) (s : State) (v : Abs) (f : ℕ → ℕ) (prototype : Prototype)
+given_includes : (g : Returns) (s : State) (v : Abs) (f : ℕ → ℕ) (prototype : Prototype)
     → most_given prototype < 2 ^ 64 → ((n : ℕ) → f n ≤ most_given prototype)
     → CoversValue g v (s.registers 1)
     → IfSome (result_by g.shape s f prototype)
@@ -135,7 +135,7 @@ given_includes g s v f (OfNumber hi) word most h =
     after (s.registers 1) (λ n. Some (f n)) (λ x. Holds (up_to hi) x)
     (λ n. small_holds hi (f n) word (most n))
 
-call_includes : (g : Answers) (s : State) (v : Abs) (number : ℤ) → AllKeepMost s.attributes
+call_includes : (g : Returns) (s : State) (v : Abs) (number : ℤ) → AllKeepMost s.attributes
     → CoversValue g v (s.registers 1)
     → IfSome (helper_result g.shape s number)
     (λ x. Includes (answering g s.slot x) (call_value number s.slot v) x)
@@ -151,7 +151,7 @@ call_includes g s v number most h = by_helper (helper_of number)
 
 -- ---- all registers
 
-past_five : (g : Answers) (values : List Abs) (s : State) (x r q : ℕ)
+past_five : (g : Returns) (values : List Abs) (s : State) (x r q : ℕ)
     → q ≡ 6 + r → CoversRegisters g values s.registers
     → CoversValue g (register_at (drop 6 values) r) ((with_result s x).registers q)
 past_five g values s x r q e h =
@@ -159,7 +159,7 @@ past_five g values s x r q e h =
     let high : nat_le q 5 ≡ false = grind (arith, e) in
     rw (get_or-drop 6 values r Unusable, ← e, low, high) (h q)
 
-called_at : (g : Answers) (values : List Abs) (s : State) (v : Abs) (x : ℕ)
+called_at : (g : Returns) (values : List Abs) (s : State) (v : Abs) (x : ℕ)
     → CoversRegisters g values s.registers → Includes g v x
     → CoversRegisters g (called_registers values v) ((with_result s x).registers)
 called_at g values s v x h k zero = covers_some g v x k
@@ -173,7 +173,7 @@ called_at g values s v x h k (suc (suc (suc (suc (suc (suc r)))))) =
 
 -- by the law of bpf_semantics that a helper gives no more than its prototype says
 pub covers_call : ((a : Attributes) → AreShort a.texts → AllKeepMost a)
-    → (g : Answers) (e : AbsState) (s : State) (helper : ℤ) (x : ℕ)
+    → (g : Returns) (e : AbsState) (s : State) (helper : ℤ) (x : ℕ)
     → HasWords s → AreBefore s.slot g → Covers g e s → helper_result g.shape s helper ≡ Some x
     → Covers (answering g s.slot x) (called e helper s.slot) (with_result s x)
 covers_call most g e s helper x w before h is =

@@ -38,7 +38,7 @@ use Rattle.abs_value.specs.Values.{alu_value, copied_value, negated_value}
 use Rattle.abs_value.specs.Values.{extended_value, reordered_value, numbers, refined}
 use Rattle.abs_value.specs.Values.{same_lookup, is_found_by, same_origin, join_values}
 use Rattle.abs_value.specs.Laws.{IsLeft}
-use Rattle.abs_value.specs.Covers.{Answers, Answered, IsCell, Holds, Includes, CoversValue, IsWord}
+use Rattle.abs_value.specs.Covers.{Returns, Answered, IsCell, Holds, Includes, CoversValue, IsWord}
 use Rattle.abs_value.proofs.ResultsHold.{single_holds, up_to_holds}
 use Rattle.abs_value.proofs.ResultsHold.{full_number_holds, copied_number_holds}
 use Rattle.abs_value.proofs.ResultsHold.{alu_number_holds, join_first, join_second}
@@ -47,20 +47,20 @@ use Rattle.abs_value.proofs.Edges.{Keeps, narrowed_keeps}
 
 -- ---- operations of two values
 
-context_includes : (g : Answers) (op : AluOp) (from : Places) (by : Number) (x y : ℕ)
+context_includes : (g : Returns) (op : AluOp) (from : Places) (by : Number) (x y : ℕ)
     (o : Option Places) → moved_in_context op from by ≡ o → Includes g (Ctx from) x → IsWord y
     → Holds by y
     → Includes g (or_unusable (option_map Ctx o)) (alu_result Bits64 op x y)
 context_includes g op from by x y None e hx wy hy = tt
 context_includes g op from by x y (Some r) e hx wy hy = context_moves op from r by x y e hx wy hy
 
-stack_includes : (g : Answers) (op : AluOp) (place : ℕ) (by : Number) (x y : ℕ) (o : Option ℕ)
+stack_includes : (g : Returns) (op : AluOp) (place : ℕ) (by : Number) (x y : ℕ) (o : Option ℕ)
     → moved_in_stack op place by ≡ o → Includes g (Stk place) x → IsWord y → Holds by y
     → Includes g (or_unusable (option_map Stk o)) (alu_result Bits64 op x y)
 stack_includes g op place by x y None e hx wy hy = tt
 stack_includes g op place by x y (Some n) e hx wy hy = stack_moves op place n by x y e hx wy hy
 
-pub alu_includes : FitsWidth → (g : Answers) (w : Bits) (op : AluOp) (a b : Abs) (x y : ℕ)
+pub alu_includes : FitsWidth → (g : Returns) (w : Bits) (op : AluOp) (a b : Abs) (x y : ℕ)
     → IsWord x → IsWord y → Includes g a x → Includes g b y
     → Includes g (alu_value w op a b) (alu_result w op x y)
 alu_includes fit g w op (Num a) (Num b) x y wx wy hx hy = alu_number_holds fit w op a b x y hx hy
@@ -73,13 +73,13 @@ alu_includes fit g Bits32 op a b x y wx wy hx hy = tt
 
 -- ---- operations of one value
 
-pub copied_includes : (g : Answers) (w : Bits) (a : Abs) (x : ℕ) → Includes g a x
+pub copied_includes : (g : Returns) (w : Bits) (a : Abs) (x : ℕ) → Includes g a x
     → Includes g (copied_value w a) (word w x)
 copied_includes g w (Num a) x h = copied_number_holds w a x h
 copied_includes g Bits64 a x h = h
 copied_includes g Bits32 a x h = tt
 
-pub negated_includes : FitsWidth → (g : Answers) (w : Bits) (a : Abs) (x : ℕ) → IsWord x
+pub negated_includes : FitsWidth → (g : Returns) (w : Bits) (a : Abs) (x : ℕ) → IsWord x
     → Includes g a x
     → Includes g (negated_value w a) (negated w x)
 negated_includes fit g w a x wx h =
@@ -102,7 +102,7 @@ by_single a x f other h rest = elim (cases_Bool (is_single a)) [
   | inr is ↦ rw is rest
 ]
 
-pub extended_includes : (g : Answers) (e : Extension) (a : Abs) (x : ℕ) → Includes g a x
+pub extended_includes : (g : Returns) (e : Extension) (a : Abs) (x : ℕ) → Includes g a x
     → Includes g (extended_value e a) (extended e x)
 extended_includes g e (Num a) x h = by_single a x (extended e) (full (extension_class e)) h
     (full_number_holds (extension_class e) (extended e x) (extended_is_of e x))
@@ -127,7 +127,7 @@ end_below end.Half n h = omega (arith, h)
 end_below end.Word n h = omega (arith, h)
 end_below end.Double n h = omega (arith, h)
 
-pub reordered_includes : (g : Answers) (o : ByteOrder) (size : EndSize) (a : Abs) (x : ℕ)
+pub reordered_includes : (g : Returns) (o : ByteOrder) (size : EndSize) (a : Abs) (x : ℕ)
     → Includes g a x → Includes g (reordered_value o size a) (reordered o size x)
 reordered_includes g o size (Num a) x h = by_single a x (reordered o size)
     (up_to (2 ^ bits (end_width size) - 1)) h (up_to_holds (2 ^ bits (end_width size) - 1)
@@ -137,7 +137,7 @@ reordered_includes g o size a x h = tt
 
 -- ---- joins
 
-kept_if : (g : Answers) (t : Bool) (v : Abs) (x : ℕ) → (t ≡ true → Includes g v x)
+kept_if : (g : Returns) (t : Bool) (v : Abs) (x : ℕ) → (t ≡ true → Includes g v x)
     → Includes g (if t then v else Unusable) x
 kept_if g true v x h = h refl
 kept_if g false v x h = tt
@@ -146,27 +146,27 @@ same_is : (a b : Lookup) → same_lookup a b ≡ true → a ≡ b
 same_is a b t = grind (arith, t)
 
 -- the answer of a call is that of any lookup by it
-answered : (g : Answers) (a b : Lookup) (x : ℕ) → same_lookup a b ≡ true → Answered g a x
+answered : (g : Returns) (a b : Lookup) (x : ℕ) → same_lookup a b ≡ true → Answered g a x
     → Answered g b x
 answered g a b x t h = subst (λ (k : Lookup). Answered g k x) (same_is a b t) h
 
-answered_back : (g : Answers) (a b : Lookup) (x : ℕ) → same_lookup a b ≡ true → Answered g b x
+answered_back : (g : Returns) (a b : Lookup) (x : ℕ) → same_lookup a b ≡ true → Answered g b x
     → Answered g a x
 answered_back g a b x t h = subst (λ (k : Lookup). Answered g k x) (sym (same_is a b t)) h
 
-found_answered : (g : Answers) (o : Origin) (a : Lookup) (x : ℕ)
+found_answered : (g : Returns) (o : Origin) (a : Lookup) (x : ℕ)
     → is_found_by o a ≡ true → IsCell g o x → Answered g a x
 found_answered g (Found b) a x t h = answered g b a x t h.0
 found_answered g (Fixed n) a x t h = absurd cc
 
-same_cell : (g : Answers) (o p : Origin) (x : ℕ) → same_origin o p ≡ true → IsCell g p x
+same_cell : (g : Returns) (o p : Origin) (x : ℕ) → same_origin o p ≡ true → IsCell g p x
     → IsCell g o x
 same_cell g (Found a) (Found b) x t h = (answered_back g a b x t h.0, h.1)
 same_cell g (Fixed m) (Fixed n) x t h = grind (arith, t, h)
 same_cell g (Found a) (Fixed n) x t h = absurd cc
 same_cell g (Fixed n) (Found a) x t h = absurd cc
 
-pub included_left : (g : Answers) (a b : Abs) (x : ℕ) → Includes g a x
+pub included_left : (g : Returns) (a b : Abs) (x : ℕ) → Includes g a x
     → Includes g (join_values a b) x
 included_left g (Num a) (Num b) x h = join_first a b x h
 included_left g (Ctx a) (Ctx b) x h = (omega (arith, h), omega (arith, h))
@@ -179,7 +179,7 @@ included_left g (Cell a) (MayCell b) x h =
 included_left g (Cell a) (Cell b) x h = kept_if g (same_origin a b) (Cell a) x (λ t. h)
 included_left g a b x h = tt
 
-pub included_right : (g : Answers) (a b : Abs) (x : ℕ) → Includes g b x
+pub included_right : (g : Returns) (a b : Abs) (x : ℕ) → Includes g b x
     → Includes g (join_values a b) x
 included_right g (Num a) (Num b) x h = join_second a b x h
 included_right g (Ctx a) (Ctx b) x h = (omega (arith, h), omega (arith, h))
@@ -194,7 +194,7 @@ included_right g (Cell a) (Cell b) x h =
     kept_if g (same_origin a b) (Cell a) x (λ t. same_cell g a b x t h)
 included_right g a b x h = tt
 
-pub covers_some : (g : Answers) (a : Abs) (x : ℕ) → Includes g a x → CoversValue g a (Some x)
+pub covers_some : (g : Returns) (a : Abs) (x : ℕ) → Includes g a x → CoversValue g a (Some x)
 covers_some g Unusable x h = tt
 covers_some g (Num a) x h = h
 covers_some g (Ctx a) x h = h
@@ -203,7 +203,7 @@ covers_some g (Map a) x h = h
 covers_some g (MayCell a) x h = h
 covers_some g (Cell a) x h = h
 
-pub join_left : (g : Answers) (a b : Abs) (v : Option ℕ) → CoversValue g a v
+pub join_left : (g : Returns) (a b : Abs) (v : Option ℕ) → CoversValue g a v
     → CoversValue g (join_values a b) v
 join_left g Unusable b v h = tt
 join_left g (Num a) b None h = absurd h
@@ -230,7 +230,7 @@ unusable_right Unusable = refl
 unusable_right (Num a) = refl
 unusable_right a = refl
 
-pub join_right : (g : Answers) (a b : Abs) (v : Option ℕ) → CoversValue g b v
+pub join_right : (g : Returns) (a b : Abs) (v : Option ℕ) → CoversValue g b v
     → CoversValue g (join_values a b) v
 join_right g a Unusable v h = rw (unusable_right a) tt
 join_right g a (Num b) None h = absurd h
@@ -254,7 +254,7 @@ join_right g a (Cell b) (Some x) h =
 
 -- ---- edges
 
-left_includes : (g : Answers) (o : Option NumberPair) (x y : ℕ) → Keeps o x y
+left_includes : (g : Returns) (o : Option NumberPair) (x y : ℕ) → Keeps o x y
     → IsLeft g (option_map numbers o) x y
 left_includes g o x y k = record {
   pair = (Num k.pair.0, Num k.pair.1);
@@ -263,7 +263,7 @@ left_includes g o x y k = record {
   second = k.second;
 }
 
-pub refined_includes : (g : Answers) (w : Bits) (c : Condition) (jumps : Bool) (a b : Abs) (x y : ℕ)
+pub refined_includes : (g : Returns) (w : Bits) (c : Condition) (jumps : Bool) (a b : Abs) (x y : ℕ)
     → Includes g a x → Includes g b y → is_taken jumps (holds w c x y) ≡ true
     → IsLeft g (refined w c jumps a b) x y
 refined_includes g w c jumps (Num a) (Num b) x y hx hy taken =

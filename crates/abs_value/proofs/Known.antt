@@ -16,7 +16,7 @@ use Rattle.abs_value.specs.declared.state.AbsState.{AbsState}
 use Rattle.abs_value.specs.Stack.{slot_at}
 use Rattle.abs_value.specs.States.{register_at}
 use Rattle.abs_value.specs.Lookups.{answer_of, with_answer, slot_with_answer, state_with_answer}
-use Rattle.abs_value.specs.Covers.{Answers, Answered, AreBefore, answering, Includes}
+use Rattle.abs_value.specs.Covers.{Returns, Answered, AreBefore, answering, Includes}
 use Rattle.abs_value.specs.Covers.{CoversValue, CoversSlot, Covers, bytes_of}
 use Rattle.abs_value.specs.Laws.{IsMore}
 use Rattle.abs_value.proofs.ResultsHold.{single_holds}
@@ -25,7 +25,7 @@ use Rattle.abs_value.proofs.Computes.{covers_some}
 -- ---- values
 
 -- a value that stands for a number that is there
-pub included : (g : Answers) (a : Abs) (x : ℕ) → CoversValue g a (Some x) → Includes g a x
+pub included : (g : Returns) (a : Abs) (x : ℕ) → CoversValue g a (Some x) → Includes g a x
 included g Unusable x h = tt
 included g (Num a) x h = h
 included g (Ctx a) x h = h
@@ -35,7 +35,7 @@ included g (MayCell a) x h = h
 included g (Cell a) x h = h
 
 -- where one value stands for all that another does
-pub covers_by : (g after : Answers) (a b : Abs) (v : Option ℕ) → (a ≡ Unusable → b ≡ Unusable)
+pub covers_by : (g after : Returns) (a b : Abs) (v : Option ℕ) → (a ≡ Unusable → b ≡ Unusable)
     → ((x : ℕ) → Includes g a x → Includes after b x) → CoversValue g a v → CoversValue after b v
 covers_by g after Unusable b None same more h = rw (same refl) tt
 covers_by g after (Num a) b None same more h = absurd h
@@ -48,11 +48,11 @@ covers_by g after a b (Some x) same more h = covers_some after b x (more x (incl
 
 -- ---- more answers
 
-more_answered : (g after : Answers) (call : Lookup) (x : ℕ) → IsMore g after → Answered g call x
+more_answered : (g after : Returns) (call : Lookup) (x : ℕ) → IsMore g after → Answered g call x
     → Answered after call x
 more_answered g after call x more h = (more.answers call.slot x h.0, rw more.shape h.1)
 
-more_includes : (g after : Answers) (a : Abs) (x : ℕ) → IsMore g after → Includes g a x
+more_includes : (g after : Returns) (a : Abs) (x : ℕ) → IsMore g after → Includes g a x
     → Includes after a x
 more_includes g after (Map index) x more h = (h.0, rw more.shape h.1)
 more_includes g after (MayCell a) x more h = more_answered g after a x more h
@@ -60,7 +60,7 @@ more_includes g after (Cell (Found a)) x more h = (more_answered g after a x mor
 more_includes g after (Cell (Fixed n)) x more h = (h.0, rw more.shape h.1)
 more_includes g after a x more h = h
 
-more_slot : (g after : Answers) (slot : AbsSlot) (bytes : ℕ → Option ℕ)
+more_slot : (g after : Returns) (slot : AbsSlot) (bytes : ℕ → Option ℕ)
     → IsMore g after → CoversSlot g slot bytes → CoversSlot after slot bytes
 more_slot g after (Kept v) bytes more h = record {
   number = h.number;
@@ -70,7 +70,7 @@ more_slot g after (Kept v) bytes more h = record {
 }
 more_slot g after (Bytes mask) bytes more h = h
 
-pub covers_later : (g after : Answers) (e : AbsState) (s : State) → IsMore g after → Covers g e s
+pub covers_later : (g after : Returns) (e : AbsState) (s : State) → IsMore g after → Covers g e s
     → Covers after e s
 covers_later g after e s more h = record {
   registers = λ r. covers_by g after (register_at e.registers r) (register_at e.registers r)
@@ -79,10 +79,10 @@ covers_later g after e s more h = record {
   stack = λ i. more_slot g after (slot_at e.stack i) (bytes_of s.stack i) more (h.stack i);
 }
 
-pub stays_before : (g : Answers) (slot next : ℕ) → slot ≤ next → AreBefore slot g → AreBefore next g
+pub stays_before : (g : Returns) (slot next : ℕ) → slot ≤ next → AreBefore slot g → AreBefore next g
 stays_before g slot next le before call from = before call (omega arith)
 
-pub answers_before : (g : Answers) (slot next x : ℕ) → slot < next → AreBefore slot g
+pub answers_before : (g : Returns) (slot next x : ℕ) → slot < next → AreBefore slot g
     → AreBefore next (answering g slot x)
 answers_before g slot next x lt before call from =
     let other : (call == slot) ≡ false = grind arith in rw other (before call (omega arith))
@@ -91,7 +91,7 @@ some_none : (y : ℕ) → None ≡ Some y → ⊥
 some_none y e = cc
 
 -- a call that hasn't answered before answers
-pub is_more : (g : Answers) (slot x : ℕ) → AreBefore slot g → IsMore g (answering g slot x)
+pub is_more : (g : Returns) (slot x : ℕ) → AreBefore slot g → IsMore g (answering g slot x)
 is_more g slot x before = record { shape = refl; answers = keeps }
   where
     keeps : (call y : ℕ) → g.by call ≡ Some y → (answering g slot x).by call ≡ Some y
@@ -103,7 +103,7 @@ is_more g slot x before = record { shape = refl; answers = keeps }
 
 -- ---- an answer that is known
 
-known : (g : Answers) (lookup : Lookup) (x : ℕ) → Answered g lookup x
+known : (g : Returns) (lookup : Lookup) (x : ℕ) → Answered g lookup x
     → Includes g (answer_of lookup (not (x == 0))) x
 known g lookup x h = elim (cases_Bool (x == 0)) [
   | inl none ↦
@@ -112,11 +112,11 @@ known g lookup x h = elim (cases_Bool (x == 0)) [
 ]
 
 -- both are the answer of the call
-one_answer : (g : Answers) (lookup : Lookup) (call x y : ℕ)
+one_answer : (g : Returns) (lookup : Lookup) (call x y : ℕ)
     → (lookup.slot == call) ≡ true → g.by call ≡ Some x → Answered g lookup y → y ≡ x
 one_answer g lookup call x y same is h = grind (arith, same, is, h.0)
 
-copy_includes : (g : Answers) (lookup : Lookup) (v : Abs) (call x y : ℕ)
+copy_includes : (g : Returns) (lookup : Lookup) (v : Abs) (call x y : ℕ)
     → g.by call ≡ Some x → Answered g lookup y → Includes g v y
     → Includes g (if lookup.slot == call then answer_of lookup (not (x == 0)) else v) y
 copy_includes g lookup v call x y is h k = elim (cases_Bool (lookup.slot == call)) [
@@ -127,7 +127,7 @@ copy_includes g lookup v call x y is h k = elim (cases_Bool (lookup.slot == call
   | inr other ↦ rw other k
 ]
 
-answer_includes : (g : Answers) (v : Abs) (call x y : ℕ) → g.by call ≡ Some x → Includes g v y
+answer_includes : (g : Returns) (v : Abs) (call x y : ℕ) → g.by call ≡ Some x → Includes g v y
     → Includes g (with_answer call (not (x == 0)) v) y
 answer_includes g (MayCell lookup) call x y is h =
     copy_includes g lookup (MayCell lookup) call x y is h h
@@ -144,12 +144,12 @@ stays_unusable : (call : ℕ) (found : Bool) (v : Abs) → v ≡ Unusable
     → with_answer call found v ≡ Unusable
 stays_unusable call found v e = rw e refl
 
-answer_covers : (g : Answers) (v : Abs) (call x : ℕ) (o : Option ℕ)
+answer_covers : (g : Returns) (v : Abs) (call x : ℕ) (o : Option ℕ)
     → g.by call ≡ Some x → CoversValue g v o → CoversValue g (with_answer call (not (x == 0)) v) o
 answer_covers g v call x o is h = covers_by g g v (with_answer call (not (x == 0)) v) o
     (stays_unusable call (not (x == 0)) v) (λ y. answer_includes g v call x y is) h
 
-answer_slot : (g : Answers) (slot : AbsSlot) (call x : ℕ) (bytes : ℕ → Option ℕ)
+answer_slot : (g : Returns) (slot : AbsSlot) (call x : ℕ) (bytes : ℕ → Option ℕ)
     → g.by call ≡ Some x → CoversSlot g slot bytes
     → CoversSlot g (slot_with_answer call (not (x == 0)) slot) bytes
 answer_slot g (Kept v) call x bytes is h = record {
@@ -170,7 +170,7 @@ pub slot_at-answer : (slots : List AbsSlot) (call : ℕ) (found : Bool) (i : ℕ
     ≡ slot_with_answer call found (slot_at slots i)
 slot_at-answer slots call found i = get_or-map (slot_with_answer call found) slots i (Bytes 0)
 
-pub covers_answered : (g : Answers) (e : AbsState) (s : State) (call x : ℕ)
+pub covers_answered : (g : Returns) (e : AbsState) (s : State) (call x : ℕ)
     → g.by call ≡ Some x → Covers g e s → Covers g (state_with_answer e call (not (x == 0))) s
 covers_answered g e s call x is h = record {
   registers = λ r. rw (register_at-answer e.registers call (not (x == 0)) r)

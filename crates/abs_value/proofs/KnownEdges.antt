@@ -27,7 +27,7 @@ use Rattle.abs_value.specs.Values.{is_pointer, refined}
 use Rattle.abs_value.specs.States.{value_of, operand_value}
 use Rattle.abs_value.specs.Lookups.{compares_with_zero, is_found, after_null_check}
 use Rattle.abs_value.specs.Lookups.{with_both, is_register, refined_state}
-use Rattle.abs_value.specs.Covers.{Answers, IsCell, FitsImm, Holds, Includes, CoversValue, Covers}
+use Rattle.abs_value.specs.Covers.{Returns, IsCell, FitsImm, Holds, Includes, CoversValue, Covers}
 use Rattle.abs_value.specs.Laws.{IsLeft, CoversOn}
 use Rattle.abs_value.proofs.Computes.{refined_includes}
 use Rattle.abs_value.specs.Numbers.{single}
@@ -37,11 +37,11 @@ use Rattle.abs_value.proofs.Known.{covers_answered, included}
 
 -- ---- edges
 
-cell_is_set : (g : Answers) (origin : Origin) (x : ℕ) → IsCell g origin x → x ≢ 0
+cell_is_set : (g : Returns) (origin : Origin) (x : ℕ) → IsCell g origin x → x ≢ 0
 cell_is_set g (Found lookup) x h = h.1
 cell_is_set g (Fixed n) x h = omega (arith, h.0)
 
-null_covers : (g : Answers) (e : AbsState) (s : State) (v : Abs) (x : ℕ) (found : Bool)
+null_covers : (g : Returns) (e : AbsState) (s : State) (v : Abs) (x : ℕ) (found : Bool)
     → found ≡ not (x == 0) → Covers g e s → Includes g v x
     → CoversOn g (after_null_check e v found) s
 null_covers g e s (MayCell lookup) x found is h k =
@@ -74,7 +74,7 @@ found_is s Bits64 jump.Ne (Imm (pos n)) false x y none is taken =
     let e = imm_is_zero n y none is in grind (arith, taken, e)
 found_is s bits condition right jumps x y none is taken = absurd cc
 
-comparison_covers : (g : Answers) (e : AbsState) (s : State) (bits : Bits) (left : Reg)
+comparison_covers : (g : Returns) (e : AbsState) (s : State) (bits : Bits) (left : Reg)
     (right : Operand) (o : Option (Abs × Abs)) (x y : ℕ)
     → Covers g e s → register s left ≡ Some x → operand s bits right ≡ Some y → IsLeft g o x y
     → CoversOn g (option_map (with_both e left right) o) s
@@ -82,7 +82,7 @@ comparison_covers g e s bits left right o x y h lx ry kept =
     let first = covers_learnt g e s bits (Register left) kept.pair.0 x h lx kept.first in
     rw kept.is (covers_learnt g _ s bits right kept.pair.1 y first ry kept.second)
 
-operand_included : (g : Answers) (e : AbsState) (s : State) (bits : Bits) (right : Operand) (y : ℕ)
+operand_included : (g : Returns) (e : AbsState) (s : State) (bits : Bits) (right : Operand) (y : ℕ)
     → FitsImm right → Covers g e s → operand s bits right ≡ Some y
     → Includes g (operand_value e bits right) y
 operand_included g e s bits (Imm k) y f h is =
@@ -95,7 +95,7 @@ both_first : (a b : Bool) → a && b ≡ true → a ≡ true
 both_first true b h = refl
 both_first false b h = h
 
-pub covers_edge : (g : Answers) (e : AbsState) (s : State) (bits : Bits) (condition : Condition)
+pub covers_edge : (g : Returns) (e : AbsState) (s : State) (bits : Bits) (condition : Condition)
     (left : Reg) (right : Operand) (jumps : Bool) (x y : ℕ)
     → FitsImm right → Covers g e s → register s left ≡ Some x → operand s bits right ≡ Some y
     → is_taken jumps (holds bits condition x y) ≡ true

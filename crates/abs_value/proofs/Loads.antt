@@ -22,7 +22,7 @@ use Rattle.abs_value.specs.declared.slot.AbsSlot.TheVariants.{Kept, Bytes}
 use Rattle.abs_value.specs.declared.state.AbsState.{AbsState}
 use Rattle.abs_value.specs.Values.{loaded_value}
 use Rattle.abs_value.specs.Stack.{mask_of, slot_at, is_unset, has_unset, kept_or, loaded_from}
-use Rattle.abs_value.specs.Covers.{Answers, Includes, KeepsNumber}
+use Rattle.abs_value.specs.Covers.{Returns, Includes, KeepsNumber}
 use Rattle.abs_value.specs.Covers.{CoversSlot, CoversStack, Covers, bytes_of}
 use Rattle.abs_value.specs.Laws.{Finds}
 use Rattle.abs_value.proofs.ResultsHold.{up_to_holds, full_number_holds}
@@ -59,7 +59,7 @@ false_or : (a b : Bool) → (a || b) ≡ false → (a ≡ false) × (b ≡ false
 false_or true b h = absurd cc
 false_or false b h = (refl, h)
 
-byte_set : (g : Answers) (slots : List AbsSlot) (stack : ℕ → Option ℕ) (place : ℕ)
+byte_set : (g : Returns) (slots : List AbsSlot) (stack : ℕ → Option ℕ) (place : ℕ)
     → CoversStack g slots stack → place < stack_size → is_unset slots (pos place) ≡ false
     → IsSome (stack place)
 byte_set g slots stack place h lt test =
@@ -71,7 +71,7 @@ byte_set g slots stack place h lt test =
     let whole : 8 * (place / 8) + place % 8 ≡ place = omega arith in
     subst (λ (k : ℕ). IsSome (stack k)) whole there
 
-each_set : (g : Answers) (slots : List AbsSlot) (stack : ℕ → Option ℕ) (place n : ℕ)
+each_set : (g : Returns) (slots : List AbsSlot) (stack : ℕ → Option ℕ) (place n : ℕ)
     → CoversStack g slots stack → place + n ≤ stack_size → has_unset slots (pos place) n ≡ false
     → (k : ℕ) → k < n → IsSome (stack (place + k))
 each_set g slots stack place zero h within test k lt = absurd (omega (arith, lt))
@@ -96,7 +96,7 @@ reads stack place (suc n) words each =
     let same : place + suc k ≡ place + 1 + k = omega arith in
     subst (λ (m : ℕ). IsSome (stack m)) same (each (suc k) (omega (arith, lt)))))
 
-pub bytes_there : (g : Answers) (e : AbsState) (s : State) (place n : ℕ)
+pub bytes_there : (g : Returns) (e : AbsState) (s : State) (place n : ℕ)
     → place + n ≤ stack_size → HasWords s → Covers g e s → has_unset e.stack (pos place) n ≡ false
     → IsSome (set_bytes s.stack place n)
 unfolding AreBytes
@@ -152,7 +152,7 @@ kept_reads stack place (suc n) x h =
 
 -- ---- the number that is loaded
 
-pub loaded_includes : (g : Answers) (kind : LoadKind) (n : ℕ) → n < 256 ^ load_count kind
+pub loaded_includes : (g : Returns) (kind : LoadKind) (n : ℕ) → n < 256 ^ load_count kind
     → Includes g (loaded_value kind) (filled kind n)
 loaded_includes g load.Byte n h = up_to_holds (2 ^ 8 - 1) n (omega arith) (omega arith)
 loaded_includes g load.Half n h = up_to_holds (2 ^ 16 - 1) n (omega arith) (omega arith)
@@ -174,7 +174,7 @@ read_from s place n bytes within is =
     let behind : stack_start + place - stack_start ≡ place = omega arith in
     rw (outside, inside, behind, is) refl
 
-any_found : (g : Answers) (e : AbsState) (s : State) (place : ℕ) (kind : LoadKind)
+any_found : (g : Returns) (e : AbsState) (s : State) (place : ℕ) (kind : LoadKind)
     → place + load_count kind ≤ stack_size → HasWords s → Covers g e s
     → has_unset e.stack (pos place) (load_count kind) ≡ false
     → Finds g (loaded_value kind) kind (read_at s (stack_start + place) (load_count kind))
@@ -188,7 +188,7 @@ any_found g e s place kind within words h test =
       included = loaded_includes g kind (little_endian r.bytes) r.small;
     }
 
-kept_found : (g : Answers) (v : Abs) (s : State) (place : ℕ)
+kept_found : (g : Returns) (v : Abs) (s : State) (place : ℕ)
     → place + 8 ≤ stack_size → place % 8 ≡ 0 → KeepsNumber g v (bytes_of s.stack (place / 8))
     → Finds g v load.Double (read_at s (stack_start + place) 8)
 kept_found g v s place within aligned k =
@@ -204,7 +204,7 @@ kept_found g v s place within aligned k =
     }
 
 -- an aligned slot
-slot_found : (g : Answers) (slot : AbsSlot) (s : State) (place : ℕ)
+slot_found : (g : Returns) (slot : AbsSlot) (s : State) (place : ℕ)
     → place + 8 ≤ stack_size → place % 8 ≡ 0 → CoversSlot g slot (bytes_of s.stack (place / 8))
     → Finds g (loaded_value load.Double) load.Double (read_at s (stack_start + place) 8)
     → Finds g (kept_or slot (loaded_value load.Double)) load.Double
@@ -212,7 +212,7 @@ slot_found : (g : Answers) (slot : AbsSlot) (s : State) (place : ℕ)
 slot_found g (Kept v) s place within aligned h other = kept_found g v s place within aligned h
 slot_found g (Bytes mask) s place within aligned h other = other
 
-double_found : (g : Answers) (e : AbsState) (s : State) (place : ℕ)
+double_found : (g : Returns) (e : AbsState) (s : State) (place : ℕ)
     → place + 8 ≤ stack_size → Covers g e s
     → Finds g (loaded_value load.Double) load.Double (read_at s (stack_start + place) 8)
     → Finds g (loaded_from e.stack place load.Double) load.Double
@@ -225,7 +225,7 @@ double_found g e s place within h other = elim (cases_eq (place % 8) 0) [
   | inr apart ↦ let test : (place % 8 == 0) ≡ false = grind (arith, apart) in rw test other
 ]
 
-pub covers_load : (g : Answers) (e : AbsState) (s : State) (place : ℕ) (kind : LoadKind)
+pub covers_load : (g : Returns) (e : AbsState) (s : State) (place : ℕ) (kind : LoadKind)
     → place + load_count kind ≤ stack_size → HasWords s → Covers g e s
     → has_unset e.stack (pos place) (load_count kind) ≡ false
     → Finds g (loaded_from e.stack place kind) kind

@@ -86,7 +86,8 @@ tidy_settled a p unknown differing from to less =
     ap (λ b. with_shared b p) (none_trimmed a p from to) ∙ ap (number a)
     (none_shared a p (64 - leading_zeros w64 (bit_xor a.lo a.hi)) (omega arith) from to
     (none_higher (bit_xor a.lo a.hi) (bit_xor a.lo a.hi)
-    (64 - leading_zeros w64 (bit_xor a.lo a.hi)) differing small (omega arith) (and_le_l (bit_xor a.lo a.hi) _))
+    (64 - leading_zeros w64 (bit_xor a.lo a.hi)) differing small (omega arith)
+    (and_le_l (bit_xor a.lo a.hi) _))
     (none_higher (bit_xor p.has p.may_have) (bit_xor a.lo a.hi)
     (64 - leading_zeros w64 (bit_xor a.lo a.hi)) unknown small (omega arith) less))
 

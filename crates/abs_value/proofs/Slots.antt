@@ -12,7 +12,7 @@ use Rattle.abs_value.specs.declared.slot.AbsSlot.{AbsSlot}
 use Rattle.abs_value.specs.declared.slot.AbsSlot.TheVariants.{Kept, Bytes}
 use Rattle.abs_value.specs.Values.{is_unusable, join_values}
 use Rattle.abs_value.specs.Stack.{mask_of, slot_at, kept_slot, join_slots, join_stacks}
-use Rattle.abs_value.specs.Covers.{Answers, Includes, KeepsNumber, HasSet}
+use Rattle.abs_value.specs.Covers.{Returns, Includes, KeepsNumber, HasSet}
 use Rattle.abs_value.specs.Covers.{CoversSlot, CoversStack, bytes_of}
 use Rattle.abs_value.proofs.Computes.{included_left, included_right}
 
@@ -20,14 +20,14 @@ use Rattle.abs_value.proofs.Computes.{included_left, included_right}
 some_is : (o : Option ℕ) (x : ℕ) → o ≡ Some x → IsSome o
 some_is o x e = rw e refl
 
-pub mask_set : (g : Answers) (slot : AbsSlot) (bytes : ℕ → Option ℕ) → CoversSlot g slot bytes
+pub mask_set : (g : Returns) (slot : AbsSlot) (bytes : ℕ → Option ℕ) → CoversSlot g slot bytes
     → HasSet (mask_of slot) bytes
 mask_set g (Kept v) bytes h =
     λ j lt bit. some_is (bytes j) (h.number / 256 ^ j % 256) (h.bytes_are j lt)
 mask_set g (Bytes mask) bytes h = h
 
 -- what is known of a slot rests on its eight bytes alone
-pub same_bytes : (g : Answers) (slot : AbsSlot) (a b : ℕ → Option ℕ)
+pub same_bytes : (g : Returns) (slot : AbsSlot) (a b : ℕ → Option ℕ)
     → ((j : ℕ) → j < 8 → b j ≡ a j) → CoversSlot g slot a → CoversSlot g slot b
 same_bytes g (Kept v) a b same h = record {
   number = h.number;
@@ -50,7 +50,7 @@ both_set_right m n bytes h j lt bit =
     let small = bit_at-lt n j in h j lt (omega (arith, least, bit, small))
 
 -- a value that isn't unusable is kept
-kept_covers : (g : Answers) (v w : Abs) (bytes : ℕ → Option ℕ) → KeepsNumber g v bytes
+kept_covers : (g : Returns) (v w : Abs) (bytes : ℕ → Option ℕ) → KeepsNumber g v bytes
     → ((x : ℕ) → Includes g v x → Includes g w x) → CoversSlot g (kept_slot w) bytes
 kept_covers g v w bytes h more = elim (cases_Bool (is_unusable w)) [
   | inl is ↦ rw is (mask_set g (Kept v) bytes h)
@@ -62,7 +62,7 @@ kept_covers g v w bytes h more = elim (cases_Bool (is_unusable w)) [
   })
 ]
 
-join_slots_left : (g : Answers) (a b : AbsSlot) (bytes : ℕ → Option ℕ) → CoversSlot g a bytes
+join_slots_left : (g : Returns) (a b : AbsSlot) (bytes : ℕ → Option ℕ) → CoversSlot g a bytes
     → CoversSlot g (join_slots a b) bytes
 join_slots_left g (Kept v) (Kept w) bytes h =
     kept_covers g v (join_values v w) bytes h (λ x k. included_left g v w x k)
@@ -70,7 +70,7 @@ join_slots_left g (Kept v) (Bytes n) bytes h = both_set 255 n bytes (mask_set g 
 join_slots_left g (Bytes m) (Kept w) bytes h = both_set m 255 bytes h
 join_slots_left g (Bytes m) (Bytes n) bytes h = both_set m n bytes h
 
-join_slots_right : (g : Answers) (a b : AbsSlot) (bytes : ℕ → Option ℕ) → CoversSlot g b bytes
+join_slots_right : (g : Returns) (a b : AbsSlot) (bytes : ℕ → Option ℕ) → CoversSlot g b bytes
     → CoversSlot g (join_slots a b) bytes
 join_slots_right g (Kept v) (Kept w) bytes h =
     kept_covers g w (join_values v w) bytes h (λ x k. included_right g v w x k)
@@ -98,7 +98,7 @@ slot_at-join_past a b i le =
 pub none_set : (bytes : ℕ → Option ℕ) → HasSet 0 bytes
 none_set bytes j lt bit = let zero_is = bit_at-zero j in absurd (omega (arith, bit, zero_is))
 
-pub stack_left : (g : Answers) (a b : List AbsSlot) (stack : ℕ → Option ℕ) → CoversStack g a stack
+pub stack_left : (g : Returns) (a b : List AbsSlot) (stack : ℕ → Option ℕ) → CoversStack g a stack
     → CoversStack g (join_stacks a b) stack
 stack_left g a b stack h i = elim (cases_lt i 64) [
   | inl lt ↦ rw (slot_at-join a b i lt)
@@ -106,7 +106,7 @@ stack_left g a b stack h i = elim (cases_lt i 64) [
   | inr le ↦ rw (slot_at-join_past a b i le) (none_set (bytes_of stack i))
 ]
 
-pub stack_right : (g : Answers) (a b : List AbsSlot) (stack : ℕ → Option ℕ) → CoversStack g b stack
+pub stack_right : (g : Returns) (a b : List AbsSlot) (stack : ℕ → Option ℕ) → CoversStack g b stack
     → CoversStack g (join_stacks a b) stack
 stack_right g a b stack h i = elim (cases_lt i 64) [
   | inl lt ↦ rw (slot_at-join a b i lt)

@@ -22,7 +22,7 @@ use Rattle.abs_value.specs.States.{with_stored}
 use Rattle.abs_value.specs.Laws.{CoversAfter}
 use Rattle.abs_value.specs.Stack.{mask_of, slot_at, bits_of, first_bits, next_bits}
 use Rattle.abs_value.specs.Stack.{is_whole_slot, with_set, with_written, stored}
-use Rattle.abs_value.specs.Covers.{Answers, Includes, IsWord, HasSet}
+use Rattle.abs_value.specs.Covers.{Returns, Includes, IsWord, HasSet}
 use Rattle.abs_value.specs.Covers.{CoversSlot, CoversStack, Covers, bytes_of}
 use Rattle.abs_value.proofs.Lists.{here, past, other, set_at}
 use Rattle.abs_value.proofs.Slots.{mask_set, same_bytes, none_set}
@@ -105,7 +105,7 @@ either_bit m n k bit =
     ]
 
 -- the set bytes of a slot, and those that are written
-set_too : (g : Answers) (stack : ℕ → Option ℕ) (place n x j : ℕ) (slot : AbsSlot) (mask : ℕ)
+set_too : (g : Returns) (stack : ℕ → Option ℕ) (place n x j : ℕ) (slot : AbsSlot) (mask : ℕ)
     → CoversSlot g slot (bytes_of stack j)
     → ((k : ℕ) → k < 8 → bit_at mask k ≡ 1 → IsWritten place n j k)
     → HasSet (bit_or (mask_of slot) mask) (bytes_of (with_bytes stack place n x) j)
@@ -125,7 +125,7 @@ byte_is stack place x j k lt at_start =
     let behind : 8 * j + k - place ≡ k = omega (arith, at_start) in
     rw (low, high, behind) refl
 
-whole_covers : (g : Answers) (slots : List AbsSlot) (stack : ℕ → Option ℕ) (place x : ℕ) (v : Abs)
+whole_covers : (g : Returns) (slots : List AbsSlot) (stack : ℕ → Option ℕ) (place x : ℕ) (v : Abs)
     → place % 8 ≡ 0 → CoversStack g slots stack → IsWord x → Includes g v x
     → CoversStack g (slice_set slots (place / 8) (Kept v)) (with_bytes stack place 8 x)
 whole_covers g slots stack place x v aligned h wx hv j =
@@ -145,7 +145,7 @@ whole_covers g slots stack place x v aligned h wx hv j =
 
 -- ---- part of a slot, or of two
 
-one_covers : (g : Answers) (slots : List AbsSlot) (stack : ℕ → Option ℕ) (place n x : ℕ)
+one_covers : (g : Returns) (slots : List AbsSlot) (stack : ℕ → Option ℕ) (place n x : ℕ)
     → place % 8 + n ≤ 8 → CoversStack g slots stack
     → CoversStack g (with_set slots (place / 8) (first_bits place n)) (with_bytes stack place n x)
 one_covers g slots stack place n x within h j = elim (set_at AbsSlot slots (place / 8)
@@ -169,7 +169,7 @@ mask_next slots i mask =
     (Bytes 0) apart
 
 -- the first of the two slots, or another
-first_covers : (g : Answers) (slots : List AbsSlot) (stack : ℕ → Option ℕ) (place n x j : ℕ)
+first_covers : (g : Returns) (slots : List AbsSlot) (stack : ℕ → Option ℕ) (place n x j : ℕ)
     → n ≤ 8 → j ≢ place / 8 + 1 → CoversStack g slots stack
     → CoversSlot g (slot_at (with_set slots (place / 8) (first_bits place n)) j)
     (bytes_of (with_bytes stack place n x) j)
@@ -185,7 +185,7 @@ first_covers g slots stack place n x j short next h = elim (set_at AbsSlot slots
           (λ k lt. byte_same stack place n x j k (λ w. omega (arith, w, apart, next, short))) (h j))
     ]
 
-two_covers : (g : Answers) (slots : List AbsSlot) (stack : ℕ → Option ℕ) (place n x : ℕ) → n ≤ 8
+two_covers : (g : Returns) (slots : List AbsSlot) (stack : ℕ → Option ℕ) (place n x : ℕ) → n ≤ 8
     → CoversStack g slots stack
     → CoversStack g (with_set (with_set slots (place / 8) (first_bits place n)) (place / 8 + 1)
     (next_bits place n)) (with_bytes stack place n x)
@@ -200,7 +200,7 @@ two_covers g slots stack place n x short h j =
       | other apart e ↦ rw e (first_covers g slots stack place n x j short apart h)
     ]
 
-written_covers : (g : Answers) (slots : List AbsSlot) (stack : ℕ → Option ℕ) (place n x : ℕ)
+written_covers : (g : Returns) (slots : List AbsSlot) (stack : ℕ → Option ℕ) (place n x : ℕ)
     → n ≤ 8 → CoversStack g slots stack
     → CoversStack g (with_written slots place n) (with_bytes stack place n x)
 written_covers g slots stack place n x short h = elim (cases_Bool (nat_le (place % 8 + n) 8)) [
@@ -211,7 +211,7 @@ written_covers g slots stack place n x short h = elim (cases_Bool (nat_le (place
 whole_slot : (place n : ℕ) → is_whole_slot place n ≡ true → (n ≡ 8) × (place % 8 ≡ 0)
 whole_slot place n is = (grind (arith, is), grind (arith, is))
 
-pub stored_covers : (g : Answers) (slots : List AbsSlot) (stack : ℕ → Option ℕ) (place n x : ℕ)
+pub stored_covers : (g : Returns) (slots : List AbsSlot) (stack : ℕ → Option ℕ) (place n x : ℕ)
     (v : Abs) → n ≤ 8 → CoversStack g slots stack → IsWord x → Includes g v x
     → CoversStack g (stored slots place n v) (with_bytes stack place n x)
 stored_covers g slots stack place n x v short h wx hv = elim (cases_Bool (is_whole_slot place n)) [
@@ -229,7 +229,7 @@ count_short size.Half = omega arith
 count_short size.Word = omega arith
 count_short size.Double = omega arith
 
-pub covers_store : (g : Answers) (e : AbsState) (s : State) (place : ℕ) (size : Size) (v : Abs)
+pub covers_store : (g : Returns) (e : AbsState) (s : State) (place : ℕ) (size : Size) (v : Abs)
     (x : ℕ) → place + byte_count size ≤ stack_size → Covers g e s → IsWord x → Includes g v x
     → CoversAfter g (with_stored e place (byte_count size) v)
     (written_at s (stack_start + place) (byte_count size) x)

@@ -32,7 +32,7 @@ use Rattle.abs_value.specs.declared.slot.AbsSlot.{AbsSlot}
 use Rattle.abs_value.specs.declared.slot.AbsSlot.TheVariants.{Bytes}
 use Rattle.abs_value.specs.Stack.{slot_at}
 use Rattle.abs_value.proofs.Slots.{none_set, stack_left, stack_right}
-use Rattle.abs_value.specs.Covers.{Answers, IsWord, FitsImm, bytes_of, Includes}
+use Rattle.abs_value.specs.Covers.{Returns, IsWord, FitsImm, bytes_of, Includes}
 use Rattle.abs_value.specs.Covers.{CoversValue, CoversRegisters, Covers}
 use Rattle.abs_value.specs.Laws.{IsThere}
 use Rattle.abs_value.proofs.ResultsHold.{single_holds}
@@ -41,7 +41,7 @@ use Rattle.abs_value.proofs.Lists.{here, past, other, set_at}
 
 -- ---- reading
 
-pub value_is_there : (g : Answers) (a : Abs) (v : Option ℕ)
+pub value_is_there : (g : Returns) (a : Abs) (v : Option ℕ)
     → CoversValue g a v → is_unusable a ≡ false → IsThere g a v
 value_is_there g Unusable v h u = absurd cc
 value_is_there g (Num a) (Some x) h u = record { number = x; is = refl; included = h }
@@ -57,7 +57,7 @@ value_is_there g (Map a) None h u = absurd h
 value_is_there g (MayCell a) None h u = absurd h
 value_is_there g (Cell a) None h u = absurd h
 
-pub register_is_there : (g : Answers) (e : AbsState) (s : State) (r : ℕ)
+pub register_is_there : (g : Returns) (e : AbsState) (s : State) (r : ℕ)
     → Covers g e s → is_unusable (value_at e r) ≡ false → IsThere g (value_at e r) (s.registers r)
 register_is_there g e s r h u = value_is_there g (value_at e r) (s.registers r) (h.registers r) u
 
@@ -67,7 +67,7 @@ imm_word Bits64 (negsuc n) f = grind (arith, ints)
 imm_word Bits32 (pos n) f = grind (arith, ints)
 imm_word Bits32 (negsuc n) f = grind (arith, ints)
 
-pub operand_is_there : (g : Answers) (e : AbsState) (s : State) (bits : Bits) (src : Operand)
+pub operand_is_there : (g : Returns) (e : AbsState) (s : State) (bits : Bits) (src : Operand)
     → FitsImm src → Covers g e s → is_unusable (operand_value e bits src) ≡ false
     → IsThere g (operand_value e bits src) (operand s bits src)
 operand_is_there g e s bits (Imm k) f h u = record {
@@ -80,7 +80,7 @@ operand_is_there g e s bits (Register r) f h u =
 
 -- ---- writing
 
-write_at : (g : Answers) (values : List Abs) (s : State) (r : ℕ) (v : Abs) (x : ℕ)
+write_at : (g : Returns) (values : List Abs) (s : State) (r : ℕ) (v : Abs) (x : ℕ)
     → CoversRegisters g values s.registers → Includes g v x
     → CoversRegisters g (slice_set values r v) ((with_register s r x).registers)
 write_at g values s r v x h hv q = elim (set_at Abs values r v Unusable q) [
@@ -90,7 +90,7 @@ write_at g values s r v x h hv q = elim (set_at Abs values r v Unusable q) [
   | other apart e ↦ let test : (q == r) ≡ false = grind (arith, apart) in rw (e, test) (h q)
 ]
 
-learnt_at : (g : Answers) (values : List Abs) (s : State) (r : ℕ) (v : Abs) (x : ℕ)
+learnt_at : (g : Returns) (values : List Abs) (s : State) (r : ℕ) (v : Abs) (x : ℕ)
     → CoversRegisters g values s.registers → s.registers r ≡ Some x → Includes g v x
     → CoversRegisters g (slice_set values r v) s.registers
 learnt_at g values s r v x h is hv q = elim (set_at Abs values r v Unusable q) [
@@ -99,14 +99,14 @@ learnt_at g values s r v x h is hv q = elim (set_at Abs values r v Unusable q) [
   | other apart e ↦ rw e (h q)
 ]
 
-pub covers_write : (g : Answers) (e : AbsState) (s : State) (r : Reg) (v : Abs) (x : ℕ)
+pub covers_write : (g : Returns) (e : AbsState) (s : State) (r : Reg) (v : Abs) (x : ℕ)
     → Covers g e s → Includes g v x → Covers g (with_value e r v) (with_register s (number_of r) x)
 covers_write g e s r v x h hv = record {
   registers = write_at g e.registers s (number_of r) v x h.registers hv;
   stack = h.stack;
 }
 
-pub covers_learnt : (g : Answers) (e : AbsState) (s : State) (bits : Bits) (src : Operand) (v : Abs)
+pub covers_learnt : (g : Returns) (e : AbsState) (s : State) (bits : Bits) (src : Operand) (v : Abs)
     (x : ℕ) → Covers g e s → operand s bits src ≡ Some x → Includes g v x
     → Covers g (with_operand e src v) s
 covers_learnt g e s bits (Imm k) v x h is hv = h
@@ -132,7 +132,7 @@ register_at-join_past a b r le =
     get_or_past (map f (range_with_len 0 11)) r Unusable
     (omega (arith, length-map-range_with_len f 0 11))
 
-pub registers_left : (g : Answers) (a b : List Abs) (registers : ℕ → Option ℕ)
+pub registers_left : (g : Returns) (a b : List Abs) (registers : ℕ → Option ℕ)
     → CoversRegisters g a registers → CoversRegisters g (join_registers a b) registers
 registers_left g a b registers h r = elim (cases_lt r 11) [
   | inl lt ↦ rw (register_at-join a b r lt)
@@ -140,7 +140,7 @@ registers_left g a b registers h r = elim (cases_lt r 11) [
   | inr le ↦ rw (register_at-join_past a b r le) tt
 ]
 
-pub registers_right : (g : Answers) (a b : List Abs) (registers : ℕ → Option ℕ)
+pub registers_right : (g : Returns) (a b : List Abs) (registers : ℕ → Option ℕ)
     → CoversRegisters g b registers → CoversRegisters g (join_registers a b) registers
 registers_right g a b registers h r = elim (cases_lt r 11) [
   | inl lt ↦ rw (register_at-join a b r lt)
@@ -148,14 +148,14 @@ registers_right g a b registers h r = elim (cases_lt r 11) [
   | inr le ↦ rw (register_at-join_past a b r le) tt
 ]
 
-pub covers_join_left : (g : Answers) (e f : AbsState) (s : State) → Covers g e s
+pub covers_join_left : (g : Returns) (e f : AbsState) (s : State) → Covers g e s
     → Covers g (join_states e f) s
 covers_join_left g e f s h = record {
   registers = registers_left g e.registers f.registers s.registers h.registers;
   stack = stack_left g e.stack f.stack s.stack h.stack;
 }
 
-pub covers_join_right : (g : Answers) (e f : AbsState) (s : State) → Covers g f s
+pub covers_join_right : (g : Returns) (e f : AbsState) (s : State) → Covers g f s
     → Covers g (join_states e f) s
 covers_join_right g e f s h = record {
   registers = registers_right g e.registers f.registers s.registers h.registers;
@@ -164,7 +164,7 @@ covers_join_right g e f s h = record {
 
 -- ---- where a run starts
 
-opening_registers_cover : (g : Answers) (r : ℕ)
+opening_registers_cover : (g : Returns) (r : ℕ)
     → CoversValue g (register_at opening_registers r) (start.opening_registers r)
 opening_registers_cover g zero = tt
 opening_registers_cover g (suc zero) = (omega arith, omega arith)
@@ -184,7 +184,7 @@ unset zero i = refl
 unset (suc n) zero = refl
 unset (suc n) (suc i) = unset n i
 
-pub covers_opening : (g : Answers) (a : Attributes) → Covers g opening_state (start.opening a)
+pub covers_opening : (g : Returns) (a : Attributes) → Covers g opening_state (start.opening a)
 covers_opening g a = record {
   registers = opening_registers_cover g;
   stack = λ i. rw (unset 64 i) (none_set (bytes_of (start.opening a).stack i));

@@ -29,7 +29,7 @@ use Rattle.abs_value.specs.States.{register_at}
 -- ---- answers
 
 -- what each call has answered so far, by its slot, and the arrays among which lookups choose
-pub record Answers : Type 0 where
+pub record Returns : Type 0 where
   pub shape : AppShape
   pub by : ℕ → Option ℕ
 
@@ -43,15 +43,15 @@ abbrev pub IsCellOf : AppShape → ℕ → ℕ → Type 0
 IsCellOf shape index x = (cell : ℕ) × (x ≡ cell_address cell) × HasCellAt shape index cell
 
 -- a lookup has answered 0, or the address of a cell of its array
-abbrev pub Answered : Answers → Lookup → ℕ → Type 0
+abbrev pub Answered : Returns → Lookup → ℕ → Type 0
 Answered g call x = (g.by call.slot ≡ Some x) × ((x ≡ 0) ⊎ IsCellOf g.shape call.array x)
 
 -- no call at the slot, or after it, has answered
-abbrev pub AreBefore : ℕ → Answers → Type 0
+abbrev pub AreBefore : ℕ → Returns → Type 0
 AreBefore slot g = (call : ℕ) → slot ≤ call → g.by call ≡ None
 
 -- the answers, and then that of the call at the slot
-abbrev pub answering : Answers → ℕ → ℕ → Answers
+abbrev pub answering : Returns → ℕ → ℕ → Returns
 answering g slot x = record g { by = λ call. if call == slot then Some x else g.by call }
 
 -- ---- values
@@ -91,12 +91,12 @@ abbrev pub IsInStack : ℕ → ℕ → Type 0
 IsInStack place x = x ≡ stack_start + place
 
 -- the address of a cell
-abbrev pub IsCell : Answers → Origin → ℕ → Type 0
+abbrev pub IsCell : Returns → Origin → ℕ → Type 0
 IsCell g (Found call) x = Answered g call x × (x ≢ 0)
 IsCell g (Fixed cell) x = (x ≡ cell_address cell) × ((index : ℕ) × HasCellAt g.shape index cell)
 
 -- the numbers and addresses that a value stands for
-abbrev pub Includes : Answers → Abs → ℕ → Type 0
+abbrev pub Includes : Returns → Abs → ℕ → Type 0
 Includes g Unusable x = Unit {0}
 Includes g (Num a) x = Holds a x
 Includes g (Ctx from) x = IsInContext from x
@@ -106,7 +106,7 @@ Includes g (MayCell call) x = Answered g call x
 Includes g (Cell origin) x = IsCell g origin x
 
 -- an unset register is covered only where the value is unusable
-abbrev pub CoversValue : Answers → Abs → Option ℕ → Type 0
+abbrev pub CoversValue : Returns → Abs → Option ℕ → Type 0
 CoversValue g Unusable v = Unit {0}
 CoversValue g a None = ⊥
 CoversValue g a (Some x) = Includes g a x
@@ -114,7 +114,7 @@ CoversValue g a (Some x) = Includes g a x
 -- ---- the stack
 
 -- the eight bytes are those of a word that the value includes, the least first
-pub record KeepsNumber (g : Answers) (v : Abs) (bytes : ℕ → Option ℕ) : Type 0 where
+pub record KeepsNumber (g : Returns) (v : Abs) (bytes : ℕ → Option ℕ) : Type 0 where
   pub number : ℕ
   pub word : IsWord number
   pub included : Includes g v number
@@ -125,7 +125,7 @@ abbrev pub HasSet : ℕ → (ℕ → Option ℕ) → Type 0
 HasSet mask bytes = (j : ℕ) → j < 8 → bit_at mask j ≡ 1 → IsSome (bytes j)
 
 -- what a slot of the stack stands for
-abbrev pub CoversSlot : Answers → AbsSlot → (ℕ → Option ℕ) → Type 0
+abbrev pub CoversSlot : Returns → AbsSlot → (ℕ → Option ℕ) → Type 0
 CoversSlot g (Kept v) bytes = KeepsNumber g v bytes
 CoversSlot g (Bytes mask) bytes = HasSet mask bytes
 
@@ -135,15 +135,15 @@ bytes_of stack i j = stack (8 * i + j)
 
 -- ---- states
 
-abbrev pub CoversRegisters : Answers → List Abs → (ℕ → Option ℕ) → Type 0
+abbrev pub CoversRegisters : Returns → List Abs → (ℕ → Option ℕ) → Type 0
 CoversRegisters g values registers =
     (r : ℕ) → CoversValue g (register_at values r) (registers r)
 
-abbrev pub CoversStack : Answers → List AbsSlot → (ℕ → Option ℕ) → Type 0
+abbrev pub CoversStack : Returns → List AbsSlot → (ℕ → Option ℕ) → Type 0
 CoversStack g slots stack = (i : ℕ) → CoversSlot g (slot_at slots i) (bytes_of stack i)
 
 -- which states of the machine a state of the verifier stands for
-pub record Covers (g : Answers) (e : AbsState) (s : State) : Type 0 where
+pub record Covers (g : Returns) (e : AbsState) (s : State) : Type 0 where
   pub registers : CoversRegisters g e.registers s.registers
   pub stack : CoversStack g e.stack s.stack
 

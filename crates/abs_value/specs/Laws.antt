@@ -34,7 +34,7 @@ use Rattle.abs_value.specs.Stack.{has_unset, loaded_from}
 use Rattle.abs_value.specs.States.{opening_state, value_at, join_states, operand_value, with_value}
 use Rattle.abs_value.specs.States.{with_operand, with_stored}
 use Rattle.abs_value.specs.Lookups.{state_with_answer, refined_state, called}
-use Rattle.abs_value.specs.Covers.{Answers, AreBefore, answering, IsWord, FitsImm, IsBetween}
+use Rattle.abs_value.specs.Covers.{Returns, AreBefore, answering, IsWord, FitsImm, IsBetween}
 use Rattle.abs_value.specs.Covers.{Fits, Holds, Includes, Covers}
 
 -- ---- numbers
@@ -61,38 +61,38 @@ IncludesUpTo = (hi x : ℕ) → IsWord x → x ≤ hi → Holds (up_to hi) x
 -- an operation on values stands for the operation of the machine
 abbrev pub IncludesResults : Type 0
 IncludesResults =
-    (g : Answers) (bits : Bits) (op : AluOp) (a b : Abs) (x y : ℕ)
+    (g : Returns) (bits : Bits) (op : AluOp) (a b : Abs) (x y : ℕ)
     → IsWord x → IsWord y → Includes g a x → Includes g b y
     → Includes g (alu_value bits op a b) (alu_result bits op x y)
 
 abbrev pub IncludesCopies : Type 0
 IncludesCopies =
-    (g : Answers) (bits : Bits) (a : Abs) (x : ℕ)
+    (g : Returns) (bits : Bits) (a : Abs) (x : ℕ)
     → Includes g a x → Includes g (copied_value bits a) (word bits x)
 
 abbrev pub IncludesNegations : Type 0
 IncludesNegations =
-    (g : Answers) (bits : Bits) (a : Abs) (x : ℕ) → IsWord x → Includes g a x
+    (g : Returns) (bits : Bits) (a : Abs) (x : ℕ) → IsWord x → Includes g a x
     → Includes g (negated_value bits a) (negated bits x)
 
 abbrev pub IncludesExtensions : Type 0
 IncludesExtensions =
-    (g : Answers) (e : Extension) (a : Abs) (x : ℕ)
+    (g : Returns) (e : Extension) (a : Abs) (x : ℕ)
     → Includes g a x → Includes g (extended_value e a) (extended e x)
 
 abbrev pub IncludesReorderings : Type 0
 IncludesReorderings =
-    (g : Answers) (order : ByteOrder) (size : EndSize) (a : Abs) (x : ℕ) → Includes g a x
+    (g : Returns) (order : ByteOrder) (size : EndSize) (a : Abs) (x : ℕ) → Includes g a x
     → Includes g (reordered_value order size a) (reordered order size x)
 
 -- a number of as many bytes as the load has
 abbrev pub IncludesLoaded : Type 0
 IncludesLoaded =
-    (g : Answers) (kind : LoadKind) (n : ℕ) → n < 256 ^ load_count kind
+    (g : Returns) (kind : LoadKind) (n : ℕ) → n < 256 ^ load_count kind
     → Includes g (loaded_value kind) (filled kind n)
 
 -- the edge isn't dropped, and what is left of the two values on it includes their numbers
-pub record IsLeft (g : Answers) (o : Option (Abs × Abs)) (x y : ℕ) : Type 0 where
+pub record IsLeft (g : Returns) (o : Option (Abs × Abs)) (x y : ℕ) : Type 0 where
   pub pair : Abs × Abs
   pub is : o ≡ Some pair
   pub first : Includes g pair.0 x
@@ -101,81 +101,81 @@ pub record IsLeft (g : Answers) (o : Option (Abs × Abs)) (x y : ℕ) : Type 0 w
 -- on the edge that a run takes
 abbrev pub KeepsTaken : Type 0
 KeepsTaken =
-    (g : Answers) (bits : Bits) (condition : Condition) (jumps : Bool) (a b : Abs) (x y : ℕ)
+    (g : Returns) (bits : Bits) (condition : Condition) (jumps : Bool) (a b : Abs) (x y : ℕ)
     → Includes g a x → Includes g b y → is_taken jumps (holds bits condition x y) ≡ true
     → IsLeft g (refined bits condition jumps a b) x y
 
 -- ---- registers
 
 -- a value that isn't unusable stands for a number that is there
-pub record IsThere (g : Answers) (a : Abs) (v : Option ℕ) : Type 0 where
+pub record IsThere (g : Returns) (a : Abs) (v : Option ℕ) : Type 0 where
   pub number : ℕ
   pub is : v ≡ Some number
   pub included : Includes g a number
 
 abbrev pub RegistersAreThere : Type 0
 RegistersAreThere =
-    (g : Answers) (e : AbsState) (s : State) (r : ℕ)
+    (g : Returns) (e : AbsState) (s : State) (r : ℕ)
     → Covers g e s → is_unusable (value_at e r) ≡ false
     → IsThere g (value_at e r) (s.registers r)
 
 abbrev pub OperandsAreThere : Type 0
 OperandsAreThere =
-    (g : Answers) (e : AbsState) (s : State) (bits : Bits) (src : Operand)
+    (g : Returns) (e : AbsState) (s : State) (bits : Bits) (src : Operand)
     → FitsImm src → Covers g e s → is_unusable (operand_value e bits src) ≡ false
     → IsThere g (operand_value e bits src) (operand s bits src)
 
 -- the register that is written gets a value
 abbrev pub CoversWrites : Type 0
 CoversWrites =
-    (g : Answers) (e : AbsState) (s : State) (r : Reg) (v : Abs) (x : ℕ)
+    (g : Returns) (e : AbsState) (s : State) (r : Reg) (v : Abs) (x : ℕ)
     → Covers g e s → Includes g v x
     → Covers g (with_value e r v) (with_register s (number_of r) x)
 
 -- something is learnt of an operand as it stands
 abbrev pub CoversLearnt : Type 0
 CoversLearnt =
-    (g : Answers) (e : AbsState) (s : State) (bits : Bits) (src : Operand) (v : Abs) (x : ℕ)
+    (g : Returns) (e : AbsState) (s : State) (bits : Bits) (src : Operand) (v : Abs) (x : ℕ)
     → Covers g e s
     → operand s bits src ≡ Some x → Includes g v x → Covers g (with_operand e src v) s
 
 -- ---- answers
 
 -- the arrays are the same, and what was answered stays so
-pub record IsMore (before after : Answers) : Type 0 where
+pub record IsMore (before after : Returns) : Type 0 where
   pub shape : after.shape ≡ before.shape
   pub answers : (call x : ℕ) → before.by call ≡ Some x → after.by call ≡ Some x
 
 abbrev pub CoversLater : Type 0
 CoversLater =
-    (g after : Answers) (e : AbsState) (s : State)
+    (g after : Returns) (e : AbsState) (s : State)
     → IsMore g after → Covers g e s → Covers after e s
 
 -- answers before a slot are before each later one, that of the call at the slot too
 abbrev pub StaysBefore : Type 0
 StaysBefore =
-    (g : Answers) (slot next : ℕ) → slot ≤ next → AreBefore slot g → AreBefore next g
+    (g : Returns) (slot next : ℕ) → slot ≤ next → AreBefore slot g → AreBefore next g
 
 abbrev pub AnswersBefore : Type 0
 AnswersBefore =
-    (g : Answers) (slot next x : ℕ)
+    (g : Returns) (slot next x : ℕ)
     → slot < next → AreBefore slot g → AreBefore next (answering g slot x)
 
 -- where the call has answered x, each copy of its answer is a cell's address or 0 as x is
 abbrev pub CoversAnswered : Type 0
 CoversAnswered =
-    (g : Answers) (e : AbsState) (s : State) (call x : ℕ)
+    (g : Returns) (e : AbsState) (s : State) (call x : ℕ)
     → g.by call ≡ Some x → Covers g e s → Covers g (state_with_answer e call (not (x == 0))) s
 
 -- the edge that a run takes isn't dropped, and what is known on it covers the state
-abbrev pub CoversOn : Answers → Option AbsState → State → Type 0
+abbrev pub CoversOn : Returns → Option AbsState → State → Type 0
 CoversOn g None s = ⊥
 CoversOn g (Some e) s = Covers g e s
 
 -- the edge that a run takes is kept, and what is known there covers it
 abbrev pub CoversEdges : Type 0
 CoversEdges =
-    (g : Answers) (e : AbsState) (s : State)
+    (g : Returns) (e : AbsState) (s : State)
     (bits : Bits) (condition : Condition) (left : Reg) (right : Operand) (jumps : Bool) (x y : ℕ)
     → FitsImm right → Covers g e s → register s left ≡ Some x → operand s bits right ≡ Some y
     → is_taken jumps (holds bits condition x y) ≡ true
@@ -184,7 +184,7 @@ CoversEdges =
 -- what a call leaves covers the state after it, once it has answered
 abbrev pub CoversCalls : Type 0
 CoversCalls =
-    (g : Answers) (e : AbsState) (s : State) (helper : ℤ) (x : ℕ)
+    (g : Returns) (e : AbsState) (s : State) (helper : ℤ) (x : ℕ)
     → HasWords s → AreBefore s.slot g → Covers g e s → helper_result g.shape s helper ≡ Some x
     → Covers (answering g s.slot x) (called e helper s.slot) (with_result s x)
 
@@ -192,12 +192,12 @@ CoversCalls =
 
 abbrev pub CoversFirst : Type 0
 CoversFirst =
-    (g : Answers) (e f : AbsState) (s : State)
+    (g : Returns) (e f : AbsState) (s : State)
     → Covers g e s → Covers g (join_states e f) s
 
 abbrev pub CoversSecond : Type 0
 CoversSecond =
-    (g : Answers) (e f : AbsState) (s : State)
+    (g : Returns) (e f : AbsState) (s : State)
     → Covers g f s → Covers g (join_states e f) s
 
 -- in whichever order two are joined
@@ -205,32 +205,32 @@ abbrev pub JoinsCommute : Type 0
 JoinsCommute = (e f : AbsState) → join_states e f ≡ join_states f e
 
 abbrev pub CoversOpening : Type 0
-CoversOpening = (g : Answers) (a : Attributes) → Covers g opening_state (opening a)
+CoversOpening = (g : Returns) (a : Attributes) → Covers g opening_state (opening a)
 
 -- ---- the stack
 
 -- a store is possible, and what is known afterwards covers the state that it leaves
-abbrev pub CoversAfter : Answers → AbsState → Option State → Type 0
+abbrev pub CoversAfter : Returns → AbsState → Option State → Type 0
 CoversAfter g e None = ⊥
 CoversAfter g e (Some t) = Covers g e t
 
 -- what is known after a store covers the state after it
 abbrev pub CoversStores : Type 0
 CoversStores =
-    (g : Answers) (e : AbsState) (s : State) (place : ℕ) (size : Size) (v : Abs) (x : ℕ)
+    (g : Returns) (e : AbsState) (s : State) (place : ℕ) (size : Size) (v : Abs) (x : ℕ)
     → place + byte_count size ≤ stack_size → Covers g e s → IsWord x → Includes g v x
     → CoversAfter g (with_stored e place (byte_count size) v)
     (written_at s (stack_start + place) (byte_count size) x)
 
 -- a load finds a number that the value includes
-pub record Finds (g : Answers) (a : Abs) (kind : LoadKind) (o : Option ℕ) : Type 0 where
+pub record Finds (g : Returns) (a : Abs) (kind : LoadKind) (o : Option ℕ) : Type 0 where
   pub number : ℕ
   pub is : o ≡ Some number
   pub included : Includes g a (filled kind number)
 
 abbrev pub CoversLoads : Type 0
 CoversLoads =
-    (g : Answers) (e : AbsState) (s : State) (place : ℕ) (kind : LoadKind)
+    (g : Returns) (e : AbsState) (s : State) (place : ℕ) (kind : LoadKind)
     → place + load_count kind ≤ stack_size
     → HasWords s → Covers g e s → has_unset e.stack (pos place) (load_count kind) ≡ false
     → Finds g (loaded_from e.stack place kind) kind
@@ -239,6 +239,6 @@ CoversLoads =
 -- so many bytes of the stack that are all set are there
 abbrev pub BytesAreThere : Type 0
 BytesAreThere =
-    (g : Answers) (e : AbsState) (s : State) (place n : ℕ)
+    (g : Returns) (e : AbsState) (s : State) (place n : ℕ)
     → place + n ≤ stack_size → HasWords s → Covers g e s → has_unset e.stack (pos place) n ≡ false
     → IsSome (set_bytes s.stack place n)

@@ -2,7 +2,6 @@
 //! end of a region is a place too, so that a pointer may be just past the last byte.
 
 ghost use Rattle.std.specs.Prelude.{◌≡◌};
-ghost use Rattle.bpf_semantics.specs.Memory.{context_size, stack_size};
 ghost use Rattle.abs_value.specs.Values as values;
 
 use crate::number::Number;

@@ -2,8 +2,8 @@
 //! changed in place. Programs use it from its end down, and most of them little of it, so it keeps
 //! the slot below which nothing was written: joins and copies go down to that one.
 
-ghost use Rattle.std.specs.Prelude.{◌≡◌, ◌≤◌, ◌<◌, ◌+◌, ◌-◌, ◌*◌, ◌^◌, ◌%◌, ℤ, pos, negsuc, ◌≤ℤ◌};
-ghost use Rattle.std.specs.Prelude.{length, map, replicate};
+ghost use Rattle.std.specs.Prelude.{◌≡◌, ◌≤◌, ◌<◌, ◌+◌, ◌-◌, ◌^◌, ◌%◌, ℤ, pos, negsuc, ◌≤ℤ◌};
+ghost use Rattle.std.specs.Prelude.{map, replicate};
 ghost use Rattle.bpf_semantics.specs.Memory.{stack_size};
 ghost use Rattle.bpf_semantics.specs.Reads as counts;
 ghost use Rattle.abs_value.specs.Lookups.{slot_with_answer};

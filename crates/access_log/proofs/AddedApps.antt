@@ -169,5 +169,6 @@ pub adds_first : {a b c d : List ℕ} {front back : List AskedApp} (n room : ℕ
 adds_first {a} {b} {c} {d} n room apps is also first next last =
     then_adds
     (then_adds (subst (λ (xs : List AskedApp). AddsTokens true true a b (list_of room xs)) is first)
-    (subst (λ (xs : List AskedApp). AddsTokens true true b c (more_left_out_member room xs)) is next))
+    (subst (λ (xs : List AskedApp). AddsTokens true true b c (more_left_out_member room xs))
+    is next))
     (subst (λ (xs : List AskedApp). AddsTokens true true c d (left_out_members xs)) also last)

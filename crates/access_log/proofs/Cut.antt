@@ -30,7 +30,8 @@ further most text end next over none before i above few bound =
 
 -- what stands before a place takes more, as it was reckoned
 pub over_at : (most : ℕ) (text : List ℕ) (end room : ℕ) {part : List ℕ}
-    → part ≡ slice_range text 0 end → room ≡ text_room part → most < room → most < text_room (take end text)
+    → part ≡ slice_range text 0 end → room ≡ text_room part → most < room
+    → most < text_room (take end text)
 over_at most text end room is value more =
     let all : end - 0 ≡ end = omega arith in
     subst (λ (n : ℕ). most < n)

@@ -1,9 +1,8 @@
 //! The members of each event, in their order.
 
-ghost use Rattle.std.specs.Prelude.{◌≡◌, true, codes, OnOk};
+ghost use Rattle.std.specs.Prelude.{◌≡◌, true, OnOk};
 ghost use Rattle.access_log.specs.Tokens.{AddsMembers};
 ghost use Rattle.access_log.specs.Line as specs;
-ghost use Rattle.access_log.specs.Members.{text_member, number_member};
 ghost use Rattle.access_log.specs.Plain.{is_plain_text};
 
 use crate::apps::write_apps;

@@ -1,6 +1,6 @@
 //! The line of an event.
 
-ghost use Rattle.std.specs.Prelude.{◌≡◌, ◌≤◌, ◌∷◌, [], ◌++◌, length, IfOk, OnOk};
+ghost use Rattle.std.specs.Prelude.{◌≡◌, ◌≤◌, length, IfOk, OnOk};
 ghost use Rattle.access_log.specs.Line as specs;
 ghost use Rattle.access_log.specs.Spelled.{spelled};
 ghost use Rattle.access_log.specs.Tokens.{AddsMembers};

@@ -4,7 +4,6 @@
 ghost use Rattle.std.specs.Prelude.{◌≡◌, ◌≤◌, OnOk, option_copied};
 ghost use Rattle.access_log.specs.Tokens.{AddsMembers};
 ghost use Rattle.access_log.specs.More as specs;
-ghost use Rattle.access_log.specs.Room.{left_after};
 
 use crate::excerpt::Excerpt;
 use crate::line_room::LineRoom;

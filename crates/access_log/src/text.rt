@@ -1,7 +1,7 @@
 //! The text of JSON's tokens (RFC 8259), written as bytes behind what stands in a line. A control
 //! that a terminal may obey is escaped, too.
 
-ghost use Rattle.std.specs.Prelude.{◌≡◌, ◌++◌, ◌<◌, [], ◌∷◌, true, decimal, OnOk};
+ghost use Rattle.std.specs.Prelude.{◌≡◌, ◌++◌, ◌<◌, true, decimal, OnOk};
 ghost use Rattle.std.specs.Char.{digit_char};
 ghost use Rattle.json.specs.Print.{escape_letter, escape_byte};
 ghost use Rattle.access_log.specs.Plain.{is_plain_text, named};

@@ -1,7 +1,7 @@
 //! The instructions of a program: two that open it, then its blocks of four, then two that close
 //! it.
 
-ghost use Rattle.std.specs.Prelude.{◌≡◌, ◌<◌, ◌≤◌, ◌^◌};
+ghost use Rattle.std.specs.Prelude.{◌≡◌, ◌<◌, ◌^◌};
 ghost use Rattle.bench.specs.Patterns as patterns;
 
 use crate::pattern::Pattern;

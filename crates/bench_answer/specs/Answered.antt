@@ -7,14 +7,14 @@ use Rattle.hot_swap.specs.Published.{Beginning}
 use Rattle.http_front.specs.Reply.{code_of}
 use Rattle.answering.specs.Answer.{RepliesByRuns}
 use Rattle.answering.specs.Reply.{HttpReply, message_bytes}
-use Rattle.bench_answer.specs.declared.answers.Tally.{Tally}
+use Rattle.bench_answer.specs.declared.answers.ReplyTally.{ReplyTally}
 
 -- 2026-03-02 01:00:00 UTC, the moment of each answer
 abbrev pub moment : ℤ
 moment = pos 1772413200
 
 -- these bytes are a reply of status 200 to the request, and the pass grew by the events of its runs
-pub record IsReplied {P : Type 0} (grew : P → CellEvent → P → Type 0) (request : List ℕ)
+pub record IsSuccess {P : Type 0} (grew : P → CellEvent → P → Type 0) (request : List ℕ)
     (watcher : Beginning) (before after : P) (written : List ℕ) : Type 0 where
   pub reply : HttpReply
   pub success : code_of reply.status ≡ 200
@@ -28,19 +28,19 @@ pub data AreAnswers {P : Type 0} (grew : P → CellEvent → P → Type 0) (requ
   none : AreAnswers grew request opened 0 opened 0 []
   more : {n bytes : ℕ} {before after : P} {last written : List ℕ} {watcher : Beginning}
       → AreAnswers grew request opened n before bytes last
-      → IsReplied grew request watcher before after written
+      → IsSuccess grew request watcher before after written
       → AreAnswers grew request opened (n + 1) after (bytes + length written) written
 
 -- the tally of so many answers by a pass that was this before them, and that after them
-pub record IsTally {P : Type 0} (grew : P → CellEvent → P → Type 0) (request : List ℕ) (n : ℕ)
-    (before after : P) (t : Tally) : Type 0 where
+pub record IsReplyTally {P : Type 0} (grew : P → CellEvent → P → Type 0) (request : List ℕ) (n : ℕ)
+    (before after : P) (t : ReplyTally) : Type 0 where
   pub last : List ℕ
   pub answers : AreAnswers grew request before n after t.bytes last
   pub hash : t.reply ≡ fnv1a last
 
 -- the tally of so many answers on cells that open at 0
-pub record IsTallyFromZeros (request : List ℕ) (n : ℕ) (t : Tally) : Type 0 where
+pub record IsTallyFromZeros (request : List ℕ) (n : ℕ) (t : ReplyTally) : Type 0 where
   pub opened : List ℕ
   pub zero : AreZeros 8192 opened
   pub cells : List ℕ
-  pub tally : IsTally IsEvent request n opened cells t
+  pub tally : IsReplyTally IsEvent request n opened cells t

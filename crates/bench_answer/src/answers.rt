@@ -1,7 +1,7 @@
 //! Answering one request over and over, by one worker whose reader and writer are memory.
 
 ghost use Rattle.std.specs.Prelude.{◌≡◌, ◌+◌, IfOk};
-ghost use Rattle.bench_answer.specs.Answered.{IsReplied, IsTally, IsTallyFromZeros, moment};
+ghost use Rattle.bench_answer.specs.Answered.{IsSuccess, IsReplyTally, IsTallyFromZeros, moment};
 
 use answering::{AnswerRoom, Nobody, Turn, answer_in};
 use anyhow::{Context, Error, Result};
@@ -18,7 +18,7 @@ const MOMENT: i64 = 1772413200;
 
 /// What replies come to: the bytes of all of them, and the hash of the last.
 #[derive(Clone, Copy, Debug, PartialEq, Eq)]
-pub(crate) struct Tally {
+pub(crate) struct ReplyTally {
     pub(crate) bytes: u64,
     pub(crate) reply: u64,
 }
@@ -36,7 +36,7 @@ fn answer_once<C: CellSteps>(
     requires moment { turn.now.moment.now ≡ moment }
     ensures belongs { C.belongs turn.now.cells.now pass.new }
     ensures replied { IfOk result (λ reply.
-        IsReplied C.grew input.now watcher.new pass.old pass.new reply.items) }
+        IsSuccess C.grew input.now watcher.new pass.old pass.new reply.items) }
 {
     written.clear();
     let mut reader = Counted::new(input);
@@ -74,9 +74,9 @@ pub(crate) fn answer_times<C: CellSteps>(
     watcher: &mut Watcher,
     input: &[u8],
     times: u32,
-) -> Result<Tally>
+) -> Result<ReplyTally>
     requires { C.belongs cells.now pass.old }
-    ensures { IfOk result (IsTally C.grew input.now times pass.old pass.new) }
+    ensures { IfOk result (IsReplyTally C.grew input.now times pass.old pass.new) }
 {
     let turn = Turn {
         alloc,
@@ -90,14 +90,19 @@ pub(crate) fn answer_times<C: CellSteps>(
         reply = answer_once(&turn, &mut room, input, reply, pass, watcher)?;
         bytes = sum(bytes, reply.len())?;
     }
-    Ok(Tally {
+    Ok(ReplyTally {
         bytes,
         reply: fnv1a(&reply),
     })
 }
 
 /// Answers the request so often on cells of its own.
-fn answer_alone(alloc: Global, watcher: &mut Watcher, input: &[u8], times: u32) -> Result<Tally>
+fn answer_alone(
+    alloc: Global,
+    watcher: &mut Watcher,
+    input: &[u8],
+    times: u32,
+) -> Result<ReplyTally>
     ensures { IfOk result (IsTallyFromZeros input.now times) }
 {
     let (cells, mut pass) = PlainCells::new(alloc)?;
@@ -112,7 +117,7 @@ pub(crate) fn answer_under<H: Wait>(
     rules: Arc<Ruleset>,
     input: &[u8],
     times: u32,
-) -> Result<Tally>
+) -> Result<ReplyTally>
     ensures { IfOk result (IsTallyFromZeros input.now times) }
 {
     let mut publisher = Publisher::new(rt, alloc, rules, 1)?;

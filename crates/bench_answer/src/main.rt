@@ -11,7 +11,7 @@ mod requests;
 mod rules;
 mod work;
 
-use crate::answers::{Tally, answer_under};
+use crate::answers::{ReplyTally, answer_under};
 use crate::publishing::watched;
 use crate::quotas::told;
 use crate::requests::{WORKED, of_apps, post};
@@ -26,7 +26,7 @@ use std::thread::Threads;
 const MAX_APPS: u16 = 256;
 
 /// Answers the request that a word names: `worked`, or a number of apps.
-fn tally_of<H: Wait>(rt: &H, alloc: Global, word: &str, times: u32) -> Result<Tally> {
+fn tally_of<H: Wait>(rt: &H, alloc: Global, word: &str, times: u32) -> Result<ReplyTally> {
     if word == "worked" {
         let input = post(alloc, WORKED)?;
         return answer_under(rt, alloc, rules::worked(alloc)?, &input, times);
@@ -52,7 +52,7 @@ fn line_of<H: Threads + Wait + Sync>(
     if let Some(watching) = watching_of(word) {
         return watched(rt, alloc, watching, times);
     }
-    let Tally { bytes, reply } = tally_of(rt, alloc, word, times)?;
+    let ReplyTally { bytes, reply } = tally_of(rt, alloc, word, times)?;
     Ok(format!(in alloc; "answers={times} bytes={bytes} reply={reply}")?)
 }
 

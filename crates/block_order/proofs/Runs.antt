@@ -37,7 +37,8 @@ use Rattle.block_order.proofs.Steps.{atomic_follows, reach_follows, branch_follo
 
 -- a JA goes on at once
 jump_step : (p : ShapedProgram) (s : State) (d : Distance) (t : ℕ)
-    → at p.code s.slot ≡ Some (Jump d) → landing s.slot (slots_moved d) ≡ Some t → step p s ≡ Going (moved_to s t)
+    → at p.code s.slot ≡ Some (Jump d) → landing s.slot (slots_moved d) ≡ Some t
+    → step p s ≡ Going (moved_to s t)
 jump_step p s d t here lands = ap (act_at p.shape s) here ∙ ap (jump_to s) lands
 
 -- any other instruction is the same one where it stands

@@ -2,7 +2,7 @@
 //! block is the lowest that is ready; within a block it is the next instruction. A block begins at
 //! the entry, at the target of a jump, and after a conditional jump.
 
-ghost use Rattle.std.specs.Prelude.{ℕ, ◌<◌, ◌≤◌, IfSome, length};
+ghost use Rattle.std.specs.Prelude.{◌<◌, ◌≤◌, IfSome, length};
 
 use bpf_insn::Insn;
 use flow_check::{jump_target, next_place};

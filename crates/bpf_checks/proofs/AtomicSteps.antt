@@ -26,7 +26,7 @@ use Rattle.abs_value.specs.declared.value.Abs.TheVariants.{Stk, Map, MayCell, Ce
 use Rattle.abs_value.specs.declared.state.AbsState.{AbsState}
 use Rattle.abs_value.specs.Values.{is_unusable}
 use Rattle.abs_value.specs.States.{value_of}
-use Rattle.abs_value.specs.Covers.{Answers, Includes, IsStoodFor}
+use Rattle.abs_value.specs.Covers.{Returns, Includes, IsStoodFor}
 use Rattle.bpf_checks.specs.Arrays.{has_quota}
 use Rattle.bpf_checks.specs.Memory.{changes_context, is_no_address}
 use Rattle.bpf_checks.specs.Memory.{exchanges_stack, reaches_quota, is_outside}
@@ -75,7 +75,7 @@ replies atomic.FetchXor r0 v c reply fits = fits
 replies atomic.Exchange r0 v c reply fits = fits
 replies atomic.CompareExchange r0 v c reply fits = fits
 
-fetched_included : (given : Given) (g : Answers) (size : AtomicSize) (c reply : ℕ)
+fetched_included : (given : Given) (g : Returns) (size : AtomicSize) (c reply : ℕ)
     → 8 * atomic_count size ≡ width c → reply < 2 ^ width c → Includes g (fetched_value size) reply
 fetched_included given g size c reply wide fits =
     by_size size (subst (λ (n : ℕ). reply < 2 ^ n) (sym wide) fits)
@@ -90,7 +90,7 @@ fetched_included given g size c reply wide fits =
 -- ---- operands
 
 -- R0 is there where it is compared
-record Operands (op : AtomicOp) (s : State) (src : Reg) (g : Answers) (v : Abs) : Type 0 where
+record Operands (op : AtomicOp) (s : State) (src : Reg) (g : Returns) (v : Abs) : Type 0 where
   number : ℕ
   is : register s src ≡ Some number
   included : Includes g v number
@@ -131,7 +131,7 @@ base_usable e op dst src u = first (is_unusable (value_of e dst)) _ u
 -- ---- quotas
 
 -- a fetch-add of a single 1 adds 1
-one_is : (g : Answers) (v : Abs) (x : ℕ) → is_one v ≡ true → Includes g v x → x ≡ 1
+one_is : (g : Returns) (v : Abs) (x : ℕ) → is_one v ≡ true → Includes g v x → x ≡ 1
 one_is g (Num n) x one h = grind (arith, one, h.between)
 one_is g Unusable x one h = absurd cc
 one_is g (Ctx from) x one h = absurd cc
@@ -144,7 +144,7 @@ cut_one : (size : AtomicSize) (x : ℕ) → x ≡ 1 → cut (atomic_count size) 
 cut_one Word x e = rw e refl
 cut_one Double x e = rw e refl
 
-keeps_quota : (g : Answers) (e : AbsState) (op : AtomicOp) (size : AtomicSize) (dst src : Reg)
+keeps_quota : (g : Returns) (e : AbsState) (op : AtomicOp) (size : AtomicSize) (dst src : Reg)
     (offset : ℤ) (r0 x : ℕ) → leaves_quota e (Atomic op size dst src offset) ≡ true
     → Includes g (value_of e src) x → KeepsQuota (cell_op op r0 (cut (atomic_count size) x))
 keeps_quota g e atomic.FetchAdd size dst src offset r0 x leaves h =
@@ -156,7 +156,7 @@ either true true h k = absurd cc
 either true false h k = absurd cc
 either false b h k = refl
 
-lawful : (shape : AppShape) (g : Answers) (e : AbsState) (op : AtomicOp) (size : AtomicSize)
+lawful : (shape : AppShape) (g : Returns) (e : AbsState) (op : AtomicOp) (size : AtomicSize)
     (dst src : Reg) (offset : ℤ) (origin : Origin) (number r0 x : ℕ)
     (place : IsAt shape origin number) → value_of e dst ≡ Cell origin
     → (reaches_quota shape (atomic_access size dst offset) (value_of e dst)

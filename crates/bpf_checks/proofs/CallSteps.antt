@@ -33,7 +33,7 @@ use Rattle.abs_value.specs.Values.{is_unusable, is_number}
 use Rattle.abs_value.specs.Stack.{has_unset}
 use Rattle.abs_value.specs.States.{value_of}
 use Rattle.abs_value.specs.Lookups.{called}
-use Rattle.abs_value.specs.Covers.{Answers, Includes, answering, IsStoodFor}
+use Rattle.abs_value.specs.Covers.{Returns, Includes, answering, IsStoodFor}
 use Rattle.bpf_checks.specs.Memory.{text_unset}
 use Rattle.bpf_checks.specs.Reads.{arguments}
 use Rattle.bpf_checks.specs.Rules.{compares_unset, is_map, is_stack_text, takes}
@@ -68,7 +68,7 @@ map_is shape map index e =
     let le : nat_le map_start map ≡ true = grind arith in
     let is : map - map_start ≡ index = omega arith in rw (le, is) refl
 
-looked_up : (g : Answers) (v : Abs) (map key : ℕ) → is_map v ≡ true → Includes g v map
+looked_up : (g : Returns) (v : Abs) (map key : ℕ) → is_map v ≡ true → Includes g v map
     → IsSome (lookup g.shape map key)
 looked_up g (Map index) map key is h =
     rw (map_is g.shape map index h.0) (is_there (slice_get g.shape.arrays index) key h.1)

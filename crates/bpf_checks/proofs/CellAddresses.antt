@@ -15,7 +15,7 @@ use Rattle.bpf_semantics.specs.Memory.{address_of, cell_start, cell_address, cel
 use Rattle.abs_value.specs.declared.origin.Lookup.{Lookup}
 use Rattle.abs_value.specs.declared.origin.Origin.{Origin}
 use Rattle.abs_value.specs.declared.origin.Origin.TheVariants.{Found, Fixed}
-use Rattle.abs_value.specs.Covers.{Answers, HasCellAt, IsCellOf, IsCell}
+use Rattle.abs_value.specs.Covers.{Returns, HasCellAt, IsCellOf, IsCell}
 use Rattle.bpf_checks.specs.Arrays.{width_bits, origin_bits, has_quota_cell, has_quota}
 use Rattle.bpf_checks.specs.Memory.{is_zero}
 use Rattle.bpf_checks.proofs.Passes.{false_or}
@@ -151,7 +151,7 @@ not_null : (shape : AppShape) (call : Lookup) (x : ℕ)
 not_null shape call x (inl null) some = absurd (some null)
 not_null shape call x (inr cell) some = cell
 
-pub is_at : (g : Answers) (origin : Origin) (x : ℕ) → IsShape g.shape → IsCell g origin x
+pub is_at : (g : Returns) (origin : Origin) (x : ℕ) → IsShape g.shape → IsCell g origin x
     → IsAt g.shape origin x
 is_at g (Found call) x h k = found_at g.shape call x h (not_null g.shape call x k.0.1 k.1)
 is_at g (Fixed cell) x h k = fixed_at g.shape cell x k.1.0 h k.0 k.1.1

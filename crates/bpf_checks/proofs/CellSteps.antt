@@ -21,7 +21,7 @@ use Rattle.abs_value.specs.declared.value.Abs.TheVariants.{Cell}
 use Rattle.abs_value.specs.declared.state.AbsState.{AbsState}
 use Rattle.abs_value.specs.Values.{is_unusable, loaded_value}
 use Rattle.abs_value.specs.States.{value_of, with_value}
-use Rattle.abs_value.specs.Covers.{Answers, Includes, IsCell, IsStoodFor}
+use Rattle.abs_value.specs.Covers.{Returns, Includes, IsCell, IsStoodFor}
 use Rattle.abs_value.specs.Laws.{IsThere}
 use Rattle.bpf_checks.specs.declared.access.Access.{Access}
 use Rattle.bpf_checks.specs.Arrays.{origin_bits, has_quota}
@@ -46,7 +46,7 @@ not_true : (b : Bool) → not b ≡ true → b ≡ false
 not_true true h = absurd cc
 not_true false h = refl
 
-pub whole_cell : (g : Answers) (a : Access) (origin : Origin) (x : ℕ) → IsShape g.shape
+pub whole_cell : (g : Returns) (a : Access) (origin : Origin) (x : ℕ) → IsShape g.shape
     → IsCell g origin x → is_outside g.shape a (Cell origin) ≡ false → WholeCell g.shape origin a x
 whole_cell g a origin x shaped is inside =
     let place = is_at g origin x shaped is in
@@ -107,7 +107,7 @@ load_cell_is kinds.Half x offset c sign wide at = absurd (grind (arith, wide))
 load_cell_is kind x offset c sign wide at = absurd cc
 
 -- a reply is one of the numbers of the load's width
-reply_included : (given : Given) (g : Answers) (kind : LoadKind) (c reply : ℕ)
+reply_included : (given : Given) (g : Returns) (kind : LoadKind) (c reply : ℕ)
     → extends_sign (load_use kind) ≡ false → 8 * load_count kind ≡ width c → reply < 2 ^ width c
     → Includes g (loaded_value kind) reply
 reply_included given g kind c reply sign wide fits =

@@ -25,7 +25,7 @@ use Rattle.abs_value.specs.declared.state.AbsState.{AbsState}
 use Rattle.abs_value.specs.Values.{is_unusable}
 use Rattle.abs_value.specs.States.{value_of}
 use Rattle.abs_value.specs.Lookups.{refined_state}
-use Rattle.abs_value.specs.Covers.{Answers, FitsImm, Includes, Covers, IsStoodFor}
+use Rattle.abs_value.specs.Covers.{Returns, FitsImm, Includes, Covers, IsStoodFor}
 use Rattle.abs_value.specs.Laws.{CoversOn}
 use Rattle.bpf_checks.specs.Reads.{operand_register}
 use Rattle.bpf_checks.specs.Rules.{is_choice}
@@ -116,7 +116,7 @@ jump_if_safe given shape e s bits condition left right offset forward f h ok =
 
 -- ---- the end
 
-choice_is : (g : Answers) (shape : AppShape) (a : Abs) (x : ℕ)
+choice_is : (g : Returns) (shape : AppShape) (a : Abs) (x : ℕ)
     → Includes g a x → is_choice shape a ≡ true → x ≤ shape.releases
 choice_is g shape (Num r) x h c = grind (arith, h.between, c)
 choice_is g shape a x h c = absurd cc

@@ -11,17 +11,17 @@ use Rattle.bpf_semantics.specs.Outcome.{moved_to, write, ask}
 use Rattle.abs_value.specs.declared.value.Abs.{Abs}
 use Rattle.abs_value.specs.declared.state.AbsState.{AbsState}
 use Rattle.abs_value.specs.States.{with_value}
-use Rattle.abs_value.specs.Covers.{Answers, AreBefore, Includes, Covers, IsStoodFor}
+use Rattle.abs_value.specs.Covers.{Returns, AreBefore, Includes, Covers, IsStoodFor}
 use Rattle.bpf_checks.specs.Sound.{IsLawful, Leads, IsSafe}
 use Rattle.bpf_checks.specs.Transfer.{edge_to}
 use Rattle.bpf_checks.proofs.Given.{Given}
 
 -- the answers with which an entry stands for a state
-abbrev pub answers : {shape : AppShape} {e : AbsState} {s : State} → IsStoodFor shape e s → Answers
+abbrev pub answers : {shape : AppShape} {e : AbsState} {s : State} → IsStoodFor shape e s → Returns
 answers {shape = shape} h = record { shape = shape; by = h.by }
 
 -- slot and count are no part of what is covered
-pub moved_covers : (g : Answers) (e : AbsState) (s : State) (slot : ℕ) → Covers g e s
+pub moved_covers : (g : Returns) (e : AbsState) (s : State) (slot : ℕ) → Covers g e s
     → Covers g e (moved_to s slot)
 moved_covers g e s slot h = record { registers = h.registers; stack = h.stack }
 

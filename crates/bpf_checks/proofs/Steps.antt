@@ -16,7 +16,8 @@ use Rattle.abs_value.specs.Covers.{IsStoodFor}
 use Rattle.abs_value.specs.Laws.{CoversFirst, CoversSecond, CoversOpening}
 use Rattle.flow_check.specs.Edges.{JumpsForward}
 use Rattle.bpf_checks.specs.Transfer.{edges}
-use Rattle.bpf_checks.specs.Sound.{IsSafe, EveryStepIsSafe, FirstStands, SecondStands, OpeningStands}
+use Rattle.bpf_checks.specs.Sound.{IsSafe, EveryStepIsSafe, FirstStands, SecondStands}
+use Rattle.bpf_checks.specs.Sound.{OpeningStands}
 use Rattle.bpf_checks.proofs.Given.{Given}
 use Rattle.bpf_checks.proofs.Passes.{Passes, passes}
 use Rattle.bpf_checks.proofs.Outcomes.{answers}

@@ -20,7 +20,7 @@ use Rattle.abs_value.specs.declared.value.Abs.{Abs}
 use Rattle.abs_value.specs.declared.value.Abs.TheVariants.{Map}
 use Rattle.abs_value.specs.declared.state.AbsState.{AbsState}
 use Rattle.abs_value.specs.Values.{or_unusable}
-use Rattle.abs_value.specs.Covers.{Answers, Includes, IsStoodFor}
+use Rattle.abs_value.specs.Covers.{Returns, Includes, IsStoodFor}
 use Rattle.bpf_checks.specs.Arrays.{cell_behind, fixed_cell, wide_abs}
 use Rattle.bpf_checks.specs.Sound.{IsSafe}
 use Rattle.bpf_insn.specs.Spelling.{IsWideNumber}
@@ -31,7 +31,7 @@ use Rattle.bpf_checks.proofs.Outcomes.{answers, write_safe}
 use Rattle.bpf_checks.proofs.CellAddresses.{array_is}
 
 -- what is loaded, and that the value stands for it
-record Loads (g : Answers) (v : Option Abs) (o : Option ℕ) : Type 0 where
+record Loads (g : Returns) (v : Option Abs) (o : Option ℕ) : Type 0 where
   number : ℕ
   is : o ≡ Some number
   included : Includes g (or_unusable v) number
@@ -39,7 +39,7 @@ record Loads (g : Answers) (v : Option Abs) (o : Option ℕ) : Type 0 where
 some_is : (o : Option CellArray) (a : CellArray) → o ≡ Some a → IsSome o
 some_is o a e = rw e refl
 
-map_loads : (g : Answers) (i : ℕ) (o : Option CellArray)
+map_loads : (g : Returns) (i : ℕ) (o : Option CellArray)
     → slice_get g.shape.arrays i ≡ o → is_none (o >>= λ a. Some (Map i)) ≡ false
     → Loads g (o >>= λ a. Some (Map i)) (o >>= λ a. Some (map_start + i))
 map_loads g i None e known = absurd cc
@@ -57,7 +57,7 @@ address_is : (base n : ℕ) → base + n / 8 < 8192 → n % 8 ≡ 0
     → address_of (cell_address base) (pos n) ≡ cell_address (base + n / 8)
 address_is base n lt whole = omega (arith, lt, whole)
 
-behind : (g : Answers) (i n : ℕ) (a : CellArray) → IsArray a → slice_get g.shape.arrays i ≡ Some a
+behind : (g : Returns) (i n : ℕ) (a : CellArray) → IsArray a → slice_get g.shape.arrays i ≡ Some a
     → is_none (option_map fixed_cell (cell_behind a n)) ≡ false
     → Loads g (option_map fixed_cell (cell_behind a n))
     (Some (address_of (cell_address a.base) (pos n)))
@@ -79,7 +79,7 @@ behind g i n a array e known = elim (cases_Bool ((n % 8 == 0) && nat_lt (n / 8) 
   | inr isnt ↦ let none : is_none {T = Abs} None ≡ false = rw isnt at known in absurd cc
 ]
 
-cell_loads : (g : Answers) (i n : ℕ) (o : Option CellArray)
+cell_loads : (g : Returns) (i n : ℕ) (o : Option CellArray)
     → IsShape g.shape → slice_get g.shape.arrays i ≡ o
     → is_none (o >>= λ a. option_map fixed_cell (cell_behind a n)) ≡ false
     → Loads g (o >>= λ a. option_map fixed_cell (cell_behind a n))
@@ -87,7 +87,7 @@ cell_loads : (g : Answers) (i n : ℕ) (o : Option CellArray)
 cell_loads g i n None shaped e known = absurd cc
 cell_loads g i n (Some a) shaped e known = behind g i n a (array_is g.shape i a shaped e) e known
 
-wide_loads : (given : Given) (g : Answers) (value : WideValue) → IsWideNumber value
+wide_loads : (given : Given) (g : Returns) (value : WideValue) → IsWideNumber value
     → IsShape g.shape → is_none (wide_abs g.shape value) ≡ false
     → Loads g (wide_abs g.shape value) (wide_value g.shape value)
 wide_loads given g (wide.Number n) w shaped known = record {

@@ -4,7 +4,6 @@
 ghost use Rattle.std.specs.Prelude.{◌≡◌};
 ghost use Rattle.cells.specs.Arrays.{AppShape};
 ghost use Rattle.bpf_checks.specs.Rules as rules;
-ghost use Rattle.bpf_checks.specs.Transfer.{after};
 
 use crate::refusal::VerifierRule;
 use abs_value::{Abs, AbsState};

@@ -2,7 +2,6 @@
 //! Instructions"): the rules that they may break, and what they leave.
 
 ghost use Rattle.std.specs.Prelude.{◌≡◌};
-ghost use Rattle.cells.specs.Arrays.{AppShape};
 ghost use Rattle.bpf_semantics.specs.Reads as counts;
 ghost use Rattle.bpf_checks.specs.Memory as memory;
 ghost use Rattle.bpf_checks.specs.Rules as rules;

@@ -2,7 +2,7 @@
 //! fields are judged by the row alone; then each class of instructions reads its parts, and a
 //! number that names no part is its fault.
 
-ghost use Rattle.std.specs.Prelude.{◌≡◌, ◌≢◌, IfOk, IfErr, IfSome, IfNone, None};
+ghost use Rattle.std.specs.Prelude.{◌≢◌, IfOk, IfErr, IfSome, IfNone, None};
 ghost use Rattle.bpf_insn.specs.Halves.{IsOfRow, IsInOrder, IsRowFault, IsTheInsn};
 
 mod arithmetic;

@@ -1,7 +1,7 @@
 //! The rules of a row's fields that don't read a part of the instruction: which registers and which
 //! other numbers in src the row allows, and that a field that it doesn't use is 0.
 
-ghost use Rattle.std.specs.Prelude.{◌≡◌, ◌↔◌, IsTrue, false};
+ghost use Rattle.std.specs.Prelude.{◌≡◌, ◌↔◌, IsTrue};
 ghost use Rattle.bpf_insn.specs.Faults.{Keeps, AllowsDst, AllowsSrc, LeavesUnused, IsSecondHalf};
 ghost use Rattle.bpf_insn.specs.Faults.{uses_src, uses_offset, uses_imm};
 

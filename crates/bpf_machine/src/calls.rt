@@ -1,11 +1,9 @@
 //! Calls of helpers: R0 is the result, from R1 to R3 and what the run has beside its words.
 
-ghost use Rattle.std.specs.Prelude.{◌≡◌, ◌≤◌, ◌<◌, ◌-◌, IsSome, IsTrue};
-ghost use Rattle.std.specs.Prelude.{Some, slice_index, take, drop};
-ghost use Rattle.attrs.specs.Helpers.{attr_is};
+ghost use Rattle.std.specs.Prelude.{◌≡◌, ◌<◌, ◌-◌, IsSome};
+ghost use Rattle.std.specs.Prelude.{Some};
 ghost use Rattle.bpf_semantics.specs.Calls.{array_of};
 ghost use Rattle.bpf_semantics.specs.Calls as calls;
-ghost use Rattle.bpf_semantics.specs.Memory.{is_in_stack, stack_start};
 ghost use Rattle.bpf_machine.specs.Next.{IsReady, LeadsTo};
 
 use crate::memory::stack_bytes;

@@ -1,8 +1,7 @@
 //! An operand as the kind that its instruction wants: A3 where it is of another kind, and A5 where
 //! its number doesn't fit its field.
 
-ghost use Rattle.std.specs.Prelude.{◌≡◌, option_map, not, Option, Result};
-ghost use Rattle.bpf_text.specs.Three.{map_three};
+ghost use Rattle.std.specs.Prelude.{◌≡◌, option_map, Option, Result};
 ghost use Rattle.bpf_text.specs.Results.{map_ok};
 ghost use Rattle.bpf_text.specs.Operands.{
   if_of_kind,

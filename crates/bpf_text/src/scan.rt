@@ -23,7 +23,7 @@ ghost use Rattle.bpf_text.specs.Assembly.{
   placed_body,
 };
 ghost use Rattle.bpf_text.specs.Labels.{slot_at, AddsLabel};
-ghost use Rattle.bpf_text.specs.Names.{name_of, body_named, line_named, placed_named};
+ghost use Rattle.bpf_text.specs.Names.{name_of, body_named, line_named};
 ghost use Rattle.bpf_text.specs.Reading.{AddsBody, ReadsOn, IsLineFault};
 
 use crate::fault::{AsmFault, AsmFaultKind};

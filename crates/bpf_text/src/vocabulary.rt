@@ -1,6 +1,6 @@
 //! Words by their text: the mnemonics and the registers, each in one table.
 
-ghost use Rattle.std.specs.Prelude.{◌≡◌, ◌++◌};
+ghost use Rattle.std.specs.Prelude.{◌≡◌};
 ghost use Rattle.std.specs.Str.{bytes_eq};
 ghost use Rattle.std.specs.List.{find};
 ghost use Rattle.bpf_text.specs.Words.{word_of};

@@ -1,9 +1,9 @@
 //! The entries that the sweep holds: the current one, which is changed in place from instruction to
 //! instruction, and those that wait for the targets of jumps ahead.
 
-ghost use Rattle.std.specs.Prelude.{◌≡◌, ◌+◌, ◌-◌, ◌<◌, ◌≤◌, ◌∷◌};
+ghost use Rattle.std.specs.Prelude.{◌≡◌, ◌+◌, ◌-◌, ◌<◌, ◌≤◌};
 ghost use Rattle.std.specs.Prelude.{length, replicate, IfOk, OnOk, OnErr};
-ghost use Rattle.std.specs.Prelude.{Some, None, IsSome, true, IfSome};
+ghost use Rattle.std.specs.Prelude.{Some, None, true, IfSome};
 ghost use Rattle.abs_value.specs.States.{opening_state};
 ghost use Rattle.flow_check.specs.Edges.{target_of};
 ghost use Rattle.bpf_checks.specs.Transfer.{jumping};

@@ -2,7 +2,7 @@
 //! along the edges of its instruction. Each place is judged once, and memory is taken for the
 //! targets that lie ahead alone.
 
-ghost use Rattle.std.specs.Prelude.{◌≡◌, ◌<◌, ◌≤◌, ◌+◌, length, OnOk, IfErr, OnErr, Some};
+ghost use Rattle.std.specs.Prelude.{◌≡◌, ◌<◌, ◌≤◌, ◌+◌, OnOk, IfErr, OnErr, Some};
 ghost use Rattle.bpf_insn.specs.Program.{at};
 ghost use Rattle.flow_check.specs.Edges.{next_of};
 ghost use Rattle.bpf_semantics.specs.Program.{shaped};

@@ -1,7 +1,6 @@
 //! What every keeper of the cells offers. A pass is one user's leave to act on them; how it grows
 //! by an event is for each keeper to say.
 
-ghost use Rattle.std.specs.Prelude.{ℕ};
 ghost use Rattle.cells.specs.Events.{event, CanReply};
 ghost use Rattle.cells.specs.Grown.{GrowsBySnoc, GrowsByAppend};
 

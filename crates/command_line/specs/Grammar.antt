@@ -8,9 +8,9 @@ use Rattle.clap.specs.declared.builder.action.ArgAction.TheVariants.{Append, Set
 use Rattle.clap.specs.declared.builder.value_parser.ValueParser.TheVariants.{Signed}
 use Rattle.clap.specs.Simple.{Shape, new_shape}
 use Rattle.clap.specs.Words.{App, Rule, Text, new_rule}
-use Rattle.command_line.specs.declared.argument.Argument.{Argument}
-use Rattle.command_line.specs.declared.argument.Argument.TheVariants as argument
-use Rattle.command_line.specs.declared.argument.Limits.{Limits}
+use Rattle.command_line.specs.declared.argument.CommandArgument.{CommandArgument}
+use Rattle.command_line.specs.declared.argument.CommandArgument.TheVariants as argument
+use Rattle.command_line.specs.declared.argument.NumberLimits.{NumberLimits}
 use Rattle.command_line.specs.declared.verb.Verb.{Verb}
 use Rattle.command_line.specs.declared.verb.Verb.TheVariants as verb
 use Rattle.command_line.specs.declared.verb_rows.VerbRow.{VerbRow}
@@ -52,11 +52,11 @@ ranged name least most required defaults = record (option name) {
   parser = Some (Signed least most);
 }
 
-abbrev pub limited : Text → Limits → (required : Bool) → (defaults : List Text) → Rule
+abbrev pub limited : Text → NumberLimits → (required : Bool) → (defaults : List Text) → Rule
 limited name limits required defaults = ranged name limits.0 limits.1 required defaults
 
 -- what clap is told of an argument
-abbrev pub rule_told : Argument → Rule
+abbrev pub rule_told : CommandArgument → Rule
 rule_told (argument.Word id help) = file id.now
 rule_told (argument.Words id help) = files id.now
 rule_told (argument.Flag name help) = flag name.now

@@ -11,7 +11,7 @@ use std::alloc::Global;
 /// An argument or option: its name, of an option with a value what the value is called, of a
 /// number its limits, and last what `--help` says of it.
 #[derive(Clone, Copy)]
-pub enum Argument {
+pub enum CommandArgument {
     /// A word by its place, which has to be there.
     Word(&'static str, &'static str),
     /// Words by their places, of which there has to be one.
@@ -23,35 +23,47 @@ pub enum Argument {
     /// `--NAME VALUE`, any number of times.
     Texts(&'static str, &'static str, &'static str),
     /// `--NAME N`, which has to be there.
-    Number(&'static str, &'static str, Limits, &'static str),
+    Number(&'static str, &'static str, NumberLimits, &'static str),
     /// `--NAME N`, which may be left out.
-    OptionalNumber(&'static str, &'static str, Limits, &'static str),
+    OptionalNumber(&'static str, &'static str, NumberLimits, &'static str),
     /// `--NAME N`, and its value where it is left out.
-    NumberByDefault(&'static str, &'static str, Limits, &'static str, &'static str),
+    NumberByDefault(&'static str, &'static str, NumberLimits, &'static str, &'static str),
 }
 
 /// The least value of a number, and its greatest.
 #[derive(Clone, Copy)]
-pub struct Limits(pub i64, pub i64);
+pub struct NumberLimits(pub i64, pub i64);
 
 /// What clap is told of an argument.
-pub fn arg_of<'a>(alloc: Global, argument: &Argument) -> Arg<'a>
+pub fn arg_of<'a>(alloc: Global, argument: &CommandArgument) -> Arg<'a>
     ensures rule { rule_of result ≡ grammar.rule_told argument.now }
     ensures local { result.global ≡ false }
 {
     match *argument {
-        Argument::Word(id, help) => word(alloc, id, ArgAction::Set, help),
-        Argument::Words(id, help) => word(alloc, id, ArgAction::Append, help),
-        Argument::Flag(name, help) => flag(alloc, name, help),
-        Argument::Text(name, value, help) => option(alloc, name, value, ArgAction::Set, help),
-        Argument::Texts(name, value, help) => option(alloc, name, value, ArgAction::Append, help),
-        Argument::Number(name, value, limits, help) => {
+        CommandArgument::Word(id, help) => word(alloc, id, ArgAction::Set, help),
+        CommandArgument::Words(id, help) => word(alloc, id, ArgAction::Append, help),
+        CommandArgument::Flag(name, help) => flag(alloc, name, help),
+        CommandArgument::Text(name, value, help) => option(
+            alloc,
+            name,
+            value,
+            ArgAction::Set,
+            help,
+        ),
+        CommandArgument::Texts(name, value, help) => option(
+            alloc,
+            name,
+            value,
+            ArgAction::Append,
+            help,
+        ),
+        CommandArgument::Number(name, value, limits, help) => {
             number(alloc, name, value, limits, true, help)
         }
-        Argument::OptionalNumber(name, value, limits, help) => {
+        CommandArgument::OptionalNumber(name, value, limits, help) => {
             number(alloc, name, value, limits, false, help)
         }
-        Argument::NumberByDefault(name, value, limits, default, help) => {
+        CommandArgument::NumberByDefault(name, value, limits, default, help) => {
             number_by_default(alloc, name, value, limits, default, help)
         }
     }
@@ -95,7 +107,7 @@ fn number<'a>(
     alloc: Global,
     name: &'a str,
     value: &'a str,
-    limits: Limits,
+    limits: NumberLimits,
     required: bool,
     help: &'a str,
 ) -> Arg<'a>
@@ -115,7 +127,7 @@ fn number_by_default<'a>(
     alloc: Global,
     name: &'a str,
     value: &'a str,
-    limits: Limits,
+    limits: NumberLimits,
     default: &'a str,
     help: &'a str,
 ) -> Arg<'a>

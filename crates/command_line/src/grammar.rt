@@ -6,14 +6,14 @@ ghost use Rattle.clap.specs.Words.{app_of, rule_of, shape_of};
 ghost use Rattle.clap.specs.declared.builder.command.Command.TheViews.{out-Command as fields_of};
 ghost use Rattle.command_line.specs.Grammar as grammar;
 
-use crate::argument::{Argument, arg_of};
+use crate::argument::{CommandArgument, arg_of};
 use crate::verb_help::{about, behind};
 use crate::verb_rows::{VerbRow, verb_rows};
 use clap::{Arg, Command};
 use std::alloc::{AllocError, Global};
 
 // What clap is told of these arguments, in their order. None is for other commands, too.
-fn args_of<'a>(alloc: Global, arguments: &[Argument]) -> Result<Vec<Arg<'a>>, AllocError>
+fn args_of<'a>(alloc: Global, arguments: &[CommandArgument]) -> Result<Vec<Arg<'a>>, AllocError>
     ensures rules { IfOk result (λ args.
         map rule_of args.items ≡ map grammar.rule_told arguments.now) }
     ensures local { IfOk result (λ args. AllByRecursion (λ a. a.global ≡ false) args.items) }

@@ -1,6 +1,6 @@
 //! The commands on manifests.
 
-use crate::argument::Argument;
+use crate::argument::CommandArgument;
 use crate::shared_arguments::{AT, ATTR, INSTALLED, MANIFEST, PORTS, TODAY, VERSION};
 use crate::verb::Verb;
 use crate::verb_rows::VerbRow;
@@ -11,24 +11,24 @@ pub const ASK: VerbRow = VerbRow {
     name: "ask",
     arguments: &[
         MANIFEST,
-        Argument::Word("REQUEST", "File of the request's body; - is standard input"),
-        Argument::Text(
+        CommandArgument::Word("REQUEST", "File of the request's body; - is standard input"),
+        CommandArgument::Text(
             "at",
             "TIME",
             "Moment, as 2026-12-01T03:00:00Z, or a Unix second; the clock's by default",
         ),
-        Argument::Texts(
+        CommandArgument::Texts(
             "cells",
             "NAME[I]=V",
             "Value of a counter, as early[0]=283, any number of times; 0 by default",
         ),
-        Argument::OptionalNumber(
+        CommandArgument::OptionalNumber(
             "operator",
             "P",
             PORTS,
             "Operator's port of a server whose counters are taken: 1 to 65535",
         ),
-        Argument::Flag(
+        CommandArgument::Flag(
             "why",
             "Tell in place of the reply why each app gets what it gets",
         ),
@@ -40,14 +40,14 @@ pub const CHECK: VerbRow = VerbRow {
     verb: Verb::Check,
     name: "check",
     arguments: &[
-        Argument::Words("MANIFEST", "Files of the manifests"),
-        Argument::Flag("strict", "End with status 1 where a warning is told"),
-        Argument::Texts(
+        CommandArgument::Words("MANIFEST", "Files of the manifests"),
+        CommandArgument::Flag("strict", "End with status 1 where a warning is told"),
+        CommandArgument::Texts(
             "allow",
             "NAME",
             "Name of a warning that doesn't count for --strict, any number of times",
         ),
-        Argument::Flag("json", "Tell all of it as a line of JSON"),
+        CommandArgument::Flag("json", "Tell all of it as a line of JSON"),
     ],
 };
 
@@ -56,8 +56,8 @@ pub const REPLAY: VerbRow = VerbRow {
     verb: Verb::Replay,
     name: "replay",
     arguments: &[
-        Argument::Word("MANIFEST", "File of the first manifest"),
-        Argument::Word("SCRIPT", "File of the script"),
+        CommandArgument::Word("MANIFEST", "File of the first manifest"),
+        CommandArgument::Word("SCRIPT", "File of the script"),
     ],
 };
 
@@ -67,26 +67,26 @@ pub const SIMULATE: VerbRow = VerbRow {
     name: "simulate",
     arguments: &[
         MANIFEST,
-        Argument::Text(
+        CommandArgument::Text(
             "against",
             "MANIFEST",
             "File of the manifest that serves now",
         ),
-        Argument::Text("svg", "FILE", "File that gets a picture, in SVG"),
-        Argument::Text(
+        CommandArgument::Text("svg", "FILE", "File that gets a picture, in SVG"),
+        CommandArgument::Text(
             "app",
             "APPID",
             "The one app that is told of; all by default",
         ),
-        Argument::Flag(
+        CommandArgument::Flag(
             "fail-on-lost",
             "End with status 1 where a bucket loses its release; wants --against",
         ),
-        Argument::Flag("json", "Tell it as a line of JSON"),
+        CommandArgument::Flag("json", "Tell it as a line of JSON"),
         VERSION,
         ATTR,
-        Argument::Flag("ping", "The clients send a ping"),
-        Argument::Flag("event", "The clients send an event"),
+        CommandArgument::Flag("ping", "The clients send a ping"),
+        CommandArgument::Flag("event", "The clients send an event"),
         TODAY,
         AT,
         INSTALLED,

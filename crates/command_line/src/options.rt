@@ -1,6 +1,6 @@
 //! What the values of arguments and options are.
 
-ghost use Rattle.std.specs.Prelude.{◌≡◌, ◌↔◌, ℕ, ◌≤◌, IfNone, IfOk, IfSome, Err};
+ghost use Rattle.std.specs.Prelude.{◌≡◌, ◌↔◌, ℕ, IfNone, IfOk, IfSome, Err};
 ghost use Rattle.std.specs.Prelude.{IsTrue, map, option_copied};
 ghost use Rattle.clap.specs.Words.{first_of, found_of, rows_of};
 ghost use Rattle.command_line.specs.Values.{HasArrays, HasBucket, HasFlag, HasPlan, HasReleases};

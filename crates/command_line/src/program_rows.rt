@@ -1,6 +1,6 @@
 //! The commands on programs and rules.
 
-use crate::argument::{Argument, Limits};
+use crate::argument::{CommandArgument, NumberLimits};
 use crate::shared_arguments::{
     ARRAYS, AT, ATTR, BYTES, INSTALLED, PROGRAM, RELEASES, TODAY, VERSION,
 };
@@ -11,7 +11,7 @@ use crate::verb_rows::VerbRow;
 pub const ASSEMBLE: VerbRow = VerbRow {
     verb: Verb::Assemble,
     name: "asm",
-    arguments: &[Argument::Word("IN", "File of assembly text"), BYTES],
+    arguments: &[CommandArgument::Word("IN", "File of assembly text"), BYTES],
 };
 
 /// The command `compile`.
@@ -19,7 +19,7 @@ pub const COMPILE: VerbRow = VerbRow {
     verb: Verb::Compile,
     name: "compile",
     arguments: &[
-        Argument::Word("IN", "File of the rule's text"),
+        CommandArgument::Word("IN", "File of the rule's text"),
         BYTES,
         RELEASES,
         ARRAYS,
@@ -46,7 +46,7 @@ pub const ORDER: VerbRow = VerbRow {
     name: "order",
     arguments: &[
         PROGRAM,
-        Argument::Word("OUT", "File that gets the program in order"),
+        CommandArgument::Word("OUT", "File that gets the program in order"),
     ],
 };
 
@@ -58,17 +58,17 @@ pub const RUN: VerbRow = VerbRow {
         PROGRAM,
         RELEASES,
         ARRAYS,
-        Argument::OptionalNumber(
+        CommandArgument::OptionalNumber(
             "bucket",
             "N",
-            Limits(0, 9999),
+            NumberLimits(0, 9999),
             "Bucket of the app, 0 to 9999; the one that its cohort names, or else 0 by default",
         ),
-        Argument::Flag("trace", "Print a line an instruction before the choice"),
+        CommandArgument::Flag("trace", "Print a line an instruction before the choice"),
         VERSION,
         ATTR,
-        Argument::Flag("ping", "The app sends a ping"),
-        Argument::Flag("event", "The app sends an event"),
+        CommandArgument::Flag("ping", "The app sends a ping"),
+        CommandArgument::Flag("event", "The app sends an event"),
         TODAY,
         AT,
         INSTALLED,

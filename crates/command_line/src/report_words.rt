@@ -5,7 +5,6 @@ ghost use Rattle.std.specs.Option.{option_copied};
 ghost use Rattle.clap.specs.Words.{first_of, found_of, rows_of};
 ghost use Rattle.command_line.specs.ReportWords.{AsksToReport, IsNamedTime, IsReportMisfit};
 ghost use Rattle.command_line.specs.ReportWords.{LacksNamedTime};
-ghost use Rattle.command_line.specs.ReportWords as specs;
 ghost use Rattle.command_line.specs.Words.{VerbAsks, VerbAsksNothing};
 
 use crate::option_misfit::{OptionMisfit, Unasked};

@@ -28,8 +28,8 @@ pub struct AskedRun<'a> {
     pub bucket: Option<Bucket>,
 }
 
-/// A check that is asked for: of these manifests. If it is strict, a warning counts whose name isn't
-/// among those that are allowed.
+/// A check that is asked for: of these manifests. If it is strict, a warning counts whose name
+/// isn't among those that are allowed.
 #[derive(Drop)]
 pub struct AskedCheck<'a> {
     pub manifests: Vec<&'a str>,

@@ -1,6 +1,6 @@
 //! The commands to a server, and on what it logs.
 
-use crate::argument::{Argument, Limits};
+use crate::argument::{CommandArgument, NumberLimits};
 use crate::shared_arguments::{MANIFEST, OPERATOR, PORTS};
 use crate::verb::Verb;
 use crate::verb_rows::VerbRow;
@@ -17,7 +17,7 @@ pub const LOAD: VerbRow = VerbRow {
     verb: Verb::Load,
     name: "load",
     arguments: &[
-        Argument::Word(
+        CommandArgument::Word(
             "PATH",
             "Manifest, as the server sees it: write its path whole, from / on",
         ),
@@ -30,22 +30,22 @@ pub const REPORT: VerbRow = VerbRow {
     verb: Verb::Report,
     name: "report",
     arguments: &[
-        Argument::Words(
+        CommandArgument::Words(
             "LOG",
             "Files of a server's log, as `serve --log` writes it; - is standard input",
         ),
-        Argument::Text(
+        CommandArgument::Text(
             "since",
             "MOMENT",
             "Lines from this time on (RFC 3339), or since so long ago: 90s, 10m, 2h, 3d",
         ),
-        Argument::Text(
+        CommandArgument::Text(
             "until",
             "MOMENT",
             "Lines before this time, by the same forms",
         ),
-        Argument::Flag("prometheus", "Print the counts as Prometheus reads them"),
-        Argument::Text(
+        CommandArgument::Flag("prometheus", "Print the counts as Prometheus reads them"),
+        CommandArgument::Text(
             "svg",
             "FILE",
             "File that gets a picture of the versions' shares over time, in SVG",
@@ -59,22 +59,27 @@ pub const SERVE: VerbRow = VerbRow {
     name: "serve",
     arguments: &[
         MANIFEST,
-        Argument::Number(
+        CommandArgument::Number(
             "port",
             "P",
             PORTS,
             "Port of the service, on loopback: 1 to 65535",
         ),
         OPERATOR,
-        Argument::Number("workers", "N", Limits(1, 64), "Worker threads: 1 to 64"),
-        Argument::NumberByDefault(
+        CommandArgument::Number(
+            "workers",
+            "N",
+            NumberLimits(1, 64),
+            "Worker threads: 1 to 64",
+        ),
+        CommandArgument::NumberByDefault(
             "timeout",
             "S",
-            Limits(1, 3600),
+            NumberLimits(1, 3600),
             "30",
             "Seconds that a connection may last: 1 to 3600",
         ),
-        Argument::Flag(
+        CommandArgument::Flag(
             "log",
             "Write the log to standard error: a JSON object a line, for each connection, start, \
              load, stop and counter",
@@ -95,6 +100,6 @@ pub const STOP: VerbRow = VerbRow {
     name: "stop",
     arguments: &[
         OPERATOR,
-        Argument::Flag("wait", "Wait until the server has ended"),
+        CommandArgument::Flag("wait", "Wait until the server has ended"),
     ],
 };

@@ -1,32 +1,35 @@
 //! The arguments and options that several commands have.
 
-use crate::argument::{Argument, Limits};
+use crate::argument::{CommandArgument, NumberLimits};
 
 /// The ports that a program may listen at, and be asked at.
-pub const PORTS: Limits = Limits(1, 65535);
+pub const PORTS: NumberLimits = NumberLimits(1, 65535);
 
 /// The file of a manifest.
-pub const MANIFEST: Argument = Argument::Word("MANIFEST", "File of the manifest");
+pub const MANIFEST: CommandArgument = CommandArgument::Word("MANIFEST", "File of the manifest");
 
 /// The file of a program's bytes.
-pub const PROGRAM: Argument = Argument::Word(
+pub const PROGRAM: CommandArgument = CommandArgument::Word(
     "IN",
     "File of the program's bytes: 8 a slot, 1 to 4096 slots",
 );
 
 /// The file that a program's bytes are written into.
-pub const BYTES: Argument = Argument::Word("OUT", "File that gets the program's bytes");
+pub const BYTES: CommandArgument = CommandArgument::Word(
+    "OUT",
+    "File that gets the program's bytes",
+);
 
 /// How many releases the app has.
-pub const RELEASES: Argument = Argument::Number(
+pub const RELEASES: CommandArgument = CommandArgument::Number(
     "releases",
     "N",
-    Limits(0, 64),
+    NumberLimits(0, 64),
     "Number of releases that the program may choose from, 0 to 64",
 );
 
 /// The arrays that the program may use.
-pub const ARRAYS: Argument = Argument::Text(
+pub const ARRAYS: CommandArgument = CommandArgument::Text(
     "arrays",
     "SPEC",
     "Arrays that the program may use, numbered from 0 and joined by commas: \
@@ -34,7 +37,7 @@ pub const ARRAYS: Argument = Argument::Text(
 );
 
 /// The operator's port.
-pub const OPERATOR: Argument = Argument::Number(
+pub const OPERATOR: CommandArgument = CommandArgument::Number(
     "operator",
     "P",
     PORTS,
@@ -42,35 +45,35 @@ pub const OPERATOR: Argument = Argument::Number(
 );
 
 /// The version of the app that asks.
-pub const VERSION: Argument = Argument::Text(
+pub const VERSION: CommandArgument = CommandArgument::Text(
     "version",
     "T",
     "Version of the app: one to four numbers joined by dots; absent by default",
 );
 
 /// Its other texts.
-pub const ATTR: Argument = Argument::Texts(
+pub const ATTR: CommandArgument = CommandArgument::Texts(
     "attr",
     "NAME=TEXT",
     "Attribute of the app: appid, brand, ap, lang, cohort or platform, each once at most",
 );
 
 /// The day on which it asks.
-pub const TODAY: Argument = Argument::Text(
+pub const TODAY: CommandArgument = CommandArgument::Text(
     "today",
     "DAY",
     "Day from 2007-01-01 on, 0 to 2919382, or its date, as 2026-12-01; 0 by default",
 );
 
 /// The moment at which it asks.
-pub const AT: Argument = Argument::Text(
+pub const AT: CommandArgument = CommandArgument::Text(
     "at",
     "TIME",
     "Moment in place of --today, as 2026-12-01T03:00:00Z, or a Unix second",
 );
 
 /// The day of its installation.
-pub const INSTALLED: Argument = Argument::Text(
+pub const INSTALLED: CommandArgument = CommandArgument::Text(
     "installed",
     "DAY",
     "Day of the installation, 0 to 4294967294, or its date; unknown by default",

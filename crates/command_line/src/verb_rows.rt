@@ -3,7 +3,7 @@
 ghost use Rattle.std.specs.Prelude.{◌≡◌, map};
 ghost use Rattle.command_line.specs.Grammar as grammar;
 
-use crate::argument::Argument;
+use crate::argument::CommandArgument;
 use crate::manifest_rows::{ASK, CHECK, REPLAY, SIMULATE};
 use crate::program_rows::{ASSEMBLE, COMPILE, EXPLAIN, LIST, ORDER, RUN, VERIFY};
 use crate::server_rows::{CELLS, LOAD, REPORT, SERVE, SHOW, STOP};
@@ -14,7 +14,7 @@ use crate::verb::Verb;
 pub struct VerbRow {
     pub verb: Verb,
     pub name: &'static str,
-    pub arguments: &'static [Argument],
+    pub arguments: &'static [CommandArgument],
 }
 
 /// Each command once, in the order of their names.

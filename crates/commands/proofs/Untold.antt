@@ -1,5 +1,5 @@
 -- Why nothing is told of an app, by what its files come to.
-use Rattle.std.proofs.Common.{List, ℕ, inr}
+use Rattle.std.proofs.Common.{inr}
 use Rattle.bounded_files.specs.Files.{KnownFiles}
 use Rattle.command_line.specs.declared.request.AskedReply.{AskedReply}
 use Rattle.dry_run.specs.Meanings.{AreOpenedWhy}

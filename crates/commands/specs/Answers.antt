@@ -22,7 +22,7 @@ use Rattle.commands.specs.declared.fault.Fault.TheVariants.{Manifest, Program, R
 use Rattle.load.specs.Loaded.{IsLoadedFrom}
 use Rattle.load.specs.Made.{IsMadeFrom}
 use Rattle.program_tools.specs.Programs.{IsProgramRefusal, IsRunRefusal}
-use Rattle.manifest_tools.specs.CheckObjects.{AreTold, AreToldRefusal}
+use Rattle.manifest_tools.specs.CheckObjects.{AreToldChecks, AreToldRefusal}
 use Rattle.manifest_tools.specs.Manifests.{HasReplayed}
 use Rattle.manifest_tools.specs.Manifests.{IsReplayRefusal}
 use Rattle.manifest_tools.specs.Simulations.{HasSimulated, IsSimulationRefusal}
@@ -45,7 +45,7 @@ module _ (known : KnownFiles) where
   IsAnswer (request.Assemble text out) (Assembled program) =
       IsAssembledFrom known text.now program.items
   IsAnswer (request.Check asked) (Checked told) =
-      AreTold known asked.json asked.strict asked.allowed.items asked.manifests.items told
+      AreToldChecks known asked.json asked.strict asked.allowed.items asked.manifests.items told
   IsAnswer (request.Compile text shape out) (Compiled slots) =
       HasCompiled known text.now shape slots
   IsAnswer (request.Explain path shape) (Explained text) =

@@ -1,6 +1,6 @@
 //! `check`: the answer to a check.
 
-ghost use Rattle.std.specs.Prelude.{◌≡◌, IfOk, IfErr};
+ghost use Rattle.std.specs.Prelude.{IfOk, IfErr};
 ghost use Rattle.commands.specs.Answers.{IsAnswer, IsRefused};
 
 use crate::answer::Answer;

@@ -15,11 +15,9 @@ use Rattle.bounded_files.specs.Files.{KnownFile}
 use Rattle.load.specs.declared.fault.LoadFault.{LoadFault}
 use Rattle.load.specs.declared.fault.LoadFault.TheVariants.{Memory}
 use Rattle.load.specs.declared.gathering.Gathered.{Gathered}
-use Rattle.load.specs.declared.made.MadeRuleset.{MadeRuleset}
 use Rattle.load.specs.Digest.{digest_of, framed_files}
 use Rattle.load.specs.Gathered.{AreTaken, IsGathered}
 use Rattle.load.specs.Judged.{GatheredIsLoaded}
-use Rattle.load.specs.Made.{IsMadeOf}
 use Rattle.load.specs.OneLoad.{HasOneLoad}
 use Rattle.ruleset.specs.Rules.{AppRule, Rules}
 use Rattle.diagnosis.specs.Check.{FailsCheck, PassesCheck}

@@ -1,5 +1,5 @@
 -- The faults of apps, one after the other, each judged by itself.
-use Rattle.std.proofs.Common.{◌≡◌, ◌≢◌, ℕ, ◌+◌, List, [], ◌∷◌, ◌++◌, Option}
+use Rattle.std.proofs.Common.{◌≡◌, ℕ, ◌+◌, List, [], ◌∷◌, ◌++◌, Option}
 use Rattle.std.proofs.Common.{sym, ap, ◌∙◌, subst, append_assoc, append-nil}
 use Rattle.diagnosis.specs.Further.{AreFaultsOf, JudgesApp, fault_of_app}
 use Rattle.diagnosis.specs.Further.AreFaultsOf.{none, next}

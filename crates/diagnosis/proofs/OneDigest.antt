@@ -10,9 +10,9 @@ use Rattle.cells.specs.declared.array.CellArray.{CellArray}
 use Rattle.manifest.specs.App.{AppEntry}
 use Rattle.manifest.specs.declared.app.ProgramSource.{ProgramSource}
 use Rattle.load.specs.Digest.{digest_of, framed, framed_file, framed_files}
-use Rattle.load.specs.Gathered.{AreTaken, IsGatheredApp}
-use Rattle.load.specs.Gathered.AreTaken.{all_read, next_read, not_read}
-use Rattle.load.specs.Kept.{IsKeptFrom, Keeps, long_count, most_of}
+use Rattle.load.specs.Gathered.{AreTaken}
+use Rattle.load.specs.Gathered.AreTaken.{next_read, not_read}
+use Rattle.load.specs.Kept.{IsKeptFrom, Retains, long_count, most_of}
 use Rattle.load.specs.Source.{Given}
 use Rattle.load.specs.declared.gathering.GatheredApp.{GatheredApp}
 use Rattle.load.specs.declared.kept.KeptFile.{KeptFile}
@@ -23,8 +23,8 @@ record IsKeptAlike (a b : KeptFile) : Type 0 where
   pub framed_are : framed_file a ≡ framed_file b
   pub long_is : long_count a ≡ long_count b
 
-kept_once : (most : ℕ) (given : Given) (a b : KeptFile) → Keeps most given a → Keeps most given b
-    → IsKeptAlike a b
+kept_once : (most : ℕ) (given : Given) (a b : KeptFile) → Retains most given a
+    → Retains most given b → IsKeptAlike a b
 kept_once most None Unread Unread h k = record { framed_are = refl; long_is = refl }
 kept_once most None Unread (Whole w) h k = absurd k
 kept_once most None Unread (Longer w count is_text) h k = absurd k
@@ -61,7 +61,7 @@ module _ (files : List ℕ → Option KnownFile) where
       → IsKeptFrom (Some files) from b → IsKeptAlike a b
   kept_alike from a b h k =
       kept_once (most_of from) k.0 a b
-      (subst (λ (given : Given). Keeps (most_of from) given a) (sym h.1 ∙ k.1) h.2) k.2
+      (subst (λ (given : Given). Retains (most_of from) given a) (sym h.1 ∙ k.1) h.2) k.2
 
   module _ (directory other : List CellArray) (numbers more : List ArrayNo) where
     pub files_once : (long : ℕ) (entries : List AppEntry) (apps others : List GatheredApp)

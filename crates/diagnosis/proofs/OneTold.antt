@@ -3,7 +3,7 @@ use Rattle.std.proofs.Common.{◌≡◌, ℕ, ◌+◌, List, [], ◌∷◌, ◌+
 use Rattle.std.proofs.Common.{Ok, refl, sym, ap, ◌∙◌, subst}
 use Rattle.std.proofs.lemmas.Option.{same_Some}
 use Rattle.std.specs.declared.alloc.Global.{Global}
-use Rattle.bounded_files.specs.Files.{KnownFile, bytes_of}
+use Rattle.bounded_files.specs.Files.{KnownFile}
 use Rattle.acceptance.specs.Rule.{IsTextOf}
 use Rattle.bpf_semantics.specs.Program.{ShapedProgram}
 use Rattle.cells.specs.Arrays.{AppShape}
@@ -18,10 +18,10 @@ use Rattle.manifest.specs.Manifest.{Manifest}
 use Rattle.manifest.specs.declared.app.ProgramSource.{ProgramSource}
 use Rattle.manifest.specs.declared.app.ProgramSource.TheVariants.{Program, Rule}
 use Rattle.ruleset.specs.Rules.{AppRule}
-use Rattle.load.specs.Gathered.{AreGathered, no_app, next_app, IsGathered, IsGatheredApp}
-use Rattle.load.specs.Judged.{AreJudged, no_program, next_program, IsJudged, app_of, apps_of}
-use Rattle.load.specs.Kept.{IsKeptFrom, Keeps, most_of}
-use Rattle.load.specs.Source.{Given, file_of}
+use Rattle.load.specs.Gathered.{AreGathered, next_app, IsGathered, IsGatheredApp}
+use Rattle.load.specs.Judged.{AreJudged, next_program, IsJudged, app_of, apps_of}
+use Rattle.load.specs.Kept.{IsKeptFrom, Retains, most_of}
+use Rattle.load.specs.Source.{Given}
 use Rattle.load.specs.declared.gathering.Gathered.{Gathered}
 use Rattle.load.specs.declared.gathering.GatheredApp.{GatheredApp}
 use Rattle.load.specs.declared.kept.KeptFile.{KeptFile}
@@ -34,7 +34,7 @@ use Rattle.warnings.specs.Asked.{all_room, room_left, rule_warnings}
 use Rattle.warnings.specs.Asking.{RuleOfApp}
 use Rattle.warnings.specs.declared.warning.Warning.{Warning}
 
-kept_whole : (most : ℕ) (given : Given) (v : Vec ℕ Global) → Keeps most given (Whole v)
+kept_whole : (most : ℕ) (given : Given) (v : Vec ℕ Global) → Retains most given (Whole v)
     → given ≡ Some v.items
 kept_whole most None v k = absurd k
 kept_whole most (Some bytes) v k = ap (λ b. Some b) (sym k.0)
@@ -83,9 +83,9 @@ module _ (verdict : (s : AppShape) (text : Text) → RuleHasOneVerdict s text)
       → b ≡ Whole w → v.items ≡ w.items
   same_bytes from a b v w h k is are =
       let first = kept_whole (most_of from) h.0 v
-      (subst (λ (x : KeptFile). Keeps (most_of from) h.0 x) is h.2) in
+      (subst (λ (x : KeptFile). Retains (most_of from) h.0 x) is h.2) in
       let second = kept_whole (most_of from) k.0 w
-      (subst (λ (x : KeptFile). Keeps (most_of from) k.0 x) are k.2) in
+      (subst (λ (x : KeptFile). Retains (most_of from) k.0 x) are k.2) in
       same_Some v.items w.items (sym first ∙ sym h.1 ∙ k.1 ∙ second)
 
   one_rule : (bytes : List ℕ) (s : AppShape) (rule other : List Statement)

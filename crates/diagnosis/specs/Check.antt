@@ -52,9 +52,9 @@ module _ (known : KnownFiles) (bytes : List ℕ) where
     pub arrays_are : told.arrays.items ≡ gathered.manifest.arrays
     pub apps_are : told.apps.items ≡ rules.apps
 
-  -- what was gathered of one that has this fault, and how many apps there are behind it: its arrays,
-  -- if it has the fault whatever its files give; or its apps, too, the first of which that has no
-  -- program has this fault
+  -- what was gathered of one that has this fault, and how many apps there are behind it: its
+  -- arrays, if it has the fault whatever its files give; or its apps, too, the first of which that
+  -- has no program has this fault
   pub data IsSeen (fault : LoadFault) : List Declaration → List GatheredApp → (unread : ℕ)
       → Type 0 where
     no_file : {arrays : List Declaration} → ((any : KnownFiles) → IsLoadFault any [] bytes fault)

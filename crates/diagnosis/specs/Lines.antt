@@ -33,7 +33,7 @@ refused_lines own further left_out read unread =
     own ++ flat_map fault_lines further ++ more_line left_out ++ unread_lines read unread
 
 -- all lines; or for want of memory those of the first fault alone, or none
-abbrev pub AreLines :
+abbrev pub AreRefusalLines :
     (own : List ℕ) → List ToldFault → (left_out read unread : ℕ) → List ℕ → Type 0
-AreLines own further left_out read unread text =
+AreRefusalLines own further left_out read unread text =
     (text ≡ refused_lines own further left_out read unread) ⊎ ((text ≡ own) ⊎ (text ≡ []))

@@ -2,7 +2,7 @@
 -- these.
 use Rattle.std.specs.Prelude.{◌≡◌, ◌⊎◌, ℕ, ◌-◌, List, [], length, take, map, All, string_bytes}
 use Rattle.diagnosis.specs.Further.{AreFurther}
-use Rattle.diagnosis.specs.Lines.{AreLines}
+use Rattle.diagnosis.specs.Lines.{AreRefusalLines}
 use Rattle.diagnosis.specs.Reason.{IsReason}
 use Rattle.diagnosis.specs.declared.told.Refused.{Refused}
 use Rattle.diagnosis.specs.declared.told.ToldFault.{ToldFault}
@@ -48,5 +48,5 @@ module _ (parsed : Parsed) (arrays : List Declaration) (apps : List GatheredApp)
     pub further : TellsOthers r.fault r.further.items r.left_out
     pub read_is : r.read ≡ length apps
     pub unread_is : r.unread ≡ unread
-    pub lines : AreLines (string_bytes r.own) r.further.items r.left_out r.read r.unread
+    pub lines : AreRefusalLines (string_bytes r.own) r.further.items r.left_out r.read r.unread
         (string_bytes r.reason)

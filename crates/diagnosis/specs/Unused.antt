@@ -1,7 +1,7 @@
 -- Arrays that no program uses. A program knows an array by its number alone, in a wide load of the
 -- array or of one of its cells; so does that of a rule.
 use Rattle.std.specs.Prelude.{ℕ, ◌+◌, ℤ, pos, negsuc, List, [], ◌∷◌, ◌++◌}
-use Rattle.std.specs.Prelude.{Bool, true, false, not, ◌==◌, Option, Some, None}
+use Rattle.std.specs.Prelude.{Bool, false, not, ◌==◌, Option, Some, None}
 use Rattle.std.specs.List.{list_any}
 use Rattle.bpf_insn.specs.declared.insn.Insn.{Insn}
 use Rattle.bpf_insn.specs.declared.insn.Insn.TheVariants.{Wide}

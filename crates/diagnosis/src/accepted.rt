@@ -1,6 +1,7 @@
 //! What is told of a manifest that is accepted.
 
-ghost use Rattle.std.specs.Prelude.{◌≡◌, ◌++◌, flat_map, All, IfOk, OnOk, string_bytes};
+ghost use Rattle.std.specs.Prelude.{◌≡◌, flat_map, All, IfOk, OnOk, string_bytes};
+ghost use Rattle.printing.specs.Pushed.{Puts};
 ghost use Rattle.diagnosis.specs.Check.{PassesApps};
 ghost use Rattle.diagnosis.specs.Texts.{accepted_text, array_line, printed_app_line};
 ghost use Rattle.load.specs.Gathered.{HasItsReleases};
@@ -78,8 +79,7 @@ fn tell_loaded(
 }
 
 fn tell_arrays(text: &mut String, arrays: &[ArrayDeclaration]) -> Result<(), AllocError>
-    ensures { OnOk result
-        (string_bytes text.new ≡ string_bytes text.old ++ flat_map array_line arrays.now) }
+    ensures { OnOk result (Puts text.old text.new (flat_map array_line arrays.now)) }
 {
     for array in arrays {
         tell_array(text, array)?;
@@ -88,15 +88,13 @@ fn tell_arrays(text: &mut String, arrays: &[ArrayDeclaration]) -> Result<(), All
 }
 
 fn tell_array(text: &mut String, array: &ArrayDeclaration) -> Result<(), AllocError>
-    ensures { OnOk result
-        (string_bytes text.new ≡ string_bytes text.old ++ array_line array.now) }
+    ensures { OnOk result (Puts text.old text.new (array_line array.now)) }
 {
     writeln!(text, "array {array}")
 }
 
 fn tell_apps(text: &mut String, apps: &[App]) -> Result<(), AllocError>
-    ensures { OnOk result
-        (string_bytes text.new ≡ string_bytes text.old ++ flat_map printed_app_line apps.now) }
+    ensures { OnOk result (Puts text.old text.new (flat_map printed_app_line apps.now)) }
 {
     for app in apps {
         tell_app(text, app)?;
@@ -105,8 +103,7 @@ fn tell_apps(text: &mut String, apps: &[App]) -> Result<(), AllocError>
 }
 
 fn tell_app(text: &mut String, app: &App) -> Result<(), AllocError>
-    ensures { OnOk result
-        (string_bytes text.new ≡ string_bytes text.old ++ printed_app_line app.now) }
+    ensures { OnOk result (Puts text.old text.new (printed_app_line app.now)) }
 {
     let program: &Verified = app.program();
     let appid = Printed(app.appid());

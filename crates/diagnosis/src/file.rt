@@ -1,6 +1,7 @@
 //! The file of an app, and the place in it at which its fault lies.
 
-ghost use Rattle.std.specs.Prelude.{◌≡◌, ◌++◌, OnOk, IfSome, string_bytes};
+ghost use Rattle.std.specs.Prelude.{◌≡◌, OnOk, IfSome, string_bytes};
+ghost use Rattle.printing.specs.Pushed.{Puts};
 ghost use Rattle.diagnosis.specs.Reason.{IsFileReason, IsTold};
 ghost use Rattle.diagnosis.specs.Shown.{ShowsPlace};
 ghost use Rattle.diagnosis.specs.Texts.{file_line, source_key};
@@ -44,8 +45,7 @@ fn tell_app(alloc: Global, number: usize, place: Place, app: &GatheredApp) -> Op
 }
 
 fn tell_name(text: &mut String, app: usize, source: &ProgramSource) -> Result<(), AllocError>
-    ensures { OnOk result
-        (string_bytes text.new ≡ string_bytes text.old ++ file_line app source.now) }
+    ensures { OnOk result (Puts text.old text.new (file_line app source.now)) }
 {
     let key = key_of(source);
     let file = Printed(file_of(source));

@@ -1,8 +1,9 @@
 //! The lines behind that of a refusal.
 
-ghost use Rattle.std.specs.Prelude.{◌≡◌, ◌++◌, ◌⊎◌, [], flat_map, IfOk, OnOk, string_bytes};
+ghost use Rattle.std.specs.Prelude.{◌≡◌, ◌⊎◌, [], flat_map, IfOk, OnOk, string_bytes};
+ghost use Rattle.printing.specs.Pushed.{Puts};
 ghost use Rattle.diagnosis.specs.Lines.{fault_lines, more_line, refused_lines, unread_lines};
-ghost use Rattle.diagnosis.specs.Lines.{AreLines, refusal_line};
+ghost use Rattle.diagnosis.specs.Lines.{AreRefusalLines, refusal_line};
 ghost use Rattle.diagnosis.specs.Texts as texts;
 
 use crate::told::ToldFault;
@@ -20,7 +21,7 @@ pub(crate) fn lines_of(
     read: usize,
     unread: usize,
 ) -> String
-    ensures { AreLines own.now further.now left_out read unread (string_bytes result) }
+    ensures { AreRefusalLines own.now further.now left_out read unread (string_bytes result) }
 {
     match all_lines(alloc, own, further, left_out, read, unread) {
         Ok(text) => text,
@@ -57,8 +58,7 @@ fn all_lines(
 }
 
 fn push_faults(text: &mut String, further: &[ToldFault]) -> Result<(), AllocError>
-    ensures { OnOk result
-        (string_bytes text.new ≡ string_bytes text.old ++ flat_map fault_lines further.now) }
+    ensures { OnOk result (Puts text.old text.new (flat_map fault_lines further.now)) }
 {
     let mut left = further;
     while let [told, others @ ..] = left {
@@ -69,8 +69,7 @@ fn push_faults(text: &mut String, further: &[ToldFault]) -> Result<(), AllocErro
 }
 
 fn push_fault(text: &mut String, told: &ToldFault) -> Result<(), AllocError>
-    ensures { OnOk result
-        (string_bytes text.new ≡ string_bytes text.old ++ fault_lines told.now) }
+    ensures { OnOk result (Puts text.old text.new (fault_lines told.now)) }
 {
     push_refusal(text, &told.fault)?;
     text.push_str(told.reason.as_str())
@@ -78,15 +77,14 @@ fn push_fault(text: &mut String, told: &ToldFault) -> Result<(), AllocError>
 
 // The line of a refusal, as `refused M6 Rule L2 Shape at line 3 in app 3`.
 fn push_refusal(text: &mut String, fault: &LoadFault) -> Result<(), AllocError>
-    ensures { OnOk result
-        (string_bytes text.new ≡ string_bytes text.old ++ refusal_line fault.now) }
+    ensures { OnOk result (Puts text.old text.new (refusal_line fault.now)) }
 {
     writeln!(text, "refused {fault}")
 }
 
 // How many faults there are more, if there are any.
 fn push_more(text: &mut String, count: usize) -> Result<(), AllocError>
-    ensures { OnOk result (string_bytes text.new ≡ string_bytes text.old ++ more_line count) }
+    ensures { OnOk result (Puts text.old text.new (more_line count)) }
 {
     if count == 0 {
         return Ok(());
@@ -96,8 +94,7 @@ fn push_more(text: &mut String, count: usize) -> Result<(), AllocError>
 
 // That no further file is read, if there are apps left.
 fn push_unread(text: &mut String, read: usize, unread: usize) -> Result<(), AllocError>
-    ensures { OnOk result
-        (string_bytes text.new ≡ string_bytes text.old ++ unread_lines read unread) }
+    ensures { OnOk result (Puts text.old text.new (unread_lines read unread)) }
 {
     if unread == 0 {
         return Ok(());
@@ -106,8 +103,7 @@ fn push_unread(text: &mut String, read: usize, unread: usize) -> Result<(), Allo
 }
 
 fn push_unread_behind(text: &mut String, app: usize) -> Result<(), AllocError>
-    ensures { OnOk result
-        (string_bytes text.new ≡ string_bytes text.old ++ texts.unread_line app) }
+    ensures { OnOk result (Puts text.old text.new (texts.unread_line app)) }
 {
     let said = unread_said();
     writeln!(text, "behind app {app} {said}")

@@ -2,6 +2,7 @@
 
 ghost use Rattle.std.specs.Prelude.{◌≡◌, ◌++◌, ◌⊎◌, []};
 ghost use Rattle.std.specs.Prelude.{OnOk, IfSome, string_bytes};
+ghost use Rattle.printing.specs.Pushed.{Puts};
 ghost use Rattle.diagnosis.specs.Reason.{IsCellsReason, IsManifestReason, IsReason, IsTomlReason};
 ghost use Rattle.diagnosis.specs.Reason as specs;
 ghost use Rattle.diagnosis.specs.Texts.{cells_line};
@@ -197,8 +198,7 @@ fn tell_array(alloc: Global, arrays: &[ArrayDeclaration], number: usize) -> Opti
 }
 
 fn tell_cells(text: &mut String, number: usize, name: &str) -> Result<(), AllocError>
-    ensures { OnOk result
-        (string_bytes text.new ≡ string_bytes text.old ++ cells_line number name.now) }
+    ensures { OnOk result (Puts text.old text.new (cells_line number name.now)) }
 {
     let passes = passes_cells();
     writeln!(text, "array[{number}].length: {name} {passes}")

@@ -48,7 +48,8 @@ module _ (rules : Rules) (moment : ℤ) (body old new : List ℕ) where
   pub of_fault : (A : Type 0) (fault : OmahaFault)
       → (let read : Result Request OmahaFault = Err fault in
       read ≢ Err Memory → read ≡ request_in body) → new ≡ old
-      → (let r : Result (Vec ℕ A) OmahaFault = Err fault in IsFoundReply rules moment body old new r)
+      → (let r : Result (Vec ℕ A) OmahaFault = Err fault in
+      IsFoundReply rules moment body old new r)
   of_fault A Json reads same = (sym (reads (λ e. cc)), same)
   of_fault A Shape reads same = (sym (reads (λ e. cc)), same)
   of_fault A Protocol reads same = (sym (reads (λ e. cc)), same)

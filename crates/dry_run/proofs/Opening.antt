@@ -21,7 +21,7 @@ use Rattle.load.specs.declared.made.MadeRuleset.{MadeRuleset}
 use Rattle.manifest.specs.declared.app.ProgramSource.{ProgramSource}
 use Rattle.manifest.specs.declared.app.ProgramSource.TheVariants as source
 use Rattle.ruleset.specs.Rules.{AppRule, Rules}
-use Rattle.dry_run.specs.Files.{IsBodyFault, IsLoadable, IsOpenFault}
+use Rattle.dry_run.specs.Files.{IsBodyFault, ComesToRuleset, IsOpenFault}
 use Rattle.dry_run.specs.KeptRules.{AreReadFrom, IsReadOf, nothing_read, next_read}
 use Rattle.dry_run.specs.Meanings.{AreRulesKept, HasMeaning, HaveMeanings, IsLoadedWhy}
 use Rattle.dry_run.specs.Meanings.{IsRuleKept, KnownRule, no_meaning, next_meaning, no_rule}
@@ -30,7 +30,7 @@ use Rattle.dry_run.specs.declared.fault.DryRunFault.{DryRunFault}
 use Rattle.dry_run.specs.declared.fault.DryRunFault.TheVariants as fault
 
 body_fault : (known : KnownFiles) (manifest request : List ℕ) (why : DryRunFault)
-    → IsLoadable known manifest → IsBodyFault known request why
+    → ComesToRuleset known manifest → IsBodyFault known request why
     → IsOpenFault known manifest request why
 body_fault known manifest request (fault.Resource File) is given = (is, given)
 body_fault known manifest request (fault.Resource resource.Memory) is given = tt

@@ -27,7 +27,7 @@ pub record AreOpened (known : KnownFiles) (manifest request : List ℕ) (rules :
   pub short : length body ≤ most_body
 
 -- a body
-pub record IsBodyOf (known : KnownFiles) (request body : List ℕ) : Type 0 where
+pub record IsBodyIn (known : KnownFiles) (request body : List ℕ) : Type 0 where
   pub given : Gives known (body_path request) (Some body)
   pub short : length body ≤ most_body
 
@@ -39,7 +39,7 @@ IsBodyFault known request fault.TooLarge = HasMore most_body known (body_path re
 IsBodyFault known request why = ⊥
 
 -- the manifest comes to a ruleset
-pub record IsLoadable (known : KnownFiles) (manifest : List ℕ) : Type 0 where
+pub record ComesToRuleset (known : KnownFiles) (manifest : List ℕ) : Type 0 where
   pub rules : Rules
   pub arrays : List CellArray
   pub loaded : IsLoadedFrom known manifest [] rules arrays
@@ -48,8 +48,8 @@ pub record IsLoadable (known : KnownFiles) (manifest : List ℕ) : Type 0 where
 abbrev pub IsOpenFault : KnownFiles → (manifest request : List ℕ) → DryRunFault → Type 0
 IsOpenFault known manifest request (fault.Manifest why) = RefusesPath known manifest [] why
 IsOpenFault known manifest request (fault.Resource File) =
-    IsLoadable known manifest × Gives known (body_path request) None
+    ComesToRuleset known manifest × Gives known (body_path request) None
 IsOpenFault known manifest request (fault.Resource resource.Memory) = Unit {0}
 IsOpenFault known manifest request fault.TooLarge =
-    IsLoadable known manifest × HasMore most_body known (body_path request)
+    ComesToRuleset known manifest × HasMore most_body known (body_path request)
 IsOpenFault known manifest request why = ⊥

@@ -1,6 +1,7 @@
 //! The lines round the reasons of an app: who it is, and what it gets.
 
 ghost use Rattle.std.specs.Prelude.{◌≡◌, ◌++◌, OnOk, string_bytes, option_copied};
+ghost use Rattle.printing.specs.Pushed.{Puts};
 ghost use Rattle.printing.specs.Printed.{printed};
 ghost use Rattle.dry_run.specs.AppLines as specs;
 
@@ -14,8 +15,7 @@ use trace::Jump;
 
 /// Adds the lines of an app that the ruleset doesn't know.
 pub(crate) fn push_unknown(text: &mut String, appid: &str) -> Result<(), AllocError>
-    ensures { OnOk result
-        (string_bytes text.new ≡ string_bytes text.old ++ specs.unknown_line appid.now) }
+    ensures { OnOk result (Puts text.old text.new (specs.unknown_line appid.now)) }
 {
     text.push_str("app ")?;
     push_quoted(text, appid)?;
@@ -78,8 +78,7 @@ fn bucket_source(flags: u8) -> &'static str
 }
 
 fn push_bucket(text: &mut String, context: Context) -> Result<(), AllocError>
-    ensures { OnOk result
-        (string_bytes text.new ≡ string_bytes text.old ++ specs.bucket_part context) }
+    ensures { OnOk result (Puts text.old text.new (specs.bucket_part context)) }
 {
     let bucket = context.bucket;
     let day = context.today;
@@ -103,8 +102,7 @@ pub(crate) fn push_program(
 }
 
 fn push_jump(text: &mut String, last_jump: Option<Jump>) -> Result<(), AllocError>
-    ensures { OnOk result
-        (string_bytes text.new ≡ string_bytes text.old ++ specs.jump_line last_jump) }
+    ensures { OnOk result (Puts text.old text.new (specs.jump_line last_jump)) }
 {
     match last_jump {
         Some(jump) => push_taken(text, jump),
@@ -113,8 +111,7 @@ fn push_jump(text: &mut String, last_jump: Option<Jump>) -> Result<(), AllocErro
 }
 
 fn push_taken(text: &mut String, jump: Jump) -> Result<(), AllocError>
-    ensures { OnOk result
-        (string_bytes text.new ≡ string_bytes text.old ++ specs.taken_line jump) }
+    ensures { OnOk result (Puts text.old text.new (specs.taken_line jump)) }
 {
     let from = jump.from;
     let to = jump.to;
@@ -123,8 +120,7 @@ fn push_taken(text: &mut String, jump: Jump) -> Result<(), AllocError>
 }
 
 fn push_slots(text: &mut String, slots: usize) -> Result<(), AllocError>
-    ensures { OnOk result
-        (string_bytes text.new ≡ string_bytes text.old ++ specs.slots_part slots) }
+    ensures { OnOk result (Puts text.old text.new (specs.slots_part slots)) }
 {
     text.push_str(program_words())?;
     write!(text, "{slots} slots")
@@ -170,8 +166,7 @@ fn push_release(text: &mut String, choice: u8, release: Option<&Release>) -> Res
 }
 
 fn push_update(text: &mut String, version: &str) -> Result<(), AllocError>
-    ensures { OnOk result
-        (string_bytes text.new ≡ string_bytes text.old ++ specs.update_line version.now) }
+    ensures { OnOk result (Puts text.old text.new (specs.update_line version.now)) }
 {
     let version = Printed(version);
     writeln!(text, "  update to {version}")

@@ -52,7 +52,7 @@ pub fn open_files<D: Disk>(
 
 /// Reads a body, of a file of any kind; `-` is standard input.
 pub(crate) fn read_body<D: Disk>(disk: &D, request: &str) -> Result<Vec<u8>, DryRunFault>
-    ensures body { IfOk result (λ body. specs.IsBodyOf (D.known disk.now) request.now body.items) }
+    ensures body { IfOk result (λ body. specs.IsBodyIn (D.known disk.now) request.now body.items) }
     ensures fault { IfErr result (specs.IsBodyFault (D.known disk.now) request.now) }
 {
     match disk.read(body_path(request), MOST_BODY) {

@@ -2,8 +2,9 @@
 //! too long: the body's JSON is read once more for them, since who is shown the apps of a request
 //! promises nothing.
 
-ghost use Rattle.std.specs.Prelude.{◌≡◌, ◌++◌, [], IfOk, OnOk, map, option_map, string_bytes};
+ghost use Rattle.std.specs.Prelude.{◌≡◌, [], IfOk, OnOk, map, option_map, string_bytes};
 ghost use Rattle.std.specs.Prelude.{slice_index_or};
+ghost use Rattle.printing.specs.Pushed.{Puts};
 ghost use Rattle.serde_json.specs.View.{view, items_view};
 ghost use Rattle.omaha_json.specs.Request as requests;
 ghost use Rattle.dry_run.specs.IgnoredLines as specs;
@@ -159,8 +160,7 @@ fn note_of(alloc: Global, app: &Value) -> Result<String, AllocError>
 // Of the members that have to be texts.
 #[tactic(auto, unfolding(crate::specs::IgnoredLines::texts_note))]
 fn push_texts(note: &mut String, app: &Value) -> Result<(), AllocError>
-    ensures { OnOk result
-        (string_bytes note.new ≡ string_bytes note.old ++ specs.texts_note (view app.now)) }
+    ensures { OnOk result (Puts note.old note.new (specs.texts_note (view app.now))) }
 {
     push_text_note(note, "  ", "version", app.get("version"))?;
     push_attribute_note(note, "  ", "brand", app.get("brand"))?;

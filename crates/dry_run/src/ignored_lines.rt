@@ -2,6 +2,7 @@
 //! is wanted in its place.
 
 ghost use Rattle.std.specs.Prelude.{◌≡◌, ◌++◌, OnOk, option_map, string_bytes};
+ghost use Rattle.printing.specs.Pushed.{Puts};
 ghost use Rattle.serde_json.specs.View.{view};
 ghost use Rattle.dry_run.specs.IgnoredLines as specs;
 
@@ -159,8 +160,7 @@ fn push_ignored(note: &mut String, name: &str, kind: &str) -> Result<(), AllocEr
 }
 
 fn push_wanted(note: &mut String, wanted: &str) -> Result<(), AllocError>
-    ensures { OnOk result
-        (string_bytes note.new ≡ string_bytes note.old ++ specs.wanted_part wanted.now) }
+    ensures { OnOk result (Puts note.old note.new (specs.wanted_part wanted.now)) }
 {
     writeln!(note, ", where {wanted} is wanted")
 }
@@ -196,8 +196,7 @@ fn push_length_line(
 }
 
 fn push_length(note: &mut String, name: &str, bytes: usize) -> Result<(), AllocError>
-    ensures { OnOk result
-        (string_bytes note.new ≡ string_bytes note.old ++ specs.length_part name.now bytes) }
+    ensures { OnOk result (Puts note.old note.new (specs.length_part name.now bytes)) }
 {
     write!(note, "ignored: {name} has {bytes}")
 }

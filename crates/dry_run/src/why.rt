@@ -9,7 +9,7 @@ ghost use Rattle.dry_run.specs.Told.{IsUnanswered};
 ghost use Rattle.dry_run.specs.Why as specs;
 
 use crate::app_lines::{push_head, push_offer, push_unknown};
-use crate::app_runs::{Course, tell_course};
+use crate::app_runs::{ToldChoice, tell_course};
 use crate::fault::DryRunFault;
 use crate::ignored::{Notes, note_at, notes_in};
 use crate::told::counters_as_told;
@@ -203,7 +203,7 @@ fn run_app(
 {
     let mut text = String::new(alloc);
     push_head(&mut text, app, attrs.context())?;
-    let Course {
+    let ToldChoice {
         choice,
         text: course,
     } = tell_course(alloc, known.program(), rule, attrs, counters)?;

@@ -1,7 +1,7 @@
 //! The programs under `examples/`, each assembled, verified and run for the apps of a table, one of
-//! them explained, the rules, the server's example, and simulations. What is printed is compared with
-//! the file `stdout`, whose choices and counts were worked out by hand, and those of simulations by
-//! another program, which hashes the buckets.
+//! them explained, the rules, the server's example, and simulations. What is printed is compared
+//! with the file `stdout`, whose choices and counts were worked out by hand, and those of
+//! simulations by another program, which hashes the buckets.
 #![tactic(auto)]
 
 mod explained;

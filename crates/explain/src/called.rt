@@ -1,6 +1,6 @@
 //! What is said of a call that isn't allowed: what its helper takes, and what it is given.
 
-ghost use Rattle.std.specs.Prelude.{◌≡◌, OnOk};
+ghost use Rattle.std.specs.Prelude.{OnOk};
 ghost use Rattle.bpf_text.specs.Listing.{Appends};
 ghost use Rattle.bpf_semantics.specs.Helpers.{called_prototype};
 ghost use Rattle.explain.specs.Sentences as specs;

@@ -1,8 +1,7 @@
 //! One line: an instruction, and what is known before it.
 
-ghost use Rattle.std.specs.Prelude.{◌≡◌, ◌++◌, ◌<◌, ℕ, List, codes, OnOk, length, option_copied};
-ghost use Rattle.std.specs.Prelude.{string_bytes, replicate};
-ghost use Rattle.bpf_text.specs.Listing.{bare_line, Appends};
+ghost use Rattle.std.specs.Prelude.{◌<◌, OnOk, option_copied};
+ghost use Rattle.bpf_text.specs.Listing.{Appends};
 ghost use Rattle.explain.specs.Lines as specs;
 
 use crate::known::{push_registers, push_stack};

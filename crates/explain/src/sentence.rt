@@ -1,6 +1,6 @@
 //! Why a rule refuses an instruction: what the rule asks, and what is known instead.
 
-ghost use Rattle.std.specs.Prelude.{◌≡◌, OnOk};
+ghost use Rattle.std.specs.Prelude.{OnOk};
 ghost use Rattle.bpf_text.specs.Listing.{Appends};
 ghost use Rattle.explain.specs.Sentences as specs;
 

@@ -1,6 +1,6 @@
 //! A whole program, place by place, by the entries that the verifier judges by.
 
-ghost use Rattle.std.specs.Prelude.{◌≡◌, ◌<◌, ◌≤◌, ◌++◌, ◌+◌, IfOk, OnOk, Some, None, length};
+ghost use Rattle.std.specs.Prelude.{◌≡◌, ◌<◌, ◌+◌, IfOk, OnOk, Some, None};
 ghost use Rattle.std.specs.Prelude.{string_bytes, option_copied};
 ghost use Rattle.std.specs.Prelude.{Ok};
 ghost use Rattle.bpf_text.specs.Assembly.{Assembles};

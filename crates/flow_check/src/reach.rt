@@ -1,7 +1,7 @@
 //! The places that are reached. Every edge leads forward, so one upward sweep finds them: when it
 //! reaches a place, it has passed all edges that lead there.
 
-ghost use Rattle.std.specs.Prelude.{◌≡◌, true, false, ℕ, ◌<◌, ◌≤◌, ◌∷◌, ◌-◌, IfOk, IfSome};
+ghost use Rattle.std.specs.Prelude.{◌≡◌, true, false, ℕ, ◌<◌, ◌≤◌, ◌-◌, IfOk, IfSome};
 ghost use Rattle.std.specs.Prelude.{All, Contains, length, replicate, slice_set};
 ghost use Rattle.flow_check.specs.Edges.{successors};
 ghost use Rattle.flow_check.specs.Flow.{LeadsAhead};

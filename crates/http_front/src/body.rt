@@ -1,7 +1,7 @@
 //! The body is read: into room that is made once, as much as the head's length says.
 
-ghost use Rattle.std.specs.Prelude.{◌≡◌, ◌+◌, ◌-◌, ◌^◌, ◌<◌, ◌≤◌, ◌++◌, length, drop};
-ghost use Rattle.std.specs.Prelude.{Ok, Err, IfOk};
+ghost use Rattle.std.specs.Prelude.{◌+◌, ◌-◌, ◌^◌, ◌<◌, ◌≤◌, length};
+ghost use Rattle.std.specs.Prelude.{Ok, Err};
 ghost use Rattle.http_front.specs.Post.{CountsDevice, post_answer};
 ghost use Rattle.http_front.specs.Reading.{IsBodyBehind, FillsBody};
 

@@ -1,6 +1,6 @@
 //! The header lines of a name, and the length of the body that they tell.
 
-ghost use Rattle.std.specs.Prelude.{◌≡◌, ℕ, ◌≤◌, List, length, map, All, IfErr, option_copied};
+ghost use Rattle.std.specs.Prelude.{◌≡◌, length, map, All, IfErr, option_copied};
 ghost use Rattle.std.specs.List.{list_all};
 ghost use Rattle.httparse.specs.Spans.{header_bytes, IsHeaderWithin};
 ghost use Rattle.http_front.specs.Length.{writes, first_of, told_length};

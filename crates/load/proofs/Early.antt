@@ -3,7 +3,7 @@ use Rattle.std.proofs.Common.{◌≡◌, ℕ, List, [], length, arith, ap, refl,
 use Rattle.cells.specs.Directory.{Declaration}
 use Rattle.cells.specs.declared.array.CellArray.{CellArray}
 use Rattle.manifest.specs.Manifest.{ReadsManifest}
-use Rattle.manifest.specs.Parsed.{IsParsed, IsRefused}
+use Rattle.manifest.specs.Parsed.{IsParsed, IsNoManifest}
 use Rattle.manifest.specs.declared.fault.ManifestFault.{ManifestFault}
 use Rattle.manifest.specs.declared.fault.ManifestFault.TheVariants as unread
 use Rattle.manifest.specs.declared.refused.Parsed.{Parsed}
@@ -45,7 +45,7 @@ parsed_as bytes unread.Memory (Error error) h = absurd h
 parsed_as bytes unread.Memory Nothing h = refl
 
 pub early : (old : List CellArray) (bytes : List ℕ) (refused : RefusedManifest) (u : Ungathered)
-    → IsRefused bytes refused → u.fault ≡ of_manifest refused.fault → u.arrays.items ≡ []
+    → IsNoManifest bytes refused → u.fault ≡ of_manifest refused.fault → u.arrays.items ≡ []
     → u.parsed ≡ refused.parsed → IsUngathered old bytes u
 early old bytes refused u h fault arrays parsed = record {
   fault_is = λ known.

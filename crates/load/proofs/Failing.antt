@@ -18,7 +18,8 @@ counted old new Unread count = count
 counted old new (Whole v) count = omega (arith, count)
 counted old new (Longer v n is_text) count = omega (arith, count)
 
-pub none_failed : (start : ℕ) (apps : List GatheredApp) → apps ≡ [] → start ≡ start + failures_in apps
+pub none_failed : (start : ℕ) (apps : List GatheredApp) → apps ≡ []
+    → start ≡ start + failures_in apps
 none_failed start [] is = omega arith
 none_failed start (a ∷ apps) is = absurd cc
 

@@ -54,7 +54,8 @@ module _ (known : KnownFiles) (directory : List CellArray) (numbers : List Array
         → IsGatheredApp known directory numbers entry one → new ≡ apps ++ one ∷ []
         → sum ≡ long + long_count one.kept → ReadsOn entries new sum rest
     read_more entry rest one new sum is few h new_is sum_is = λ more unread later.
-        let behind : AreTaken known directory numbers (long + long_count one.kept) rest more unread =
+        let behind : AreTaken known directory numbers (long + long_count one.kept) rest more
+        unread =
         subst (λ (n : ℕ). AreTaken known directory numbers n rest more unread) sum_is later in
         let all = so_far (one ∷ more) unread
         (subst (λ (l : List AppEntry). AreTaken known directory numbers long l (one ∷ more) unread)
@@ -66,8 +67,8 @@ module _ (known : KnownFiles) (directory : List CellArray) (numbers : List Array
         → AreTaken known directory numbers 0 entries apps unread
     read_enough unread much is =
         subst (λ (n : ℕ). AreTaken known directory numbers 0 entries apps n) (sym is)
-        (subst (λ (l : List GatheredApp). AreTaken known directory numbers 0 entries l (length left))
-        (append-nil apps) (so_far [] (length left) (not_read much)))
+        (subst (λ (l : List GatheredApp). AreTaken known directory numbers 0 entries l
+        (length left)) (append-nil apps) (so_far [] (length left) (not_read much)))
 
     pub read_all : left ≡ [] → AreTaken known directory numbers 0 entries apps 0
     read_all is =

@@ -24,7 +24,7 @@ use Rattle.load.specs.declared.kept.KeptFile.{KeptFile}
 use Rattle.load.specs.declared.kept.KeptFile.TheVariants.{Unread, Whole, Longer}
 use Rattle.load.specs.App.{CountsApp}
 use Rattle.load.specs.Kept.{CountsFile, FailsIfUnread}
-use Rattle.load.specs.Kept.{IsKeptFrom, IsLonger, IsProgramKept, Keeps, RefusesKept}
+use Rattle.load.specs.Kept.{IsKeptFrom, IsLonger, IsProgramKept, Retains, RefusesKept}
 use Rattle.load.specs.Kept.{long_count, most_of}
 use Rattle.load.specs.Source.{Given, IsProgramFrom, IsProgramIn, RefusesBytes, RefusesFile}
 use Rattle.load.specs.Source.{RefusesSource, RefusesText, file_of}
@@ -142,30 +142,30 @@ kept_unread known from name named gives =
 pub kept_from : (known : KnownFiles) (from : ProgramSource) (name : List ℕ) (most : ℕ)
     (k : KeptBytes) (file : KeptFile) → name ≡ file_of from → most ≡ most_of from
     → KeepsFile most known name (Ok k)
-    → ((m : ℕ) (bytes : List ℕ) → IsKeptOf m bytes k → Keeps m (Some bytes) file)
+    → ((m : ℕ) (bytes : List ℕ) → IsKeptOf m bytes k → Retains m (Some bytes) file)
     → IsKeptFrom known from file
 kept_from known from name most k file named is h as_file = (
   Some h.0,
   subst (λ (n : List ℕ). Gives known n (Some h.0)) named h.1,
-  subst (λ (m : ℕ). Keeps m (Some h.0) file) is (as_file most h.0 h.2),
+  subst (λ (m : ℕ). Retains m (Some h.0) file) is (as_file most h.0 h.2),
 )
 
 read_counts : (old new most : ℕ) (bytes : List ℕ) (file : KeptFile) → new ≡ old
-    → Keeps most (Some bytes) file → CountsFile old new file
+    → Retains most (Some bytes) file → CountsFile old new file
 read_counts old new most bytes Unread count h = absurd h
 read_counts old new most bytes (Whole v) count h = count
 read_counts old new most bytes (Longer v n is_text) count h = count
 
 pub kept_counts : (known : KnownFiles) (name : List ℕ) (old new most : ℕ) (k : KeptBytes)
     (file : KeptFile) → KeepsFile most known name (Ok k)
-    → ((m : ℕ) (bytes : List ℕ) → IsKeptOf m bytes k → Keeps m (Some bytes) file) → new ≡ old
+    → ((m : ℕ) (bytes : List ℕ) → IsKeptOf m bytes k → Retains m (Some bytes) file) → new ≡ old
     → CountsFile old new file
 kept_counts known name old new most k file h as_file count =
     read_counts old new most h.0 file count (as_file most h.0 h.2)
 
 -- ---- the program of the file
 
-whole_is : (most : ℕ) (v : Vec ℕ Global) (bytes : List ℕ) → Keeps most (Some bytes) (Whole v)
+whole_is : (most : ℕ) (v : Vec ℕ Global) (bytes : List ℕ) → Retains most (Some bytes) (Whole v)
     → v.items ≡ bytes
 whole_is most v bytes k = k.0
 
@@ -187,7 +187,7 @@ unread_refused known from shape (app.Rule fault) gives h = absurd h
 
 module _ (known : KnownFiles) (from : ProgramSource) where
   program_given : (kept : KeptFile) (p : ShapedProgram) (given : Given)
-      → Gives known (file_of from) given → Keeps (most_of from) given kept
+      → Gives known (file_of from) given → Retains (most_of from) given kept
       → IsProgramKept from kept p → IsProgramIn known from p
   program_given Unread p given gives k h = absurd h
   program_given (Longer v n is_text) p given gives k h = absurd h
@@ -199,7 +199,7 @@ module _ (known : KnownFiles) (from : ProgramSource) where
   )
 
   fault_given : (kept : KeptFile) (shape : AppShape) (fault : AppFault) (given : Given)
-      → Gives known (file_of from) given → Keeps (most_of from) given kept
+      → Gives known (file_of from) given → Retains (most_of from) given kept
       → RefusesKept from kept shape fault → RefusesSource known from shape fault
   fault_given Unread shape fault None gives k h = unread_refused known from shape fault gives h
   fault_given Unread shape fault (Some bytes) gives k h = absurd k

@@ -4,7 +4,7 @@ use Rattle.bounded_files.specs.declared.fault.ResourceFault.{ResourceFault}
 use Rattle.bounded_files.specs.declared.fault.ResourceFault.TheVariants.{File, Memory}
 
 -- a file that couldn't be read is counted
-abbrev pub Counts : {X : Type 0} → ℕ → ℕ → Result X ResourceFault → Type 0
-Counts old new (Err File) = new ≡ old + 1
-Counts old new (Err Memory) = new ≡ old
-Counts old new (Ok read) = new ≡ old
+abbrev pub CountsUnread : {X : Type 0} → ℕ → ℕ → Result X ResourceFault → Type 0
+CountsUnread old new (Err File) = new ≡ old + 1
+CountsUnread old new (Err Memory) = new ≡ old
+CountsUnread old new (Ok read) = new ≡ old

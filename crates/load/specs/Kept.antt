@@ -21,17 +21,17 @@ most_of (source.Rule file) = 65536
 
 -- what is kept of a file that gave this: nothing; all bytes; or, of more, so many of the first, how
 -- many they are, and whether they are UTF-8 to their end
-abbrev pub Keeps : ℕ → Given → KeptFile → Type 0
-Keeps most None Unread = Unit {0}
-Keeps most (Some bytes) (Whole v) = IsKeptOf most bytes (kept.Whole v)
-Keeps most (Some bytes) (Longer v count is_text) =
+abbrev pub Retains : ℕ → Given → KeptFile → Type 0
+Retains most None Unread = Unit {0}
+Retains most (Some bytes) (Whole v) = IsKeptOf most bytes (kept.Whole v)
+Retains most (Some bytes) (Longer v count is_text) =
     IsKeptOf most bytes (kept.Longer v count is_text)
-Keeps most given kept = ⊥
+Retains most given kept = ⊥
 
 -- this is kept of an app's file
 abbrev pub IsKeptFrom : KnownFiles → ProgramSource → KeptFile → Type 0
 IsKeptFrom known from kept =
-    (given : Given) × Gives known (file_of from) given × Keeps (most_of from) given kept
+    (given : Given) × Gives known (file_of from) given × Retains (most_of from) given kept
 
 -- these bytes are more than it may have, and so it is whether they are UTF-8
 abbrev pub IsLonger : ProgramSource → Bool → List ℕ → Type 0

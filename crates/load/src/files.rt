@@ -3,7 +3,7 @@
 ghost use Rattle.std.specs.Prelude.{◌≡◌, ◌^◌, ◌-◌, ◌<◌, List, ℕ, Option};
 ghost use Rattle.bounded_files.specs.Files.{KnownFile, ReadsFile};
 ghost use Rattle.bounded_files.specs.Kept.{KeepsFile};
-ghost use Rattle.load.specs.Files.{Counts};
+ghost use Rattle.load.specs.Files.{CountsUnread};
 
 use bounded_files::{KeptBytes, ResourceFault};
 
@@ -21,7 +21,7 @@ pub trait Files {
         requires { failed self.old < 2 ^ 64 - 1 }
         ensures known { known self.new ≡ known self.old }
         ensures read { ReadsFile (known self.old) name.now result }
-        ensures count { Counts (failed self.old) (failed self.new) result };
+        ensures count { CountsUnread (failed self.old) (failed self.new) result };
 
     /// What is kept of a file: its bytes, if they are at most `most`; or else so many of the first,
     /// how many they are, and whether they are UTF-8 to their end. One that can't be read is
@@ -30,7 +30,7 @@ pub trait Files {
         requires { failed self.old < 2 ^ 64 - 1 }
         ensures known { known self.new ≡ known self.old }
         ensures read { KeepsFile most (known self.old) name.now result }
-        ensures count { Counts (failed self.old) (failed self.new) result }
+        ensures count { CountsUnread (failed self.old) (failed self.new) result }
     {
         match self.bytes(name) {
             Ok(bytes) => Ok(KeptBytes::of(bytes, most as usize)),

@@ -9,7 +9,7 @@ ghost use Rattle.load.specs.Gathered.{IsUngathered, failures_in};
 ghost use Rattle.load.specs.Gathered as specs;
 ghost use Rattle.load.specs.Kept.{CountsFile};
 ghost use Rattle.manifest.specs.Manifest.{ReadsManifest};
-ghost use Rattle.manifest.specs.Parsed.{IsRefused};
+ghost use Rattle.manifest.specs.Parsed.{IsNoManifest};
 
 use crate::fault::LoadFault;
 use crate::files::Files;
@@ -132,7 +132,7 @@ fn parse(alloc: Global, bytes: &[u8]) -> Result<Manifest, Ungathered>
 }
 
 fn unparsed(alloc: Global, refused: RefusedManifest) -> Ungathered
-    ensures { (old : List CellArray) (bytes : List ℕ) → IsRefused bytes refused
+    ensures { (old : List CellArray) (bytes : List ℕ) → IsNoManifest bytes refused
         → IsUngathered old bytes result }
 {
     let RefusedManifest { fault, parsed } = refused;

@@ -3,7 +3,7 @@
 
 ghost use Rattle.std.specs.Prelude.{◌≡◌, ◌^◌, ◌-◌, ◌<◌, List, ℕ, IfOk, Some};
 ghost use Rattle.bounded_files.specs.Kept.{IsKeptOf};
-ghost use Rattle.load.specs.Kept.{CountsKept, IsKeptFrom, Keeps};
+ghost use Rattle.load.specs.Kept.{CountsKept, IsKeptFrom, Retains};
 ghost use Rattle.load.specs.Kept as specs;
 ghost use Rattle.load.specs.Source as sources;
 
@@ -53,7 +53,7 @@ pub(crate) fn gather_file<F: Files>(
 
 fn of_file(kept: KeptBytes) -> KeptFile
     ensures { (most : ℕ) (bytes : List ℕ) → IsKeptOf most bytes kept
-        → Keeps most (Some bytes) result }
+        → Retains most (Some bytes) result }
 {
     match kept {
         KeptBytes::Whole(bytes) => KeptFile::Whole(bytes),

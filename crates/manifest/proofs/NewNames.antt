@@ -127,7 +127,8 @@ next_told told name_of done new all list left before place x after
     let here = cond (not (list_any (bytes_eq (name_of x)) seen)
     && list_any (bytes_eq (name_of x)) rest) (name_of x ∷ []) [] in
     let step : new ≡ done ++ map told here =
-    pushed ∙ ap (λ xs. done ++ map told (cond (not (list_any (bytes_eq (name_of x)) (map name_of xs))
+    pushed ∙ ap (λ xs. done ++ map told
+    (cond (not (list_any (bytes_eq (name_of x)) (map name_of xs))
     && list_any (bytes_eq (name_of x)) rest) (name_of x ∷ []) [])) at in
     let front : map name_of (take (place + 1) list) ≡ seen ++ name_of x ∷ [] =
     ap (map name_of) (taken list left place x after is whole within)

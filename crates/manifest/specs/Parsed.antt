@@ -19,6 +19,6 @@ IsParsed bytes Memory Nothing = Unit {0}
 IsParsed bytes fault parsed = ⊥
 
 -- why the bytes are no manifest, and what they were parsed as
-pub record IsRefused (bytes : List ℕ) (refused : RefusedManifest) : Type 0 where
+pub record IsNoManifest (bytes : List ℕ) (refused : RefusedManifest) : Type 0 where
   pub fault_is : ReadsManifest bytes (Err refused.fault)
   pub parsed_is : IsParsed bytes refused.fault refused.parsed

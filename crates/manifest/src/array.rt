@@ -1,6 +1,6 @@
 //! The table of an array of counters.
 
-ghost use Rattle.std.specs.Prelude.{◌≡◌, codes, option_copied, option_map, IsTrue};
+ghost use Rattle.std.specs.Prelude.{◌≡◌, codes, option_copied};
 ghost use Rattle.declarations.specs.Spec.{is_name};
 ghost use Rattle.toml.specs.Data.{get_member};
 ghost use Rattle.toml.specs.View.{view, table_view};

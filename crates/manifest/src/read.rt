@@ -3,7 +3,7 @@
 ghost use Rattle.std.specs.Prelude.{◌≡◌, IfOk, IfErr, Ok};
 ghost use Rattle.toml.specs.View.{table_view};
 ghost use Rattle.manifest.specs.Manifest.{IsTree, ReadsManifest};
-ghost use Rattle.manifest.specs.Parsed.{IsRefused};
+ghost use Rattle.manifest.specs.Parsed.{IsNoManifest};
 
 use crate::fault::{ManifestFault, TomlFault};
 use crate::manifest::{Manifest, read_once, read_tables};
@@ -34,7 +34,7 @@ pub fn read_manifest(alloc: Global, bytes: &[u8]) -> Result<Manifest, ManifestFa
 // open: whether memory is refused (M8); what the error of M1 says.
 pub fn parse_manifest(alloc: Global, bytes: &[u8]) -> Result<Manifest, RefusedManifest>
     ensures manifest { IfOk result (λ manifest. ReadsManifest bytes.now (Ok manifest)) }
-    ensures refused { IfErr result (IsRefused bytes.now) }
+    ensures refused { IfErr result (IsNoManifest bytes.now) }
 {
     let table = parse_document(alloc, bytes)?;
     let manifest = match read_tables(alloc, &table) {
@@ -52,7 +52,7 @@ pub fn parse_manifest(alloc: Global, bytes: &[u8]) -> Result<Manifest, RefusedMa
 // The document of the bytes.
 fn parse_document(alloc: Global, bytes: &[u8]) -> Result<Table, RefusedManifest>
     ensures ok { IfOk result (λ table. IsTree bytes.now (table_view table)) }
-    ensures err { IfErr result (IsRefused bytes.now) }
+    ensures err { IfErr result (IsNoManifest bytes.now) }
 {
     if bytes.len() > MOST_MANIFEST {
         return Err(unparsed(ManifestFault::Toml(TomlFault::TooLong)));

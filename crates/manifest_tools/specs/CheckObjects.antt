@@ -153,10 +153,11 @@ module _ (known : KnownFiles) (strict : Bool) (allowed : List (Bor (List ℕ))) 
 
 -- ---- as lines, or as JSON
 
-abbrev pub AreTold : KnownFiles → (json strict : Bool) → (allowed paths : List (Bor (List ℕ)))
+abbrev pub AreToldChecks : KnownFiles → (json strict : Bool) → (allowed paths : List (Bor (List ℕ)))
     → ToldChecks → Type 0
-AreTold known false strict allowed paths told = AreChecked known strict allowed paths told
-AreTold known true strict allowed paths told = AreCheckedAsJson known strict allowed paths told
+AreToldChecks known false strict allowed paths told = AreChecked known strict allowed paths told
+AreToldChecks known true strict allowed paths told =
+    AreCheckedAsJson known strict allowed paths told
 
 -- as JSON each is told, where there is memory
 abbrev pub AreToldRefusal : KnownFiles → (json : Bool) → List (Bor (List ℕ)) → ManifestToolFault

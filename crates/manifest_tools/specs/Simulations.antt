@@ -20,7 +20,7 @@ use Rattle.cells.specs.declared.array.CellArray.{CellArray}
 use Rattle.ruleset.specs.Rules.{Rules, app_in}
 use Rattle.manifest_tools.specs.declared.fault.ManifestToolFault.{ManifestToolFault}
 use Rattle.manifest_tools.specs.declared.fault.ManifestToolFault.TheVariants as fault
-use Rattle.manifest_tools.specs.declared.simulating.ToldSimulation.{ToldSimulation}
+use Rattle.manifest_tools.specs.declared.told_simulation.ToldSimulation.{ToldSimulation}
 
 -- ---- what is told of rulesets
 

@@ -1,7 +1,7 @@
 //! `check` of one manifest, or of several: what is printed, and whether they pass.
 
 ghost use Rattle.std.specs.Prelude.{◌≡◌, ◌++◌, IfOk, IfErr, OnOk, string_bytes};
-ghost use Rattle.manifest_tools.specs.CheckObjects.{AreTold, AreToldRefusal};
+ghost use Rattle.manifest_tools.specs.CheckObjects.{AreToldChecks, AreToldRefusal};
 ghost use Rattle.manifest_tools.specs.Checks as specs;
 ghost use Rattle.manifest_tools.specs.Manifests.{IsCheckRefusal};
 
@@ -44,7 +44,7 @@ pub fn check_files<D: Disk>(
     json: bool,
 ) -> Result<ToldChecks, ManifestToolFault>
     ensures told { IfOk result
-        (AreTold (D.known disk.now) json strict allowed.now paths.now) }
+        (AreToldChecks (D.known disk.now) json strict allowed.now paths.now) }
     ensures fault { IfErr result (AreToldRefusal (D.known disk.now) json paths.now) }
 {
     if !json {

@@ -17,8 +17,10 @@ mod fault;
 mod playing;
 mod progress_lines;
 mod simulating;
+mod told_simulation;
 
 pub use checks::{ToldChecks, check_files};
 pub use fault::ManifestToolFault;
 pub use playing::replay_script;
-pub use simulating::{ToldSimulation, simulate_files};
+pub use simulating::simulate_files;
+pub use told_simulation::ToldSimulation;

@@ -2,35 +2,21 @@
 //! one that serves now; of all apps, or of one, as lines or as JSON.
 
 ghost use Rattle.std.specs.Prelude.{◌≡◌, [], IfOk, IfErr, IsSome, OnErr, option_copied};
-ghost use Rattle.std.specs.Option.{option_map};
-ghost use Rattle.std.specs.String.{string_bytes};
 ghost use Rattle.load.specs.Loaded.{RefusesPath};
 ghost use Rattle.manifest_tools.specs.Simulations as specs;
 ghost use Rattle.simulate.specs.Clients.{IsSameButApp};
 
 use crate::fault::ManifestToolFault;
 use crate::progress_lines::ProgressLines;
+use crate::told_simulation::{ToldSimulation, tell_against, tell_alone};
 use bounded_files::{Disk, ResourceFault, may_write_over, write_file};
 use cells::Directory;
 use load::{PathFault, load_path};
 use ruleset::Ruleset;
-use simulate::{
-    Client, Simulated, draw, is_lossy, moves_json, push_moves, push_shares, shares_json,
-};
+use simulate::{Client, Simulated};
 use std::alloc::{AllocError, Global};
 use std::rt::Files;
 use std::time::Clock;
-
-/// What is told of a simulation: its lines, each ended by LF, or its line of JSON, and its picture
-/// as the text of an SVG file, where a file is named for it.
-#[derive(Drop)]
-pub struct ToldSimulation {
-    pub text: String,
-    pub picture: Option<String>,
-    /// Against another manifest some bucket loses the release that it has of an app that is told,
-    /// as a row of the lines is marked.
-    pub loses: bool,
-}
 
 /// What the clients in all buckets get by a manifest, and with another one what changes for them
 /// against it. Each is loaded over no arrays, as a server's first manifest is. With an appid all
@@ -198,24 +184,6 @@ where
     }
 }
 
-// What is told of a simulation, and its picture.
-fn tell_alone(
-    alloc: Global,
-    next: &Simulated,
-    file: Option<&str>,
-    json: bool,
-) -> Result<ToldSimulation, AllocError>
-    ensures { IfOk result (specs.TellsAlone json next.now (option_copied file.entry)) }
-{
-    let text = text_alone(alloc, next, json)?;
-    let picture = picture_if(alloc, file, next)?;
-    Ok(ToldSimulation {
-        text,
-        picture,
-        loses: false,
-    })
-}
-
 // What is told of a ruleset against another, which serves now.
 fn told_against<R>(
     rt: &R,
@@ -236,68 +204,4 @@ where
     let now = simulation_of(rt, serving, appid, &mut client, &mut progress)?;
     let told = tell_against(rt.alloc(), &now, &next, file, json)?;
     Ok(told)
-}
-
-// As lines, or as JSON.
-fn text_alone(alloc: Global, next: &Simulated, json: bool) -> Result<String, AllocError>
-    ensures { IfOk result (λ text. string_bytes text ≡ specs.text_alone json next.now) }
-{
-    if json {
-        return shares_json(alloc, next);
-    }
-    let mut text = String::new(alloc);
-    push_shares(&mut text, next)?;
-    Ok(text)
-}
-
-// The same, and who moves behind what serves now.
-fn tell_against(
-    alloc: Global,
-    now: &Simulated,
-    next: &Simulated,
-    file: Option<&str>,
-    json: bool,
-) -> Result<ToldSimulation, AllocError>
-    ensures { IfOk result (specs.TellsAgainst json next.now now.now (option_copied file.entry)) }
-{
-    let text = text_against(alloc, now, next, json)?;
-    let loses = is_lossy(alloc, now, next)?;
-    let picture = picture_if(alloc, file, next)?;
-    Ok(ToldSimulation {
-        text,
-        picture,
-        loses,
-    })
-}
-
-fn text_against(
-    alloc: Global,
-    now: &Simulated,
-    next: &Simulated,
-    json: bool,
-) -> Result<String, AllocError>
-    ensures { IfOk result (λ text. string_bytes text ≡ specs.text_against json now.now next.now) }
-{
-    if json {
-        return moves_json(alloc, now, next);
-    }
-    let mut text = String::new(alloc);
-    push_shares(&mut text, next)?;
-    push_moves(alloc, &mut text, now, next)?;
-    Ok(text)
-}
-
-// The picture of a simulation, where a file is named for one.
-fn picture_if(
-    alloc: Global,
-    file: Option<&str>,
-    simulated: &Simulated,
-) -> Result<Option<String>, AllocError>
-    ensures { IfOk result (λ picture. option_map string_bytes picture
-        ≡ specs.picture_if (option_copied file.entry) simulated.now) }
-{
-    match file {
-        Some(_) => Ok(Some(draw(alloc, simulated)?)),
-        None => Ok(None),
-    }
 }

@@ -1,10 +1,9 @@
 -- Moments as an operator names them: so long ago, as `10m`, or a time by RFC 3339.
-use Rattle.std.specs.Prelude.{◌≡◌, ℕ, ◌*◌, List, length, pos, ◌*ℤ◌, ◌-ℤ◌, ◌&&◌, ◌==◌, nat_lt}
+use Rattle.std.specs.Prelude.{◌≡◌, ℕ, ◌*◌, List, length, ◌&&◌, ◌==◌, nat_lt}
 use Rattle.std.specs.Prelude.{Option, Some, None, Ok, IsErr, option_map, if◌then◌else◌, Bool}
 use Rattle.std.specs.List.{after_first, before_first, position_or_len}
 use Rattle.std.specs.Option.{option_or}
 use Rattle.std.specs.Str.{byte}
-use Rattle.jiff_core.specs.declared.timestamp.Timestamp.{Timestamp}
 use Rattle.jiff_fmt.specs.Temporal.{parse_timestamp}
 use Rattle.lexing.specs.Decimal.{decimal_within}
 use Rattle.moments.specs.declared.moment.NamedTime.{NamedTime}

@@ -2,8 +2,8 @@
 use Rattle.std.proofs.Common.{◌≡◌, ◌<◌, ℕ, List, [], ◌∷◌, ◌++◌, Bool, true, false, refl, length}
 use Rattle.std.proofs.Common.{arith}
 use Rattle.std.proofs.Common.{Option, Some, None, option_map, sym, ap, ◌∙◌}
-use Rattle.std.proofs.Common.{Ordering, Less, Equal, Greater, nat_cmp, is_eq, bytes_eq, string_bytes}
-use Rattle.std.proofs.Common.{String, Global, BTreeMap}
+use Rattle.std.proofs.Common.{Ordering, Less, Equal, Greater, nat_cmp, is_eq, bytes_eq}
+use Rattle.std.proofs.Common.{string_bytes, String, Global, BTreeMap}
 use Rattle.std.specs.Prelude.{if◌then◌else◌}
 use Rattle.std.specs.BTreeMap.{is_at}
 use Rattle.std.specs.Map.{lookup}

@@ -1,6 +1,6 @@
 //! Tokens of JSON, written one after another.
 
-ghost use Rattle.std.specs.Prelude.{◌≡◌, [], ◌∷◌, map, decimal, OnOk};
+ghost use Rattle.std.specs.Prelude.{[], ◌∷◌, map, decimal, OnOk};
 ghost use Rattle.json.specs.Token.{key, number};
 ghost use Rattle.json.specs.Reads.{token_of};
 ghost use Rattle.omaha_json.specs.Tokens.{Adds, AreWritable};

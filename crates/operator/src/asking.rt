@@ -29,8 +29,8 @@ pub enum AskFault {
     Word,
     /// B4: memory was refused.
     Memory,
-    /// B5: nobody answers at the port, or not to the end of a line, or nothing came for ten minutes,
-    /// or what came has not the form of a reply.
+    /// B5: nobody answers at the port, or not to the end of a line, or nothing came for ten
+    /// minutes, or what came has not the form of a reply.
     Connect,
 }
 

@@ -1,5 +1,5 @@
 -- Texts that are gone through character by character.
-use Rattle.std.proofs.Common.{◌≡◌, ◌∙◌, refl, sym, ap, ℕ, List, [], ◌∷◌, ◌++◌, length}
+use Rattle.std.proofs.Common.{◌≡◌, ◌∙◌, sym, ap, ℕ, List, [], ◌∷◌, ◌++◌, length}
 use Rattle.std.proofs.Common.{append_assoc, append-nil, flat_map, chars, Bool, true, false, ◌||◌}
 use Rattle.std.proofs.Common.{arith}
 use Rattle.std.proofs.lemmas.Str.{chars-nil}

@@ -1,6 +1,7 @@
 -- No control is printed, and all else is printed as it is.
 use Rattle.std.proofs.Common.{◌≡◌, ◌∙◌, refl, sym, ap, subst, ℕ, zero, suc, ◌+◌, ◌/◌, ◌%◌, ◌<◌, ◌≤◌}
-use Rattle.std.proofs.Common.{List, [], ◌∷◌, ◌++◌, append-nil, codes, arith, chars, flat_map, IsUtf8}
+use Rattle.std.proofs.Common.{List, [], ◌∷◌, ◌++◌, append-nil, codes, arith, chars, flat_map}
+use Rattle.std.proofs.Common.{IsUtf8}
 use Rattle.std.proofs.Common.{Bool, true, false, not, ◌&&◌, ◌||◌, ◌==◌, if◌then◌else◌}
 use Rattle.std.proofs.Common.{nat_lt, encode_utf8, encode_utf8_all}
 use Rattle.std.proofs.lemmas.Str.{NoCharPasses-append, NoCharPasses-nil, encode_ascii}

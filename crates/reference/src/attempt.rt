@@ -1,6 +1,6 @@
 //! The result of one instruction, before a counter that it uses has replied.
 
-ghost use Rattle.std.specs.Prelude.{◌≡◌, ◌+◌, ◌<◌, ◌≤◌, ◌^◌};
+ghost use Rattle.std.specs.Prelude.{◌≡◌, ◌+◌, ◌<◌, ◌≤◌};
 ghost use Rattle.bpf_semantics.specs.Outcome as outcome;
 ghost use Rattle.bpf_semantics.specs.State.{State};
 ghost use Rattle.reference.specs.Attempts.{HasRoom, Comes, replied};

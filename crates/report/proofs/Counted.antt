@@ -6,11 +6,11 @@ use Rattle.std.proofs.lemmas.List.Sums.{sum_by_push}
 use Rattle.std.proofs.lemmas.List.Concat.{flat_map-cons}
 use Rattle.std.proofs.lemmas.Grind.{flat_map-append}
 use Rattle.serde_json.specs.Data.{Data}
-use Rattle.report.specs.Counts.{Adds, GoesUp, all_names, one_if}
+use Rattle.report.specs.Counts.{AddsLine, GoesUp, all_names, one_if}
 use Rattle.report.specs.Courses.{if_drawn, hour_names, minute_names, version_names}
 use Rattle.report.specs.Names.{names_if}
 use Rattle.report.specs.Reading.{CountsLines}
-use Rattle.report.specs.Tallies.{Name, capped, IsTally, Notes}
+use Rattle.report.specs.Tallies.{RowName, capped, IsTally, Notes}
 use Rattle.report.specs.Told.{event_in, told}
 use Rattle.report.specs.declared.counting.Report.{Report}
 use Rattle.report.specs.declared.tally.Tally.{Tally}
@@ -34,25 +34,25 @@ more_sum f before line old new by up by_is old_is =
     ∙ ap capped (ap (λ (k : ℕ). sum_by f before + k) by_is ∙ sym (sum_by_push f before line))
 
 module _ (window : Window) (before : List (List ℕ)) (line : List ℕ) where
-  more_names : (names : Data → List Name)
+  more_names : (names : Data → List RowName)
       → all_names window (before ++ line ∷ []) names
       ≡ all_names window before names ++ names_if names (told window line)
   more_names names =
       flat_map-append (λ l. names_if names (told window l)) before (line ∷ [])
-      ∙ ap (λ (t : List Name). all_names window before names ++ t)
+      ∙ ap (λ (t : List RowName). all_names window before names ++ t)
       (flat_map-cons (λ l. names_if names (told window l)) line []
       ∙ append-nil (names_if names (told window line)))
 
-  more_tally : (limit : ℕ) (names : Data → List Name) (old new : Tally)
+  more_tally : (limit : ℕ) (names : Data → List RowName) (old new : Tally)
       → Notes old new (names_if names (told window line))
       → IsTally limit (all_names window before names) old
       → IsTally limit (all_names window (before ++ line ∷ []) names) new
   more_tally limit names old new notes counted =
-      subst (λ (all : List Name). IsTally limit all new) (sym (more_names names))
+      subst (λ (all : List RowName). IsTally limit all new) (sym (more_names names))
       (notes.behind limit (all_names window before names) counted)
 
   -- of a picture, if one is drawn
-  more_course : (drawn : Bool) (limit : ℕ) (names : Data → List Name) (was : Bool)
+  more_course : (drawn : Bool) (limit : ℕ) (names : Data → List RowName) (was : Bool)
       (old new : Tally) → was ≡ drawn
       → Notes old new (names_if (if_drawn was names) (told window line))
       → IsTally limit (all_names window before (if_drawn drawn names)) old
@@ -63,7 +63,7 @@ module _ (window : Window) (before : List (List ℕ)) (line : List ℕ) where
       notes) counted
 
 pub counts_one : (window : Window) (line : List ℕ) (old new : Report)
-    → Adds (event_in line) (told window line) old new → CountsLines window (line ∷ []) old new
+    → AddsLine (event_in line) (told window line) old new → CountsLines window (line ∷ []) old new
 counts_one window line old new adds = record {
   behind = λ drawn before counted. record {
     drawn_is = adds.course.drawn ∙ counted.drawn_is;

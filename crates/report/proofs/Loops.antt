@@ -2,7 +2,7 @@
 use Rattle.std.proofs.Common.{◌≡◌, ◌∙◌, refl, sym, ap, subst, ℕ, ◌+◌, ◌-◌, ◌<◌, arith}
 use Rattle.std.proofs.Common.{List, [], ◌∷◌, ◌++◌, length, get_or, take, drop}
 use Rattle.std.proofs.Math.Seq.{take-length}
-use Rattle.report.specs.Tallies.{Name, Notes}
+use Rattle.report.specs.Tallies.{RowName, Notes}
 use Rattle.report.specs.declared.tally.Tally.{Tally}
 use Rattle.report.proofs.Tallied.{notes_none, notes_both}
 
@@ -22,18 +22,18 @@ pub none_left : {X : Type 0} (xs : List X) → length xs < 1 → xs ≡ []
 none_left [] few = refl
 none_left (x ∷ xs) few = absurd (omega (arith, few))
 
-module _ {X : Type 0} (names : List X → List Name) (all : List Name) (start old : Tally)
+module _ {X : Type 0} (names : List X → List RowName) (all : List RowName) (start old : Tally)
     (xs : List X) (so_far : (t : Tally) → Notes old t (names xs) → Notes start t all) where
   -- the names of the first element are counted, and then those of the others
-  pub more_noted : (x : X) (rest : List X) (part : List Name) (new last : Tally)
+  pub more_noted : (x : X) (rest : List X) (part : List RowName) (new last : Tally)
       → xs ≡ x ∷ rest → names (x ∷ rest) ≡ part ++ names rest
       → Notes old new part → Notes new last (names rest) → Notes start last all
   more_noted x rest part new last is splits first others =
-      so_far last (subst (λ (ns : List Name). Notes old last ns)
+      so_far last (subst (λ (ns : List RowName). Notes old last ns)
       (sym (ap names is ∙ splits)) (notes_both old new last part (names rest) first others))
 
   -- none is left
   pub all_noted : xs ≡ [] → names [] ≡ [] → Notes start old all
   all_noted is none =
-      so_far old (subst (λ (ns : List Name). Notes old old ns) (sym (ap names is ∙ none))
+      so_far old (subst (λ (ns : List RowName). Notes old old ns) (sym (ap names is ∙ none))
       (notes_none old))

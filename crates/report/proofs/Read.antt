@@ -6,7 +6,7 @@ use Rattle.std.specs.Io.KnownBytes.{Consumes, IsAtEnd}
 use Rattle.std.specs.Prelude.{IfNone, IfSome, Option, None, Some}
 use Rattle.report.specs.Counts.{Counts}
 use Rattle.report.specs.Lines.{grown, lines_behind}
-use Rattle.report.specs.Reading.{CountsLines, ReadsLog, ReadsOn}
+use Rattle.report.specs.Reading.{CountsLines, ReadsLog, ReadsBlock}
 use Rattle.report.specs.declared.counting.Report.{Report}
 use Rattle.report.specs.declared.window.Window.{Window}
 
@@ -63,7 +63,7 @@ no_line window [] r none =
 no_line window (b ∷ line) r none = absurd (omega (arith, none))
 
 pub line_ends : (window : Window) (begun : List ℕ) (old new : Report)
-    → CountsLines window (begun ∷ []) old new → ReadsOn window (10 ∷ []) begun old [] new
+    → CountsLines window (begun ∷ []) old new → ReadsBlock window (10 ∷ []) begun old [] new
 line_ends window begun old new counted = record {
   behind = λ bytes last rest.
       subst (λ (lines : List (List ℕ)). CountsLines window lines old last)
@@ -72,7 +72,7 @@ line_ends window begun old new counted = record {
 }
 
 pub line_goes_on : (window : Window) (begun begun_then : List ℕ) (b : ℕ) (r : Report)
-    → b ≢ 10 → begun_then ≡ grown begun b → ReadsOn window (b ∷ []) begun r begun_then r
+    → b ≢ 10 → begun_then ≡ grown begun b → ReadsBlock window (b ∷ []) begun r begun_then r
 line_goes_on window begun begun_then b r other grows = record {
   behind = λ bytes last rest.
       subst (λ (lines : List (List ℕ)). CountsLines window lines r last)
@@ -84,11 +84,12 @@ line_goes_on window begun begun_then b r other grows = record {
     neq_false m n differs = grind arith
 
 pub reads_none : (window : Window) (begun : List ℕ) (r : Report)
-    → ReadsOn window [] begun r begun r
+    → ReadsBlock window [] begun r begun r
 reads_none window begun r = record { behind = λ bytes last rest. rest }
 
 pub reads_both : (window : Window) (xs ys : List ℕ) (x y z : List ℕ) (a b c : Report)
-    → ReadsOn window xs x a y b → ReadsOn window ys y b z c → ReadsOn window (xs ++ ys) x a z c
+    → ReadsBlock window xs x a y b → ReadsBlock window ys y b z c
+    → ReadsBlock window (xs ++ ys) x a z c
 reads_both window xs ys x y z a b c first next = record {
   behind = λ bytes last rest.
       subst (λ (all : List ℕ). CountsLines window (lines_behind x all) a last)
@@ -137,7 +138,7 @@ at_none {A} o P is holds = subst (λ (q : Option A). IfNone q P) is holds
 
 pub log_read : (window : Window) (known last_known : Option (List ℕ)) (seen begun : List ℕ)
     (start old new : Report) → Consumes known last_known seen → IsAtEnd last_known
-    → ReadsOn window seen [] start begun old
+    → ReadsBlock window seen [] start begun old
     → CountsLines window (lines_behind begun []) old new → ReadsLog window known start new
 log_read window known last_known seen begun start old new consumed ended reads last = record {
   bytes = seen;

@@ -9,7 +9,7 @@ use Rattle.std.specs.BTreeMap.{btree_map_len, get_by_text}
 use Rattle.std.specs.Str.{bytes_eq}
 use Rattle.std.specs.Cmp.Lexicographic.{bytes_decides, nat_list_eq_equiv}
 use Rattle.std.proofs.lemmas.List.Sums.{sum_by_push, sum_by-le-sum_by}
-use Rattle.report.specs.Tallies.{Name, capped, occurrences_of, has_no_row, IsTally, Notes, Sets}
+use Rattle.report.specs.Tallies.{RowName, capped, occurrences_of, has_no_row, IsTally, Notes, Sets}
 use Rattle.report.specs.declared.tally.Tally.{Tally}
 
 -- ---- counts
@@ -58,11 +58,11 @@ zero_if_none n not_more = omega arith
 
 -- ---- a table whose row is set
 
-module _ (old new : Tally) (name : Name) (m : ℕ) (sets : Sets old new name m) where
-  set_at : (other : Name) → bytes_eq name other ≡ true → get_by_text new.rows other ≡ Some m
+module _ (old new : Tally) (name : RowName) (m : ℕ) (sets : Sets old new name m) where
+  set_at : (other : RowName) → bytes_eq name other ≡ true → get_by_text new.rows other ≡ Some m
   set_at other same = let row = sets.row other in rw same at row
 
-  kept_at : (other : Name) → bytes_eq name other ≡ false
+  kept_at : (other : RowName) → bytes_eq name other ≡ false
       → get_by_text new.rows other ≡ get_by_text old.rows other
   kept_at other differs = let row = sets.row other in rw differs at row
 
@@ -70,14 +70,14 @@ module _ (old new : Tally) (name : Name) (m : ℕ) (sets : Sets old new name m) 
   has_now = ap is_none (set_at name ((bytes_decides name name).1 refl))
 
   -- what has no row now had none before
-  had_none : (other : Name) (b : Bool) → bytes_eq name other ≡ b
+  had_none : (other : RowName) (b : Bool) → bytes_eq name other ≡ b
       → has_no_row new other ≡ true → has_no_row old other ≡ true
   had_none other true same none =
       let has : has_no_row new other ≡ false = ap is_none (set_at other same) in
       cc
   had_none other false differs none = sym (ap is_none (kept_at other differs)) ∙ none
 
-  kept_count : (before : List Name) (k : ℕ) (other : Name)
+  kept_count : (before : List RowName) (k : ℕ) (other : RowName)
       → ((0 < k) × (k ≡ capped (occurrences_of other before))) → bytes_eq name other ≡ false
       → (0 < k) × (k ≡ capped (occurrences_of other (before ++ name ∷ [])))
   kept_count before k other was differs =
@@ -85,7 +85,7 @@ module _ (old new : Tally) (name : Name) (m : ℕ) (sets : Sets old new name m) 
       (bytes_eq other name) was (nat_list_eq_equiv.symm other name ∙ differs)
       (count_push (bytes_eq other) before name)
 
-  others_behind : (before : List Name)
+  others_behind : (before : List RowName)
       → count_by (has_no_row new) (before ++ name ∷ []) ≡ count_by (has_no_row new) before
   others_behind before =
       count_push (has_no_row new) before name
@@ -94,27 +94,28 @@ module _ (old new : Tally) (name : Name) (m : ℕ) (sets : Sets old new name m) 
 
 -- ---- the row of a name goes up
 
-module _ (old new : Tally) (name : Name) (n m : ℕ) (had : get_by_text old.rows name ≡ Some n)
+module _ (old new : Tally) (name : RowName) (n m : ℕ) (had : get_by_text old.rows name ≡ Some n)
     (more : m ≡ min (n + 1) (2 ^ 64 - 1)) (sets : Sets old new name m) where
   had_row : has_no_row old name ≡ false
   had_row = ap is_none had
 
-  as_before : (other : Name) (b : Bool) → bytes_eq name other ≡ b
+  as_before : (other : RowName) (b : Bool) → bytes_eq name other ≡ b
       → has_no_row new other ≡ has_no_row old other
   as_before other true same =
       ap is_none (set_at old new name m sets other same)
       ∙ sym (ap (has_no_row old) (sym ((bytes_decides name other).0 same)) ∙ had_row)
   as_before other false differs = ap is_none (kept_at old new name m sets other differs)
 
-  module _ (limit : ℕ) (before : List Name) (counted : IsTally limit before old) where
-    up_row : (other : Name) (k : ℕ) → get_by_text new.rows other ≡ Some k
+  module _ (limit : ℕ) (before : List RowName) (counted : IsTally limit before old) where
+    up_row : (other : RowName) (k : ℕ) → get_by_text new.rows other ≡ Some k
         → (b : Bool) → bytes_eq name other ≡ b
         → (0 < k) × (k ≡ capped (occurrences_of other (before ++ name ∷ [])))
     up_row other k found true same =
         counted_up n m k (occurrences_of other before)
         (occurrences_of other (before ++ name ∷ [])) (bytes_eq other name)
         ((counted.rows name n had).1
-        ∙ ap (λ (t : Name). capped (occurrences_of t before)) ((bytes_decides name other).0 same))
+        ∙ ap (λ (t : RowName). capped (occurrences_of t before))
+        ((bytes_decides name other).0 same))
         more (some_is m k (sym (set_at old new name m sets other same) ∙ found))
         (nat_list_eq_equiv.symm other name ∙ same)
         (count_push (bytes_eq other) before name)
@@ -148,15 +149,15 @@ module _ (old new : Tally) (name : Name) (n m : ℕ) (had : get_by_text old.rows
 
 -- ---- a name gets a row
 
-module _ (old new : Tally) (name : Name) (none : get_by_text old.rows name ≡ None)
+module _ (old new : Tally) (name : RowName) (none : get_by_text old.rows name ≡ None)
     (free : btree_map_len old.rows < old.limit) (sets : Sets old new name 1) where
   had_no_row : has_no_row old name ≡ true
   had_no_row = ap is_none none
 
-  named_in : (x : Name) → bytes_eq name x ≡ true → has_no_row old x ≡ true
+  named_in : (x : RowName) → bytes_eq name x ≡ true → has_no_row old x ≡ true
   named_in x same = ap (has_no_row old) (sym ((bytes_decides name x).0 same)) ∙ had_no_row
 
-  module _ (limit : ℕ) (before : List Name) (counted : IsTally limit before old) where
+  module _ (limit : ℕ) (before : List RowName) (counted : IsTally limit before old) where
     no_others : old.others ≡ 0
     no_others =
         zero_if_none old.others (λ some. omega (arith, counted.full some, counted.room, free))
@@ -167,13 +168,13 @@ module _ (old new : Tally) (name : Name) (none : get_by_text old.rows name ≡ N
     unseen : occurrences_of name before ≡ 0
     unseen = omega (arith, fewer (has_no_row old) (bytes_eq name) before named_in, all_have_rows)
 
-    first_row : (other : Name) (k : ℕ) → get_by_text new.rows other ≡ Some k
+    first_row : (other : RowName) (k : ℕ) → get_by_text new.rows other ≡ Some k
         → (b : Bool) → bytes_eq name other ≡ b
         → (0 < k) × (k ≡ capped (occurrences_of other (before ++ name ∷ [])))
     first_row other k found true same =
         counted_up 0 1 k (occurrences_of other before)
         (occurrences_of other (before ++ name ∷ [])) (bytes_eq other name)
-        (sym (ap capped (sym (ap (λ (t : Name). occurrences_of t before)
+        (sym (ap capped (sym (ap (λ (t : RowName). occurrences_of t before)
         ((bytes_decides name other).0 same)) ∙ unseen)))
         refl (some_is 1 k (sym (set_at old new name 1 sets other same) ∙ found))
         (nat_list_eq_equiv.symm other name ∙ same)
@@ -209,12 +210,12 @@ module _ (old new : Tally) (name : Name) (none : get_by_text old.rows name ≡ N
 
 -- ---- a name counts among the others
 
-module _ (old new : Tally) (name : Name) (none : get_by_text old.rows name ≡ None)
+module _ (old new : Tally) (name : RowName) (none : get_by_text old.rows name ≡ None)
     (full : old.limit ≤ btree_map_len old.rows)
     (rows : new.rows ≡ old.rows) (limit_is : new.limit ≡ old.limit)
     (more : new.others ≡ min (old.others + 1) (2 ^ 64 - 1)) where
-  module _ (limit : ℕ) (before : List Name) (counted : IsTally limit before old) where
-    other_row : (other : Name) (k : ℕ) → get_by_text old.rows other ≡ Some k
+  module _ (limit : ℕ) (before : List RowName) (counted : IsTally limit before old) where
+    other_row : (other : RowName) (k : ℕ) → get_by_text old.rows other ≡ Some k
         → (b : Bool) → bytes_eq name other ≡ b
         → (0 < k) × (k ≡ capped (occurrences_of other (before ++ name ∷ [])))
     other_row other k found true same =
@@ -255,19 +256,19 @@ len_after n m (Some k) p same is =
 pub notes_none : (t : Tally) → Notes t t []
 notes_none t = record {
   behind = λ limit before counted.
-      subst (λ (names : List Name). IsTally limit names t) (sym (append-nil before)) counted;
+      subst (λ (names : List RowName). IsTally limit names t) (sym (append-nil before)) counted;
 }
 
-pub notes_both : (a b c : Tally) (xs ys : List Name)
+pub notes_both : (a b c : Tally) (xs ys : List RowName)
     → Notes a b xs → Notes b c ys → Notes a c (xs ++ ys)
 notes_both a b c xs ys first last = record {
   behind = λ limit before counted.
-      subst (λ (names : List Name). IsTally limit names c) (append_assoc before xs ys)
+      subst (λ (names : List RowName). IsTally limit names c) (append_assoc before xs ys)
       (last.behind limit (before ++ xs) (first.behind limit before counted));
 }
 
 pub empty_tally : (limit : ℕ) (t : Tally) → t.others ≡ 0 → btree_map_len t.rows ≡ 0
-    → t.limit ≡ limit → ((name : Name) → get_by_text t.rows name ≡ None) → IsTally limit [] t
+    → t.limit ≡ limit → ((name : RowName) → get_by_text t.rows name ≡ None) → IsTally limit [] t
 empty_tally limit t none_else none_long room none = record {
   rows = λ name n found. absurd (no_some n _ (none name) found);
   others = none_else;

@@ -6,7 +6,7 @@ use Rattle.serde_json.specs.Data.{Data}
 use Rattle.report.specs.Courses.{AddsCourse, if_drawn, hour_names, minute_names, version_names}
 use Rattle.report.specs.Events.{event_names}
 use Rattle.report.specs.Names.{app_names, line_names, is_kind, names_if}
-use Rattle.report.specs.Tallies.{Name, capped, IsTally, Notes}
+use Rattle.report.specs.Tallies.{RowName, capped, IsTally, Notes}
 use Rattle.report.specs.Told.{event_in, number_in, told}
 use Rattle.report.specs.declared.question.AppQuestion.TheVariants as of_app
 use Rattle.report.specs.declared.question.EventQuestion.TheVariants as of_event
@@ -31,7 +31,7 @@ lost_in line = if is_kind (codes "lost") line then number_or_none (codes "lines"
 -- ---- of all lines
 
 module _ (window : Window) (lines : List (List ℕ)) where
-  abbrev pub all_names : (Data → List Name) → List Name
+  abbrev pub all_names : (Data → List RowName) → List RowName
   all_names names = flat_map (λ line. names_if names (told window line)) lines
 
   abbrev pub total : (Data → ℕ) → ℕ
@@ -76,7 +76,7 @@ abbrev pub one_if : Bool → ℕ
 one_if holds = if holds then 1 else 0
 
 -- what is counted of a line that is this event, if it is one, and is told as this, if it is told
-pub record Adds (event line : Option Data) (old new : Report) : Type 0 where
+pub record AddsLine (event line : Option Data) (old new : Report) : Type 0 where
   pub lines_told : GoesUp old.lines new.lines (one_if (is_some line))
   pub foreign : GoesUp old.foreign new.foreign (one_if (is_none event))
   pub lost : GoesUp old.lost new.lost (number_if lost_in line)

@@ -8,7 +8,7 @@ use Rattle.moments.specs.Calendar.{minute_in}
 use Rattle.serde_json.specs.Data.{Data}
 use Rattle.report.specs.Events.{event_names}
 use Rattle.report.specs.Names.{app_names, names_if}
-use Rattle.report.specs.Tallies.{Name, Notes}
+use Rattle.report.specs.Tallies.{RowName, Notes}
 use Rattle.report.specs.Told.{text_in}
 use Rattle.report.specs.declared.course.Course.{Course}
 use Rattle.report.specs.declared.question.AppQuestion.{AppQuestion}
@@ -17,16 +17,16 @@ use Rattle.report.specs.declared.question.EventQuestion.{EventQuestion}
 use Rattle.report.specs.declared.question.EventQuestion.TheVariants as of_event
 
 -- what two questions about a line's apps and one about their events have as names
-abbrev pub three_names : AppQuestion → AppQuestion → EventQuestion → Data → List Name
+abbrev pub three_names : AppQuestion → AppQuestion → EventQuestion → Data → List RowName
 three_names asks offers failures line =
     (app_names asks line ++ app_names offers line) ++ event_names failures line
 
 -- the versions that asked, were offered, and failed
-abbrev pub version_names : Data → List Name
+abbrev pub version_names : Data → List RowName
 version_names line = three_names of_app.AskedBy of_app.Offered of_event.FailedTo line
 
 -- the same at this moment
-abbrev pub names_in_moment : Data → Option ℕ → List Name
+abbrev pub names_in_moment : Data → Option ℕ → List RowName
 names_in_moment line (Some moment) =
     three_names (of_app.AskedAt moment) (of_app.OfferedAt moment) (of_event.FailedAt moment) line
 names_in_moment line None = []
@@ -39,14 +39,14 @@ abbrev pub hour_of_minute : Option ℕ → Option ℕ
 hour_of_minute (Some minute) = Some (minute / 60)
 hour_of_minute None = None
 
-abbrev pub minute_names : Data → List Name
+abbrev pub minute_names : Data → List RowName
 minute_names line = names_in_moment line (minute_of_line line)
 
-abbrev pub hour_names : Data → List Name
+abbrev pub hour_names : Data → List RowName
 hour_names line = names_in_moment line (hour_of_minute (minute_of_line line))
 
 -- where no picture is drawn nothing is counted for it
-abbrev pub if_drawn : Bool → (Data → List Name) → Data → List Name
+abbrev pub if_drawn : Bool → (Data → List RowName) → Data → List RowName
 if_drawn drawn names line = if drawn then names line else []
 
 -- what a line more counts, if it is told

@@ -6,7 +6,7 @@ use Rattle.std.specs.Prelude.{Option, Some, None, option_and_then, unwrap_or}
 use Rattle.std.specs.List.{position, slice_index}
 use Rattle.std.specs.Str.{byte}
 use Rattle.serde_json.specs.Data.{Data, Items, no_items, item}
-use Rattle.report.specs.Tallies.{Name}
+use Rattle.report.specs.Tallies.{RowName}
 use Rattle.report.specs.Told.{text_in, number_in, list_in, is_number, value_of}
 use Rattle.report.specs.Names.{two, three, course_name, if_holds, listed, text_or_mark}
 use Rattle.report.specs.declared.question.EventQuestion.{EventQuestion}
@@ -50,7 +50,7 @@ abbrev pub to_version : Data → List ℕ
 to_version event = text_or_mark (text_in (codes "nextversion") event)
 
 -- from that version to the one that the event tells
-abbrev pub install_name : Data → List ℕ → Data → Name
+abbrev pub install_name : Data → List ℕ → Data → RowName
 install_name app appid event = three appid (from_version app event) (to_version event)
 
 -- 1 is a success and 0 a failure (Omaha 3.1)
@@ -58,7 +58,7 @@ abbrev pub result_text : Option ℕ → List ℕ
 result_text (Some result) = decimal result
 result_text None = codes "?"
 
-abbrev pub result_name : Data → List ℕ → Data → Name
+abbrev pub result_name : Data → List ℕ → Data → RowName
 result_name app appid event =
     result_text (number_in (codes "eventresult") event) ++ codes "\t"
     ++ install_name app appid event
@@ -68,7 +68,7 @@ abbrev pub is_failure : Data → Bool
 is_failure event =
     is_install event && is_number 0 (number_in (codes "eventresult") event)
 
-abbrev pub install_told : EventQuestion → Data → List ℕ → Data → Name
+abbrev pub install_told : EventQuestion → Data → List ℕ → Data → RowName
 install_told Ended app appid event = install_name app appid event
 install_told Result app appid event = result_name app appid event
 install_told FailedTo app appid event = two appid (to_version event)
@@ -82,43 +82,43 @@ is_asked Result event = is_install event
 is_asked FailedTo event = is_failure event
 is_asked (FailedAt moment) event = is_failure event
 
-abbrev pub event_name : EventQuestion → Data → List ℕ → Data → Option Name
+abbrev pub event_name : EventQuestion → Data → List ℕ → Data → Option RowName
 event_name question app appid event =
     if_holds (is_asked question event) (install_told question app appid event)
 
 -- ---- the events of an app, and of all apps of a line
 
-abbrev pub event_name_at : EventQuestion → Data → List ℕ → List ℕ → Option Name
+abbrev pub event_name_at : EventQuestion → Data → List ℕ → List ℕ → Option RowName
 event_name_at question app appid text =
     option_and_then (λ object. option_and_then (event_name question app appid) (value_of object))
     (object_at text)
 
-abbrev pub event_names_at : EventQuestion → Data → List ℕ → List ℕ → List Name
+abbrev pub event_names_at : EventQuestion → Data → List ℕ → List ℕ → List RowName
 event_names_at question app appid text = listed (event_name_at question app appid text)
 
 -- at each place of the text
-abbrev pub names_in_text : EventQuestion → Data → List ℕ → List ℕ → List Name
+abbrev pub names_in_text : EventQuestion → Data → List ℕ → List ℕ → List RowName
 names_in_text question app appid [] = []
 names_in_text question app appid (b ∷ text) =
     event_names_at question app appid (b ∷ text) ++ names_in_text question app appid text
 
-abbrev pub names_in : EventQuestion → Data → Option (List ℕ) → Option (List ℕ) → List Name
+abbrev pub names_in : EventQuestion → Data → Option (List ℕ) → Option (List ℕ) → List RowName
 names_in question app (Some appid) (Some text) = names_in_text question app appid text
 names_in question app (Some appid) None = []
 names_in question app None text = []
 
-abbrev pub names_of_app : EventQuestion → Data → List Name
+abbrev pub names_of_app : EventQuestion → Data → List RowName
 names_of_app question app =
     names_in question app (text_in (codes "appid") app) (text_in (codes "event") app)
 
-abbrev pub names_of_events : EventQuestion → Items → List Name
+abbrev pub names_of_events : EventQuestion → Items → List RowName
 names_of_events question no_items = []
 names_of_events question (item app apps) =
     names_of_app question app ++ names_of_events question apps
 
-abbrev pub event_names_in : EventQuestion → Option Items → List Name
+abbrev pub event_names_in : EventQuestion → Option Items → List RowName
 event_names_in question (Some apps) = names_of_events question apps
 event_names_in question None = []
 
-abbrev pub event_names : EventQuestion → Data → List Name
+abbrev pub event_names : EventQuestion → Data → List RowName
 event_names question line = event_names_in question (list_in (codes "apps") line)

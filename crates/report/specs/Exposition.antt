@@ -6,8 +6,8 @@ use Rattle.std.specs.List.{after_first, before_first, flat_map}
 use Rattle.std.specs.Str.{chars}
 use Rattle.report.specs.Screen.{Rows, is_tab}
 use Rattle.report.specs.declared.counting.Report.{Report}
-use Rattle.report.specs.declared.labels.Labels.{Labels}
-use Rattle.report.specs.declared.labels.Labels.TheVariants.{App, Release, Install, Rule, Kind}
+use Rattle.report.specs.declared.labels.SampleLabels.{SampleLabels}
+use Rattle.report.specs.declared.labels.SampleLabels.TheVariants.{App, Release, Install, Rule, Kind}
 use Rattle.report.specs.declared.tally.Tally.{Tally}
 
 -- in a value a quote and a backslash are escaped; names have no line feed
@@ -38,7 +38,7 @@ install_labels name =
     ++ two_labels (codes "from") (codes "to") (rest name)
 
 -- a label for each of a name's texts
-abbrev pub labels_text : Labels → List ℕ → List ℕ
+abbrev pub labels_text : SampleLabels → List ℕ → List ℕ
 labels_text App name = label (codes "app") name
 labels_text Release name = two_labels (codes "app") (codes "release") name
 labels_text Install name =
@@ -46,7 +46,7 @@ labels_text Install name =
 labels_text Rule name = two_labels (codes "status") (codes "rule") name
 labels_text Kind name = label (codes "kind") name
 
-abbrev pub first_label : Labels → List ℕ
+abbrev pub first_label : SampleLabels → List ℕ
 first_label App = codes "app"
 first_label Release = codes "app"
 first_label Install = codes "result"
@@ -67,18 +67,18 @@ number_metric metric help n =
 abbrev pub sample : List ℕ → List ℕ → ℕ → List ℕ
 sample metric labels n = metric ++ codes "{" ++ labels ++ codes "} " ++ decimal n ++ codes "\n"
 
-abbrev pub samples : List ℕ → Labels → Rows → List ℕ
+abbrev pub samples : List ℕ → SampleLabels → Rows → List ℕ
 samples metric labels [] = []
 samples metric labels (entry ∷ rows) =
     sample metric (labels_text labels (string_bytes entry.0)) entry.1
     ++ samples metric labels rows
 
 -- those that have no row
-abbrev pub other_sample : List ℕ → Labels → ℕ → List ℕ
+abbrev pub other_sample : List ℕ → SampleLabels → ℕ → List ℕ
 other_sample metric labels n =
     if n == 0 then [] else sample metric (label (first_label labels) (codes "others")) n
 
-unfoldable pub metric : List ℕ → List ℕ → Labels → Tally → List ℕ
+unfoldable pub metric : List ℕ → List ℕ → SampleLabels → Tally → List ℕ
 metric name help labels t =
     head name help ++ samples name labels t.rows.entries ++ other_sample name labels t.others
 

@@ -7,7 +7,7 @@ use Rattle.std.specs.List.{before_first}
 use Rattle.std.specs.Str.{byte}
 use Rattle.printing.specs.Printed.{printed}
 use Rattle.serde_json.specs.Data.{Data, Items, no_items, item}
-use Rattle.report.specs.Tallies.{Name}
+use Rattle.report.specs.Tallies.{RowName}
 use Rattle.report.specs.Told.{text_in, number_in, flag_in, list_in, is_number, is_flag, is_text}
 use Rattle.report.specs.declared.question.AppQuestion.{AppQuestion}
 use Rattle.report.specs.declared.question.AppQuestion.TheVariants.{Asked, Offered, Unoffered}
@@ -20,27 +20,27 @@ use Rattle.report.specs.declared.question.LineQuestion.TheVariants.{Kind, Refusa
 
 -- ---- names
 
-abbrev pub one : List ℕ → Name
+abbrev pub one : List ℕ → RowName
 one a = printed a
 
-abbrev pub two : List ℕ → List ℕ → Name
+abbrev pub two : List ℕ → List ℕ → RowName
 two a b = printed a ++ codes "\t" ++ printed b
 
-abbrev pub three : List ℕ → List ℕ → List ℕ → Name
+abbrev pub three : List ℕ → List ℕ → List ℕ → RowName
 three a b c = printed a ++ codes "\t" ++ printed b ++ codes "\t" ++ printed c
 
 abbrev pub decimal_text : ℕ → List ℕ
 decimal_text n = decimal n
 
 -- what is counted, of which app and version, and in which minute or hour
-abbrev pub course_name : List ℕ → List ℕ → List ℕ → ℕ → Name
+abbrev pub course_name : List ℕ → List ℕ → List ℕ → ℕ → RowName
 course_name what appid version moment =
     three what appid version ++ codes "\t" ++ decimal_text moment
 
-abbrev pub if_holds : Bool → Name → Option Name
+abbrev pub if_holds : Bool → RowName → Option RowName
 if_holds holds name = if holds then Some name else None
 
-abbrev pub listed : Option Name → List Name
+abbrev pub listed : Option RowName → List RowName
 listed (Some name) = name ∷ []
 listed None = []
 
@@ -87,36 +87,36 @@ hour_of line = before_first is_colon (text_or_mark (text_in (codes "time") line)
 abbrev pub version_told : Data → List ℕ
 version_told app = text_or_mark (text_in (codes "version") app)
 
-abbrev pub offered : Data → Data → List ℕ → Option Name
+abbrev pub offered : Data → Data → List ℕ → Option RowName
 offered line app appid =
     if is_answered line then option_map (two appid) (text_in (codes "release") app) else None
 
-abbrev pub hour_name : Data → Data → List ℕ → Option Name
+abbrev pub hour_name : Data → Data → List ℕ → Option RowName
 hour_name line app appid =
     if_holds (has_asked line app) (three appid (hour_of line) (version_told app))
 
-abbrev pub bucket_name : Data → Data → List ℕ → Option Name
+abbrev pub bucket_name : Data → Data → List ℕ → Option RowName
 bucket_name line app appid =
     if has_asked line app
     then option_map (λ n. two appid (decimal n)) (number_in (codes "bucket") app) else None
 
-abbrev pub asked_by : Data → Data → List ℕ → Option Name
+abbrev pub asked_by : Data → Data → List ℕ → Option RowName
 asked_by line app appid = if_holds (has_asked line app) (two appid (version_told app))
 
 -- in this minute or hour
-abbrev pub asked_at : ℕ → Data → Data → List ℕ → Option Name
+abbrev pub asked_at : ℕ → Data → Data → List ℕ → Option RowName
 asked_at moment line app appid =
     if_holds (has_asked line app) (course_name (codes "asks") appid (version_told app) moment)
 
-abbrev pub offer_at : ℕ → List ℕ → List ℕ → Name
+abbrev pub offer_at : ℕ → List ℕ → List ℕ → RowName
 offer_at moment appid release = course_name (codes "offers") appid release moment
 
-abbrev pub offered_at : ℕ → Data → Data → List ℕ → Option Name
+abbrev pub offered_at : ℕ → Data → Data → List ℕ → Option RowName
 offered_at moment line app appid =
     if is_answered line
     then option_map (offer_at moment appid) (text_in (codes "release") app) else None
 
-abbrev pub named : AppQuestion → Data → Data → List ℕ → Option Name
+abbrev pub named : AppQuestion → Data → Data → List ℕ → Option RowName
 named Asked line app appid = if_holds (has_asked line app) (one appid)
 named Offered line app appid = offered line app appid
 named Unoffered line app appid = if_holds (has_no_update line app) (one appid)
@@ -131,20 +131,20 @@ named (AskedAt moment) line app appid = asked_at moment line app appid
 named (OfferedAt moment) line app appid = offered_at moment line app appid
 
 -- one name of each app, at most
-abbrev pub app_name : AppQuestion → Data → Data → Option Name
+abbrev pub app_name : AppQuestion → Data → Data → Option RowName
 app_name question line app =
     option_and_then (named question line app) (text_in (codes "appid") app)
 
-abbrev pub names_of_apps : AppQuestion → Data → Items → List Name
+abbrev pub names_of_apps : AppQuestion → Data → Items → List RowName
 names_of_apps question line no_items = []
 names_of_apps question line (item app apps) =
     listed (app_name question line app) ++ names_of_apps question line apps
 
-abbrev pub app_names_in : AppQuestion → Data → Option Items → List Name
+abbrev pub app_names_in : AppQuestion → Data → Option Items → List RowName
 app_names_in question line (Some apps) = names_of_apps question line apps
 app_names_in question line None = []
 
-abbrev pub app_names : AppQuestion → Data → List Name
+abbrev pub app_names : AppQuestion → Data → List RowName
 app_names question line = app_names_in question line (list_in (codes "apps") line)
 
 -- ---- of a line
@@ -157,39 +157,39 @@ abbrev pub status_text : Option ℕ → List ℕ
 status_text (Some status) = decimal status
 status_text None = codes "none"
 
-abbrev pub refused : Data → List ℕ → Name
+abbrev pub refused : Data → List ℕ → RowName
 refused line refusal = two (status_text (number_in (codes "status") line)) refusal
 
 -- when, its generation, and its path
-abbrev pub loaded : Data → ℕ → Name
+abbrev pub loaded : Data → ℕ → RowName
 loaded line generation =
     three (text_or_mark (text_in (codes "time") line)) (decimal generation)
     (text_or_mark (text_in (codes "path") line))
 
-abbrev pub kind_name : Data → Option Name
+abbrev pub kind_name : Data → Option RowName
 kind_name line = option_map one (text_in (codes "kind") line)
 
 -- of a connection
-abbrev pub refusal_name : Data → Option Name
+abbrev pub refusal_name : Data → Option RowName
 refusal_name line =
     if is_kind (codes "connection") line
     then option_map (refused line) (text_in (codes "refusal") line) else None
 
 -- of a load that was done
-abbrev pub load_name : Data → Option Name
+abbrev pub load_name : Data → Option RowName
 load_name line =
     if is_kind (codes "load") line
     then option_map (loaded line) (number_in (codes "generation") line) else None
 
-abbrev pub line_name : LineQuestion → Data → Option Name
+abbrev pub line_name : LineQuestion → Data → Option RowName
 line_name Kind line = kind_name line
 line_name Refusal line = refusal_name line
 line_name Load line = load_name line
 
-abbrev pub line_names : LineQuestion → Data → List Name
+abbrev pub line_names : LineQuestion → Data → List RowName
 line_names question line = listed (line_name question line)
 
 -- of a line, if it is told
-abbrev pub names_if : (Data → List Name) → Option Data → List Name
+abbrev pub names_if : (Data → List RowName) → Option Data → List RowName
 names_if names (Some line) = names line
 names_if names None = []

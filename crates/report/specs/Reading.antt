@@ -12,7 +12,7 @@ pub record CountsLines (window : Window) (lines : List (List ℕ)) (old new : Re
 
 -- Behind a block: whatever bytes follow it, when their lines are counted then those of both are.
 -- Each time a beginning of a line stands before the bytes.
-pub record ReadsOn (window : Window) (block : List ℕ) (begun : List ℕ) (old : Report)
+pub record ReadsBlock (window : Window) (block : List ℕ) (begun : List ℕ) (old : Report)
     (begun_then : List ℕ) (new : Report) : Type 0 where
   pub behind : (bytes : List ℕ) (last : Report)
       → CountsLines window (lines_behind begun_then bytes) new last

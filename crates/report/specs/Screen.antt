@@ -1,5 +1,5 @@
 -- The text of a report: numbers with what they count, a line each, by questions.
-use Rattle.std.specs.Prelude.{◌≡◌, ℕ, ◌*◌, ◌/◌, ◌%◌, List, [], ◌∷◌, ◌++◌, codes, decimal, length}
+use Rattle.std.specs.Prelude.{ℕ, ◌*◌, ◌/◌, ◌%◌, List, [], ◌∷◌, ◌++◌, codes, decimal, length}
 use Rattle.std.specs.Prelude.{Bool, ◌==◌, if◌then◌else◌, Option, Some, None, count_by}
 use Rattle.std.specs.Prelude.{String, string_bytes}
 use Rattle.std.specs.BTreeMap.{get_by_text}
@@ -8,10 +8,6 @@ use Rattle.std.specs.Str.{byte, bytes_eq}
 use Rattle.std.specs.declared.alloc.Global.{Global}
 use Rattle.report.specs.declared.counting.Report.{Report}
 use Rattle.report.specs.declared.tally.Tally.{Tally}
-
--- the new text is the old one with this behind it
-abbrev pub Puts : (old new : String Global) → List ℕ → Type 0
-Puts old new more = string_bytes new ≡ string_bytes old ++ more
 
 -- the entries of a table
 abbrev pub Rows : Type 0

@@ -6,23 +6,23 @@ use Rattle.std.specs.BTreeMap.{btree_map_len, get_by_text}
 use Rattle.std.specs.Str.{bytes_eq}
 use Rattle.report.specs.declared.tally.Tally.{Tally}
 
-abbrev pub Name : Type 0
-Name = List ℕ
+abbrev pub RowName : Type 0
+RowName = List ℕ
 
 -- a count stops at the greatest number of 64 bits
 abbrev pub capped : ℕ → ℕ
 capped n = min n (2 ^ 64 - 1)
 
-abbrev pub occurrences_of : Name → List Name → ℕ
+abbrev pub occurrences_of : RowName → List RowName → ℕ
 occurrences_of name names = count_by (bytes_eq name) names
 
-abbrev pub has_no_row : Tally → Name → Bool
+abbrev pub has_no_row : Tally → RowName → Bool
 has_no_row t name = is_none (get_by_text t.rows name)
 
 -- the table counts these names, and has room for so many different ones
-pub record IsTally (limit : ℕ) (names : List Name) (t : Tally) : Type 0 where
+pub record IsTally (limit : ℕ) (names : List RowName) (t : Tally) : Type 0 where
   -- a row tells how often its name stands there, which it does
-  pub rows : (name : Name) (n : ℕ) → get_by_text t.rows name ≡ Some n
+  pub rows : (name : RowName) (n : ℕ) → get_by_text t.rows name ≡ Some n
       → (0 < n) × (n ≡ capped (occurrences_of name names))
   -- and the number of the others how often a name that has no row does
   pub others : t.others ≡ capped (count_by (has_no_row t) names)
@@ -32,13 +32,13 @@ pub record IsTally (limit : ℕ) (names : List Name) (t : Tally) : Type 0 where
   pub room : t.limit ≡ limit
 
 -- whatever was counted before, these names are counted behind it
-pub record Notes (old new : Tally) (names : List Name) : Type 0 where
-  pub behind : (limit : ℕ) (before : List Name)
+pub record Notes (old new : Tally) (names : List RowName) : Type 0 where
+  pub behind : (limit : ℕ) (before : List RowName)
       → IsTally limit before old → IsTally limit (before ++ names) new
 
 -- the name has this row, and all else is as it was
-pub record Sets (old new : Tally) (name : Name) (n : ℕ) : Type 0 where
-  pub row : (other : Name) → get_by_text new.rows other
+pub record Sets (old new : Tally) (name : RowName) (n : ℕ) : Type 0 where
+  pub row : (other : RowName) → get_by_text new.rows other
       ≡ (if bytes_eq name other then Some n else get_by_text old.rows other)
   pub len : btree_map_len new.rows
       ≡ btree_map_len old.rows + (if has_no_row old name then 1 else 0)

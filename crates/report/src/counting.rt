@@ -113,7 +113,7 @@ impl Report {
         line: &[u8],
     ) -> Result<(), AllocError>
         ensures { OnOk result
-            (specs.Adds (event_in line.now) (told window.now line.now) self.old self.new) }
+            (specs.AddsLine (event_in line.now) (told window.now line.now) self.old self.new) }
     {
         match event_in(alloc, line)? {
             Some(event) => self.add_event(alloc, window, &event),
@@ -126,7 +126,7 @@ impl Report {
 
     #[tactic(auto, using(crate::proofs::Counted::stays, crate::proofs::Tallied::notes_none))]
     fn add_foreign(&mut self)
-        ensures { specs.Adds None None self.old self.new }
+        ensures { specs.AddsLine None None self.old self.new }
     {
         self.foreign = raised(self.foreign, 1);
     }
@@ -138,7 +138,7 @@ impl Report {
         window: &Window<'_>,
         event: &Value,
     ) -> Result<(), AllocError>
-        ensures { OnOk result (specs.Adds (Some (view event.now))
+        ensures { OnOk result (specs.AddsLine (Some (view event.now))
             (if_within window.now (view event.now)) self.old self.new) }
     {
         if is_within(window, event) {
@@ -150,13 +150,13 @@ impl Report {
 
     #[tactic(auto, using(crate::proofs::Counted::stays, crate::proofs::Tallied::notes_none))]
     fn add_nothing(&mut self)
-        ensures { (event : Data) → specs.Adds (Some event) None self.old self.new }
+        ensures { (event : Data) → specs.AddsLine (Some event) None self.old self.new }
     {}
 
     #[tactic(auto, using(crate::proofs::Counted::stays))]
     fn add(&mut self, alloc: Global, event: &Value) -> Result<(), AllocError>
         ensures { OnOk result
-            (specs.Adds (Some (view event.now)) (Some (view event.now)) self.old self.new) }
+            (specs.AddsLine (Some (view event.now)) (Some (view event.now)) self.old self.new) }
     {
         let left_out = number_or_none(event, "left_out");
         let offers = number_or_none(event, "offers_left_out");

@@ -119,7 +119,8 @@ fn note_moment(
     moment: Option<u64>,
     line: &Value,
 ) -> Result<(), AllocError>
-    ensures { OnOk result (Notes tally.old tally.new (specs.names_in_moment (view line.now) moment)) }
+    ensures { OnOk result
+        (Notes tally.old tally.new (specs.names_in_moment (view line.now) moment)) }
 {
     match moment {
         Some(moment) => note_three(

@@ -3,10 +3,10 @@
 ghost use Rattle.std.specs.Prelude.{◌≡◌, IfOk, OnOk};
 ghost use Rattle.std.specs.String.{string_bytes};
 ghost use Rattle.report.specs.Exposition as specs;
-ghost use Rattle.report.specs.Screen.{Puts};
+ghost use Rattle.printing.specs.Pushed.{Puts};
 
 use crate::counting::Report;
-use crate::labels::{Labels, first_label, push_label, push_labels};
+use crate::labels::{SampleLabels, first_label, push_label, push_labels};
 use crate::tally::Tally;
 use std::alloc::{AllocError, Global};
 use std::collections::BTreeMap;
@@ -38,7 +38,7 @@ fn push_numbers(text: &mut String, report: &Report) -> Result<(), AllocError>
         text,
         "rollout_log_lines",
         "Lines by kind.",
-        Labels::Kind,
+        SampleLabels::Kind,
         &report.kinds,
     )?;
     let foreign = "rollout_log_foreign_lines";
@@ -68,7 +68,7 @@ fn push_asks(text: &mut String, report: &Report) -> Result<(), AllocError>
         text,
         "rollout_asks",
         "Asks for an update.",
-        Labels::App,
+        SampleLabels::App,
         &report.asked,
     )?;
     let help = "Asks that were offered a release.";
@@ -76,14 +76,14 @@ fn push_asks(text: &mut String, report: &Report) -> Result<(), AllocError>
         text,
         "rollout_offers",
         help,
-        Labels::Release,
+        SampleLabels::Release,
         &report.offered,
     )?;
     push_metric(
         text,
         "rollout_no_updates",
         "Asks that got none.",
-        Labels::App,
+        SampleLabels::App,
         &report.unoffered,
     )?;
     let help = "Installs that ended, by result.";
@@ -91,7 +91,7 @@ fn push_asks(text: &mut String, report: &Report) -> Result<(), AllocError>
         text,
         "rollout_installs",
         help,
-        Labels::Install,
+        SampleLabels::Install,
         &report.results,
     )?;
     Ok(())
@@ -105,7 +105,7 @@ fn push_faults(text: &mut String, report: &Report) -> Result<(), AllocError>
         text,
         "rollout_refusals",
         help,
-        Labels::Rule,
+        SampleLabels::Rule,
         &report.refusals,
     )?;
     let help = "Asks for unknown apps.";
@@ -113,7 +113,7 @@ fn push_faults(text: &mut String, report: &Report) -> Result<(), AllocError>
         text,
         "rollout_unknown_apps",
         help,
-        Labels::App,
+        SampleLabels::App,
         &report.unknown,
     )?;
     let help = "Clients without a cohort.";
@@ -121,7 +121,7 @@ fn push_faults(text: &mut String, report: &Report) -> Result<(), AllocError>
         text,
         "rollout_without_cohort",
         help,
-        Labels::App,
+        SampleLabels::App,
         &report.without_cohort,
     )?;
     let help = "Clients without a request id.";
@@ -129,7 +129,7 @@ fn push_faults(text: &mut String, report: &Report) -> Result<(), AllocError>
         text,
         "rollout_without_request_id",
         help,
-        Labels::App,
+        SampleLabels::App,
         &report.without_id,
     )?;
     let help = "Apps whose events are cut.";
@@ -137,7 +137,7 @@ fn push_faults(text: &mut String, report: &Report) -> Result<(), AllocError>
         text,
         "rollout_cut_events",
         help,
-        Labels::App,
+        SampleLabels::App,
         &report.cut_events,
     )?;
     Ok(())
@@ -150,7 +150,7 @@ fn push_metric(
     text: &mut String,
     metric: &str,
     help: &str,
-    labels: Labels,
+    labels: SampleLabels,
     tally: &Tally,
 ) -> Result<(), AllocError>
     ensures { OnOk result (Puts text.old text.new
@@ -187,7 +187,7 @@ fn push_head(text: &mut String, metric: &str, help: &str) -> Result<(), AllocErr
 fn push_samples(
     text: &mut String,
     metric: &str,
-    labels: Labels,
+    labels: SampleLabels,
     rows: &BTreeMap<String, u64>,
 ) -> Result<(), AllocError>
     ensures { OnOk result (Puts text.old text.new
@@ -202,7 +202,7 @@ fn push_samples(
 fn push_sample(
     text: &mut String,
     metric: &str,
-    labels: Labels,
+    labels: SampleLabels,
     name: &str,
     n: u64,
 ) -> Result<(), AllocError>
@@ -219,7 +219,7 @@ fn push_sample(
 fn push_other_sample(
     text: &mut String,
     metric: &str,
-    labels: Labels,
+    labels: SampleLabels,
     others: u64,
 ) -> Result<(), AllocError>
     ensures { OnOk result (Puts text.old text.new

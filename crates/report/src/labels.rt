@@ -2,13 +2,13 @@
 
 ghost use Rattle.std.specs.Prelude.{◌≡◌, OnOk};
 ghost use Rattle.report.specs.Exposition as specs;
-ghost use Rattle.report.specs.Screen.{Puts};
+ghost use Rattle.printing.specs.Pushed.{Puts};
 
 use std::alloc::AllocError;
 
 /// Which labels a name's texts have.
 #[derive(Clone, Copy)]
-pub(crate) enum Labels {
+pub(crate) enum SampleLabels {
     App,
     /// An app, and a release.
     Release,
@@ -20,19 +20,23 @@ pub(crate) enum Labels {
 }
 
 /// Puts the labels of a name behind a text.
-pub(crate) fn push_labels(text: &mut String, labels: Labels, name: &str) -> Result<(), AllocError>
+pub(crate) fn push_labels(
+    text: &mut String,
+    labels: SampleLabels,
+    name: &str,
+) -> Result<(), AllocError>
     ensures { OnOk result (Puts text.old text.new (specs.labels_text labels name.now)) }
 {
     match labels {
-        Labels::App => push_label(text, "app", name),
-        Labels::Release => push_two(text, "app", "release", name),
-        Labels::Install => {
+        SampleLabels::App => push_label(text, "app", name),
+        SampleLabels::Release => push_two(text, "app", "release", name),
+        SampleLabels::Install => {
             push_label(text, "result", first(name))?;
             text.push_str(",")?;
             push_install(text, rest(name))
         }
-        Labels::Rule => push_two(text, "status", "rule", name),
-        Labels::Kind => push_label(text, "kind", name),
+        SampleLabels::Rule => push_two(text, "status", "rule", name),
+        SampleLabels::Kind => push_label(text, "kind", name),
     }
 }
 
@@ -54,14 +58,14 @@ fn push_install(text: &mut String, name: &str) -> Result<(), AllocError>
 }
 
 /// The first label.
-pub(crate) fn first_label(labels: Labels) -> &'static str
+pub(crate) fn first_label(labels: SampleLabels) -> &'static str
     ensures { result.now ≡ specs.first_label labels }
 {
     match labels {
-        Labels::App | Labels::Release => "app",
-        Labels::Install => "result",
-        Labels::Rule => "status",
-        Labels::Kind => "kind",
+        SampleLabels::App | SampleLabels::Release => "app",
+        SampleLabels::Install => "result",
+        SampleLabels::Rule => "status",
+        SampleLabels::Kind => "kind",
     }
 }
 

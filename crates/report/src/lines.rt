@@ -5,7 +5,7 @@ ghost use Rattle.std.specs.Prelude.{◌≡◌, ◌≢◌, ◌<◌, ◌≤◌, []
 ghost use Rattle.std.specs.Prelude.{IfNone, IfOk, IfSome, OnOk};
 ghost use Rattle.std.specs.Io.KnownBytes.{Consumes, IsAtEnd};
 ghost use Rattle.report.specs.Lines.{grown, lines_behind};
-ghost use Rattle.report.specs.Reading.{CountsLines, ReadsOn, ReadsLog};
+ghost use Rattle.report.specs.Reading.{CountsLines, ReadsBlock, ReadsLog};
 
 use crate::counting::Report;
 use crate::told::LINE_LIMIT;
@@ -102,7 +102,7 @@ fn count_block(
     begun: &mut Vec<u8>,
     block: &[u8],
 ) -> Result<(), AllocError>
-    ensures { OnOk result (ReadsOn window.now block.now
+    ensures { OnOk result (ReadsBlock window.now block.now
         begun.old.items report.old begun.new.items report.new) }
 {
     let mut left = block;
@@ -121,7 +121,7 @@ fn count_byte(
     begun: &mut Vec<u8>,
     byte: u8,
 ) -> Result<(), AllocError>
-    ensures { OnOk result (ReadsOn window.now (byte ∷ [])
+    ensures { OnOk result (ReadsBlock window.now (byte ∷ [])
         begun.old.items report.old begun.new.items report.new) }
 {
     if byte == b'\n' {
@@ -139,7 +139,7 @@ fn keep_other(
     byte: u8,
 ) -> Result<(), AllocError>
     requires { byte ≢ 10 }
-    ensures { OnOk result (ReadsOn window.now (byte ∷ [])
+    ensures { OnOk result (ReadsBlock window.now (byte ∷ [])
         begun.old.items report.old begun.new.items report.new) }
 {
     keep(begun, byte)
@@ -152,7 +152,7 @@ fn end_line(
     report: &mut Report,
     begun: &mut Vec<u8>,
 ) -> Result<(), AllocError>
-    ensures { OnOk result (ReadsOn window.now (10 ∷ [])
+    ensures { OnOk result (ReadsBlock window.now (10 ∷ [])
         begun.old.items report.old begun.new.items report.new) }
 {
     report.count_line(alloc, window, begun.as_slice())?;

@@ -1,9 +1,10 @@
 //! How a name is written: one text or several, with a tab between them. A control in a text is
 //! escaped, so none of them has a tab of its own.
 
-ghost use Rattle.std.specs.Prelude.{◌≡◌, ◌++◌, IfOk, OnOk, option_map};
+ghost use Rattle.std.specs.Prelude.{◌≡◌, IfOk, OnOk, option_map};
 ghost use Rattle.std.specs.Option.{option_copied};
 ghost use Rattle.std.specs.String.{string_bytes};
+ghost use Rattle.printing.specs.Pushed.{Puts};
 ghost use Rattle.report.specs.Names as specs;
 
 use printing::Printed;
@@ -29,7 +30,7 @@ pub(crate) fn one(alloc: Global, text: &str) -> Result<String, AllocError>
 }
 
 fn push_printed(name: &mut String, text: &str) -> Result<(), AllocError>
-    ensures { OnOk result (string_bytes name.new ≡ string_bytes name.old ++ specs.one text.now) }
+    ensures { OnOk result (Puts name.old name.new (specs.one text.now)) }
 {
     let text = Printed(text);
     write!(name, "{text}")

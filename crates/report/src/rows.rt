@@ -1,7 +1,7 @@
 //! The rows of a report's text: a number, and what it counts.
 
 ghost use Rattle.std.specs.Prelude.{OnOk};
-ghost use Rattle.report.specs.Screen.{Puts};
+ghost use Rattle.printing.specs.Pushed.{Puts};
 ghost use Rattle.report.specs.Screen as specs;
 
 use crate::tally::Tally;

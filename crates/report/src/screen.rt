@@ -2,7 +2,7 @@
 
 ghost use Rattle.std.specs.Prelude.{◌≡◌, IfOk, OnOk};
 ghost use Rattle.std.specs.String.{string_bytes};
-ghost use Rattle.report.specs.Screen.{Puts};
+ghost use Rattle.printing.specs.Pushed.{Puts};
 ghost use Rattle.report.specs.Screen as specs;
 
 use crate::counting::Report;

@@ -1,7 +1,7 @@
 //! Writing the code of a test in front of the rest: it goes to the label where the test is of the
 //! sense, and else on to the rest.
 
-ghost use Rattle.std.specs.Prelude.{◌≡◌, ◌<◌, ◌≤◌, ◌+◌, ◌*◌, ◌^◌, length, if◌then◌else◌, not, OnOk};
+ghost use Rattle.std.specs.Prelude.{◌≡◌, ◌<◌, ◌≤◌, ◌+◌, ◌^◌, length, if◌then◌else◌, OnOk};
 ghost use Rattle.std.specs.Prelude.{IfSome};
 ghost use Rattle.rule_compile.specs.Blocks as code;
 ghost use Rattle.rule_compile.specs.Ranges.{IsBucketInRange};

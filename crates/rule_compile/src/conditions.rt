@@ -1,10 +1,9 @@
 //! Writing the code of a condition, from its last step to its first: of what is made of conditions
 //! the goals are kept, the next one last, and a test is written to the next goal.
 
-ghost use Rattle.std.specs.Prelude.{◌≡◌, ◌<◌, ◌≤◌, ◌+◌, [], ◌∷◌, true, length, All, OnOk, IfErr};
+ghost use Rattle.std.specs.Prelude.{◌≡◌, ◌<◌, ◌≤◌, ◌∷◌, true, length, All, OnOk, IfErr};
 ghost use Rattle.rule_compile.specs.Code as code;
-ghost use Rattle.rule_compile.specs.Ranges.{IsStepInRange, AreInRange};
-ghost use Rattle.rule_lang.specs.Trees.{IsCondition};
+ghost use Rattle.rule_compile.specs.Ranges.{IsStepInRange};
 
 use crate::blocks::label_if;
 use crate::code::Code;

@@ -1,6 +1,7 @@
 //! A place of a rule's text: its line and column, and the line as it is printed, with a caret.
 
-ghost use Rattle.std.specs.Prelude.{◌≡◌, ◌++◌, IfSome, OnOk, string_bytes};
+ghost use Rattle.std.specs.Prelude.{◌≡◌, IfSome, OnOk, string_bytes};
+ghost use Rattle.printing.specs.Pushed.{Puts};
 ghost use Rattle.printing.specs.Printed.{printed_lines};
 ghost use Rattle.rule_diagnosis.specs.Places.{pad_at};
 ghost use Rattle.rule_diagnosis.specs.Told as specs;
@@ -63,8 +64,9 @@ fn tell_lines(
     pad: &str,
     sentence: &str,
 ) -> Result<(), AllocError>
-    ensures { OnOk result (string_bytes text.new ≡ string_bytes text.old
-        ++ specs.lines_of line column (printed_lines shown.now) pad.now sentence.now) }
+    ensures { OnOk result
+        (Puts text.old text.new (specs.lines_of line column (printed_lines shown.now) pad.now
+        sentence.now)) }
 {
     let printed = PrintedLines(shown);
     writeln!(text, "line {line}, column {column}: {sentence}")?;

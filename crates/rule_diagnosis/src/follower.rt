@@ -1,7 +1,8 @@
 //! The words and kinds of words that may follow the beginning of a rule, and how each is printed.
 
-ghost use Rattle.std.specs.Prelude.{◌≡◌, ◌++◌, OnOk, option_map, string_bytes};
+ghost use Rattle.std.specs.Prelude.{◌≡◌, ◌++◌, OnOk, option_map};
 ghost use Rattle.std.specs.List.{list_any};
+ghost use Rattle.printing.specs.Pushed.{Puts};
 ghost use Rattle.rule_diagnosis.specs.Followers as followers;
 
 use std::alloc::AllocError;
@@ -133,8 +134,7 @@ fn kind_text(follower: Follower) -> Option<&'static str>
 }
 
 fn tell_shown(text: &mut String, follower: Follower) -> Result<(), AllocError>
-    ensures { OnOk result
-        (string_bytes text.new ≡ string_bytes text.old ++ followers.shown follower) }
+    ensures { OnOk result (Puts text.old text.new (followers.shown follower)) }
 {
     match kind_text(follower) {
         Some(kind) => text.push_str(kind),
@@ -157,8 +157,7 @@ fn separator(rest: &[Follower]) -> &'static str
 
 /// Followers in a row, as `"offer", "and" or "or"`.
 pub fn tell_listed(text: &mut String, listed: &[Follower]) -> Result<(), AllocError>
-    ensures { OnOk result
-        (string_bytes text.new ≡ string_bytes text.old ++ followers.listed listed.now) }
+    ensures { OnOk result (Puts text.old text.new (followers.listed listed.now)) }
 {
     let mut left = listed;
     while let [first, rest @ ..] = left {
@@ -169,8 +168,8 @@ pub fn tell_listed(text: &mut String, listed: &[Follower]) -> Result<(), AllocEr
 }
 
 fn tell_one(text: &mut String, first: Follower, rest: &[Follower]) -> Result<(), AllocError>
-    ensures { OnOk result (string_bytes text.new ≡ string_bytes text.old
-        ++ followers.shown first ++ followers.separator rest.now) }
+    ensures { OnOk result
+        (Puts text.old text.new (followers.shown first ++ followers.separator rest.now)) }
 {
     tell_shown(text, first)?;
     text.push_str(separator(rest))

@@ -1,7 +1,8 @@
 //! What is written in place of a lexeme that is no word of a rule, or is misplaced, where that is
 //! plain.
 
-ghost use Rattle.std.specs.Prelude.{◌≡◌, ◌++◌, OnOk, string_bytes};
+ghost use Rattle.std.specs.Prelude.{◌≡◌, OnOk};
+ghost use Rattle.printing.specs.Pushed.{Puts};
 ghost use Rattle.rule_diagnosis.specs.Sentences as sentences;
 
 use crate::lexeme::{byte_at, is_relation, is_word};
@@ -107,8 +108,7 @@ fn names_attribute(word: &str) -> bool
 
 /// What is written where a test is expected and the name of a flag or an attribute stands alone.
 pub fn tell_test_hint(text: &mut String, lexeme: &str) -> Result<(), AllocError>
-    ensures { OnOk result
-        (string_bytes text.new ≡ string_bytes text.old ++ sentences.test_hint lexeme.now) }
+    ensures { OnOk result (Puts text.old text.new (sentences.test_hint lexeme.now)) }
 {
     if names_flag(lexeme) {
         write!(text, ": a flag is tested by flag {lexeme}")

@@ -1,6 +1,7 @@
 //! How a lexeme is told: in quotation marks, or by the number of its first character.
 
-ghost use Rattle.std.specs.Prelude.{◌≡◌, ◌+◌, ◌*◌, ◌++◌, ◌<◌, ◌^◌, OnOk, string_bytes};
+ghost use Rattle.std.specs.Prelude.{◌≡◌, ◌+◌, ◌*◌, ◌<◌, ◌^◌, OnOk};
+ghost use Rattle.printing.specs.Pushed.{Puts};
 ghost use Rattle.rule_diagnosis.specs.Sentences as sentences;
 
 use crate::lexeme::byte_at;
@@ -50,8 +51,7 @@ fn code_padding(n: u32) -> &'static str
 }
 
 fn tell_code(text: &mut String, n: u32) -> Result<(), AllocError>
-    ensures { OnOk result
-        (string_bytes text.new ≡ string_bytes text.old ++ sentences.code_text n) }
+    ensures { OnOk result (Puts text.old text.new (sentences.code_text n)) }
 {
     let padding = code_padding(n);
     write!(text, "U+{padding}{n:X}")
@@ -65,8 +65,7 @@ fn is_printed(c: u8) -> bool
 
 /// A lexeme, or the text's end.
 pub fn tell_lexeme(text: &mut String, lexeme: &str) -> Result<(), AllocError>
-    ensures { OnOk result
-        (string_bytes text.new ≡ string_bytes text.old ++ sentences.lexeme_text lexeme.now) }
+    ensures { OnOk result (Puts text.old text.new (sentences.lexeme_text lexeme.now)) }
 {
     if lexeme.is_empty() {
         return text.push_str("the text's end");

@@ -1,6 +1,7 @@
 //! What is said of a number, a `not` or a parenthesis that is out of its range (L4).
 
-ghost use Rattle.std.specs.Prelude.{◌≡◌, ◌++◌, OnOk, option_copied, string_bytes};
+ghost use Rattle.std.specs.Prelude.{◌≡◌, OnOk, option_copied};
+ghost use Rattle.printing.specs.Pushed.{Puts};
 ghost use Rattle.rule_diagnosis.specs.Sentences as sentences;
 
 use crate::quoting::tell_lexeme;
@@ -24,8 +25,7 @@ fn version_range() -> &'static str
 }
 
 fn tell_releases(text: &mut String, releases: u8) -> Result<(), AllocError>
-    ensures { OnOk result
-        (string_bytes text.new ≡ string_bytes text.old ++ sentences.releases_range releases) }
+    ensures { OnOk result (Puts text.old text.new (sentences.releases_range releases)) }
 {
     if releases == 0 {
         text.push_str("the app has no release")
@@ -35,8 +35,8 @@ fn tell_releases(text: &mut String, releases: u8) -> Result<(), AllocError>
 }
 
 fn tell_cells(text: &mut String, array: Option<&CellArray>) -> Result<(), AllocError>
-    ensures { OnOk result (string_bytes text.new ≡ string_bytes text.old
-        ++ sentences.cells_range (option_copied array.entry)) }
+    ensures { OnOk result
+        (Puts text.old text.new (sentences.cells_range (option_copied array.entry))) }
 {
     match array {
         Some(array) => tell_cells_of(text, array),
@@ -45,16 +45,14 @@ fn tell_cells(text: &mut String, array: Option<&CellArray>) -> Result<(), AllocE
 }
 
 fn tell_cells_of(text: &mut String, array: &CellArray) -> Result<(), AllocError>
-    ensures { OnOk result
-        (string_bytes text.new ≡ string_bytes text.old ++ sentences.cells_of array.now) }
+    ensures { OnOk result (Puts text.old text.new (sentences.cells_of array.now)) }
 {
     text.push_str(array.name.as_str())?;
     tell_indexes(text, array.length)
 }
 
 fn tell_indexes(text: &mut String, length: u16) -> Result<(), AllocError>
-    ensures { OnOk result
-        (string_bytes text.new ≡ string_bytes text.old ++ sentences.index_range length) }
+    ensures { OnOk result (Puts text.old text.new (sentences.index_range length)) }
 {
     write!(text, "'s indexes are below {length}")
 }
@@ -80,8 +78,8 @@ fn tell_range_of(
     before: &str,
     found: &str,
 ) -> Result<(), AllocError>
-    ensures { OnOk result (string_bytes text.new ≡ string_bytes text.old
-        ++ sentences.range shape.now earlier.now before.now found.now) }
+    ensures { OnOk result
+        (Puts text.old text.new (sentences.range shape.now earlier.now before.now found.now)) }
 {
     if found == "not" || found == "(" {
         text.push_str(depth_range())
@@ -102,8 +100,9 @@ pub fn tell_range(
     before: &str,
     found: &str,
 ) -> Result<(), AllocError>
-    ensures { OnOk result (string_bytes text.new ≡ string_bytes text.old
-        ++ sentences.range_sentence shape.now earlier.now before.now found.now) }
+    ensures { OnOk result
+        (Puts text.old text.new (sentences.range_sentence shape.now earlier.now before.now
+        found.now)) }
 {
     tell_lexeme(text, found)?;
     text.push_str(" is out of range: ")?;

@@ -1,7 +1,8 @@
 //! What is said of a lexeme that is no word (L1), a name that isn't there (L3), or out of its range
 //! (L4).
 
-ghost use Rattle.std.specs.Prelude.{◌≡◌, ◌++◌, OnOk, flat_map, string_bytes};
+ghost use Rattle.std.specs.Prelude.{◌≡◌, OnOk, flat_map};
+ghost use Rattle.printing.specs.Pushed.{Puts};
 ghost use Rattle.rule_diagnosis.specs.Sentences as sentences;
 ghost use Rattle.rule_lang.specs.Shapes as shapes;
 
@@ -14,8 +15,7 @@ use std::fmt::Write;
 
 /// What is said of L1.
 pub fn tell_token(text: &mut String, found: &str) -> Result<(), AllocError>
-    ensures { OnOk result
-        (string_bytes text.new ≡ string_bytes text.old ++ sentences.token_sentence found.now) }
+    ensures { OnOk result (Puts text.old text.new (sentences.token_sentence found.now)) }
 {
     tell_lexeme(text, found)?;
     text.push_str(no_word())?;
@@ -58,8 +58,7 @@ fn quota_hint() -> &'static str
 }
 
 fn tell_next(text: &mut String, arrays: &[CellArray]) -> Result<(), AllocError>
-    ensures { OnOk result
-        (string_bytes text.new ≡ string_bytes text.old ++ flat_map sentences.next_name arrays.now) }
+    ensures { OnOk result (Puts text.old text.new (flat_map sentences.next_name arrays.now)) }
 {
     for array in arrays {
         tell_one(text, array)?;
@@ -68,16 +67,14 @@ fn tell_next(text: &mut String, arrays: &[CellArray]) -> Result<(), AllocError>
 }
 
 fn tell_one(text: &mut String, array: &CellArray) -> Result<(), AllocError>
-    ensures { OnOk result
-        (string_bytes text.new ≡ string_bytes text.old ++ sentences.next_name array.now) }
+    ensures { OnOk result (Puts text.old text.new (sentences.next_name array.now)) }
 {
     let name = array.name.as_str();
     write!(text, ", {name}")
 }
 
 fn tell_names(text: &mut String, arrays: &[CellArray]) -> Result<(), AllocError>
-    ensures { OnOk result
-        (string_bytes text.new ≡ string_bytes text.old ++ sentences.array_names arrays.now) }
+    ensures { OnOk result (Puts text.old text.new (sentences.array_names arrays.now)) }
 {
     match arrays {
         [] => text.push_str("none"),
@@ -90,9 +87,9 @@ fn tell_names(text: &mut String, arrays: &[CellArray]) -> Result<(), AllocError>
 
 // Of a name that stands where an array is expected.
 fn tell_array(text: &mut String, shape: &Shape, found: &str) -> Result<(), AllocError>
-    ensures { OnOk result (string_bytes text.new ≡ string_bytes text.old
-        ++ sentences.array_sentence shape.now found.now (shapes.array_named found.now
-        shape.now.arrays)) }
+    ensures { OnOk result
+        (Puts text.old text.new (sentences.array_sentence shape.now found.now
+        (shapes.array_named found.now shape.now.arrays))) }
 {
     tell_lexeme(text, found)?;
     match array_named(shape.arrays(), found) {
@@ -115,8 +112,8 @@ pub fn tell_name(
     before: &str,
     found: &str,
 ) -> Result<(), AllocError>
-    ensures { OnOk result (string_bytes text.new ≡ string_bytes text.old
-        ++ sentences.name_sentence shape.now before.now found.now) }
+    ensures { OnOk result
+        (Puts text.old text.new (sentences.name_sentence shape.now before.now found.now)) }
 {
     if before == "flag" {
         tell_lexeme(text, found)?;

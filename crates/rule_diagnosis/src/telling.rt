@@ -1,7 +1,8 @@
 //! What is told of a rule's text that is refused.
 
-ghost use Rattle.std.specs.Prelude.{◌≡◌, ◌↔◌, ◌++◌, ◌≤◌, ◌<◌, ℕ, List, Err, length};
+ghost use Rattle.std.specs.Prelude.{◌≡◌, ◌↔◌, ◌≤◌, ◌<◌, ℕ, List, Err, length};
 ghost use Rattle.std.specs.Prelude.{IfSome, IsTrue, OnOk, string_bytes};
+ghost use Rattle.printing.specs.Pushed.{Puts};
 ghost use Rattle.rule_diagnosis.specs.Lexemes as lexemes;
 ghost use Rattle.rule_diagnosis.specs.Told as specs;
 ghost use Rattle.rule_lang.specs.Verdicts.{IsVerdict};
@@ -129,8 +130,7 @@ fn tell_shape(alloc: Global, text: &str, shape: &Shape, rows: &str, row: usize) 
 
 #[tactic(auto, unfolding(crate::specs::Told::shape_sentence))]
 fn tell_misplaced(text: &mut String, lexeme: &str, found: &[Follower]) -> Result<(), AllocError>
-    ensures { OnOk result (string_bytes text.new ≡ string_bytes text.old
-        ++ specs.shape_sentence lexeme.now found.now) }
+    ensures { OnOk result (Puts text.old text.new (specs.shape_sentence lexeme.now found.now)) }
 {
     tell_lexeme(text, lexeme)?;
     text.push_str(" stands where ")?;
@@ -186,8 +186,7 @@ fn tell_sentence(
     row: usize,
     kind: RuleFaultKind,
 ) -> Result<(), AllocError>
-    ensures { OnOk result (string_bytes text.new ≡ string_bytes text.old
-        ++ specs.sentence_in shape.now rows.now kind row) }
+    ensures { OnOk result (Puts text.old text.new (specs.sentence_in shape.now rows.now kind row)) }
 {
     let found = line_text(row, rows);
     let before = line_text(row.saturating_sub(1), rows);

@@ -10,7 +10,6 @@ use Rattle.rule_lang.specs.Lexed.{Placed}
 use Rattle.rule_lang.specs.Parts.{OrFault, ◌>>?◌, out_of_range}
 use Rattle.rule_lang.specs.Reader.Reading.{Draft, first_of, with_fault_if, too_deep}
 use Rattle.rule_lang.specs.Says as says
-use Rattle.rule_lang.specs.Says.{steps_of}
 use Rattle.rule_lang.specs.Trees.{Tree}
 
 -- ---- what is kept

@@ -1,7 +1,6 @@
 //! A rule that is read up to some token.
 
-ghost use Rattle.std.specs.Prelude.{◌≡◌, ◌++◌, ◌∷◌, [], OnOk, None};
-ghost use Rattle.rule_lang.specs.Reader.Drafts as drafts;
+ghost use Rattle.std.specs.Prelude.{◌≡◌, OnOk, None};
 ghost use Rattle.rule_lang.specs.Named.{seen, draft_seen};
 ghost use Rattle.rule_lang.specs.Reader.Reading as reading;
 ghost use Rattle.rule_lang.specs.Trees.{IsCondition};

@@ -1,6 +1,6 @@
 //! From a text to its tokens, each with its line.
 
-ghost use Rattle.std.specs.Prelude.{◌≡◌, ◌≤◌, ◌∷◌, ◌-◌, drop, length, map, IfOk, IfErr, OnOk, Ok};
+ghost use Rattle.std.specs.Prelude.{◌≡◌, ◌≤◌, ◌-◌, drop, length, map, IfOk, IfErr, OnOk, Ok};
 ghost use Rattle.rule_lang.specs.Lexed.{tokens_in, IsTokenFault};
 ghost use Rattle.rule_lang.specs.Named.{placed_named, AddsToken};
 

@@ -1,6 +1,6 @@
 //! From a text to its rule.
 
-ghost use Rattle.std.specs.Prelude.{◌≡◌, ◌≤◌, length, true, IfOk, IfErr, Ok};
+ghost use Rattle.std.specs.Prelude.{◌≡◌, true, IfOk, IfErr, Ok};
 ghost use Rattle.rule_lang.specs.Fits.{fits};
 ghost use Rattle.rule_lang.specs.Verdicts.{IsVerdict, IsRuleFault};
 

@@ -1,7 +1,6 @@
 //! From the phrase of a test to the test.
 
 ghost use Rattle.std.specs.Prelude.{◌≡◌, ◌≤◌, ◌+◌, IfOk, IfErr, Ok};
-ghost use Rattle.rule_lang.specs.Literals.{IsLiteral};
 ghost use Rattle.rule_lang.specs.Named.{placed_named, placed_all};
 ghost use Rattle.rule_lang.specs.Parts as parts;
 ghost use Rattle.rule_lang.specs.Reader.Results.{IsFaultOf};

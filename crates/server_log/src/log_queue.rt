@@ -4,7 +4,7 @@
 //! threads share is known to no contract.
 
 use crate::clock::utc_now;
-use crate::tally::Tally;
+use crate::tally::RunningTotals;
 use access_log::{LogEvent, Totals, log_line};
 use crossbeam_channel::{Receiver, Sender, bounded};
 use std::alloc::{AllocError, Global};
@@ -29,7 +29,7 @@ pub struct LogPiece {
 pub struct LogQueue {
     pieces: Sender<LogPiece>,
     lost: AtomicU64,
-    tally: Arc<Tally>,
+    tally: Arc<RunningTotals>,
 }
 
 impl LogQueue {
@@ -38,7 +38,7 @@ impl LogQueue {
         let Ok((pieces, from)) = bounded::<LogPiece, _>(alloc, PLACES) else {
             return Err(AllocError);
         };
-        let Ok(tally) = Arc::new(alloc, Tally::new()) else {
+        let Ok(tally) = Arc::new(alloc, RunningTotals::new()) else {
             return Err(AllocError);
         };
         let queue = LogQueue {
@@ -57,12 +57,12 @@ impl LogQueue {
     }
 
     /// By what connections are counted.
-    pub(crate) fn tally(&self) -> &Tally {
+    pub(crate) fn tally(&self) -> &RunningTotals {
         &self.tally
     }
 
     /// The same, for the thread that tells it.
-    pub(crate) fn shared_tally(&self) -> Option<Arc<Tally>> {
+    pub(crate) fn shared_tally(&self) -> Option<Arc<RunningTotals>> {
         Arc::try_clone(&self.tally).ok()
     }
 

@@ -6,7 +6,7 @@
 use crate::clock::{is_past, seconds_from_now, utc_now};
 use crate::log_output::LogOutput;
 use crate::log_queue::{LogPiece, LogQueue};
-use crate::tally::Tally;
+use crate::tally::RunningTotals;
 use access_log::{LogEvent, log_line};
 use bounded_files::ResourceFault;
 use crossbeam_channel::{Receiver, RecvTimeoutError, Sender, bounded};
@@ -51,7 +51,7 @@ where
 
 // Writes each piece, and the totals each minute and at the end; and then how many lines couldn't be
 // written.
-fn write_pieces<H>(rt: H, pieces: Receiver<LogPiece>, tally: Arc<Tally>, ending: Sender<()>)
+fn write_pieces<H>(rt: H, pieces: Receiver<LogPiece>, tally: Arc<RunningTotals>, ending: Sender<()>)
 where
     H: Wait + AllocGlobal + Clock + LogOutput + Drop,
 {
@@ -94,7 +94,7 @@ where
 }
 
 // Writes the line of the totals, as a piece.
-fn write_totals<H>(rt: &H, tally: &Tally, unwritten: u64) -> u64
+fn write_totals<H>(rt: &H, tally: &RunningTotals, unwritten: u64) -> u64
 where
     H: AllocGlobal + Clock + LogOutput,
 {

@@ -9,7 +9,7 @@ use std::sync::atomic::{AtomicU64, Ordering};
 
 /// The numbers of `Totals`, and how many workers are at work now.
 #[derive(Drop)]
-pub(crate) struct Tally {
+pub(crate) struct RunningTotals {
     success: AtomicU64,
     bad_request: AtomicU64,
     not_found: AtomicU64,
@@ -24,10 +24,10 @@ pub(crate) struct Tally {
     busy_now: AtomicU64,
 }
 
-impl Tally {
+impl RunningTotals {
     /// Of no connection yet.
-    pub(crate) fn new() -> Tally {
-        Tally {
+    pub(crate) fn new() -> RunningTotals {
+        RunningTotals {
             success: AtomicU64::new(0),
             bad_request: AtomicU64::new(0),
             not_found: AtomicU64::new(0),

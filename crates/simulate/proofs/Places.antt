@@ -5,7 +5,7 @@ use Rattle.std.proofs.lemmas.List.{drop_more, get_or-drop, take_all}
 use Rattle.std.proofs.lemmas.Option.{slice_get_read}
 use Rattle.std.specs.Str.{bytes_eq}
 use Rattle.ruleset.specs.Rules.{AppRule, app_in}
-use Rattle.simulate.specs.Picked.{StandsAt}
+use Rattle.simulate.specs.Picked.{IsPlaceOf}
 
 -- what is left, by its first and those behind it
 pub first_left : {X : Type 0} (left : List X) (x : X) → 0 < length left → x ≡ get_or left 0 x
@@ -47,7 +47,7 @@ module _ (apps : List AppRule) (appid : List ℕ) where
       within = omega (arith, at.within, count);
     }
 
-    pub is_here : bytes_eq app.appid appid ≡ true → StandsAt apps appid place
+    pub is_here : bytes_eq app.appid appid ≡ true → IsPlaceOf apps appid place
     is_here own =
         let here : app_in (app ∷ others) appid ≡ Some app = rw own refl in
         let first : app ≡ get_or (drop place apps) 0 app =

@@ -1,14 +1,9 @@
 -- The columns of a table: texts that blanks fill up to a width, counts of buckets in percent, and
 -- bars. A text is UTF-8, a width is counted in characters, and a count is one of 10000 buckets: 0
 -- to 10000.
-use Rattle.std.specs.Prelude.{◌≡◌, ℕ, ◌+◌, ◌-◌, ◌/◌, ◌%◌, List, [], ◌∷◌, ◌++◌, codes, decimal}
-use Rattle.std.specs.Prelude.{String, length, max, replicate, string_bytes}
+use Rattle.std.specs.Prelude.{ℕ, ◌+◌, ◌-◌, ◌/◌, ◌%◌, List, [], ◌∷◌, ◌++◌, codes, decimal}
+use Rattle.std.specs.Prelude.{length, max, replicate}
 use Rattle.std.specs.Str.{chars}
-use Rattle.std.specs.declared.alloc.Global.{Global}
-
--- the new text is the old one with this behind it
-abbrev pub Puts : (old new : String Global) → List ℕ → Type 0
-Puts old new more = string_bytes new ≡ string_bytes old ++ more
 
 -- so many blanks
 abbrev pub blanks : ℕ → List ℕ

@@ -6,7 +6,7 @@ use Rattle.std.specs.Prelude.{slice_index, max, nat_lt, ◌==◌, ◌&&◌, ◌|
 use Rattle.std.specs.Prelude.{Bool, true, false, Option, Some, None}
 use Rattle.std.specs.List.{flat_map, list_any, zip}
 use Rattle.attrs.specs.Version.{version_of}
-use Rattle.simulate.specs.Columns.{at_left, at_right, blanks, widest, width_of}
+use Rattle.simulate.specs.Columns.{at_left, at_right, widest, width_of}
 use Rattle.simulate.specs.Shares.{app_title}
 use Rattle.simulate.specs.Shown.{Offer, Simulation, apps_gone, choice_name, choices_among}
 use Rattle.simulate.specs.Shown.{offer_of, version_at}

@@ -12,7 +12,7 @@ pub record ArePlaces (first end : ℕ) (apps : List AppRule) : Type 0 where
   pub within : end ≤ length apps
 
 -- the app of an appid stands at a place, from 0, among others
-pub record StandsAt (apps : List AppRule) (appid : List ℕ) (place : ℕ) : Type 0 where
+pub record IsPlaceOf (apps : List AppRule) (appid : List ℕ) (place : ℕ) : Type 0 where
   pub app : AppRule
   pub found : app_in apps appid ≡ Some app
   pub stands : slice_get apps place ≡ Some app
@@ -25,5 +25,5 @@ pub data HasPicked (client : Client) (apps : List AppRule) (appid : List ℕ) (s
   nothing : app_in apps appid ≡ None → s.apps ≡ [] → s.chosen ≡ []
       → HasPicked client apps appid s
   picked : (chosen : List (List ℕ)) (place : ℕ) → IsSimulated client apps chosen
-      → StandsAt apps appid place → s.apps ≡ take 1 (drop place apps)
+      → IsPlaceOf apps appid place → s.apps ≡ take 1 (drop place apps)
       → s.chosen ≡ take 1 (drop place chosen) → HasPicked client apps appid s

@@ -1,7 +1,7 @@
 -- What is shown of a simulation: for each app its releases, by their versions, and what each bucket
 -- chooses. A choice of 0 is none, and of K, 1 to 64, the K-th release. Choices of an app are 10000,
 -- one a bucket, in the buckets' order.
-use Rattle.std.specs.Prelude.{◌≡◌, ℕ, ◌+◌, ◌-◌, List, [], ◌∷◌, ◌++◌, length, map, codes}
+use Rattle.std.specs.Prelude.{ℕ, ◌+◌, ◌-◌, List, [], ◌∷◌, length, map, codes}
 use Rattle.std.specs.Prelude.{◌==◌, if◌then◌else◌, Option, Some, None, is_none, slice_index_or}
 use Rattle.std.specs.List.{filter, range_with_len}
 use Rattle.std.specs.Str.{bytes_eq}

@@ -1,6 +1,6 @@
 //! The runs of the clients of an app, one after the other.
 
-ghost use Rattle.std.specs.Prelude.{◌≡◌, ◌≤◌, IfOk};
+ghost use Rattle.std.specs.Prelude.{◌≤◌, IfOk};
 ghost use Rattle.std.specs.Arc.{arc_value};
 ghost use Rattle.simulate.specs.Clients.{attributes, clients, IsSameButCohort};
 ghost use Rattle.simulate.specs.Course.{Chooses, InTurn, bucket_count};

@@ -1,7 +1,7 @@
 //! The square of an app: 100 by 100 buckets.
 
 ghost use Rattle.std.specs.Prelude.{◌≡◌, ◌≤◌, OnOk};
-ghost use Rattle.simulate.specs.Columns.{Puts};
+ghost use Rattle.printing.specs.Pushed.{Puts};
 ghost use Rattle.simulate.specs.Pictures as specs;
 ghost use Rattle.simulate.specs.Shown.{versions_of};
 

@@ -1,7 +1,8 @@
 //! Releases by their versions, and what a choice is called.
 
-ghost use Rattle.std.specs.Prelude.{◌≡◌, ◌+◌, ◌<◌, ◌≤◌, OnOk, length, option_copied};
-ghost use Rattle.simulate.specs.Columns.{Puts, widest};
+ghost use Rattle.std.specs.Prelude.{◌≡◌, ◌<◌, ◌≤◌, OnOk, length, option_copied};
+ghost use Rattle.printing.specs.Pushed.{Puts};
+ghost use Rattle.simulate.specs.Columns.{widest};
 ghost use Rattle.simulate.specs.Shares.{choice_label};
 ghost use Rattle.simulate.specs.Shown as specs;
 

@@ -1,7 +1,7 @@
 //! The legend of an app: a row for each choice that some bucket makes.
 
 ghost use Rattle.std.specs.Prelude.{◌≡◌, ◌+◌, ◌≤◌, IfOk, OnOk};
-ghost use Rattle.simulate.specs.Columns.{Puts};
+ghost use Rattle.printing.specs.Pushed.{Puts};
 ghost use Rattle.simulate.specs.Pictures as specs;
 ghost use Rattle.simulate.specs.Shares.{choice_label};
 ghost use Rattle.simulate.specs.Shown.{versions_of};

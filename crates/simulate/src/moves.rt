@@ -1,7 +1,7 @@
 //! How many buckets move from which release to which: a table an app.
 
 ghost use Rattle.std.specs.Prelude.{◌≡◌, ◌≤◌, OnOk, IfOk, None, length, option_copied};
-ghost use Rattle.simulate.specs.Columns.{Puts};
+ghost use Rattle.printing.specs.Pushed.{Puts};
 ghost use Rattle.simulate.specs.Moving as specs;
 ghost use Rattle.simulate.specs.Shown.{apps_gone, choice_name, offered, versions_or_none};
 ghost use Rattle.simulate.specs.Counts.{AreMoves, choices_or_none};
@@ -124,8 +124,9 @@ fn widths_of(
     now: Option<&App>,
     next: Option<&App>,
 ) -> Result<MoveWidths, AllocError>
-    ensures { IfOk result (λ widths. widths ≡ specs.move_widths appid.now
-        (versions_or_none (option_copied now.entry)) (versions_or_none (option_copied next.entry))) }
+    ensures { IfOk result (λ widths. widths
+        ≡ specs.move_widths appid.now (versions_or_none (option_copied now.entry))
+        (versions_or_none (option_copied next.entry))) }
 {
     let appid = Printed(appid).to_string(alloc)?;
     let Some(app) = width_of(appid.as_str()).checked_add(4) else {

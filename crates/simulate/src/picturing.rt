@@ -1,7 +1,7 @@
 //! The whole picture.
 
 ghost use Rattle.std.specs.Prelude.{◌≡◌, ◌+◌, IfOk, IfSome, OnOk, string_bytes};
-ghost use Rattle.simulate.specs.Columns.{Puts};
+ghost use Rattle.printing.specs.Pushed.{Puts};
 ghost use Rattle.simulate.specs.Pictures as specs;
 
 use crate::bucket_square::push_square;

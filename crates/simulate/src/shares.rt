@@ -1,7 +1,7 @@
 //! How many buckets get which release: a table an app.
 
-ghost use Rattle.std.specs.Prelude.{◌≡◌, ◌≤◌, ℕ, List, OnOk, slice_index};
-ghost use Rattle.simulate.specs.Columns.{Puts};
+ghost use Rattle.std.specs.Prelude.{◌≡◌, ◌≤◌, OnOk};
+ghost use Rattle.printing.specs.Pushed.{Puts};
 ghost use Rattle.simulate.specs.Shares as specs;
 ghost use Rattle.simulate.specs.Shown.{versions_of};
 

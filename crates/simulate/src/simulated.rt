@@ -2,7 +2,7 @@
 
 ghost use Rattle.std.specs.Prelude.{◌≡◌, ◌<◌, None, IfOk, IfSome, IfNone, is_none, length};
 ghost use Rattle.std.specs.Prelude.{option_copied, take, drop};
-ghost use Rattle.simulate.specs.Picked.{HasPicked, StandsAt};
+ghost use Rattle.simulate.specs.Picked.{HasPicked, IsPlaceOf};
 ghost use Rattle.simulate.specs.Shown as specs;
 ghost use Rattle.simulate.specs.Clients.{IsSameButApp};
 ghost use Rattle.simulate.specs.Counts.{choices_or_none};
@@ -136,7 +136,7 @@ impl Simulated {
 
 // The place of the first app of an appid, from 0.
 fn place_of(apps: &[App], appid: &str) -> Option<usize>
-    ensures some { IfSome result (StandsAt apps.now appid.now) }
+    ensures some { IfSome result (IsPlaceOf apps.now appid.now) }
     ensures none { IfNone result (app_in apps.now appid.now ≡ None) }
 {
     let mut place = 0;

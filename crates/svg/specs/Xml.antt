@@ -1,15 +1,9 @@
 -- A text as character data of XML 1.0 (its sections 2.2 and 2.4): markup is escaped, and what is no
 -- character there, or a control, is a question mark. Texts are UTF-8.
-use Rattle.std.specs.Prelude.{◌≡◌, ℕ, List, [], ◌∷◌, ◌++◌, codes, nat_lt, encode_utf8}
-use Rattle.std.specs.Prelude.{String, string_bytes}
+use Rattle.std.specs.Prelude.{ℕ, List, codes, nat_lt, encode_utf8}
 use Rattle.std.specs.Prelude.{Bool, ◌==◌, ◌||◌, if◌then◌else◌}
 use Rattle.std.specs.List.{flat_map}
 use Rattle.std.specs.Str.{chars}
-use Rattle.std.specs.declared.alloc.Global.{Global}
-
--- the new text is the old one with this behind it
-abbrev pub Puts : (old new : String Global) → List ℕ → Type 0
-Puts old new more = string_bytes new ≡ string_bytes old ++ more
 
 -- controls, and the two that are no characters, of the scalar values up to 1114111
 abbrev pub is_unprintable : ℕ → Bool

@@ -1,7 +1,8 @@
 //! Texts as character data of XML.
 
 ghost use Rattle.std.specs.Prelude.{OnOk};
-ghost use Rattle.svg.specs.Xml.{Puts, xml_char, xml_text};
+ghost use Rattle.printing.specs.Pushed.{Puts};
+ghost use Rattle.svg.specs.Xml.{xml_char, xml_text};
 
 use std::alloc::AllocError;
 

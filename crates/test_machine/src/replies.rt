@@ -1,6 +1,5 @@
 //! Cells that always reply the same, and keep what they were asked.
 
-ghost use Rattle.std.specs.Prelude.{◌≤◌, ◌^◌};
 ghost use Rattle.cells.specs.Events.{CanReply};
 
 use cells::{CellEvent, CellNo, CellOp, CellSteps};

@@ -6,13 +6,13 @@ use std::alloc::{AllocError, Global};
 
 /// A row: its first line, and the program as assembly text.
 #[derive(Drop)]
-pub(crate) struct Row<'a> {
+pub(crate) struct ProgramRow<'a> {
     pub(crate) head: &'a str,
     pub(crate) program: String,
 }
 
-pub(crate) fn row_of(alloc: Global, row: &str) -> Result<Row<'_>, AllocError> {
+pub(crate) fn row_of(alloc: Global, row: &str) -> Result<ProgramRow<'_>, AllocError> {
     let (head, program) = row.split_once('\n').unwrap_or((row, ""));
     let program = program.replace(alloc, " / ", "\n")?;
-    Ok(Row { head, program })
+    Ok(ProgramRow { head, program })
 }

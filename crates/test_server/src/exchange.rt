@@ -61,14 +61,14 @@ impl Answering {
 /// How a device behaves: how many bytes it takes a call, which call fails, if any (from 1), and how
 /// many bytes it takes in all, behind which a call takes none.
 #[derive(Clone, Copy)]
-pub(crate) struct Device {
+pub(crate) struct DeviceBehavior {
     pub(crate) piece: usize,
     pub(crate) fails: u64,
     pub(crate) room: usize,
 }
 
 /// A device that takes what it is given.
-pub(crate) const WHOLE: Device = Device {
+pub(crate) const WHOLE: DeviceBehavior = DeviceBehavior {
     piece: 1_000_000,
     fails: 0,
     room: 1_000_000_000,
@@ -97,7 +97,7 @@ impl Write for Bounded {
 /// What came of a request, how often its reader and its writer failed, what the log tells of it,
 /// and what was written.
 #[derive(Drop)]
-pub(crate) struct Heard {
+pub(crate) struct Exchanged {
     pub(crate) outcome: Result<u16, AnswerFault>,
     pub(crate) read_failures: u64,
     pub(crate) write_failures: u64,
@@ -112,9 +112,9 @@ pub(crate) fn exchange_over<C: CellSteps>(
     pass: &mut C::Pass,
     watcher: &mut Watcher,
     input: &[u8],
-    reads: Device,
-    writes: Device,
-) -> Heard
+    reads: DeviceBehavior,
+    writes: DeviceBehavior,
+) -> Exchanged
     requires { C.belongs cells.now pass.old }
     ensures { C.belongs cells.now pass.new }
 {
@@ -138,7 +138,7 @@ pub(crate) fn exchange_over<C: CellSteps>(
         Ok(sent) => (Ok(sent.status), Some(sent)),
         Err(fault) => (Err(fault), None),
     };
-    Heard {
+    Exchanged {
         outcome,
         read_failures: reader.failures(),
         write_failures: writer.failures(),
@@ -152,9 +152,9 @@ pub(crate) fn exchange(
     alloc: Global,
     server: &mut Answering,
     input: &[u8],
-    reads: Device,
-    writes: Device,
-) -> Heard {
+    reads: DeviceBehavior,
+    writes: DeviceBehavior,
+) -> Exchanged {
     exchange_over(
         alloc,
         &server.cells,
@@ -172,9 +172,9 @@ pub(crate) fn answered<H: Wait>(
     alloc: Global,
     path: &str,
     input: &[u8],
-    reads: Device,
-    writes: Device,
-) -> Result<Heard, &'static str> {
+    reads: DeviceBehavior,
+    writes: DeviceBehavior,
+) -> Result<Exchanged, &'static str> {
     let mut server = server_of(rt, alloc, path)?;
     let heard = exchange(alloc, &mut server, input, reads, writes);
     server.close(rt);

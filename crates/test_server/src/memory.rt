@@ -3,7 +3,7 @@
 //! left. So this passes with ample memory, and wherever one growth of it is refused, which
 //! `bench/refused` does for each in turn.
 
-use crate::exchange::{Answering, Heard, WHOLE, exchange, post, server_of, success};
+use crate::exchange::{Answering, Exchanged, WHOLE, exchange, post, server_of, success};
 use crate::refusals::refusal;
 use crate::replies::{NO_UPDATE, TWO_APPS};
 use cells::CellNo;
@@ -74,7 +74,7 @@ fn refusal_in(alloc: Global, written: &[u8]) -> Result<MemoryAnswer, AllocError>
 }
 
 /// What was heard of a server on whose counter so many additions were made before.
-fn asked_of(alloc: Global, heard: &Heard, before: u64) -> Result<MemoryAnswer, AllocError> {
+fn asked_of(alloc: Global, heard: &Exchanged, before: u64) -> Result<MemoryAnswer, AllocError> {
     let written = heard.written.as_slice();
     let text = if before == 0 { OFFERED } else { NO_UPDATE };
     let is_reply = is_reply(alloc, written, text)?;

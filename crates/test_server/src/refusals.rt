@@ -1,6 +1,6 @@
 //! Every refusal, by each way to get it, with its status and its line. None makes a run.
 
-use crate::exchange::{Device, Heard, WHOLE, answered, is_printed, post};
+use crate::exchange::{DeviceBehavior, Exchanged, WHOLE, answered, is_printed, post};
 use std::alloc::{AllocError, Global};
 use std::sync::Wait;
 use std::test::Fail;
@@ -20,7 +20,7 @@ pub(crate) fn refusal(alloc: Global, status: &str, line: &str) -> Result<String,
 }
 
 /// Whether the log tells of a refusal by its status's number and its line.
-fn is_told(alloc: Global, heard: &Heard, status: &str, line: &str) -> Result<bool, AllocError> {
+fn is_told(alloc: Global, heard: &Exchanged, status: &str, line: &str) -> Result<bool, AllocError> {
     let (code, _name) = status.split_once(' ').unwrap_or((status, ""));
     let wanted = format!(in alloc; "{code} {line}")?;
     match &heard.told {
@@ -157,7 +157,7 @@ const LARGE: &str = "POST /service/update2/json HTTP/1.1\nContent-Length: 104857
 fn is_large_unread<H: Wait>(rt: &H, alloc: Global) -> Result<bool, Fail> {
     let head = head_of(alloc, LARGE)?;
     let input = format!(in alloc; "{head}{{}}")?;
-    let reads = Device {
+    let reads = DeviceBehavior {
         piece: head.len(),
         fails: 2,
         ..WHOLE

@@ -1,6 +1,6 @@
 //! Replies to requests, and that reading in pieces changes none of them.
 
-use crate::exchange::{Device, WHOLE, answered, post, success};
+use crate::exchange::{DeviceBehavior, WHOLE, answered, post, success};
 use std::alloc::Global;
 use std::sync::Wait;
 use std::test::Fail;
@@ -56,7 +56,7 @@ fn is_replied<H: Wait>(
     let input = post(alloc, body)?;
     let wanted = success(alloc, text)?;
     for piece in [1, 7, 1_000_000] {
-        let device = Device { piece, ..WHOLE };
+        let device = DeviceBehavior { piece, ..WHOLE };
         let heard = answered(rt, alloc, path, &input, device, device)?;
         if heard.outcome != Ok(200) || heard.written.as_slice() != wanted.as_slice() {
             return Ok(false);

@@ -2,7 +2,7 @@
 
 use crate::exchange::{post, times};
 use crate::loopback::told;
-use crate::whole_server::{Work, wrong};
+use crate::whole_server::{PortTask, wrong};
 use operator::ask;
 use operator_request::OperatorRequest;
 use std::io;
@@ -161,9 +161,9 @@ where
 
 #[test]
 fn sessions(rt: HostRuntime) -> Result<(), Fail> {
-    assert_eq!(rt; wrong(&rt, "quota", 4, 10, Work::Rows(SESSION))?, None);
-    assert_eq!(rt; wrong(&rt, "quota", 4, 10, Work::Rows(TAKEN))?, None);
-    assert_eq!(rt; wrong(&rt, "yes", 4, 10, Work::Rows(ASKED))?, None);
+    assert_eq!(rt; wrong(&rt, "quota", 4, 10, PortTask::Rows(SESSION))?, None);
+    assert_eq!(rt; wrong(&rt, "quota", 4, 10, PortTask::Rows(TAKEN))?, None);
+    assert_eq!(rt; wrong(&rt, "yes", 4, 10, PortTask::Rows(ASKED))?, None);
     Ok(())
 }
 

@@ -1,6 +1,6 @@
 //! Devices that fail at each of their calls, or take less than they are given.
 
-use crate::exchange::{Device, Heard, WHOLE, answered, post, success};
+use crate::exchange::{DeviceBehavior, Exchanged, WHOLE, answered, post, success};
 use crate::refusals::{head_of, refusal};
 use crate::replies::{NO_UPDATE, TWO_APPS};
 use std::alloc::Global;
@@ -9,7 +9,12 @@ use std::test::Fail;
 use workers::AnswerFault;
 
 /// What came of a request of two apps over these devices.
-fn heard<H: Wait>(rt: &H, alloc: Global, reads: Device, writes: Device) -> Result<Heard, Fail> {
+fn heard<H: Wait>(
+    rt: &H,
+    alloc: Global,
+    reads: DeviceBehavior,
+    writes: DeviceBehavior,
+) -> Result<Exchanged, Fail> {
     let input = post(alloc, TWO_APPS)?;
     Ok(answered(rt, alloc, "nothing", &input, reads, writes)?)
 }
@@ -18,7 +23,7 @@ fn heard<H: Wait>(rt: &H, alloc: Global, reads: Device, writes: Device) -> Resul
 fn is_unread<H: Wait>(
     rt: &H,
     alloc: Global,
-    reads: Device,
+    reads: DeviceBehavior,
     fault: AnswerFault,
     failures: u64,
 ) -> Result<bool, Fail> {
@@ -29,7 +34,7 @@ fn is_unread<H: Wait>(
 
 /// The same of a reader of 20 bytes a call that fails at this call.
 fn is_failed<H: Wait>(rt: &H, alloc: Global, fails: u64) -> Result<bool, Fail> {
-    let reads = Device {
+    let reads = DeviceBehavior {
         piece: 20,
         fails,
         ..WHOLE
@@ -47,7 +52,7 @@ fn is_cut<H: Wait>(
     count: usize,
 ) -> Result<bool, Fail> {
     let whole = success(alloc, NO_UPDATE)?;
-    let writes = Device {
+    let writes = DeviceBehavior {
         piece,
         fails,
         ..WHOLE
@@ -63,7 +68,7 @@ const SIZE: usize = 231;
 const READS: u64 = 12;
 
 /// A reader that ends a byte before the request does.
-const ENDED: Device = Device {
+const ENDED: DeviceBehavior = DeviceBehavior {
     room: SIZE - 1,
     ..WHOLE
 };
@@ -124,7 +129,7 @@ const REFUSALS: [(usize, u64, usize, Result<u16, AnswerFault>); 9] = [
 fn is_refused_over<H: Wait>(
     rt: &H,
     alloc: Global,
-    writes: Device,
+    writes: DeviceBehavior,
     want: Result<u16, AnswerFault>,
 ) -> Result<bool, Fail> {
     let whole = refusal(alloc, "411 Length Required", "P4 Length")?;
@@ -142,7 +147,7 @@ fn is_refused_over<H: Wait>(
 #[test]
 fn refusals_over_slow_writers(rt: HostRuntime) -> Result<(), Fail> {
     for (piece, fails, room, want) in REFUSALS {
-        let writes = Device { piece, fails, room };
+        let writes = DeviceBehavior { piece, fails, room };
         let is_refused = is_refused_over(&rt, rt.alloc(), writes, want)?;
         assert!(rt; is_refused, "{piece}, {fails}, {room}");
     }

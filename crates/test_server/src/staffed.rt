@@ -3,7 +3,7 @@
 use crate::clients::silent;
 use crate::exchange::is_printed;
 use crate::session::{is_asked, ports_of};
-use crate::whole_server::{Work, served_to, service_of, wrong};
+use crate::whole_server::{PortTask, served_to, service_of, wrong};
 use serving::ServingFault;
 use std::io;
 use std::net::{Net, SocketAddr, TcpListener, TcpStream};
@@ -27,8 +27,8 @@ where
 /// Two workers answer at once, and the one of a server whose limit is a second drops who is silent.
 #[test]
 fn workers_and_limit_are_as_asked(rt: HostRuntime) -> Result<(), Fail> {
-    assert_eq!(rt; wrong(&rt, "nothing", 2, 300, Work::AtOnce)?, None);
-    assert_eq!(rt; wrong(&rt, "nothing", 1, 1, Work::Silent)?, None);
+    assert_eq!(rt; wrong(&rt, "nothing", 2, 300, PortTask::AtOnce)?, None);
+    assert_eq!(rt; wrong(&rt, "nothing", 1, 1, PortTask::Silent)?, None);
     Ok(())
 }
 

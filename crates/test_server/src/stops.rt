@@ -5,7 +5,7 @@ use crate::exchange::post;
 use crate::loopback::{send, sent};
 use crate::replies::TWO_APPS;
 use crate::session::is_asked;
-use crate::whole_server::{Work, wrong};
+use crate::whole_server::{PortTask, wrong};
 use std::io;
 use std::net::{Net, SocketAddr, TcpStream};
 use std::test::Fail;
@@ -55,6 +55,6 @@ where
 
 #[test]
 fn a_port_says_that_it_ends(rt: HostRuntime) -> Result<(), Fail> {
-    assert_eq!(rt; wrong(&rt, "nothing", 2, 30, Work::Ending)?, None);
+    assert_eq!(rt; wrong(&rt, "nothing", 2, 30, PortTask::Ending)?, None);
     Ok(())
 }

@@ -4,7 +4,7 @@
 use crate::exchange::times;
 use crate::meeting::awaits;
 use crate::session::{FOUR_APPS, ONE_APP, is_asked, posted};
-use crate::whole_server::{Work, wrong};
+use crate::whole_server::{PortTask, wrong};
 use std::net::{Net, SocketAddr, TcpListener, TcpStream};
 use std::sync::atomic::{AtomicBool, AtomicU64, Ordering};
 use std::test::Fail;
@@ -240,7 +240,7 @@ where
 
 #[test]
 fn swaps_under_load(rt: HostRuntime) -> Result<(), Fail> {
-    assert_eq!(rt; wrong(&rt, "yes", 4, 10, Work::Swaps)?, None);
-    assert_eq!(rt; wrong(&rt, "forty", 4, 10, Work::Quota)?, None);
+    assert_eq!(rt; wrong(&rt, "yes", 4, 10, PortTask::Swaps)?, None);
+    assert_eq!(rt; wrong(&rt, "forty", 4, 10, PortTask::Quota)?, None);
     Ok(())
 }

@@ -2,7 +2,7 @@
 //! its operator all the same.
 
 use crate::session::ports_of;
-use crate::whole_server::{Work, served, service_of, wrong_at};
+use crate::whole_server::{PortTask, served, service_of, wrong_at};
 use std::alloc::Global;
 use std::io::{self, ErrorKind};
 use std::net::{Net, SocketAddr, TcpListener, TcpStream};
@@ -75,7 +75,7 @@ where
     let (ended, wrong) = thread::join(
         rt,
         || { served(&unconnected, ports, "nothing", 2, service_of(30)) },
-        || wrong_at(rt, clients, operator, Work::AtOnce),
+        || wrong_at(rt, clients, operator, PortTask::AtOnce),
     );
     ended?;
     Ok(wrong)

@@ -1,7 +1,7 @@
 //! The log of a whole server: its loads and its end, and what comes of lines that nobody reads.
 
 use crate::logged::{logging_to, take};
-use crate::whole_server::{Work, wrong_by};
+use crate::whole_server::{PortTask, wrong_by};
 use access_log::LogEvent;
 use crossbeam_channel::Receiver;
 use server_log::{LogPiece, LogQueue};
@@ -60,7 +60,7 @@ counter","array":"q","index":0,"value":3}
 #[test]
 fn loads_and_the_end_are_logged(rt: HostRuntime) -> Result<(), Fail> {
     let (queue, pieces) = LogQueue::new(rt.alloc())?;
-    let wrong = wrong_by(&rt, "quota", 2, logging_to(&queue), Work::Rows(LOADS))?;
+    let wrong = wrong_by(&rt, "quota", 2, logging_to(&queue), PortTask::Rows(LOADS))?;
     assert_eq!(rt; wrong, None);
     assert_eq!(rt; lines_told(&rt, &pieces)?.as_str(), LOADS_TOLD);
     let totals = queue.take_totals();
@@ -91,7 +91,7 @@ fn lines_that_nobody_reads_are_lost(rt: HostRuntime) -> Result<(), Fail> {
     for _ in 0..256 {
         queue.note(&rt, &LogEvent::Stop(None));
     }
-    let wrong = wrong_by(&rt, "quota", 2, logging_to(&queue), Work::Rows(UNREAD))?;
+    let wrong = wrong_by(&rt, "quota", 2, logging_to(&queue), PortTask::Rows(UNREAD))?;
     assert_eq!(rt; wrong, None);
     assert_eq!(rt; lines_told(&rt, &pieces)?.lines().count(), 256);
     queue.note(&rt, &LogEvent::Unaccepted("read"));

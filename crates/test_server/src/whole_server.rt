@@ -1,7 +1,5 @@
 //! A whole server over loopback, with its operator, and what is done at its two ports.
 
-ghost use Rattle.std.specs.Prelude.{◌≤◌};
-
 use crate::clients::at_once;
 use crate::session::{first_wrong, is_asked, ports_of};
 use crate::shelf::{Shelf, ruleset};
@@ -21,7 +19,7 @@ use workers::{Ports, Service};
 
 /// What is done at a server's ports.
 #[derive(Clone, Copy)]
-pub(crate) enum Work {
+pub(crate) enum PortTask {
     /// Lines and requests are sent one after another, and each has its reply; the last is a stop.
     Rows(&'static str),
     /// A client sends nothing until another one was answered.
@@ -119,7 +117,7 @@ pub(crate) fn wrong_at<H>(
     rt: &H,
     clients: SocketAddr,
     operator: SocketAddr,
-    work: Work,
+    work: PortTask,
 ) -> Option<&'static str>
 where
     H: Threads + AllocGlobal + Clock + Sync,
@@ -127,12 +125,12 @@ where
 {
     let port = operator.port();
     let is_done = match work {
-        Work::Rows(rows) => return first_wrong(rt, rows, clients, operator),
-        Work::Ending => return wrong_at_end(rt, clients, port),
-        Work::AtOnce => at_once(rt, clients),
-        Work::Silent => is_given_up(rt, clients),
-        Work::Swaps => Ok(are_whole(rt, clients, port)),
-        Work::Quota => is_shared(rt, clients, port),
+        PortTask::Rows(rows) => return first_wrong(rt, rows, clients, operator),
+        PortTask::Ending => return wrong_at_end(rt, clients, port),
+        PortTask::AtOnce => at_once(rt, clients),
+        PortTask::Silent => is_given_up(rt, clients),
+        PortTask::Swaps => Ok(are_whole(rt, clients, port)),
+        PortTask::Quota => is_shared(rt, clients, port),
     };
     if !is_asked(rt, port, "stop", "stopping\n").unwrap_or(false) {
         return Some("the stop");
@@ -150,7 +148,7 @@ pub(crate) fn wrong<H>(
     path: &'static str,
     workers: usize,
     seconds: u64,
-    work: Work,
+    work: PortTask,
 ) -> Result<Option<&'static str>, Fail>
 where
     H: Threads + Wait + AllocGlobal + Clock + Sync,
@@ -165,7 +163,7 @@ pub(crate) fn wrong_by<H>(
     path: &'static str,
     workers: usize,
     service: Service<'_>,
-    work: Work,
+    work: PortTask,
 ) -> Result<Option<&'static str>, Fail>
 where
     H: Threads + Wait + AllocGlobal + Clock + Sync,

@@ -1,7 +1,7 @@
 //! Rulesets of apps whose releases no test reads, worlds over them and their events. The calls have
 //! no clauses here, so that no proof computes with the events of a test.
 
-ghost use Rattle.std.specs.Prelude.{◌≡◌, ◌≤◌, IfOk, length};
+ghost use Rattle.std.specs.Prelude.{◌≡◌, IfOk, length};
 
 use acceptance::accept;
 use attrs::{Attrs, Text};

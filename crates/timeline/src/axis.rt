@@ -1,7 +1,7 @@
 //! The axis of time below an app's strips, with ticks at round times.
 
 ghost use Rattle.std.specs.Prelude.{◌≡◌, ◌*◌, ◌<◌, ◌≤◌, OnOk, IfOk, true};
-ghost use Rattle.svg.specs.Xml.{Puts};
+ghost use Rattle.printing.specs.Pushed.{Puts};
 ghost use Rattle.timeline.specs.Axis as specs;
 ghost use Rattle.timeline.specs.Bins.{AreBins};
 

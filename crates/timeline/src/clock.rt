@@ -1,7 +1,7 @@
 //! Minutes as a person reads them: a date, and a clock's time, in UTC.
 
 ghost use Rattle.std.specs.Prelude.{◌≤◌, OnOk};
-ghost use Rattle.svg.specs.Xml.{Puts};
+ghost use Rattle.printing.specs.Pushed.{Puts};
 ghost use Rattle.timeline.specs.Clocks as specs;
 
 use moments::CivilDate;

@@ -1,7 +1,7 @@
 //! The layers of a strip: one a version.
 
 ghost use Rattle.std.specs.Prelude.{◌≡◌, ◌<◌, ◌≤◌, OnOk, length, map, string_bytes};
-ghost use Rattle.svg.specs.Xml.{Puts};
+ghost use Rattle.printing.specs.Pushed.{Puts};
 ghost use Rattle.timeline.specs.Layers as specs;
 ghost use Rattle.timeline.specs.Marks.{drawn_by};
 

@@ -1,7 +1,7 @@
 //! The legend of an app: its versions with their colours and their counts.
 
 ghost use Rattle.std.specs.Prelude.{◌≡◌, ◌≤◌, OnOk, map, string_bytes};
-ghost use Rattle.svg.specs.Xml.{Puts};
+ghost use Rattle.printing.specs.Pushed.{Puts};
 ghost use Rattle.timeline.specs.Legends as specs;
 ghost use Rattle.timeline.specs.Marks.{drawn_count, drawn_by};
 

@@ -1,7 +1,7 @@
 //! The loads of a log, as lines across an app's strips.
 
 ghost use Rattle.std.specs.Prelude.{◌≡◌, ◌<◌, IfOk, OnOk};
-ghost use Rattle.svg.specs.Xml.{Puts};
+ghost use Rattle.printing.specs.Pushed.{Puts};
 ghost use Rattle.timeline.specs.Loads as specs;
 
 use crate::axis::across;

@@ -1,7 +1,7 @@
 //! The whole picture.
 
 ghost use Rattle.std.specs.Prelude.{◌≡◌, IfOk, OnOk, string_bytes};
-ghost use Rattle.svg.specs.Xml.{Puts};
+ghost use Rattle.printing.specs.Pushed.{Puts};
 ghost use Rattle.timeline.specs.Bins.{AreBins};
 ghost use Rattle.timeline.specs.Bins.{bins_over as bins_by};
 ghost use Rattle.timeline.specs.Pictures as specs;
@@ -23,7 +23,8 @@ const MOST_MINUTES: u64 = 6000;
 fn no_asks() -> &'static str
     ensures { result.now ≡ specs.no_asks }
 {
-    "<text x=\"20\" y=\"30\">No ask with a time from 1970-01-01T00:00:00Z to 9999-12-30T22:00:00Z.</text>\n"
+    "<text x=\"20\" y=\"30\">No ask with a time from 1970-01-01T00:00:00Z to \
+     9999-12-30T22:00:00Z.</text>\n"
 }
 
 #[tactic(auto, unfolding(crate::specs::Pictures::heading))]

@@ -1,7 +1,7 @@
 //! The three strips of an app: asks, offers and failures.
 
 ghost use Rattle.std.specs.Prelude.{◌≡◌, ◌≤◌, OnOk, map, string_bytes};
-ghost use Rattle.svg.specs.Xml.{Puts};
+ghost use Rattle.printing.specs.Pushed.{Puts};
 ghost use Rattle.timeline.specs.Bins.{AreBins};
 ghost use Rattle.timeline.specs.Strips as specs;
 ghost use Rattle.timeline.specs.Marks.{drawn_by};

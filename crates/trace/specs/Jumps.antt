@@ -1,6 +1,7 @@
 -- The jumps that a run takes: JA and the conditional jumps (RFC 9669, "Jump Instructions"), and not
 -- CALL and EXIT. A jump is taken where the run goes on at another slot than the one behind it. So
--- a jump whose target is the slot behind it counts as not taken, whether its condition holds or not.
+-- a jump whose target is the slot behind it counts as not taken, whether its condition holds or
+-- not.
 use Rattle.std.specs.Prelude.{ℕ, ◌+◌, ◌==◌, if◌then◌else◌, List, Option, Some, None}
 use Rattle.std.specs.Option.{option_or}
 use Rattle.bpf_insn.specs.declared.insn.Insn.{Insn}

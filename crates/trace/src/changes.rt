@@ -1,6 +1,6 @@
 //! What an instruction wrote: a register, or bytes of the stack.
 
-ghost use Rattle.std.specs.Prelude.{◌≡◌, ◌++◌, OnOk, codes, string_bytes};
+ghost use Rattle.std.specs.Prelude.{◌≡◌, ◌++◌, OnOk, string_bytes};
 ghost use Rattle.bpf_semantics.specs.Reads as reads;
 ghost use Rattle.bpf_semantics.specs.State.{read_at};
 ghost use Rattle.bpf_checks.specs.Reads.{writes};

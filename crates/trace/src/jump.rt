@@ -15,8 +15,8 @@ pub struct Jump {
     pub to: usize,
 }
 
-/// The last jump of a run after a step by the instruction at a slot; `before` is the last one before
-/// that step. The run is in the state after it.
+/// The last jump of a run after a step by the instruction at a slot; `before` is the last one
+/// before that step. The run is in the state after it.
 pub fn latest_jump(before: Option<Jump>, insn: Insn, slot: usize, run: &Interpreter) -> Option<Jump>
     ensures { result ≡ option_or (specs.jump_by insn slot (state_of run.now).slot) before }
 {

@@ -9,7 +9,8 @@ use Rattle.warnings.specs.Marks.{each_by}
 abbrev pub Mark : Type 0
 Mark = List Statement → Statement → Bool
 
-pub len_each : (g : Mark) (before rest : List Statement) → length (each_by g before rest) ≡ length rest
+pub len_each : (g : Mark) (before rest : List Statement)
+    → length (each_by g before rest) ≡ length rest
 len_each g before [] = refl
 len_each g before (x ∷ xs) =
     let more = len_each g (before ++ x ∷ []) xs in omega (arith, more)
@@ -54,11 +55,12 @@ half_more : (f g : Mark) (before rest : List Statement) (st : Statement)
     ≡ half f g (before ++ st ∷ []) rest
 half_more f g before rest st =
     sym (append_assoc (each_by g [] before) (g before st ∷ []) (each_by f (before ++ st ∷ []) rest))
-    ∙ ap (λ (l : List Bool). l ++ each_by f (before ++ st ∷ []) rest) (sym (each_more g [] before st))
+    ∙ ap (λ (l : List Bool). l ++ each_by f (before ++ st ∷ []) rest)
+    (sym (each_more g [] before st))
 
 -- the mark of the next statement is set, or is right as it was
-pub half_set : (f g : Mark) (before rest : List Statement) (st : Statement) (place : ℕ) (value : Bool)
-    (marks : List Bool) → length before ≡ place → marks ≡ half f g before (st ∷ rest)
+pub half_set : (f g : Mark) (before rest : List Statement) (st : Statement) (place : ℕ)
+    (value : Bool) (marks : List Bool) → length before ≡ place → marks ≡ half f g before (st ∷ rest)
     → value ≡ g before st → slice_set marks place value ≡ half f g (before ++ st ∷ []) rest
 half_set f g before rest st place value marks at is right =
     let done = each_by g [] before in

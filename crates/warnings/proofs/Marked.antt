@@ -48,7 +48,8 @@ module _ (r : RuleOfApp) (asker : Asker) (a : Attributes) where
   same_end crowd before (Count name index) never = refl
   same_end crowd before (When steps release) never =
       let st = When steps release in
-      sym (ap (λ b. crowd (may_end r before st) || b) never ∙ or-false (crowd (may_end r before st)))
+      sym (ap (λ b. crowd (may_end r before st) || b) never
+      ∙ or-false (crowd (may_end r before st)))
 
   ended_not : (crowd : Crowd) (before : List Statement) (st : Statement)
       → (statement_possible (tests_for r asker a) st).holds ≡ false

@@ -198,4 +198,5 @@ module _ (r : RuleOfApp) (spots : List Spot) where
       → AreMarked r (someone r spots) reached ends
       → is_given ends r.rule release ≡ someone r spots (may_give r release)
   given_is reached ends release some h =
-      ap (λ (e : List Bool). is_given e r.rule release) h.ends_are ∙ given_from [] r.rule release some
+      ap (λ (e : List Bool). is_given e r.rule release) h.ends_are
+      ∙ given_from [] r.rule release some

@@ -7,7 +7,8 @@ use Rattle.rule_lang.specs.declared.rule.Statement.{Statement}
 use Rattle.warnings.specs.Asked.{room_less, room_taken, step_count}
 use Rattle.warnings.proofs.Told.{first_rest}
 
-in_parts : (a b room : ℕ) → room_less (a + b) room ≡ option_and_then (room_less b) (room_less a room)
+in_parts : (a b room : ℕ)
+    → room_less (a + b) room ≡ option_and_then (room_less b) (room_less a room)
 in_parts a b room = grind arith
 
 taken_next : (versions : ℕ) (st : Statement) (rest : List Statement)

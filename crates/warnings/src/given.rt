@@ -79,7 +79,8 @@ pub(crate) fn tell_all_releases(
     asked: &AskedRule<'_>,
     marks: &Marks,
 ) -> Result<(), AllocError>
-    ensures { (spots : List Spot) → AreMarked (rule_of asked.now) (someone (rule_of asked.now) spots)
+    ensures { (spots : List Spot)
+        → AreMarked (rule_of asked.now) (someone (rule_of asked.now) spots)
         marks.now.reached.items marks.now.ends.items → OnOk result (warnings.new.items
         ≡ warnings.old.items
         ++ specs.asked_from app 1 (rule_of asked.now) spots (rule_of asked.now).releases) }

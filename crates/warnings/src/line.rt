@@ -1,6 +1,7 @@
 //! The lines of warnings.
 
-ghost use Rattle.std.specs.Prelude.{◌≡◌, ◌++◌, OnOk, string_bytes};
+ghost use Rattle.std.specs.Prelude.{◌≡◌, OnOk};
+ghost use Rattle.printing.specs.Pushed.{Puts};
 ghost use Rattle.warnings.specs.Warnings as specs;
 
 use crate::warning::{Warning, WarningKind, WarningPlace};
@@ -64,14 +65,13 @@ impl WarningKind {
 }
 
 fn push_app(text: &mut String, app: usize) -> Result<(), AllocError>
-    ensures { OnOk result (string_bytes text.new ≡ string_bytes text.old ++ specs.app_path app) }
+    ensures { OnOk result (Puts text.old text.new (specs.app_path app)) }
 {
     write!(text, "app[{app}]")
 }
 
 fn push_place(text: &mut String, place: WarningPlace) -> Result<(), AllocError>
-    ensures { OnOk result
-        (string_bytes text.new ≡ string_bytes text.old ++ specs.place_text place) }
+    ensures { OnOk result (Puts text.old text.new (specs.place_text place)) }
 {
     match place {
         WarningPlace::Array(array) => write!(text, "array[{array}]"),
@@ -95,8 +95,7 @@ fn sign_of(up_to: bool) -> &'static str
 
 // A test of the bucket, and for which part of the buckets it holds.
 fn push_part(text: &mut String, kind: WarningKind) -> Result<(), AllocError>
-    ensures { OnOk result
-        (string_bytes text.new ≡ string_bytes text.old ++ specs.part_text kind) }
+    ensures { OnOk result (Puts text.old text.new (specs.part_text kind)) }
 {
     match kind {
         WarningKind::FewBuckets {
@@ -123,8 +122,7 @@ fn push_part(text: &mut String, kind: WarningKind) -> Result<(), AllocError>
 /// What a warning says: where it is, as `app[1].rule: line 3`, and what, without a line end.
 // open: whether memory is refused.
 pub fn push_warning_text(text: &mut String, warning: &Warning) -> Result<(), AllocError>
-    ensures { OnOk result
-        (string_bytes text.new ≡ string_bytes text.old ++ specs.warning_text warning.now) }
+    ensures { OnOk result (Puts text.old text.new (specs.warning_text warning.now)) }
 {
     push_place(text, warning.place)?;
     push_part(text, warning.kind)?;
@@ -132,16 +130,14 @@ pub fn push_warning_text(text: &mut String, warning: &Warning) -> Result<(), All
 }
 
 fn push_name(text: &mut String, kind: WarningKind) -> Result<(), AllocError>
-    ensures { OnOk result (string_bytes text.new
-        ≡ string_bytes text.old ++ specs.line_start kind) }
+    ensures { OnOk result (Puts text.old text.new (specs.line_start kind)) }
 {
     let name = kind.name();
     write!(text, "warning {name}: ")
 }
 
 fn push_line(text: &mut String, warning: &Warning) -> Result<(), AllocError>
-    ensures { OnOk result
-        (string_bytes text.new ≡ string_bytes text.old ++ specs.warning_line warning.now) }
+    ensures { OnOk result (Puts text.old text.new (specs.warning_line warning.now)) }
 {
     push_name(text, warning.kind)?;
     push_warning_text(text, warning)?;
@@ -152,8 +148,7 @@ fn push_line(text: &mut String, warning: &Warning) -> Result<(), AllocError>
 /// holds`.
 // open: whether memory is refused.
 pub fn push_warnings(text: &mut String, warnings: &[Warning]) -> Result<(), AllocError>
-    ensures { OnOk result
-        (string_bytes text.new ≡ string_bytes text.old ++ specs.warnings_text warnings.now) }
+    ensures { OnOk result (Puts text.old text.new (specs.warnings_text warnings.now)) }
 {
     for warning in warnings {
         push_line(text, warning)?;

@@ -63,8 +63,8 @@ fn tell_asked(
 /// left for other rules. One tells
 ///
 /// - of a test `bucket < n` or `bucket <= n`, also under a salt, without a modulus, that it holds
-///   for few buckets, 1 to 99 of the 10,000, or, where its number is above 10,000, for all, whatever
-///   stands around it;
+///   for few buckets, 1 to 99 of the 10,000, or, where its number is above 10,000, for all,
+///   whatever stands around it;
 /// - of a `take` that it stands before the first test of the version in its `when`, so that it is
 ///   done whatever the version is;
 /// - of a `when` that it is never reached, or never holds, and of a release that no bucket gets it,

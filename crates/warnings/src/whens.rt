@@ -62,15 +62,16 @@ fn tell_when(
     tell_never(warnings, app, reached, condition.steps())
 }
 
-/// Warnings on the `when`s of a rule, in their order, by its marks. Each statement has its own: were
-/// there fewer, nothing would be told.
+/// Warnings on the `when`s of a rule, in their order, by its marks. Each statement has its own:
+/// were there fewer, nothing would be told.
 pub(crate) fn tell_statements(
     warnings: &mut Vec<Warning>,
     app: usize,
     asked: &AskedRule<'_>,
     marks: &Marks,
 ) -> Result<(), AllocError>
-    ensures { (spots : List Spot) → AreMarked (rule_of asked.now) (someone (rule_of asked.now) spots)
+    ensures { (spots : List Spot)
+        → AreMarked (rule_of asked.now) (someone (rule_of asked.now) spots)
         marks.now.reached.items marks.now.ends.items → OnOk result (warnings.new.items
         ≡ warnings.old.items
         ++ specs.statements_from app (rule_of asked.now) spots [] (rule_of asked.now).rule) }

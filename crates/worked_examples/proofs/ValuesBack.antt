@@ -34,7 +34,7 @@ use Rattle.abs_value.specs.Values.{reordered_value, loaded_value, refined, numbe
 use Rattle.abs_value.specs.Values.{same_lookup, is_found_by, same_origin, join_values}
 use Rattle.abs_value.specs.Lookups.{answer_of, with_answer, lookup_value, value_given, call_value}
 use Rattle.bpf_checks.specs.Arrays.{cell_behind, fixed_cell, wide_abs}
-use Rattle.worked_examples.specs.LooksBack.{LooksBack, NamesNone}
+use Rattle.worked_examples.specs.LooksBack.{LooksBack, OfNoLookup}
 
 pub later : (s t : ℕ) (v : Abs) → s ≤ t → LooksBack s v → LooksBack t v
 later s t (MayCell call) le h = omega (arith, le, h)
@@ -56,25 +56,25 @@ in_stack : (s : ℕ) (o : Option ℕ) → LooksBack s (or_unusable (option_map S
 in_stack s None = tt
 in_stack s (Some place) = tt
 
-pub results : (w : Bits) (op : AluOp) (a b : Abs) → NamesNone (alu_value w op a b)
+pub results : (w : Bits) (op : AluOp) (a b : Abs) → OfNoLookup (alu_value w op a b)
 results w op (Num a) (Num b) s = tt
 results Bits64 op (Ctx from) (Num by) s = in_context s (moved_in_context op from by)
 results Bits64 op (Stk place) (Num by) s = in_stack s (moved_in_stack op place by)
 results Bits64 op a b s = tt
 results Bits32 op a b s = tt
 
-pub negated : (w : Bits) (a : Abs) → NamesNone (negated_value w a)
+pub negated : (w : Bits) (a : Abs) → OfNoLookup (negated_value w a)
 negated w a = results w Sub (Num (single 0)) a
 
-pub extended : (e : Extension) (a : Abs) → NamesNone (extended_value e a)
+pub extended : (e : Extension) (a : Abs) → OfNoLookup (extended_value e a)
 extended e (Num a) s = tt
 extended e a s = tt
 
-pub reordered : (o : ByteOrder) (size : EndSize) (a : Abs) → NamesNone (reordered_value o size a)
+pub reordered : (o : ByteOrder) (size : EndSize) (a : Abs) → OfNoLookup (reordered_value o size a)
 reordered o size (Num a) s = tt
 reordered o size a s = tt
 
-pub loaded : (kind : LoadKind) → NamesNone (loaded_value kind)
+pub loaded : (kind : LoadKind) → OfNoLookup (loaded_value kind)
 loaded load.SignedByte s = tt
 loaded load.SignedHalf s = tt
 loaded load.SignedWord s = tt
@@ -101,7 +101,7 @@ cell_of s n None = tt
 cell_of s n (Some a) = a_cell s (cell_behind a n)
 
 pub wide_loads : (shape : AppShape) (value : WideValue)
-    → NamesNone (or_unusable (wide_abs shape value))
+    → OfNoLookup (or_unusable (wide_abs shape value))
 wide_loads shape (wide.Number n) s = tt
 wide_loads shape (wide.Map (pos i)) s = a_map s i (slice_get shape.arrays i)
 wide_loads shape (wide.Map (negsuc i)) s = tt

@@ -51,28 +51,28 @@ pub record StateLooksBack (s : ℕ) (e : AbsState) : Type 0 where
 -- ---- values that are computed
 
 -- it looks back from each slot, so it is the answer of no lookup
-abbrev pub NamesNone : Abs → Type 0
-NamesNone v = (s : ℕ) → LooksBack s v
+abbrev pub OfNoLookup : Abs → Type 0
+OfNoLookup v = (s : ℕ) → LooksBack s v
 
 abbrev pub ResultsNameNone : Type 0
-ResultsNameNone = (bits : Bits) (op : AluOp) (a b : Abs) → NamesNone (alu_value bits op a b)
+ResultsNameNone = (bits : Bits) (op : AluOp) (a b : Abs) → OfNoLookup (alu_value bits op a b)
 
 abbrev pub NegationsNameNone : Type 0
-NegationsNameNone = (bits : Bits) (a : Abs) → NamesNone (negated_value bits a)
+NegationsNameNone = (bits : Bits) (a : Abs) → OfNoLookup (negated_value bits a)
 
 abbrev pub ExtensionsNameNone : Type 0
-ExtensionsNameNone = (e : Extension) (a : Abs) → NamesNone (extended_value e a)
+ExtensionsNameNone = (e : Extension) (a : Abs) → OfNoLookup (extended_value e a)
 
 abbrev pub ReorderingsNameNone : Type 0
 ReorderingsNameNone =
-    (order : ByteOrder) (size : EndSize) (a : Abs) → NamesNone (reordered_value order size a)
+    (order : ByteOrder) (size : EndSize) (a : Abs) → OfNoLookup (reordered_value order size a)
 
 abbrev pub LoadedNameNone : Type 0
-LoadedNameNone = (kind : LoadKind) → NamesNone (loaded_value kind)
+LoadedNameNone = (kind : LoadKind) → OfNoLookup (loaded_value kind)
 
 abbrev pub WideNameNone : Type 0
 WideNameNone =
-    (shape : AppShape) (value : WideValue) → NamesNone (or_unusable (wide_abs shape value))
+    (shape : AppShape) (value : WideValue) → OfNoLookup (or_unusable (wide_abs shape value))
 
 -- a copy of an answer is that answer
 abbrev pub CopiesLookBack : Type 0

@@ -14,7 +14,8 @@ ghost use Rattle.worked_examples.specs.Examples.{span};
 ghost use Rattle.abs_value.specs.Numbers.{single, up_to};
 ghost use Rattle.abs_value.specs.Lookups.{call_value, called};
 ghost use Rattle.abs_value.specs.States.{value_at};
-ghost use Rattle.worked_examples.specs.Examples.{first, second, elsewhere, holding, three, compared};
+ghost use Rattle.worked_examples.specs.Examples.{first, second, elsewhere, holding, three};
+ghost use Rattle.worked_examples.specs.Examples.{compared};
 
 /// On the equal edge each copy of the answer is 0, on the other the address of a cell.
 pub fn null_checks()

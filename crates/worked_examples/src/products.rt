@@ -2,7 +2,7 @@
 //! hand. A row has a number by 0, by 1, by the highest signed number, by the lowest and by -1: of
 //! the class, in a register, and of 32 bits, as an imm.
 
-ghost use Rattle.std.specs.Prelude.{◌≡◌, [], ◌∷◌, map, pos, negsuc};
+ghost use Rattle.std.specs.Prelude.{◌≡◌, [], ◌∷◌, map, negsuc};
 ghost use Rattle.bpf_insn.specs.declared.operand.AluOp.TheVariants.{Mul, Div, Sdiv, Mod, Smod};
 ghost use Rattle.bpf_insn.specs.declared.operand.Bits.TheVariants.{Bits64, Bits32};
 ghost use Rattle.bpf_insn.specs.Arithmetic.{alu_result};

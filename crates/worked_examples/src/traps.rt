@@ -1,7 +1,7 @@
 //! Programs that do what the machine does not define, by its causes.
 
 ghost use Rattle.std.specs.Prelude.{pos, negsuc};
-ghost use Rattle.bpf_insn.specs.declared.reg.Reg.TheVariants.{R0, R1, R2, R10};
+ghost use Rattle.bpf_insn.specs.declared.reg.Reg.TheVariants.{R0, R1, R10};
 ghost use Rattle.bpf_insn.specs.declared.operand.AluOp.TheVariants as alu;
 ghost use Rattle.bpf_insn.specs.declared.operand.Bits.TheVariants.{Bits64};
 ghost use Rattle.bpf_insn.specs.declared.operand.LoadKind.TheVariants as load;

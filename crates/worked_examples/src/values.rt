@@ -1,7 +1,7 @@
 //! Pointers, joins and the stack, on values that were worked out by hand.
 
 ghost use Rattle.std.specs.Prelude.{◌≡◌};
-ghost use Rattle.std.specs.Prelude.{true, false, pos, negsuc, replicate};
+ghost use Rattle.std.specs.Prelude.{true, false, pos, negsuc};
 ghost use Rattle.bpf_insn.specs.declared.operand.AluOp.TheVariants.{Add, Sub};
 ghost use Rattle.bpf_insn.specs.declared.operand.Bits.TheVariants.{Bits64, Bits32};
 ghost use Rattle.bpf_insn.specs.declared.operand.LoadKind.TheVariants as load;

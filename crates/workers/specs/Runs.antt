@@ -47,7 +47,8 @@ abbrev pub runs_of_request : {request : Request} {known : Beginning} {moment : â
 runs_of_request {request = request} {moment = moment} (replied {generation = generation} is runs) =
     runs_of_apps generation request.facts moment runs
 runs_of_request unowned = []
-runs_of_request {request = request} {moment = moment} (broken_off {generation = generation} is few) =
+runs_of_request {request = request} {moment = moment}
+    (broken_off {generation = generation} is few) =
     runs_of_apps generation request.facts moment few.2
 
 -- of a body: where it is no request there is none

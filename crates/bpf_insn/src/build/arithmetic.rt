@@ -1,6 +1,6 @@
 //! The classes ALU64 and ALU.
 
-ghost use Rattle.std.specs.Prelude.{◌≡◌, ◌≤◌, pos, true, false, IfOk, IfErr, None};
+ghost use Rattle.std.specs.Prelude.{◌≡◌, pos, false, IfOk, IfErr, None};
 ghost use Rattle.bpf_insn.specs.declared.operand.Operand.{Operand};
 ghost use Rattle.bpf_insn.specs.declared.form.Form.{Form};
 ghost use Rattle.bpf_insn.specs.Faults.{AllowsSrc, uses_src, uses_imm};

@@ -1,4 +1,4 @@
-use Rattle.std.proofs.Common.{ℕ, ◌≡◌, true, codes, subst, ap, ◌∙◌}
+use Rattle.std.proofs.Common.{ℕ, true, codes, subst, ap, ◌∙◌}
 use Rattle.std.proofs.lemmas.Result.{on_ok_weaker}
 use Rattle.access_log.specs.Apps.{more_left_out}
 use Rattle.access_log.specs.Members.{count_member}

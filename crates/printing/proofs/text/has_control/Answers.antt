@@ -9,7 +9,8 @@ loop-c-preserved c =
     let parts = c.in-Some.ensures.steps.0 in
     let next = chars_past_char _ _ c.in-Some.c held.0 parts in (
       IsUtf8-past_char _ _ c.in-Some.c held.0 parts,
-      not_here is_control _ _ c.in-Some.c _ _ next c.is_control.ensures.value c.if-is_control.false held.1,
+      not_here is_control _ _ c.in-Some.c _ _ next c.is_control.ensures.value
+          c.if-is_control.false held.1,
     )
 
 pub returns-then-is_control : goal.returns-then-is_control

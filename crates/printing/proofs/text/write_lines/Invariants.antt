@@ -10,4 +10,5 @@ invariant-loop-c g l =
     IsUtf8 (chars_rest l.c-iterator)
     × (IsPlainFormatter l.initial.f → (done : List ℕ)
     × HasWritten g.W.Write.write_str_gives l.initial.f done l.f
-    × (done ++ flat_map (printed_char is_control_in_line) (chars (chars_rest l.c-iterator)) ≡ printed_lines l.text))
+    × (done ++ flat_map (printed_char is_control_in_line) (chars (chars_rest l.c-iterator))
+    ≡ printed_lines l.text))

@@ -1,7 +1,7 @@
 use Rattle.std.proofs.Common.{List, ℕ, [], ◌++◌, rules, sym, subst, take}
 use Rattle.std.specs.Io.KnownBytes.{Consumes, IsAtEnd}
 use Rattle.report.specs.Lines.{lines_behind}
-use Rattle.report.specs.Reading.{CountsLines, ReadsOn}
+use Rattle.report.specs.Reading.{CountsLines, ReadsBlock}
 use Rattle.report.proofs.Read.{at_none, at_some, consumes_both, consumes_none, log_read}
 use Rattle.report.proofs.Read.{reads_both, reads_none}
 use Rattle.report.proofs.lines.count_by_blocks.Goals as goal
@@ -10,7 +10,7 @@ pub loop-init : goal.loop-init
 loop-init g c = record {
   seen = [];
   known = consumes_none (g.R.Read.remaining c.args.reader.now);
-  reads = subst (λ (b : List ℕ). ReadsOn c.args.window.now [] [] c.args.report.now b
+  reads = subst (λ (b : List ℕ). ReadsBlock c.args.window.now [] [] c.args.report.now b
       c.args.report.now) (sym c.new-begun.ensures.items)
       (reads_none c.args.window.now [] c.args.report.now);
   room = search rules;

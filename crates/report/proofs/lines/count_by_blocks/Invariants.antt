@@ -1,6 +1,6 @@
 use Rattle.std.proofs.Common.{List, ℕ, [], ◌<◌, length}
 use Rattle.std.specs.Io.KnownBytes.{Consumes}
-use Rattle.report.specs.Reading.{ReadsOn}
+use Rattle.report.specs.Reading.{ReadsBlock}
 use Rattle.report.proofs.lines.count_by_blocks.Given as goal
 
 -- these bytes have been read, and their lines are counted but for the beginning of the last
@@ -8,6 +8,6 @@ abbrev pub invariant-loop : goal.invariant-loop
 invariant-loop g l = record {
   seen : List ℕ;
   known : Consumes (g.R.Read.remaining l.fn.reader) (g.R.Read.remaining l.reader) seen;
-  reads : ReadsOn l.window seen [] l.fn.report l.begun.items l.report;
+  reads : ReadsBlock l.window seen [] l.fn.report l.begun.items l.report;
   room : 0 < length l.block;
 }

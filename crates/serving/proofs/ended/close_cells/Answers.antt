@@ -75,11 +75,12 @@ loop-worker-preserved c =
           (All-push P c.loop-worker.room.items c.pass_of-pass.result.0 before.own
           (ap (λ (pass : PassView). pass.table) told.same ∙ popped.1.pass));
       gathered = one_gathered c.loop-worker.room.items c.push_reserved-in-Some.new.self.items
-          c.loop-worker.workers.items c.pop.new.self.items c.in-Some.worker c.pass_of-pass.result.0 _
-          split grown told.same before.gathered;
+          c.loop-worker.workers.items c.pop.new.self.items c.in-Some.worker
+          c.pass_of-pass.result.0 _ split grown told.same before.gathered;
       seen = λ known. one_more_has c.args.back.published.rulesets c.loop-worker.workers.items
           c.pop.new.self.items c.in-Some.worker c.args.back.workers.items split
-          (told.seen (c.both-is_known.ensures.second known)) (before.seen (c.both-is_known.ensures.first known));
+          (told.seen (c.both-is_known.ensures.second known))
+          (before.seen (c.both-is_known.ensures.first known));
     }
 
 pub close-requires-clause-all : goal.close-requires-clause-all

@@ -1,5 +1,5 @@
 use Rattle.std.proofs.Common.{OnOk, map, string_bytes, subst}
-use Rattle.svg.specs.Xml.{Puts}
+use Rattle.printing.specs.Pushed.{Puts}
 use Rattle.timeline.specs.Marks.{Drawn}
 use Rattle.timeline.specs.Strips.{strip}
 use Rattle.timeline.proofs.strips.push_strip_of.Goals as goal

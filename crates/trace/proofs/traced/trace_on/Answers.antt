@@ -84,7 +84,8 @@ steps-preserved c =
     c.shape-shape.ensures c.slot-slot.ensures
     c.insn-insn.ensures c.in_ok-push_step-in-Event.ensures in
     let jumped = jump_is c.args.program.now (state_of c.steps.run) (state_of c.step.new.self)
-    c.slot-slot.result c.insn-insn.result.now c.steps.last_jump c.latest_jump-last_jump-in-Event.result
+    c.slot-slot.result c.insn-insn.result.now c.steps.last_jump
+    c.latest_jump-last_jump-in-Event.result
     c.slot-slot.ensures c.insn-insn.ensures c.latest_jump-last_jump-in-Event.ensures in
     replied c.args.program.now c.keeps.ensures.sound (opening (arc_value c.args.attrs))
     c.args.counters.now (string_bytes c.steps.text) (string_bytes c.push_step-in-Event.new.text)

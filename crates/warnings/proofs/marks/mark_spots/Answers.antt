@@ -6,7 +6,8 @@ use Rattle.warnings.proofs.marks.mark_spots.Goals as goal
 
 pub loop-left-init : goal.loop-left-init
 loop-left-init c =
-    no_spot (rule_of c.args.asked.now) c.args.spots.now c.args.reached.now c.args.ends.now c.requires
+    no_spot (rule_of c.args.asked.now) c.args.spots.now c.args.reached.now c.args.ends.now
+    c.requires
 
 pub mark_buckets-requires-clause-reached : goal.mark_buckets-requires-clause-reached
 mark_buckets-requires-clause-reached c =

@@ -1,7 +1,5 @@
-use Rattle.std.proofs.Common.{◌≡◌, ◌∙◌, refl, sym, ap, ℕ, pos, unsigned_abs, to_z, of_z, arith, rules}
-use Rattle.std.specs.Int.{w16}
+use Rattle.std.proofs.Common.{arith, rules}
 use Rattle.std.proofs.lemmas.Int.{ints}
-use Rattle.moments.specs.Calendar.{date_of}
 use Rattle.moments.proofs.Dates.{is_date, same_date}
 use Rattle.moments.proofs.calendar.CivilDate.of_day.Goals as goal
 

@@ -29,7 +29,8 @@ close_cells-closed-requires-clause-workers g c =
     (ap (λ (b : Beginning). b.publisher) back.published_are ∙ onwards.publisher)
     c.args.self.staff.each back.workers
 
-pub close_cells-closed-requires-clause-generation : goal.close_cells-closed-requires-clause-generation
+pub close_cells-closed-requires-clause-generation :
+    goal.close_cells-closed-requires-clause-generation
 close_cells-closed-requires-clause-generation g c =
     c.in-Ok.ensures.back.published.last.generation_is
 
