@@ -5,7 +5,7 @@ use Rattle.std.proofs.Common.{Bool, true, false, ◌==◌, if◌then◌else◌}
 use Rattle.std.proofs.Common.{nat_lt, encode_utf8, encode_utf8_all}
 use Rattle.std.proofs.lemmas.Bool.{or_parts}
 use Rattle.std.proofs.lemmas.Str.{encode_ascii, encodes-chars, encodes_same}
-use Rattle.std.specs.Fmt.{digit_glyph, digits, digits_onto}
+use Rattle.std.specs.Fmt.{decimal, digit_glyph, digits, digits_onto}
 use Rattle.std.specs.Str.{NoCharPasses, NonePass}
 use Rattle.printing.specs.Printed.{escape, printed_char}
 use Rattle.reasons.specs.Quoted.{QuotesEndTexts, escaped, is_kept_out, is_shown_by_number}
@@ -37,24 +37,26 @@ glyph_to d low = grind arith
 put : (d : ℕ) {bs : List ℕ} → d < 16 → HasGlyphs bs → HasGlyphs (digit_glyph false d ∷ bs)
 put d low glyphs = record { all = (glyph_from d, glyph_to d low, glyphs.all) }
 
-remainder_is_low : (n : ℕ) → n % 16 < 16
-remainder_is_low n = omega arith
-
-digits_are_glyphs : (k n : ℕ) (after : List ℕ) → HasGlyphs after
-    → HasGlyphs (digits_onto k 16 false n after)
-digits_are_glyphs zero n after glyphs = glyphs
-digits_are_glyphs (suc k) n after glyphs =
-    let more = put (n % 16) (remainder_is_low n) glyphs in
-    either (n / 16 == 0) more
-    (digits_are_glyphs k (n / 16) (digit_glyph false (n % 16) ∷ after) more)
+-- in a base of at most 16
+digits_are_glyphs : (base : ℕ) → ((n : ℕ) → n % base < 16) → (k n : ℕ) (after : List ℕ)
+    → HasGlyphs after → HasGlyphs (digits_onto k base false n after)
+digits_are_glyphs base low zero n after glyphs = glyphs
+digits_are_glyphs base low (suc k) n after glyphs =
+    let more = put (n % base) (low n) glyphs in
+    either (n / base == 0) more
+    (digits_are_glyphs base low k (n / base) (digit_glyph false (n % base) ∷ after) more)
 
 pub hexadecimal : (n : ℕ) → HasGlyphs (digits 16 false n)
 unfolding digits
-hexadecimal n = digits_are_glyphs 64 n [] (record { all = tt })
+hexadecimal n = digits_are_glyphs 16 (λ m. omega arith) 64 n [] (record { all = tt })
+
+pub in_decimal : (n : ℕ) → HasGlyphs (decimal n)
+unfolding digits
+in_decimal n = digits_are_glyphs 10 (λ m. omega arith) 64 n [] (record { all = tt })
 
 -- ---- bytes that may stand between quotes
 
-abbrev MayStand : List ℕ → Type 0
+abbrev pub MayStand : List ℕ → Type 0
 MayStand [] = Unit {0}
 MayStand (b ∷ bs) = (b < 128) × (is_kept_out b ≡ false) × MayStand bs
 
@@ -93,7 +95,7 @@ one_stands c false is =
     subst MayStand (sym (others_are_spelled c is))
     (others_are_low c is, (or_parts (is_kept_out c) (c == 92) is).0, tt)
 
-all_stand : (cs : List ℕ) → MayStand (flat_map (printed_char is_shown_by_number) cs)
+pub all_stand : (cs : List ℕ) → MayStand (flat_map (printed_char is_shown_by_number) cs)
 all_stand [] = tt
 all_stand (c ∷ cs) =
     both_stand (printed_char is_shown_by_number c) (flat_map (printed_char is_shown_by_number) cs)

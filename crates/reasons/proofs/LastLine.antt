@@ -1,5 +1,5 @@
 -- A rule chooses by the line that is told last.
-use Rattle.std.proofs.Common.{◌≡◌, ◌∙◌, ℕ, List, [], ◌∷◌, ◌++◌, refl, sym, ap, subst, append-nil}
+use Rattle.std.proofs.Common.{◌≡◌, ◌∙◌, ℕ, List, [], ◌∷◌, refl, sym, ap, subst}
 use Rattle.std.specs.Prelude.{Bool, true, false, if◌then◌else◌, slice_index}
 use Rattle.attrs.specs.Attributes.{Attributes}
 use Rattle.cells.specs.Arrays.{AppShape}
@@ -14,7 +14,7 @@ use Rattle.rule_lang.specs.declared.rule.Statement.TheVariants.{Count, When}
 use Rattle.reasons.specs.Ending.{Ending, counters_after, ending, ending_on}
 use Rattle.reasons.specs.Reading.{read_steps}
 use Rattle.reasons.specs.Told.{ChoosesByLastLine, by_its_end, by_this_when, behind_when}
-use Rattle.reasons.specs.Told.{behind_count, LastLineChooses, counted, rule_text, when_text}
+use Rattle.reasons.specs.Told.{behind_count, LastLineChooses, counted, rule_lines, when_line}
 use Rattle.reasons.proofs.Conditions.{when_is_so}
 
 -- ---- a trace of counters that reply by their values comes to the behaviour's own ending
@@ -51,33 +51,31 @@ module _ (a : Attributes) (s : AppShape) where
       (holds : Bool) (e last : Ending) → (read_steps a s old steps).holds ≡ holds
       → e ≡ (if holds then ending release (read_steps a s old steps).counters else last)
       → ChoosesByLastLine a s (read_steps a s old steps).counters rest
-      (rule_text a s (read_steps a s old steps).counters rest) last.choice last.counters
+      (rule_lines a s (read_steps a s old steps).counters rest) last.choice last.counters
       → ChoosesByLastLine a s old (When steps release ∷ rest)
-      (when_text steps (read_steps a s old steps).text
-      ++ (if holds then [] else rule_text a s (read_steps a s old steps).counters rest))
+      (when_line steps (read_steps a s old steps).text
+      ∷ (if holds then [] else rule_lines a s (read_steps a s old steps).counters rest))
       e.choice e.counters
   when_chooses old steps release rest true e last holds ends more =
       let r = read_steps a s old steps in
-      let told = when_text steps r.text in
-      subst (λ (x : Ending). ChoosesByLastLine a s old (When steps release ∷ rest) (told ++ [])
-      x.choice x.counters) (sym ends)
-      (subst (λ (t : List ℕ). ChoosesByLastLine a s old (When steps release ∷ rest) t release
-      r.counters) (sym (append-nil told)) (by_this_when old steps release rest holds))
+      subst (λ (x : Ending). ChoosesByLastLine a s old (When steps release ∷ rest)
+      (when_line steps r.text ∷ []) x.choice x.counters) (sym ends)
+      (by_this_when old steps release rest holds)
   when_chooses old steps release rest false e last holds ends more =
       let r = read_steps a s old steps in
-      let behind = rule_text a s r.counters rest in
+      let behind = rule_lines a s r.counters rest in
       subst (λ (x : Ending). ChoosesByLastLine a s old (When steps release ∷ rest)
-      (when_text steps r.text ++ behind) x.choice x.counters) (sym ends)
+      (when_line steps r.text ∷ behind) x.choice x.counters) (sym ends)
       (behind_when old steps release rest behind last.choice last.counters holds more)
 
   rule_chooses : (rule : List Statement) (old : List ℕ)
-      → ChoosesByLastLine a s old rule (rule_text a s old rule)
+      → ChoosesByLastLine a s old rule (rule_lines a s old rule)
       (ending_on old (behaviour a s rule)).choice (ending_on old (behaviour a s rule)).counters
   rule_chooses [] old = by_its_end old
   rule_chooses (Count name index ∷ rest) old =
       let new = counted s old name index in
       let e = ending_on new (behaviour a s rest) in
-      behind_count old name index rest (rule_text a s new rest) e.choice e.counters
+      behind_count old name index rest (rule_lines a s new rest) e.choice e.counters
       (rule_chooses rest new)
   rule_chooses (When steps release ∷ rest) old =
       let r = read_steps a s old steps in
@@ -88,6 +86,6 @@ module _ (a : Attributes) (s : AppShape) where
 
 pub last_line_chooses : LastLineChooses
 last_line_chooses a s rule old choice new is =
-    subst (λ (e : Ending). ChoosesByLastLine a s old rule (rule_text a s old rule) e.choice
+    subst (λ (e : Ending). ChoosesByLastLine a s old rule (rule_lines a s old rule) e.choice
     e.counters) (trace_ends (behaviour a s rule) is.events old choice new is.trace is.grown)
     (rule_chooses a s rule old)

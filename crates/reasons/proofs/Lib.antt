@@ -6,4 +6,10 @@ pub mod Back
 pub mod Reading
 pub mod InQuotes
 pub mod OneWay
+pub mod Plain
+pub mod PlainTests
+pub mod PlainTokens
+pub mod PlainRest
+pub mod PlainRules
+pub mod InLines
 mod Characters

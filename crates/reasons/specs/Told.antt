@@ -1,18 +1,23 @@
 -- What is told of a rule: a line for each `when`, up to the one that chooses.
-use Rattle.std.specs.Prelude.{◌≡◌, ℕ, List, [], ◌∷◌, ◌++◌, codes, decimal}
+use Rattle.std.specs.Prelude.{◌≡◌, ℕ, List, [], ◌∷◌, ◌++◌, codes, decimal, flat_map, All, Ok}
 use Rattle.std.specs.Prelude.{Bool, true, false, if◌then◌else◌}
+use Rattle.std.specs.Str.{NoCharPasses}
+use Rattle.std.specs.Str.Lines.{lines}
 use Rattle.attrs.specs.Attributes.{Attributes}
 use Rattle.cells.specs.Arrays.{AppShape}
 use Rattle.cells.specs.Events.{AreCells}
 use Rattle.cells.specs.declared.event.CellOp.TheVariants.{Add}
 use Rattle.rule_lang.specs.Meaning.{behaviour, Behaviour, decide, test_then}
 use Rattle.rule_lang.specs.Shapes.{array_named, cell_of}
+use Rattle.rule_lang.specs.Tokens.{Text}
 use Rattle.rule_lang.specs.Trees.{Tree}
+use Rattle.rule_lang.specs.Verdicts.{IsVerdict}
 use Rattle.rule_lang.specs.declared.condition.Step.{Step}
 use Rattle.rule_lang.specs.declared.condition.Step.TheVariants as step
 use Rattle.rule_lang.specs.declared.rule.Statement.{Statement}
 use Rattle.rule_lang.specs.declared.rule.Statement.TheVariants.{Count, When}
 use Rattle.rule_lang.specs.declared.test.Test.{Test}
+use Rattle.printing.specs.Printed.{is_control}
 use Rattle.reasons.specs.Ending.{IsMeant, counters_after, ending, ending_on, holds_on, left_by}
 use Rattle.reasons.specs.Reading.{read_steps, read_tree}
 
@@ -22,13 +27,17 @@ first_test_line (step.Test line t ∷ rest) = line
 first_test_line steps = 0
 
 -- the line of a `when`, of which this was told
-abbrev pub when_text : List Step → (told : List ℕ) → List ℕ
-when_text steps told =
-    codes "  line " ++ decimal (first_test_line steps) ++ codes ": " ++ told ++ codes "\n"
+abbrev pub when_line : List Step → (told : List ℕ) → List ℕ
+when_line steps told =
+    codes "  line " ++ decimal (first_test_line steps) ++ codes ": " ++ told
 
 -- the line of the rule's end
-abbrev pub otherwise_text : List ℕ
-otherwise_text = codes "  otherwise none\n"
+abbrev pub otherwise_line : List ℕ
+otherwise_line = codes "  otherwise none"
+
+-- a line, with the line feed that ends it
+abbrev pub ended : (line : List ℕ) → List ℕ
+ended line = line ++ codes "\n"
 
 -- the counters behind a count
 abbrev pub counted : AppShape → (counters : List ℕ) → (name : List ℕ) → (index : ℕ) → List ℕ
@@ -36,43 +45,49 @@ counted s counters name index =
     counters_after counters (cell_of (array_named name s.arrays) index) (Add 1)
 
 module _ (a : Attributes) (s : AppShape) where
-  -- line by line, up to the one that chooses
-  abbrev pub rule_text : (counters : List ℕ) → List Statement → List ℕ
-  rule_text counters [] = otherwise_text
-  rule_text counters (Count name index ∷ rest) = rule_text (counted s counters name index) rest
-  rule_text counters (When steps release ∷ rest) =
+  -- the lines, up to the one that chooses
+  abbrev pub rule_lines : (counters : List ℕ) → List Statement → List (List ℕ)
+  rule_lines counters [] = otherwise_line ∷ []
+  rule_lines counters (Count name index ∷ rest) = rule_lines (counted s counters name index) rest
+  rule_lines counters (When steps release ∷ rest) =
       let r = read_steps a s counters steps in
-      when_text steps r.text ++ (if r.holds then [] else rule_text r.counters rest)
+      when_line steps r.text ∷ (if r.holds then [] else rule_lines r.counters rest)
 
--- a rule that is asked on counters of the values `old` chooses by the last line of its text; its
--- choice, and the counters then
+  -- and their text
+  abbrev pub rule_text : (counters : List ℕ) → List Statement → List ℕ
+  rule_text counters rule = flat_map ended (rule_lines counters rule)
+
+-- `ChoosesByLastLine a s old rule told choice new`: the rule, asked on counters of the values
+-- `old`, makes this choice and leaves the values `new`; and of the lines that are told of it the
+-- last is that of the `when` that chooses, or that of the rule's end
 pub data ChoosesByLastLine (a : Attributes) (s : AppShape)
-    : (old : List ℕ) → List Statement → (text : List ℕ) → (choice : ℕ) → (new : List ℕ)
+    : (old : List ℕ) → List Statement → (told : List (List ℕ)) → (choice : ℕ) → (new : List ℕ)
     → Type 0 where
   -- at the rule's end nothing is chosen
-  by_its_end : (old : List ℕ) → ChoosesByLastLine a s old [] otherwise_text 0 old
+  by_its_end : (old : List ℕ) → ChoosesByLastLine a s old [] (otherwise_line ∷ []) 0 old
   -- a `when` that holds chooses its release, and what stands behind it isn't asked
   by_this_when : (old : List ℕ) (steps : List Step) (release : ℕ) (rest : List Statement)
       → (read_steps a s old steps).holds ≡ true
       → ChoosesByLastLine a s old (When steps release ∷ rest)
-      (when_text steps (read_steps a s old steps).text) release
+      (when_line steps (read_steps a s old steps).text ∷ []) release
       (read_steps a s old steps).counters
   -- behind one that doesn't hold the rest chooses
   behind_when : (old : List ℕ) (steps : List Step) (release : ℕ) (rest : List Statement)
-      (text : List ℕ) (choice : ℕ) (new : List ℕ) → (read_steps a s old steps).holds ≡ false
-      → ChoosesByLastLine a s (read_steps a s old steps).counters rest text choice new
+      (told : List (List ℕ)) (choice : ℕ) (new : List ℕ)
+      → (read_steps a s old steps).holds ≡ false
+      → ChoosesByLastLine a s (read_steps a s old steps).counters rest told choice new
       → ChoosesByLastLine a s old (When steps release ∷ rest)
-      (when_text steps (read_steps a s old steps).text ++ text) choice new
+      (when_line steps (read_steps a s old steps).text ∷ told) choice new
   -- a count has no line
-  behind_count : (old name : List ℕ) (index : ℕ) (rest : List Statement) (text : List ℕ)
-      (choice : ℕ) (new : List ℕ)
-      → ChoosesByLastLine a s (counted s old name index) rest text choice new
-      → ChoosesByLastLine a s old (Count name index ∷ rest) text choice new
+  behind_count : (old name : List ℕ) (index : ℕ) (rest : List Statement)
+      (told : List (List ℕ)) (choice : ℕ) (new : List ℕ)
+      → ChoosesByLastLine a s (counted s old name index) rest told choice new
+      → ChoosesByLastLine a s old (Count name index ∷ rest) told choice new
 
 -- what is told of a `when`: its line behind a text, whether it holds, and the counters then
 pub record TellsWhen (a : Attributes) (s : AppShape) (steps : List Step) (old : List ℕ)
     (before after : List ℕ) (holds : Bool) (new : List ℕ) : Type 0 where
-  pub text_is : after ≡ before ++ when_text steps (read_steps a s old steps).text
+  pub text_is : after ≡ before ++ ended (when_line steps (read_steps a s old steps).text)
   pub holds_is : holds ≡ (read_steps a s old steps).holds
   pub counters_are : new ≡ (read_steps a s old steps).counters
 
@@ -117,4 +132,16 @@ EndingsAreMeant = (a : Attributes) (s : AppShape) (rule : List Statement) (count
 abbrev pub LastLineChooses : Type 0
 LastLineChooses = (a : Attributes) (s : AppShape) (rule : List Statement) (old : List ℕ)
     (choice : ℕ) (new : List ℕ) → IsMeant a s rule old choice new
-    → ChoosesByLastLine a s old rule (rule_text a s old rule) choice new
+    → ChoosesByLastLine a s old rule (rule_lines a s old rule) choice new
+
+-- a text has these lines, as `str::lines` divides it, and no control stands in any of them
+pub record HasTheseLines (text : List ℕ) (told : List (List ℕ)) : Type 0 where
+  pub lines_are : lines text ≡ told
+  pub no_control : All (NoCharPasses is_control) told
+
+-- of a rule that some text spells the lines that are told are those of the told text: so a `when`
+-- is one line, and the last line is what stands behind the last line feed but one
+abbrev pub WhensAreLines : Type 0
+WhensAreLines = (a : Attributes) (s : AppShape) (text : Text) (rule : List Statement)
+    → IsVerdict s text (Ok rule) → (old : List ℕ)
+    → HasTheseLines (rule_text a s old rule) (rule_lines a s old rule)

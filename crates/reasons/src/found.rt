@@ -1,6 +1,7 @@
 //! What a test found: what an app has where it asks, or the value of its counter.
 
-ghost use Rattle.std.specs.Prelude.{◌≡◌, ◌++◌, OnOk, string_bytes, option_copied};
+ghost use Rattle.std.specs.Prelude.{◌≡◌, OnOk, option_copied};
+ghost use Rattle.printing.specs.Pushed.{Puts};
 ghost use Rattle.rule_lang.specs.Meaning as meaning;
 ghost use Rattle.rule_lang.specs.Shapes as shapes;
 ghost use Rattle.reasons.specs.Texts as texts;
@@ -57,8 +58,8 @@ pub(crate) fn push_tested(
     holds: bool,
     test: &Test,
 ) -> Result<(), AllocError>
-    ensures { OnOk result (string_bytes text.new ≡ string_bytes text.old
-        ++ texts.tested_text attrs.now shape.now value holds test.now) }
+    ensures { OnOk result
+        (Puts text.old text.new (texts.tested_text attrs.now shape.now value holds test.now)) }
 {
     push_test(text, test)?;
     push_truth(text, attrs, shape, value, holds, test)
@@ -72,8 +73,8 @@ fn push_truth(
     holds: bool,
     test: &Test,
 ) -> Result<(), AllocError>
-    ensures { OnOk result (string_bytes text.new ≡ string_bytes text.old
-        ++ texts.truth_text attrs.now shape.now value holds test.now) }
+    ensures { OnOk result
+        (Puts text.old text.new (texts.truth_text attrs.now shape.now value holds test.now)) }
 {
     if holds {
         push_held(text, shape, value, test)
@@ -84,8 +85,7 @@ fn push_truth(
 }
 
 fn push_held(text: &mut String, shape: &Shape, value: u64, test: &Test) -> Result<(), AllocError>
-    ensures { OnOk result (string_bytes text.new ≡ string_bytes text.old
-        ++ texts.held_text shape.now value test.now) }
+    ensures { OnOk result (Puts text.old text.new (texts.held_text shape.now value test.now)) }
 {
     match test {
         Test::Take { array, .. } => {
@@ -107,8 +107,8 @@ fn push_found(
     value: u64,
     test: &Test,
 ) -> Result<(), AllocError>
-    ensures { OnOk result (string_bytes text.new ≡ string_bytes text.old
-        ++ texts.found_text attrs.now shape.now value test.now) }
+    ensures { OnOk result
+        (Puts text.old text.new (texts.found_text attrs.now shape.now value test.now)) }
 {
     match test {
         Test::Version { .. } => {
@@ -140,23 +140,20 @@ fn push_found(
 }
 
 fn push_value(text: &mut String, value: u64, quota: u64) -> Result<(), AllocError>
-    ensures { OnOk result
-        (string_bytes text.new ≡ string_bytes text.old ++ texts.value_text value quota) }
+    ensures { OnOk result (Puts text.old text.new (texts.value_text value quota)) }
 {
     write!(text, ", {value} of {quota}")
 }
 
 fn push_text(text: &mut String, attrs: &Attrs, attribute: Attribute) -> Result<(), AllocError>
-    ensures { OnOk result (string_bytes text.new ≡ string_bytes text.old
-        ++ texts.it_is_text attrs.now attribute) }
+    ensures { OnOk result (Puts text.old text.new (texts.it_is_text attrs.now attribute)) }
 {
     text.push_str(", it is ")?;
     push_quoted(text, attrs.text(attribute.number() as u64))
 }
 
 fn push_day(text: &mut String, day: u32) -> Result<(), AllocError>
-    ensures { OnOk result
-        (string_bytes text.new ≡ string_bytes text.old ++ texts.day_text day) }
+    ensures { OnOk result (Puts text.old text.new (texts.day_text day)) }
 {
     if day == Context::UNKNOWN_DAY {
         text.push_str("not known")

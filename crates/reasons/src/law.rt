@@ -25,6 +25,12 @@ pub fn last_line_chooses()
     ensures { specs.LastLineChooses }
 {}
 
+/// A law: of a rule that some text spells, the text that is told has just the lines that are told,
+/// and they have no control. So a `when` is one line, whatever the rule and the client name.
+pub fn whens_are_lines()
+    ensures { specs.WhensAreLines }
+{}
+
 /// A law: what a rule comes to on counters is what it means.
 pub fn endings_are_meant()
     ensures { specs.EndingsAreMeant }

@@ -11,9 +11,10 @@
 // its takes added is given back to the counters. A part keeps for that which cells it took from,
 // and their values before.
 //
-// That each truth that is told is that of its test, that the line that is told last is the one by
-// which the rule chooses, and that texts of clients in quotes are told apart, are laws of the
-// definitions (`law.rt`).
+// Laws of the definitions (`law.rt`) say that each truth that is told is that of its test, that a
+// `when` is told in one line, that the last line is the one by which the rule chooses, and that
+// texts of clients in quotes are told apart. A line has no control, since numbers and words have
+// none, a rule's own texts are printable ASCII, and a client's stand in quotes.
 
 mod condition;
 mod counters;
@@ -29,7 +30,7 @@ mod words;
 
 pub use law::{
     conditions_are_so, endings_are_meant, last_line_chooses, quotes_end_texts, quotes_tell_apart,
-    truths_are_so, whens_decide,
+    truths_are_so, whens_are_lines, whens_decide,
 };
 pub use quoted::push_quoted;
 pub use telling::tell_rule;

@@ -1,6 +1,7 @@
 //! The lines of a rule.
 
-ghost use Rattle.std.specs.Prelude.{◌≡◌, ◌++◌, OnOk, string_bytes};
+ghost use Rattle.std.specs.Prelude.{◌≡◌, OnOk};
+ghost use Rattle.printing.specs.Pushed.{Puts};
 ghost use Rattle.reasons.specs.Told as specs;
 
 use rule_lang::Step;
@@ -18,8 +19,8 @@ fn first_test_line(steps: &[Step]) -> usize
 
 /// Adds the line of a `when`, of which this was told.
 pub(crate) fn push_when(text: &mut String, steps: &[Step], told: &str) -> Result<(), AllocError>
-    ensures { OnOk result (string_bytes text.new
-        ≡ string_bytes text.old ++ specs.when_text steps.now told.now) }
+    ensures { OnOk result
+        (Puts text.old text.new (specs.ended (specs.when_line steps.now told.now))) }
 {
     let line = first_test_line(steps);
     writeln!(text, "  line {line}: {told}")
@@ -27,8 +28,7 @@ pub(crate) fn push_when(text: &mut String, steps: &[Step], told: &str) -> Result
 
 /// Adds the line of the end of a rule.
 pub(crate) fn push_otherwise(text: &mut String) -> Result<(), AllocError>
-    ensures { OnOk result
-        (string_bytes text.new ≡ string_bytes text.old ++ specs.otherwise_text) }
+    ensures { OnOk result (Puts text.old text.new (specs.ended specs.otherwise_line)) }
 {
     text.push_str("  otherwise none\n")
 }

@@ -1,6 +1,7 @@
 //! A part of a condition: what was read of it, and its takes, which can be given back.
 
 ghost use Rattle.std.specs.Prelude.{◌≡◌, ◌++◌, IfOk, OnOk, string_bytes};
+ghost use Rattle.printing.specs.Pushed.{Puts};
 ghost use Rattle.reasons.specs.Stack as specs;
 ghost use Rattle.reasons.specs.Texts as texts;
 ghost use Rattle.reasons.specs.Truth as truth;
@@ -26,6 +27,7 @@ pub(crate) struct Part {
 
 impl Model for Part {
     ghost use Rattle.std.specs.Prelude.{string_bytes};
+    ghost use Rattle.printing.specs.Pushed.{Puts};
     ghost use Rattle.reasons.specs.Stack as specs;
 
     ghost Value = { specs.Part };
@@ -151,8 +153,7 @@ pub(crate) fn negated(alloc: Global, part: Part) -> Result<Part, AllocError>
 }
 
 fn push_negated(text: &mut String, told: &str) -> Result<(), AllocError>
-    ensures { OnOk result
-        (string_bytes text.new ≡ string_bytes text.old ++ texts.negated_text told.now) }
+    ensures { OnOk result (Puts text.old text.new (texts.negated_text told.now)) }
 {
     write!(text, "not ({told})")
 }

@@ -1,6 +1,7 @@
 //! A text of a client in quotes.
 
-ghost use Rattle.std.specs.Prelude.{◌≡◌, ◌++◌, OnOk, string_bytes};
+ghost use Rattle.std.specs.Prelude.{◌≡◌, OnOk};
+ghost use Rattle.printing.specs.Pushed.{Puts};
 ghost use Rattle.printing.specs.Printed.{escape, printed_char};
 ghost use Rattle.reasons.specs.Quoted as specs;
 
@@ -10,10 +11,9 @@ use std::fmt::Write;
 /// Adds a text in quotes. A quote or a backslash in it, and what isn't printable ASCII, is shown by
 /// its number, as `\u{22}`: so the text ends at the next quote, different texts are told
 /// differently, and a character that can't be seen shows.
-// open: whether memory is refused, its one error.
+// open: whether memory is refused, its one error, and what the text is then.
 pub fn push_quoted(text: &mut String, client: &str) -> Result<(), AllocError>
-    ensures { OnOk result
-        (string_bytes text.new ≡ string_bytes text.old ++ specs.quoted client.now) }
+    ensures { OnOk result (Puts text.old text.new (specs.quoted client.now)) }
 {
     text.push_str("\"")?;
     push_escaped(text, client)?;
@@ -22,8 +22,7 @@ pub fn push_quoted(text: &mut String, client: &str) -> Result<(), AllocError>
 
 #[tactic(auto, unfolding(crate::specs::Quoted::escaped))]
 fn push_escaped(text: &mut String, client: &str) -> Result<(), AllocError>
-    ensures { OnOk result
-        (string_bytes text.new ≡ string_bytes text.old ++ specs.escaped client.now) }
+    ensures { OnOk result (Puts text.old text.new (specs.escaped client.now)) }
 {
     for c in client.chars() {
         push_char(text, c)?;
@@ -32,8 +31,7 @@ fn push_escaped(text: &mut String, client: &str) -> Result<(), AllocError>
 }
 
 fn push_char(text: &mut String, c: char) -> Result<(), AllocError>
-    ensures { OnOk result (string_bytes text.new
-        ≡ string_bytes text.old ++ printed_char specs.is_shown_by_number c) }
+    ensures { OnOk result (Puts text.old text.new (printed_char specs.is_shown_by_number c)) }
 {
     if is_shown_by_number(c) {
         push_escape(text, c)
@@ -49,7 +47,7 @@ fn is_shown_by_number(c: char) -> bool
 }
 
 fn push_escape(text: &mut String, c: char) -> Result<(), AllocError>
-    ensures { OnOk result (string_bytes text.new ≡ string_bytes text.old ++ escape c) }
+    ensures { OnOk result (Puts text.old text.new (escape c)) }
 {
     let code = u32::from(c);
     write!(text, "\\u{{{code:x}}}")

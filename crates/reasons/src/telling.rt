@@ -1,6 +1,7 @@
 //! What is told of a rule.
 
-ghost use Rattle.std.specs.Prelude.{◌≡◌, ◌++◌, IfOk, OnOk, string_bytes};
+ghost use Rattle.std.specs.Prelude.{◌≡◌, IfOk, OnOk, string_bytes};
+ghost use Rattle.printing.specs.Pushed.{Puts};
 ghost use Rattle.reasons.specs.Ending.{ending, ending_on};
 ghost use Rattle.reasons.specs.Told as specs;
 ghost use Rattle.rule_lang.specs.Meaning.{behaviour};
@@ -17,7 +18,7 @@ use std::alloc::{AllocError, Global};
 /// Adds the lines of a rule to a text: what it tests for an app on counters of some values, up to
 /// the `when` that chooses, or to `otherwise none`. Answers what the rule chooses, 0 for none, and
 /// leaves the counters as the rule leaves them.
-// open: whether memory is refused, its one error.
+// open: whether memory is refused, its one error, and what the text and the counters are then.
 pub fn tell_rule(
     alloc: Global,
     text: &mut String,
@@ -42,8 +43,8 @@ fn tell_statements(
     statements: &[Statement],
     counters: &mut PlainPass,
 ) -> Result<u8, AllocError>
-    ensures text { OnOk result (string_bytes text.new ≡ string_bytes text.old
-        ++ specs.rule_text attrs.now shape.now counters.old statements.now) }
+    ensures text { OnOk result
+        (Puts text.old text.new (specs.rule_text attrs.now shape.now counters.old statements.now)) }
     ensures ending { IfOk result (λ choice. ending_on counters.old
         (behaviour attrs.now shape.now statements.now) ≡ ending choice counters.new) }
 {

@@ -1,6 +1,7 @@
 //! A test, as a rule has it.
 
-ghost use Rattle.std.specs.Prelude.{◌≡◌, ◌++◌, OnOk, string_bytes};
+ghost use Rattle.std.specs.Prelude.{OnOk};
+ghost use Rattle.printing.specs.Pushed.{Puts};
 ghost use Rattle.reasons.specs.Texts as texts;
 
 use crate::words::{comparison_text, push_compared, push_modulus, push_numbers, push_salt};
@@ -11,8 +12,7 @@ use std::fmt::Write;
 
 /// Adds the text of a test.
 pub(crate) fn push_test(text: &mut String, test: &Test) -> Result<(), AllocError>
-    ensures { OnOk result
-        (string_bytes text.new ≡ string_bytes text.old ++ texts.test_text test.now) }
+    ensures { OnOk result (Puts text.old text.new (texts.test_text test.now)) }
 {
     match test {
         Test::Version {
@@ -47,8 +47,7 @@ fn push_version(
     comparison: Comparison,
     version: [u32; 4],
 ) -> Result<(), AllocError>
-    ensures { OnOk result (string_bytes text.new ≡ string_bytes text.old
-        ++ texts.version_test_text comparison version) }
+    ensures { OnOk result (Puts text.old text.new (texts.version_test_text comparison version)) }
 {
     let sign = comparison_text(comparison);
     write!(text, "version {sign} ")?;
@@ -62,8 +61,8 @@ fn push_bucket(
     comparison: Comparison,
     number: u32,
 ) -> Result<(), AllocError>
-    ensures { OnOk result (string_bytes text.new ≡ string_bytes text.old
-        ++ texts.bucket_test_text salt modulus comparison number) }
+    ensures { OnOk result
+        (Puts text.old text.new (texts.bucket_test_text salt modulus comparison number)) }
 {
     text.push_str("bucket")?;
     push_salt(text, salt)?;
@@ -72,24 +71,21 @@ fn push_bucket(
 }
 
 fn push_flag(text: &mut String, flag: Flag) -> Result<(), AllocError>
-    ensures { OnOk result
-        (string_bytes text.new ≡ string_bytes text.old ++ texts.flag_test_text flag) }
+    ensures { OnOk result (Puts text.old text.new (texts.flag_test_text flag)) }
 {
     let name = flag.text();
     write!(text, "flag {name}")
 }
 
 fn push_attribute(text: &mut String, attribute: Attribute, is: &str) -> Result<(), AllocError>
-    ensures { OnOk result (string_bytes text.new ≡ string_bytes text.old
-        ++ texts.attribute_test_text attribute is.now) }
+    ensures { OnOk result (Puts text.old text.new (texts.attribute_test_text attribute is.now)) }
 {
     let name = attribute.text();
     write!(text, "attr {name} is \"{is}\"")
 }
 
 fn push_take(text: &mut String, array: &str, index: u16) -> Result<(), AllocError>
-    ensures { OnOk result (string_bytes text.new ≡ string_bytes text.old
-        ++ texts.take_text array.now index) }
+    ensures { OnOk result (Puts text.old text.new (texts.take_text array.now index)) }
 {
     write!(text, "take({array}, {index})")
 }

@@ -1,6 +1,7 @@
 //! The smaller parts of a test's text: comparisons, numbers of a version, salts.
 
-ghost use Rattle.std.specs.Prelude.{◌≡◌, ◌++◌, OnOk, string_bytes};
+ghost use Rattle.std.specs.Prelude.{◌≡◌, OnOk};
+ghost use Rattle.printing.specs.Pushed.{Puts};
 ghost use Rattle.reasons.specs.Texts as texts;
 
 use rule_lang::Comparison;
@@ -27,8 +28,7 @@ pub(crate) fn push_compared(
     comparison: Comparison,
     number: u32,
 ) -> Result<(), AllocError>
-    ensures { OnOk result (string_bytes text.new
-        ≡ string_bytes text.old ++ texts.compared_text comparison number) }
+    ensures { OnOk result (Puts text.old text.new (texts.compared_text comparison number)) }
 {
     let sign = comparison_text(comparison);
     write!(text, " {sign} {number}")
@@ -36,8 +36,7 @@ pub(crate) fn push_compared(
 
 /// Adds the numbers of a version: two, and those behind them up to the last that isn't 0.
 pub(crate) fn push_numbers(text: &mut String, version: [u32; 4]) -> Result<(), AllocError>
-    ensures { OnOk result (string_bytes text.new
-        ≡ string_bytes text.old ++ texts.numbers_text version) }
+    ensures { OnOk result (Puts text.old text.new (texts.numbers_text version)) }
 {
     let [first, second, third, fourth] = version;
     write!(text, "{first}.{second}")?;
@@ -45,8 +44,7 @@ pub(crate) fn push_numbers(text: &mut String, version: [u32; 4]) -> Result<(), A
 }
 
 fn push_third(text: &mut String, third: u32, fourth: u32) -> Result<(), AllocError>
-    ensures { OnOk result (string_bytes text.new
-        ≡ string_bytes text.old ++ texts.third_text third fourth) }
+    ensures { OnOk result (Puts text.old text.new (texts.third_text third fourth)) }
 {
     if third == 0 && fourth == 0 {
         return Ok(());
@@ -56,8 +54,7 @@ fn push_third(text: &mut String, third: u32, fourth: u32) -> Result<(), AllocErr
 }
 
 fn push_fourth(text: &mut String, fourth: u32) -> Result<(), AllocError>
-    ensures { OnOk result (string_bytes text.new
-        ≡ string_bytes text.old ++ texts.fourth_text fourth) }
+    ensures { OnOk result (Puts text.old text.new (texts.fourth_text fourth)) }
 {
     if fourth == 0 {
         return Ok(());
@@ -67,8 +64,7 @@ fn push_fourth(text: &mut String, fourth: u32) -> Result<(), AllocError>
 
 /// Adds a bucket's salt, if there is one.
 pub(crate) fn push_salt(text: &mut String, salt: Option<u64>) -> Result<(), AllocError>
-    ensures { OnOk result (string_bytes text.new
-        ≡ string_bytes text.old ++ texts.salt_text salt) }
+    ensures { OnOk result (Puts text.old text.new (texts.salt_text salt)) }
 {
     match salt {
         Some(salt) => write!(text, "({salt})"),
@@ -78,8 +74,7 @@ pub(crate) fn push_salt(text: &mut String, salt: Option<u64>) -> Result<(), Allo
 
 /// Adds what a bucket is divided by, if it is.
 pub(crate) fn push_modulus(text: &mut String, modulus: Option<u32>) -> Result<(), AllocError>
-    ensures { OnOk result (string_bytes text.new
-        ≡ string_bytes text.old ++ texts.modulus_text modulus) }
+    ensures { OnOk result (Puts text.old text.new (texts.modulus_text modulus)) }
 {
     match modulus {
         Some(modulus) => write!(text, " mod {modulus}"),

@@ -24,7 +24,8 @@ trace_of p s events choice count (asked {next = next} {e = e} {es = es} step res
     line_between p s (Some e) (next e.reply) ++ trace_of p (next e.reply) es choice count rest
 
 -- a run from a state, by which the counters' values change from these to those, with its trace and
--- the last jump that it takes; its events are such as the program's arrays allow
+-- the last jump that it takes; its events are such as the program's arrays allow, and each reply is
+-- one that its counter can give
 pub record IsTraced (p : ShapedProgram) (s : State) (old new : List ℕ) (choice count : ℕ)
     (text : List ℕ) (jump : Option Jump) : Type 0 where
   pub events : List CellEvent
@@ -43,6 +44,6 @@ pub record IsTracedRun (p : ShapedProgram) (a : Attributes) (choice count : ℕ)
   pub left : List ℕ
   pub run : IsTraced p (opening a) zeros left choice count text jump
 
--- its trace
+-- its trace, with some last jump
 abbrev pub IsTrace : ShapedProgram → Attributes → (choice count : ℕ) → (text : List ℕ) → Type 0
 IsTrace p a choice count text = (jump : Option Jump) × IsTracedRun p a choice count text jump

@@ -17,8 +17,8 @@ use reference::{Interpreter, Observed};
 use std::alloc::{AllocError, Global};
 use std::sync::Arc;
 
-/// What a run came to: a line a step, its choice, how many instructions it did, where EXIT counts,
-/// and the last jump that it took, if it took one.
+/// What a run came to: a line a step, its choice, how many instructions it did, EXIT included, and
+/// the last jump that it took, if it took one.
 #[derive(Drop)]
 pub struct TracedRun {
     pub text: String,
@@ -28,10 +28,11 @@ pub struct TracedRun {
 }
 
 /// The trace of a program's run for an app, on counters of its own that open at 0.
-// open: whether memory is refused.
+// open: whether memory is refused, its one error.
 pub fn trace(alloc: Global, program: &Verified, attrs: Arc<Attrs>) -> Result<TracedRun, AllocError>
     ensures run { IfOk result (λ t. IsTracedRun program.now (arc_value attrs)
         t.choice t.count (string_bytes t.text) t.last_jump) }
+    // So it is the run's trace, for a caller that tells no jump.
     ensures trace { IfOk result (λ t. IsTrace program.now (arc_value attrs)
         t.choice t.count (string_bytes t.text)) }
     ensures release { IfOk result (λ t. t.choice ≤ program.now.shape.releases) }
