@@ -1,7 +1,7 @@
 -- A manifest that is too long fails for this, whatever its bytes are.
-use Rattle.std.proofs.Common.{◌≡◌, [], sym, subst, arith}
+use Rattle.std.proofs.Common.{◌≡◌, [], refl, sym, subst}
 use Rattle.load.specs.Load.{IsLoadFault, of_bytes}
-use Rattle.load.specs.Gathered.{IsParsedBeside}
+use Rattle.load.specs.Gathered.{AreArraysBeside, IsParsedBeside}
 use Rattle.load.specs.declared.fault.LoadFault.{LoadFault}
 use Rattle.load.specs.declared.fault.LoadFault.TheVariants.{Manifest}
 use Rattle.manifest.specs.declared.fault.ManifestFault.TheVariants.{Toml}
@@ -22,6 +22,6 @@ fails_if_long r is told known bytes long = record {
   unread = 0;
   seen = no_file (λ any.
       subst (λ (f : LoadFault). IsLoadFault any [] bytes f) (sym is) (of_bytes long))
-      (λ some. absurd (omega (arith, some)));
+      (subst (λ (f : LoadFault). AreArraysBeside bytes f []) (sym is) refl);
   told = told;
 }

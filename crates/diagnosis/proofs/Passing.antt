@@ -13,7 +13,7 @@ use Rattle.bounded_files.specs.Files.{KnownFiles}
 use Rattle.cells.specs.Directory.{Declaration}
 use Rattle.cells.specs.declared.array.CellArray.{CellArray}
 use Rattle.load.specs.Digest.{digest_of}
-use Rattle.load.specs.Gathered.{IsGathered, IsParsedBeside, IsUngathered}
+use Rattle.load.specs.Gathered.{AreArraysBeside, IsGathered, IsParsedBeside, IsUngathered}
 use Rattle.load.specs.Judged.{AreJudged, IsLoadOf, RefusesFirst, apps_of}
 use Rattle.load.specs.Load.{IsLoadFault}
 use Rattle.load.specs.declared.fault.LoadFault.{LoadFault}
@@ -115,7 +115,7 @@ fails_early known bytes u r h is told = record {
   unread = 0;
   seen = no_file (λ any.
       subst (λ (f : LoadFault). IsLoadFault any [] bytes f) (sym is) (h.fault_is any))
-      h.arrays_are;
+      (subst (λ (f : LoadFault). AreArraysBeside bytes f u.arrays.items) (sym is) h.arrays_are);
   told = told;
 }
 

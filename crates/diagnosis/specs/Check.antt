@@ -10,7 +10,7 @@ use Rattle.diagnosis.specs.declared.accepted.CheckedManifest.{CheckedManifest}
 use Rattle.diagnosis.specs.declared.told.Refused.{Refused}
 use Rattle.bounded_files.specs.Files.{KnownFiles}
 use Rattle.load.specs.Digest.{digest_of}
-use Rattle.load.specs.Gathered.{AreArraysOf, IsGathered, IsParsedBeside}
+use Rattle.load.specs.Gathered.{AreArraysBeside, IsGathered, IsParsedBeside}
 use Rattle.load.specs.Judged.{AreJudged, RefusesFirst, apps_of}
 use Rattle.load.specs.Load.{IsRulesetOf, IsLoadFault}
 use Rattle.load.specs.declared.fault.LoadFault.{LoadFault}
@@ -52,13 +52,13 @@ module _ (known : KnownFiles) (bytes : List ℕ) where
     pub arrays_are : told.arrays.items ≡ gathered.manifest.arrays
     pub apps_are : told.apps.items ≡ rules.apps
 
-  -- what was gathered of one that has this fault, and how many apps there are behind it: its
-  -- arrays, if it has the fault whatever its files give; or its apps, too, the first of which that
-  -- has no program has this fault
+  -- the arrays and the apps that were gathered of a manifest with this fault, and how many apps
+  -- there are whose files aren't read. It has the fault whatever its files give, and these are the
+  -- arrays that are known then; or the first of its apps that has no program has it
   pub data IsSeen (fault : LoadFault) : List Declaration → List GatheredApp → (unread : ℕ)
       → Type 0 where
     no_file : {arrays : List Declaration} → ((any : KnownFiles) → IsLoadFault any [] bytes fault)
-        → AreArraysOf bytes arrays → IsSeen fault arrays [] 0
+        → AreArraysBeside bytes fault arrays → IsSeen fault arrays [] 0
     files : (g : Gathered) → IsGathered known [] bytes g → RefusesFirst g.apps.items fault
         → IsSeen fault g.arrays.items g.apps.items g.unread
 

@@ -62,8 +62,8 @@ use std::alloc::Global;
 /// many files couldn't be read as can be counted. If memory is refused for the reason, the reason
 /// is left out, entirely or except for the file's name; and so are the further faults, entirely or
 /// except for their own reasons.
-// open: whether memory is refused; that there is a reason beside the fault, and that the further
-// faults are told at all: tests; that it asks whether the manifest or a file is behind a link:
+// open: whether memory is refused; that the reason and the further faults are left out for want of
+// memory alone: tests; that it asks whether the manifest or a file is behind a link:
 // `bench/hostile`; what `toml` says of M1.
 pub fn check<F: Files>(
     alloc: Global,
@@ -153,7 +153,7 @@ fn out_of_memory(alloc: Global, read: usize, unread: usize) -> Refused
 }
 
 /// Why a manifest of more than 1048576 bytes is refused: M1, which needs none of them.
-// open: whether memory is refused; that there is a reason beside the fault: tests.
+// open: whether memory is refused; that the reason is left out for want of memory alone: tests.
 pub fn too_long(alloc: Global) -> Refused
     ensures { FailsIfLong result }
 {

@@ -95,8 +95,8 @@ fn tell_misfit(alloc: Global, misfit: &Misfit) -> Option<String>
 }
 
 fn push_misfit(text: &mut String, misfit: &Misfit) -> Result<(), AllocError>
-    ensures { OnOk result (string_bytes text.new
-        ≡ string_bytes text.old ++ line (misfit_text misfit.now) ++ advice misfit.now) }
+    ensures { OnOk result
+        (Puts text.old text.new (line (misfit_text misfit.now) ++ advice misfit.now)) }
 {
     writeln!(text, "{misfit}")?;
     text.push_str(advice(misfit))

@@ -1,5 +1,5 @@
 -- A fault that is told with its cause is a fault, and a cause of its arrays is one of its bytes.
-use Rattle.std.proofs.Common.{◌≡◌, ℕ, List, [], ◌∷◌, Option, Some, None, refl, sym, subst, arith}
+use Rattle.std.proofs.Common.{◌≡◌, ℕ, List, Option, Some, None, refl, sym, subst}
 use Rattle.std.specs.Prelude.{IfSome}
 use Rattle.std.specs.String.{string_bytes}
 use Rattle.std.specs.declared.alloc.Global.{Global}
@@ -8,7 +8,7 @@ use Rattle.bounded_files.specs.Files.{KnownFiles}
 use Rattle.cells.specs.Directory.{Declaration}
 use Rattle.cells.specs.declared.array.CellArray.{CellArray}
 use Rattle.load.specs.Cause.{IsCause, RefusesTelling, cause_in, cause_of}
-use Rattle.load.specs.Gathered.{AreArraysOf}
+use Rattle.load.specs.Gathered.{AreArraysBeside}
 use Rattle.load.specs.Loaded.{RefusesPath}
 use Rattle.load.specs.declared.fault.LoadFault.{LoadFault}
 use Rattle.load.specs.declared.fault.LoadFault.TheVariants as load
@@ -36,12 +36,10 @@ untold known path old fault told cause fault_is cause_is refused =
     (no_cause known path old fault refused))
 
 is_cause : (old : List CellArray) (bytes : List ℕ) (arrays : List Declaration) (fault : LoadFault)
-    (text : List ℕ) → AreArraysOf bytes arrays → cause_of old arrays fault ≡ Some text
+    (text : List ℕ) → AreArraysBeside bytes fault arrays → cause_of old arrays fault ≡ Some text
     → IsCause old bytes fault text
 is_cause old bytes arrays (load.Manifest fault) text are is = is
-is_cause old bytes [] (load.Cells number fault) text are is = absurd cc
-is_cause old bytes (a ∷ arrays) (load.Cells number fault) text are is =
-    let of = are (omega arith) in
+is_cause old bytes arrays (load.Cells number fault) text of is =
     (of.0, of.1, subst (λ (l : List Declaration). cause_in old l number fault ≡ Some text) of.2 is)
 is_cause old bytes arrays (load.File app) text are is = absurd cc
 is_cause old bytes arrays (load.Program app fault) text are is = absurd cc
@@ -49,7 +47,7 @@ is_cause old bytes arrays (load.Rule app fault) text are is = absurd cc
 is_cause old bytes arrays load.Memory text are is = absurd cc
 
 pub cause_told : (old : List CellArray) (bytes : List ℕ) (arrays : List Declaration)
-    (fault : LoadFault) (cause : Option (String Global)) → AreArraysOf bytes arrays
+    (fault : LoadFault) (cause : Option (String Global)) → AreArraysBeside bytes fault arrays
     → IfSome cause (λ text. cause_of old arrays fault ≡ Some (string_bytes text))
     → IfSome cause (λ text. IsCause old bytes fault (string_bytes text))
 cause_told old bytes arrays fault None are told = tt

@@ -1,5 +1,6 @@
--- Why no file is asked for, and what the manifest's bytes were parsed as.
-use Rattle.std.proofs.Common.{◌≡◌, ℕ, List, [], length, arith, ap, refl, sym, subst, Err}
+-- Why no file is asked for, which arrays are known then, and what the manifest's bytes were parsed
+-- as.
+use Rattle.std.proofs.Common.{◌≡◌, ℕ, List, [], inl, inr, refl, sym, subst, Err}
 use Rattle.cells.specs.Directory.{Declaration}
 use Rattle.cells.specs.declared.array.CellArray.{CellArray}
 use Rattle.manifest.specs.Manifest.{ReadsManifest}
@@ -13,7 +14,8 @@ use Rattle.load.specs.declared.fault.LoadFault.{LoadFault}
 use Rattle.load.specs.declared.fault.LoadFault.TheVariants.{Manifest as NoManifest, File, Program}
 use Rattle.load.specs.declared.fault.LoadFault.TheVariants.{Rule, Cells, Memory}
 use Rattle.load.specs.declared.gathering.Ungathered.{Ungathered}
-use Rattle.load.specs.Gathered.{IsParsedBeside, IsUngathered, of_manifest}
+use Rattle.load.specs.Gathered.{AreArraysBeside, AreArraysOf, IsParsedBeside, IsUngathered}
+use Rattle.load.specs.Gathered.{of_manifest}
 use Rattle.load.specs.Load.{IsLoadFault, RefusesArrays, RefusesManifest, of_bytes}
 
 -- beside an array's fault there is nothing
@@ -25,6 +27,17 @@ nothing_parsed bytes old arrays (Program number fault) refuses = refl
 nothing_parsed bytes old arrays (Rule number fault) refuses = refl
 nothing_parsed bytes old arrays (Cells number fault) refuses = refl
 nothing_parsed bytes old arrays Memory refuses = refl
+
+-- and the manifest's own arrays are known
+pub known_arrays : (bytes : List ℕ) (old : List CellArray) (arrays shown : List Declaration)
+    (fault : LoadFault) → RefusesArrays old arrays fault → AreArraysOf bytes shown
+    → AreArraysBeside bytes fault shown
+known_arrays bytes old arrays shown (NoManifest fault) refuses are = absurd refuses
+known_arrays bytes old arrays shown (File number) refuses are = absurd refuses
+known_arrays bytes old arrays shown (Program number fault) refuses are = absurd refuses
+known_arrays bytes old arrays shown (Rule number fault) refuses are = absurd refuses
+known_arrays bytes old arrays shown (Cells number fault) refuses are = are
+known_arrays bytes old arrays shown Memory refuses are = inr are
 
 -- ---- of bytes that are no manifest
 
@@ -44,6 +57,13 @@ parsed_as bytes unread.Memory (Document table) h = absurd h
 parsed_as bytes unread.Memory (Error error) h = absurd h
 parsed_as bytes unread.Memory Nothing h = refl
 
+no_arrays : (bytes : List ℕ) (fault : ManifestFault) (arrays : List Declaration) → arrays ≡ []
+    → AreArraysBeside bytes (of_manifest fault) arrays
+no_arrays bytes (unread.Toml fault) arrays none = none
+no_arrays bytes (unread.Field misfit) arrays none = none
+no_arrays bytes (unread.Duplicate twice) arrays none = none
+no_arrays bytes unread.Memory arrays none = inl none
+
 pub early : (old : List CellArray) (bytes : List ℕ) (refused : RefusedManifest) (u : Ungathered)
     → IsNoManifest bytes refused → u.fault ≡ of_manifest refused.fault → u.arrays.items ≡ []
     → u.parsed ≡ refused.parsed → IsUngathered old bytes u
@@ -51,7 +71,8 @@ early old bytes refused u h fault arrays parsed = record {
   fault_is = λ known.
       subst (λ (f : LoadFault). IsLoadFault known old bytes f) (sym fault)
       (of_bytes (refused_as bytes refused.fault h.fault_is));
-  arrays_are = λ some. absurd (omega (arith, some, ap length arrays));
+  arrays_are = subst (λ (f : LoadFault). AreArraysBeside bytes f u.arrays.items) (sym fault)
+      (no_arrays bytes refused.fault u.arrays.items arrays);
   parsed_is = subst (λ (p : Parsed). IsParsedBeside bytes u.fault p) (sym parsed)
       (subst (λ (f : LoadFault). IsParsedBeside bytes f refused.parsed) (sym fault)
       (parsed_as bytes refused.fault refused.parsed h.parsed_is));

@@ -1,5 +1,5 @@
 -- What is gathered of a manifest and its files before any app is judged.
-use Rattle.std.specs.Prelude.{◌≡◌, ℕ, ◌+◌, ◌^◌, ◌<◌, ◌≤◌, List, [], ◌∷◌, length, Ok}
+use Rattle.std.specs.Prelude.{◌≡◌, ◌⊎◌, ℕ, ◌+◌, ◌^◌, ◌<◌, ◌≤◌, List, [], ◌∷◌, length, Ok}
 use Rattle.std.specs.List.{count_by}
 use Rattle.bounded_files.specs.Files.{KnownFiles}
 use Rattle.cells.specs.Directory.{Declaration}
@@ -14,7 +14,7 @@ use Rattle.manifest.specs.declared.fault.ManifestFault.TheVariants as unread
 use Rattle.manifest.specs.declared.refused.Parsed.{Parsed}
 use Rattle.manifest.specs.declared.refused.Parsed.TheVariants.{Nothing}
 use Rattle.load.specs.declared.fault.LoadFault.{LoadFault}
-use Rattle.load.specs.declared.fault.LoadFault.TheVariants.{Manifest as NoManifest, Memory}
+use Rattle.load.specs.declared.fault.LoadFault.TheVariants.{Manifest as NoManifest, Cells, Memory}
 use Rattle.load.specs.declared.gathering.Gathered.{Gathered}
 use Rattle.load.specs.declared.gathering.GatheredApp.{GatheredApp}
 use Rattle.load.specs.declared.gathering.Ungathered.{Ungathered}
@@ -71,11 +71,18 @@ pub record IsGathered (known : KnownFiles) (old : List CellArray) (bytes : List 
   pub declared : AreDeclared old manifest.arrays numbers g.directory
   pub apps_are : AreTaken known g.directory numbers 0 manifest.apps g.apps.items g.unread
 
--- the arrays of the manifest of these bytes, if there are any
+-- the arrays of the manifest of these bytes, which was read
 abbrev pub AreArraysOf : List ℕ → List Declaration → Type 0
 AreArraysOf bytes arrays =
-    0 < length arrays
-    → (manifest : Manifest) × ReadsManifest bytes (Ok manifest) × (arrays ≡ manifest.arrays)
+    (manifest : Manifest) × ReadsManifest bytes (Ok manifest) × (arrays ≡ manifest.arrays)
+
+-- the arrays that are known beside a fault for which no file counts: none where the bytes are no
+-- manifest, its own where one of them isn't declared, and none or its own for want of memory
+abbrev pub AreArraysBeside : List ℕ → LoadFault → List Declaration → Type 0
+AreArraysBeside bytes (NoManifest fault) arrays = arrays ≡ []
+AreArraysBeside bytes (Cells number fault) arrays = AreArraysOf bytes arrays
+AreArraysBeside bytes Memory arrays = (arrays ≡ []) ⊎ AreArraysOf bytes arrays
+AreArraysBeside bytes fault arrays = ⊥
 
 -- the fault of a manifest, as that of its load
 abbrev pub of_manifest : ManifestFault → LoadFault
@@ -87,8 +94,9 @@ abbrev pub IsParsedBeside : List ℕ → LoadFault → Parsed → Type 0
 IsParsedBeside bytes (NoManifest fault) parsed = IsParsed bytes fault parsed
 IsParsedBeside bytes fault parsed = parsed ≡ Nothing
 
--- why nothing is gathered, whatever the files would give
+-- why nothing is gathered, whatever the files would give; the arrays that are known then; and what
+-- the bytes were parsed as
 pub record IsUngathered (old : List CellArray) (bytes : List ℕ) (u : Ungathered) : Type 0 where
   pub fault_is : (known : KnownFiles) → IsLoadFault known old bytes u.fault
-  pub arrays_are : AreArraysOf bytes u.arrays.items
+  pub arrays_are : AreArraysBeside bytes u.fault u.arrays.items
   pub parsed_is : IsParsedBeside bytes u.fault u.parsed

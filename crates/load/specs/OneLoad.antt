@@ -23,11 +23,12 @@ HasOneLoad = (files : List ℕ → Option KnownFile) (old : List CellArray) (byt
     → Loads (Some files) old bytes r new → Loads (Some files) old bytes s last
     → r ≢ Err Memory → s ≢ Err Memory → (r ≡ s) × (new ≡ last)
 
--- what is gathered of apps has one judgement: one program each, or one first fault
+-- what is gathered of apps comes to: a program each, or the first fault
 abbrev pub Judges : List GatheredApp → Result (List ShapedProgram) LoadFault → Type 0
 Judges apps (Ok programs) = AreJudged apps programs
 Judges apps (Err fault) = RefusesFirst apps fault
 
+-- and it comes to one of these alone, want of memory aside
 abbrev pub HasOneJudgement : Type 0
 HasOneJudgement = (apps : List GatheredApp) (r s : Result (List ShapedProgram) LoadFault)
     → Judges apps r → Judges apps s → r ≢ Err Memory → s ≢ Err Memory → r ≡ s

@@ -18,7 +18,7 @@ use sha2::{Digest, Sha256};
 /// bytes of a file are kept.
 pub fn digest_of(manifest: &[u8], apps: &[GatheredApp]) -> Option<[u8; 32]>
     ensures digest { result ≡ specs.digest_of manifest.now apps.now }
-    // Where each app has its program all are.
+    // Where each app has its program, all bytes of each file are kept, so there is a digest.
     ensures judged { (programs : List ShapedProgram) → AreJudged apps.now programs
         → IsSome result }
 {
@@ -35,7 +35,7 @@ pub fn digest_of(manifest: &[u8], apps: &[GatheredApp]) -> Option<[u8; 32]>
     Some(hasher.finalize())
 }
 
-/// The same of apps that have these programs.
+/// The digest of a manifest and of apps that have these programs: it is always there.
 pub fn judged_digest(manifest: &[u8], apps: &[GatheredApp], programs: &[Verified]) -> [u8; 32]
     requires { AreJudged apps.now programs.now }
     ensures { specs.digest_of manifest.now apps.now ≡ Some result }

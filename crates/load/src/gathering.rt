@@ -1,6 +1,6 @@
 //! All that is taken of a manifest and its files, gathered before any app is judged.
 
-ghost use Rattle.std.specs.Prelude.{◌≡◌, ◌^◌, ◌+◌, ◌-◌, ◌<◌, ℕ, List, length};
+ghost use Rattle.std.specs.Prelude.{◌≡◌, ◌≢◌, ◌^◌, ◌+◌, ◌-◌, ◌<◌, ℕ, List, length};
 ghost use Rattle.std.specs.Prelude.{All, IsTrue, IfOk, IfErr, Ok};
 ghost use mathlib.Core.List.{IsPrefix};
 ghost use Rattle.cells.specs.declared.array.CellArray.{CellArray};
@@ -58,9 +58,9 @@ struct ReadApps {
     unread: usize,
 }
 
-/// Why nothing is gathered: M1 to M3 and M7, of which no file is asked for, or M8, also where some
-/// were read; the arrays of the manifest if it was read, and what its bytes were parsed as if they
-/// are none.
+/// Why nothing is gathered: M1 to M3 and M7, for which no file is asked, or M8, also where some
+/// were read. Beside M7 it has the manifest's arrays, beside M8 those or none, and beside M1 to M3
+/// none, but what the bytes were parsed as.
 #[derive(Drop)]
 pub struct Ungathered {
     pub fault: LoadFault,
@@ -71,6 +71,8 @@ pub struct Ungathered {
 /// Gathers a manifest and its files, each of which is read once, and none behind more than 64 MiB
 /// of files that are longer than they may be. M8 comes, too, where as many files couldn't be read
 /// as can be counted.
+// open: whether memory is refused (M8), and beside M8 how many of the files that were read couldn't
+// be; that it asks whether a file is behind a link: `bench/hostile`; what a device's files give.
 pub fn gather<F: Files>(
     alloc: Global,
     manifest: &[u8],
@@ -83,6 +85,9 @@ pub fn gather<F: Files>(
     // A file that couldn't be read is counted, and no other.
     ensures count { IfOk result (λ g.
         F.failed files.new ≡ F.failed files.old + failures_in g.apps.items) }
+    // Nor is one counted where none is asked for.
+    ensures uncounted { IfErr result (λ u. u.fault ≢ LoadFault.Memory
+        → F.failed files.new ≡ F.failed files.old) }
     ensures fault { IfErr result (IsUngathered directory.now manifest.now) }
 {
     let manifest = match parse(alloc, manifest) {
@@ -155,7 +160,8 @@ fn of_manifest(fault: ManifestFault) -> LoadFault
 }
 
 fn out_of_memory(arrays: Vec<ArrayDeclaration>) -> Ungathered
-    ensures { (old : List CellArray) (bytes : List ℕ) → AreArraysOf bytes arrays.items
+    ensures fault { result.fault ≡ LoadFault.Memory }
+    ensures ungathered { (old : List CellArray) (bytes : List ℕ) → AreArraysOf bytes arrays.items
         → IsUngathered old bytes result }
 {
     Ungathered {

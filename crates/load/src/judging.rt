@@ -19,8 +19,8 @@ use rule_lang::{RuleFault, RuleFaultKind};
 use std::alloc::Global;
 
 /// The program of an app, by what is kept of its file: M4 where it couldn't be read, M5 where its
-/// bytes are no program, M6 where its text is no rule, and M8 where memory is refused. So it is of
-/// any bytes of which this is kept.
+/// bytes are no program, M6 where its text is no rule, and M8 where memory is refused. Whatever
+/// bytes the file gave of which this is kept, the answer is theirs.
 pub fn judge_file(
     alloc: Global,
     source: &ProgramSource,

@@ -16,6 +16,7 @@ use std::alloc::{AllocError, Global};
 use std::sync::Arc;
 
 /// The programs of all apps, in their order, or the fault of the first that has none.
+// open: whether memory is refused (M8).
 pub fn judge(alloc: Global, apps: &[GatheredApp]) -> Result<Vec<Verified>, LoadFault>
     ensures programs { IfOk result (λ v. AreJudged apps.now v.items) }
     ensures fault { IfErr result (RefusesFirst apps.now) }
@@ -36,6 +37,7 @@ pub fn judge(alloc: Global, apps: &[GatheredApp]) -> Result<Vec<Verified>, LoadF
 }
 
 /// The program of an app by itself, or its fault.
+// open: whether memory is refused (M8).
 pub fn judge_app(alloc: Global, app: &GatheredApp) -> Result<Verified, AppFault>
     ensures program { IfOk result (IsJudged app.now) }
     ensures fault { IfErr result (RefusesGathered app.now) }
@@ -44,6 +46,7 @@ pub fn judge_app(alloc: Global, app: &GatheredApp) -> Result<Verified, AppFault>
 }
 
 /// The apps, each with its program.
+// open: whether memory is refused, its one error.
 pub fn supply(
     alloc: Global,
     apps: Vec<GatheredApp>,

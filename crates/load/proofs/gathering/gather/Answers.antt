@@ -1,6 +1,6 @@
 use Rattle.std.proofs.Common.{rules}
 use Rattle.load.specs.Load.{RefusesArrays, of_arrays}
-use Rattle.load.proofs.Early.{nothing_parsed}
+use Rattle.load.proofs.Early.{known_arrays, nothing_parsed}
 use Rattle.load.proofs.gathering.gather.Goals as goal
 
 pub returns-in-Err-clause-fault : goal.returns-in-Err-clause-fault
@@ -8,8 +8,8 @@ returns-in-Err-clause-fault g c = c.in-Err.ensures.fault c.args.directory.now
 
 pub returns-in_default-clause-fault : goal.returns-in_default-clause-fault
 returns-in_default-clause-fault g c =
-    c.out_of_memory.ensures c.args.directory.now c.args.manifest.now
-    (λ some. (c.in-Ok.manifest, c.in-Ok.ensures.manifest, c.into_parts-server.ensures.arrays))
+    c.out_of_memory.ensures.ungathered c.args.directory.now c.args.manifest.now
+    (c.in-Ok.manifest, c.in-Ok.ensures.manifest, c.into_parts-server.ensures.arrays)
 
 pub returns-in-Err-declare_arrays-clause-fault : goal.returns-in-Err-declare_arrays-clause-fault
 returns-in-Err-declare_arrays-clause-fault g c =
@@ -17,12 +17,12 @@ returns-in-Err-declare_arrays-clause-fault g c =
     c.in-Err-declare_arrays.fault = search rules in
     record {
       fault_is = λ known. of_arrays c.in-Ok.ensures.manifest fault;
-      arrays_are = λ some.
+      arrays_are = known_arrays c.args.manifest.now c.args.directory.now _ _ _ fault
           (c.in-Ok.manifest, c.in-Ok.ensures.manifest, c.into_parts-server.ensures.arrays);
       parsed_is = nothing_parsed c.args.manifest.now c.args.directory.now _ _ fault;
     }
 
 pub returns-in-Err-gather_apps-clause-fault : goal.returns-in-Err-gather_apps-clause-fault
 returns-in-Err-gather_apps-clause-fault g c =
-    c.out_of_memory-in-Err-gather_apps.ensures c.args.directory.now c.args.manifest.now
-    (λ some. (c.in-Ok.manifest, c.in-Ok.ensures.manifest, c.into_parts-server.ensures.arrays))
+    c.out_of_memory-in-Err-gather_apps.ensures.ungathered c.args.directory.now c.args.manifest.now
+    (c.in-Ok.manifest, c.in-Ok.ensures.manifest, c.into_parts-server.ensures.arrays)
