@@ -1,24 +1,28 @@
 -- What `ask --why` tells, and why it tells nothing.
-use Rattle.std.specs.Prelude.{◌⊎◌, ℕ, ℤ, List}
+use Rattle.std.specs.Prelude.{◌≡◌, ◌⊎◌, ℕ, ℤ, List, ◌++◌}
 use Rattle.bounded_files.specs.Files.{KnownFiles}
 use Rattle.command_line.specs.declared.request.AskedReply.{AskedReply}
 use Rattle.dry_run.specs.Files.{IsOpenFault}
 use Rattle.dry_run.specs.Why.{TellsWhy}
 use Rattle.dry_run.specs.Meanings.{AreOpenedWhy}
 use Rattle.dry_run.specs.declared.why_files.OpenedWhy.{OpenedWhy}
+use Rattle.manifest_tools.specs.Checks.{digest_line}
 use Rattle.told_cells.specs.Told.{Told}
 use Rattle.commands.specs.DryRuns.{AreServed, IsAt, IsReplyFault}
 use Rattle.commands.specs.declared.fault.Fault.{Fault}
 use Rattle.commands.specs.declared.fault.Fault.TheVariants.{DryRun}
 
--- why each app of the body gets what it gets, at the moment of the words, with the counters of that
--- server and of the words
+-- what is told of the request that the body is and of each of its apps, at the moment of the words,
+-- with the counters of that server and of the words; and last the digest of the manifest and of the
+-- files by whose lines it is told
 pub record IsWhyBy (opened : OpenedWhy) (asked : AskedReply) (text : List ℕ) : Type 0 where
   pub moment : ℤ
   pub at : IsAt asked.at moment
   pub served : List Told
   pub told : AreServed asked.operator served
-  pub tells : TellsWhy opened moment served asked.cells.items text
+  pub lines : List ℕ
+  pub tells : TellsWhy opened moment served asked.cells.items lines
+  pub text_is : text ≡ lines ++ digest_line opened.digest
 
 -- by what the files come to
 pub record HasWhy (known : KnownFiles) (asked : AskedReply) (text : List ℕ) : Type 0 where

@@ -1,10 +1,12 @@
-//! `ask --why`: why each app of a request gets what it gets.
+//! `ask --why`: why each app of a request gets what it gets, and the digest of the files by which
+//! that is told.
 
-ghost use Rattle.std.specs.Prelude.{IfOk, IfErr};
+ghost use Rattle.std.specs.Prelude.{◌≡◌, ◌++◌, IfOk, IfErr};
 ghost use Rattle.std.specs.String.{string_bytes};
 ghost use Rattle.commands.specs.DryRuns.{IsReplyFault};
 ghost use Rattle.commands.specs.Whys as specs;
 ghost use Rattle.dry_run.specs.Meanings.{HaveMeanings};
+ghost use Rattle.manifest_tools.specs.Checks.{digest_line};
 
 use crate::dry_runs::{moment_of, served_reply};
 use crate::fault::Fault;
@@ -12,12 +14,14 @@ use bounded_files::ResourceFault;
 use command_line::AskedReply;
 use dry_run::{OpenedWhy, open_why, why_as_told};
 use load::Disk;
+use manifest_tools::push_digest;
+use std::alloc::AllocError;
 use std::net::{Net, TcpStream};
 use std::time::Clock;
 use told_cells::told_lines;
 
-/// Why each app gets what it gets. The files are opened first, then a server is asked for its
-/// counters, where a port is told.
+/// Why each app gets what it gets, and last the line `digest ..` that `check` has of the manifest.
+/// The files are opened first, then a server is asked for its counters, where a port is told.
 // open: which counters a server has, and which second the clock tells: tests.
 #[tactic(auto, using(crate::proofs::Untold::untold))]
 pub fn why_of<R, D>(rt: &R, disk: &D, asked: &AskedReply<'_>) -> Result<String, Fault>
@@ -42,7 +46,7 @@ where
 fn told_why<R>(rt: &R, opened: &OpenedWhy, asked: &AskedReply<'_>) -> Result<String, Fault>
 where
     R: AllocGlobal + Clock + Net<Stream = TcpStream>,
-    requires { HaveMeanings opened.now.rules.apps opened.now.meanings.items }
+    requires { HaveMeanings opened.now.rules.apps opened.now.known_rules.items }
     ensures told { IfOk result (λ text.
         specs.IsWhyBy opened.now asked.now (string_bytes text)) }
     ensures fault { IfErr result
@@ -56,8 +60,21 @@ where
         return Err(Fault::Resource(ResourceFault::Memory));
     };
     let moment = moment_of(rt, asked.at);
-    match why_as_told(rt.alloc(), opened, &moment, &served, &asked.cells) {
+    let lines = match why_as_told(rt.alloc(), opened, &moment, &served, &asked.cells) {
+        Ok(lines) => lines,
+        Err(fault) => return Err(Fault::DryRun(fault)),
+    };
+    match with_digest(lines, opened.digest) {
         Ok(text) => Ok(text),
-        Err(fault) => Err(Fault::DryRun(fault)),
+        Err(_) => Err(Fault::Resource(ResourceFault::Memory)),
     }
+}
+
+// The lines, and behind them that of the digest.
+fn with_digest(lines: String, digest: [u8; 32]) -> Result<String, AllocError>
+    ensures { IfOk result (λ text. string_bytes text ≡ string_bytes lines ++ digest_line digest) }
+{
+    let mut text = lines;
+    push_digest(&mut text, digest)?;
+    Ok(text)
 }

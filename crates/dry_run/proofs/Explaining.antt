@@ -13,7 +13,7 @@ use Rattle.attrs.specs.declared.facts.RequestFacts.{RequestFacts}
 use Rattle.ruleset.specs.Rules.{AppRule, Rules, IsApp, ListsApp, app_in, app_of}
 use Rattle.dry_run.specs.AppLines.{head_line, offer_line, unasked_line, unknown_line}
 use Rattle.dry_run.specs.Courses.{TellsCourse}
-use Rattle.dry_run.specs.Meanings.{HasMeaning, HaveMeanings, KnownRule, meaning_of}
+use Rattle.dry_run.specs.Meanings.{HasMeaning, HaveMeanings, KnownRule, known_rule_of}
 use Rattle.dry_run.specs.Meanings.{no_meaning, next_meaning}
 use Rattle.dry_run.specs.Why.{ExplainsAll, ExplainsApp, ExplainsApps, ExplainsOne}
 use Rattle.dry_run.specs.Why.{ExplainsRequest}
@@ -37,27 +37,28 @@ meant_if false app known rule rest more here there is = there is
 
 pub meant : {apps : List AppRule} {rules : List KnownRule} (appid : List ℕ) (known : AppRule)
     → HaveMeanings apps rules → app_in apps appid ≡ Some known
-    → HasMeaning known.program (meaning_of apps rules appid)
+    → HasMeaning known.program (known_rule_of apps rules appid)
 meant appid known no_meaning is = absurd cc
 meant appid known (next_meaning {app} {rule} {apps} {rules} here there) is =
-    meant_if (bytes_eq app.appid appid) app known rule (meaning_of apps rules appid)
+    meant_if (bytes_eq app.appid appid) app known rule (known_rule_of apps rules appid)
     (app_in apps appid) here (meant appid known there) is
 
-pub rule_meant : (rules : Rules) (apps : List AppRule) (meanings : List KnownRule)
-    (appid : List ℕ) (known : AppRule) (rule : KnownRule) → HaveMeanings rules.apps meanings
-    → apps ≡ rules.apps → rule ≡ meaning_of apps meanings appid
+pub rule_meant : (rules : Rules) (apps : List AppRule) (known_rules : List KnownRule)
+    (appid : List ℕ) (known : AppRule) (rule : KnownRule) → HaveMeanings rules.apps known_rules
+    → apps ≡ rules.apps → rule ≡ known_rule_of apps known_rules appid
     → Some known ≡ app_of rules appid → HasMeaning known.program rule
-rule_meant rules apps meanings appid known rule have same is found =
+rule_meant rules apps known_rules appid known rule have same is found =
     subst (HasMeaning known.program)
-    (ap (λ (as_listed : List AppRule). meaning_of as_listed meanings appid) (sym same) ∙ sym is)
+    (ap (λ (as_listed : List AppRule). known_rule_of as_listed known_rules appid) (sym same)
+    ∙ sym is)
     (meant appid known have (sym found))
 
 -- ---- an app
 
-module _ (rules : Rules) (meanings : List KnownRule) (facts : RequestFacts) (moment : ℤ) where
+module _ (rules : Rules) (known_rules : List KnownRule) (facts : RequestFacts) (moment : ℤ) where
   pub unknown_told : (app : AppFacts) (appid note old text : List ℕ) → appid ≡ app.appid
       → None ≡ app_of rules appid → text ≡ unknown_line appid ++ note
-      → ExplainsOne rules meanings facts moment app note old old text
+      → ExplainsOne rules known_rules facts moment app note old old text
   unknown_told app appid note old text named found is = (
     None,
     not_known (ap (app_of rules) (sym named) ∙ sym found)
@@ -69,7 +70,7 @@ module _ (rules : Rules) (meanings : List KnownRule) (facts : RequestFacts) (mom
       → Some known ≡ app_of rules appid → told ≡ app → a ≡ attributes_of told facts moment
       → context ≡ a.context → told.updatecheck ≡ false
       → text ≡ head_line told context ++ unasked_line ++ note
-      → ExplainsOne rules meanings facts moment app note old old text
+      → ExplainsOne rules known_rules facts moment app note old old text
   unasked_told app told appid note old text known a context named found same made by asks is =
       let of = made ∙ ap (λ (x : AppFacts). attributes_of x facts moment) same in
       let H : AppFacts → Context → List ℕ = λ x c. head_line x c ++ unasked_line ++ note in (
@@ -83,20 +84,20 @@ module _ (rules : Rules) (meanings : List KnownRule) (facts : RequestFacts) (mom
   pub run_told : (app told : AppFacts) (appid note old new text : List ℕ) (known : AppRule)
       (rule : KnownRule) (a : Attributes) (apps : List AppRule) → apps ≡ rules.apps
       → appid ≡ app.appid → told ≡ app
-      → a ≡ attributes_of told facts moment → rule ≡ meaning_of apps meanings appid
+      → a ≡ attributes_of told facts moment → rule ≡ known_rule_of apps known_rules appid
       → told.updatecheck ≡ true → Some known ≡ app_of rules appid → IsApp known
       → ListsApp rules appid known → RunIsTold known rule told a note old new text
-      → ExplainsOne rules meanings facts moment app note old new text
+      → ExplainsOne rules known_rules facts moment app note old new text
   run_told app told appid note old new text known rule a apps listed_as named same made ruled asks
       found kept listed run =
       let of = made ∙ ap (λ (x : AppFacts). attributes_of x facts moment) same in
-      let here = ruled ∙ ap (λ (all : List AppRule). meaning_of all meanings appid) listed_as
-      ∙ ap (meaning_of rules.apps meanings) named in
+      let here = ruled ∙ ap (λ (all : List AppRule). known_rule_of all known_rules appid) listed_as
+      ∙ ap (known_rule_of rules.apps known_rules) named in
       let asked = ap (λ (x : AppFacts). x.updatecheck) (sym same) ∙ asks in
       let known_as = ap (app_of rules) (sym named) ∙ sym found in
       let has = subst (λ (name : List ℕ). ListsApp rules name known) named listed in
       let course = subst (λ (b : Attributes). TellsCourse known.program
-      (meaning_of rules.apps meanings app.appid) b old run.choice new run.course) of
+      (known_rule_of rules.apps known_rules app.appid) b old run.choice new run.course) of
       (subst (λ (m : KnownRule). TellsCourse known.program m a old run.choice new run.course) here
       run.course_is) in
       let T : AppFacts → Attributes → Type 0 = λ x b. text ≡ head_line x b.context ++ run.course
@@ -116,54 +117,56 @@ module _ (rules : Rules) (meanings : List KnownRule) (facts : RequestFacts) (mom
   -- ---- app after app
 
   pub none_yet : (notes : List (List ℕ)) (old text : List ℕ) → text ≡ []
-      → ExplainsAll rules meanings facts moment notes old [] old text
+      → ExplainsAll rules known_rules facts moment notes old [] old text
   none_yet notes old text none = (
     [],
-    subst (λ (t : List ℕ). ExplainsApps rules meanings facts moment notes old [] [] old t)
+    subst (λ (t : List ℕ). ExplainsApps rules known_rules facts moment notes old [] [] old t)
         (sym none) no_reason,
   )
 
   pub one_more : (notes : List (List ℕ)) (old : List ℕ) (apps : List AppFacts) (i place : ℕ)
       (app : AppFacts) (note between before new text after : List ℕ) → i < length apps
       → app ≡ get_or apps i app → place ≡ i → note ≡ slice_index_or notes place []
-      → ExplainsAll rules meanings facts moment notes old (take i apps) between before
-      → ExplainsOne rules meanings facts moment app note between new text
+      → ExplainsAll rules known_rules facts moment notes old (take i apps) between before
+      → ExplainsOne rules known_rules facts moment app note between new text
       → after ≡ before ++ text
-      → ExplainsAll rules meanings facts moment notes old (take (i + 1) apps) new after
+      → ExplainsAll rules known_rules facts moment notes old (take (i + 1) apps) new after
   one_more notes old apps i place app note between before new text after below found at noted told
       next is =
       let longer : take (i + 1) apps ≡ take i apps ++ app ∷ [] =
       take_more apps i app below ∙ ap (λ (x : AppFacts). take i apps ++ x ∷ []) (sym found) in
       let long : length (take i apps) ≡ i = length-take-le i apps (omega (arith, below)) in
-      let N : List ℕ → Type 0 = λ n. ExplainsApp rules meanings facts moment app n between next.0
+      let N : List ℕ → Type 0 = λ n. ExplainsApp rules known_rules facts moment app n between next.0
       new text in
       let here =
       subst N (noted ∙ ap (λ (k : ℕ). slice_index_or notes k []) (at ∙ sym long)) next.1 in
       let choices = told.0 ++ next.0 ∷ [] in
-      let A : List AppFacts → Type 0 = λ few. ExplainsApps rules meanings facts moment notes old few
+      let A : List AppFacts → Type 0 = λ few.
+      ExplainsApps rules known_rules facts moment notes old few
       choices new (before ++ text) in
-      let T : List ℕ → Type 0 = λ t. ExplainsApps rules meanings facts moment notes old
+      let T : List ℕ → Type 0 = λ t. ExplainsApps rules known_rules facts moment notes old
       (take (i + 1) apps) choices new t in
       (choices, subst T (sym is) (subst A (sym longer) (next_reason told.1 here)))
 
-pub all_told : (rules : Rules) (meanings : List KnownRule) (facts facts' : RequestFacts)
+pub all_told : (rules : Rules) (known_rules : List KnownRule) (facts facts' : RequestFacts)
     (moment : ℤ) (notes : List (List ℕ)) (old : List ℕ) (apps apps' : List AppFacts) (few : ℕ)
     (new text : List ℕ) → facts ≡ facts' → apps ≡ apps' → length apps ≤ few
-    → ExplainsAll rules meanings facts moment notes old (take few apps) new text
-    → ExplainsAll rules meanings facts' moment notes old apps' new text
-all_told rules meanings facts facts' moment notes old apps apps' few new text same alike past told =
+    → ExplainsAll rules known_rules facts moment notes old (take few apps) new text
+    → ExplainsAll rules known_rules facts' moment notes old apps' new text
+all_told rules known_rules facts facts' moment notes old apps apps' few new text same alike past
+    told =
     let A : List AppFacts → Type 0 = λ all.
-    ExplainsAll rules meanings facts moment notes old all new text in
+    ExplainsAll rules known_rules facts moment notes old all new text in
     let F : RequestFacts → Type 0 = λ f.
-    ExplainsAll rules meanings f moment notes old apps' new text in
+    ExplainsAll rules known_rules f moment notes old apps' new text in
     subst F same (subst A (take_all few apps past ∙ alike) told)
 
-pub behind : (rules : Rules) (meanings : List KnownRule) (facts : RequestFacts) (moment : ℤ)
+pub behind : (rules : Rules) (known_rules : List KnownRule) (facts : RequestFacts) (moment : ℤ)
     (front : List ℕ) (notes notes' : List (List ℕ)) (old : List ℕ) (apps : List AppFacts)
     (new lines text : List ℕ) → notes ≡ notes' → text ≡ front ++ lines
-    → ExplainsAll rules meanings facts moment notes old apps new lines
-    → ExplainsRequest rules meanings facts moment front notes' old apps new text
-behind rules meanings facts moment front notes notes' old apps new lines text same is told =
+    → ExplainsAll rules known_rules facts moment notes old apps new lines
+    → ExplainsRequest rules known_rules facts moment front notes' old apps new text
+behind rules known_rules facts moment front notes notes' old apps new lines text same is told =
     let N : List (List ℕ) → Type 0 = λ n.
-    ExplainsAll rules meanings facts moment n old apps new lines in
+    ExplainsAll rules known_rules facts moment n old apps new lines in
     (lines, subst N same told, is)

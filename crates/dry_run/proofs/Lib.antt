@@ -6,6 +6,9 @@ mod Opening
 mod Spelled
 mod WholeRuns
 mod Noting
+mod Noted
+mod MembersNoted
+mod Written
 mod Explaining
 mod Replying
 mod Telling

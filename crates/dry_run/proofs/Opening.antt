@@ -1,5 +1,5 @@
 -- Files come to no ruleset or no body; and a manifest's files come to rules with their apps.
-use Rattle.std.proofs.Common.{◌≡◌, ℕ, List, [], Some, sym, subst}
+use Rattle.std.proofs.Common.{◌≡◌, ◌∙◌, ℕ, List, [], Some, ap, sym, subst}
 use Rattle.bounded_files.specs.Files.{KnownFiles, Gives, regular_files}
 use Rattle.bounded_files.specs.declared.fault.ResourceFault.TheVariants.{File}
 use Rattle.bounded_files.specs.declared.fault.ResourceFault.TheVariants as resource
@@ -12,7 +12,7 @@ use Rattle.load.specs.Judged.{AreJudged, apps_of, no_program, next_program}
 use Rattle.load.specs.Kept.{IsProgramKept}
 use Rattle.load.specs.Folder.{known_beside}
 use Rattle.load.specs.Loaded.{IsLoadedFrom}
-use Rattle.load.specs.Made.{GatheredIsMade, IsMadeOf}
+use Rattle.load.specs.Made.{GatheredIsMade, IsMadeFrom, IsMadeOf}
 use Rattle.load.specs.declared.gathering.Gathered.{Gathered}
 use Rattle.load.specs.declared.gathering.GatheredApp.{GatheredApp}
 use Rattle.load.specs.declared.kept.KeptFile.{KeptFile}
@@ -21,13 +21,15 @@ use Rattle.load.specs.declared.made.MadeRuleset.{MadeRuleset}
 use Rattle.manifest.specs.declared.app.ProgramSource.{ProgramSource}
 use Rattle.manifest.specs.declared.app.ProgramSource.TheVariants as source
 use Rattle.ruleset.specs.Rules.{AppRule, Rules}
-use Rattle.dry_run.specs.Files.{IsBodyFault, ComesToRuleset, IsOpenFault}
+use Rattle.dry_run.specs.Files.{IsBodyFault, IsBodyIn, ComesToRuleset, IsOpenFault}
 use Rattle.dry_run.specs.KeptRules.{AreReadFrom, IsReadOf, nothing_read, next_read}
-use Rattle.dry_run.specs.Meanings.{AreRulesKept, HasMeaning, HaveMeanings, IsLoadedWhy}
+use Rattle.dry_run.specs.Meanings.{AreOpenedWhy, AreRulesKept, HasMeaning, HaveMeanings}
+use Rattle.dry_run.specs.Meanings.{IsLoadedWhy, OpensTheSame, made_in}
 use Rattle.dry_run.specs.Meanings.{IsRuleKept, KnownRule, no_meaning, next_meaning, no_rule}
 use Rattle.dry_run.specs.Meanings.{next_rule}
 use Rattle.dry_run.specs.declared.fault.DryRunFault.{DryRunFault}
 use Rattle.dry_run.specs.declared.fault.DryRunFault.TheVariants as fault
+use Rattle.dry_run.specs.declared.why_files.OpenedWhy.{OpenedWhy}
 
 body_fault : (known : KnownFiles) (manifest request : List ℕ) (why : DryRunFault)
     → ComesToRuleset known manifest → IsBodyFault known request why
@@ -46,12 +48,31 @@ no_body known manifest request rules arrays why is wanting =
     body_fault known manifest request why
     (record { rules = rules; arrays = arrays; loaded = is }) wanting
 
-pub no_body_why : (known : KnownFiles) (manifest request : List ℕ) (rules : Rules)
-    (arrays : List CellArray) (meanings : List KnownRule) (why : DryRunFault)
-    → IsLoadedWhy known manifest rules arrays meanings → IsBodyFault known request why
+-- ---- with the rules of its apps
+
+load_of : (known : KnownFiles) (path : List ℕ) (made : MadeRuleset) → GatheredIsMade
+    → IsMadeFrom known path [] made → IsLoadedFrom known path [] made.rules made.directory
+load_of known path made makes from = record {
+  bytes = from.bytes;
+  given = from.given;
+  loaded = (makes (known_beside known path) [] from.bytes from.gathered from.is_gathered).made made
+      from.made_of;
+}
+
+pub no_body_why : (known : KnownFiles) (manifest request : List ℕ) (made : MadeRuleset)
+    (rules : List KnownRule) (why : DryRunFault) → GatheredIsMade
+    → IsLoadedWhy known manifest made rules → IsBodyFault known request why
     → IsOpenFault known manifest request why
-no_body_why known manifest request rules arrays meanings why is wanting =
-    no_body known manifest request rules arrays why is.load wanting
+no_body_why known manifest request made rules why makes is wanting =
+    no_body known manifest request made.rules made.directory why
+    (load_of known manifest made makes is.made_from) wanting
+
+pub opens_the_same : GatheredIsMade → OpensTheSame
+opens_the_same makes known manifest request o is = record {
+  loaded = load_of known manifest (made_in o) makes is.loaded.made_from;
+  given = is.read.given;
+  short = is.read.short;
+}
 
 -- ---- the rule of an app
 
@@ -93,32 +114,44 @@ have_meanings (next_rule {app} {program} {rule} is more) =
 -- ---- a load
 
 pub loaded : (known : KnownFiles) (path bytes : List ℕ) (g : Gathered) (made : MadeRuleset)
-    (rules : List KnownRule) → GatheredIsMade → Gives (regular_files known) path (Some bytes)
+    (rules : List KnownRule) → Gives (regular_files known) path (Some bytes)
     → IsGathered (known_beside known path) [] bytes g → IsMadeOf bytes g made
-    → AreReadFrom g.apps.items rules
-    → IsLoadedWhy known path made.rules made.directory rules
-loaded known path bytes g made rules makes given is of read = record {
-  load = record {
-    bytes = bytes;
-    given = given;
-    loaded = (makes (known_beside known path) [] bytes g is).made made of;
-  };
-  digest = made.digest;
-  made = record {
+    → AreReadFrom g.apps.items rules → IsLoadedWhy known path made rules
+loaded known path bytes g made rules given is of read = record {
+  made_from = record {
     bytes = bytes;
     given = given;
     gathered = g;
     is_gathered = is;
-    made_of = record {
-      programs = of.programs;
-      judged = of.judged;
-      server_is = of.server_is;
-      apps_are = of.apps_are;
-      directory_is = of.directory_is;
-      digest_is = of.digest_is;
-    };
+    made_of = of;
   };
   rules_are = rules_in of.judged read;
+}
+
+-- what was taken apart
+pub opened_why : (known : KnownFiles) (manifest request : List ℕ) (made : MadeRuleset)
+    (o : OpenedWhy) → o.rules ≡ made.rules → o.directory ≡ made.directory
+    → o.digest ≡ made.digest → IsLoadedWhy known manifest made o.known_rules.items
+    → IsBodyIn known request o.body.items → AreOpenedWhy known manifest request o
+opened_why known manifest request made o rules arrays digest is read = record {
+  loaded = record {
+    made_from = record {
+      bytes = is.made_from.bytes;
+      given = is.made_from.given;
+      gathered = is.made_from.gathered;
+      is_gathered = is.made_from.is_gathered;
+      made_of = record {
+        programs = is.made_from.made_of.programs;
+        judged = is.made_from.made_of.judged;
+        server_is = ap (λ (r : Rules). r.server) rules ∙ is.made_from.made_of.server_is;
+        apps_are = ap (λ (r : Rules). r.apps) rules ∙ is.made_from.made_of.apps_are;
+        directory_is = arrays ∙ is.made_from.made_of.directory_is;
+        digest_is = is.made_from.made_of.digest_is ∙ ap (λ (d : List ℕ). Some d) (sym digest);
+      };
+    };
+    rules_are = is.rules_are;
+  };
+  read = read;
 }
 
 pub loaded_meanings : (bytes : List ℕ) (g : Gathered) (made : MadeRuleset)

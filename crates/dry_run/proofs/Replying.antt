@@ -43,14 +43,14 @@ joined : (a b : List CellEvent) (p m q : List ℕ) → GrewBy IsEvent p a m → 
 joined [] b p m q g h = subst (λ (x : List ℕ). GrewBy IsEvent x b q) g h
 joined (e ∷ es) b p m q g h = (g.0, g.1, joined es b g.0 m q g.2 h)
 
-module _ (rules : Rules) (meanings : List KnownRule) (facts : RequestFacts) (moment : ℤ) where
+module _ (rules : Rules) (known_rules : List KnownRule) (facts : RequestFacts) (moment : ℤ) where
   pub record OneRuns (app : AppFacts) (choice : Option ℕ) (old new : List ℕ) : Type 0 where
     pub events : List CellEvent
     pub runs : RunsApp rules facts moment app choice events
     pub grown : GrewBy IsEvent old events new
 
   one_runs : {app : AppFacts} {note old : List ℕ} {choice : Option ℕ} {new text : List ℕ}
-      → ExplainsApp rules meanings facts moment app note old choice new text
+      → ExplainsApp rules known_rules facts moment app note old choice new text
       → OneRuns app choice old new
   one_runs (not_known found is) = record { events = []; runs = unknown found; grown = refl }
   one_runs (not_asked known found asks is) =
@@ -67,7 +67,7 @@ module _ (rules : Rules) (meanings : List KnownRule) (facts : RequestFacts) (mom
 
   pub all_run : {notes : List (List ℕ)} {old : List ℕ} {apps : List AppFacts}
       {choices : List (Option ℕ)} {new text : List ℕ}
-      → ExplainsApps rules meanings facts moment notes old apps choices new text
+      → ExplainsApps rules known_rules facts moment notes old apps choices new text
       → AllRun apps choices old new
   all_run no_reason = record { events = []; runs = none; grown = refl }
   all_run {old} (next_reason {between} {new} before here) =
@@ -81,7 +81,7 @@ module _ (rules : Rules) (meanings : List KnownRule) (facts : RequestFacts) (mom
 
 pub tells_the_reply : TellsTheReply
 tells_the_reply o moment served words text reply told replied =
-    let runs = all_run o.rules o.meanings.items told.request.facts moment told.reasons in
+    let runs = all_run o.rules o.known_rules.items told.request.facts moment told.reasons in
     let mine : RepliesToBodyOn o.rules moment o.body.items told.counters
     (reply_text told.request o.rules told.choices moment) told.left = (
       told.request,

@@ -23,12 +23,12 @@ pub told_why : (o : OpenedWhy) (moment : ℤ) (served words : List Told) (arrays
     (left text : List ℕ) → arrays ≡ o.directory → AreSetAsTold arrays served words counters
     → ReadsAs o.body.items (Ok request) → front ≡ request_note_in o.body.items
     → notes ≡ app_notes_in o.body.items
-    → ExplainsRequest o.rules o.meanings.items request.facts moment front notes counters
+    → ExplainsRequest o.rules o.known_rules.items request.facts moment front notes counters
     request.apps left text
     → TellsWhy o moment served words text
 told_why o moment served words arrays counters request front notes left text same set read fronted
     noted told =
-    let N : List (List ℕ) → Type 0 = λ n. ExplainsRequest o.rules o.meanings.items request.facts
+    let N : List (List ℕ) → Type 0 = λ n. ExplainsRequest o.rules o.known_rules.items request.facts
     moment front n counters request.apps left text in
     let all = subst N noted told in
     record {

@@ -1,12 +1,14 @@
 -- Members of a request and of its apps that are there and count as absent, since they are of
--- another kind or too long: a line for each. Those of an app are indented, as its other lines are.
+-- another kind, too long or too large: a line for each. Those of an app are indented, as its other
+-- lines are. A version that is too long for an attribute has a line, too, though its numbers count.
 use Rattle.std.specs.Prelude.{ℕ, List, [], ◌∷◌, ◌++◌, codes, Bool, false, not, is_none}
 use Rattle.std.specs.Prelude.{Option, Some, None, option_and_then, option_map, unwrap_or}
 use Rattle.std.specs.Prelude.{decimal, length, nat_lt, if◌then◌else◌}
 use Rattle.serde_json.specs.Data.{Data, null, boolean, number, string, array, object}
 use Rattle.serde_json.specs.Data.{Items, no_items, item}
-use Rattle.serde_json.specs.Find.{get, as_array, as_object, as_str}
-use Rattle.omaha_json.specs.Ignored.{is_no_number, is_no_text}
+use Rattle.serde_json.specs.Find.{get, as_array, as_number, as_object, as_str, as_u64}
+use Rattle.attrs.specs.Facts.{known_day}
+use Rattle.omaha_json.specs.Ignored.{is_no_text}
 use Rattle.omaha_json.specs.Request.{is_value, value_in}
 
 -- ---- a line
@@ -68,12 +70,35 @@ length_part name bytes = codes "ignored: " ++ name ++ codes " has " ++ decimal b
 abbrev pub length_line : (indent name : List ℕ) → (bytes : ℕ) → List ℕ
 length_line indent name bytes = indent ++ length_part name bytes ++ length_words
 
--- if that is so many that an attribute is kept as the empty text
+-- a text of so many bytes is the empty one as an attribute
+abbrev pub is_too_long : (bytes : ℕ) → Bool
+is_too_long bytes = nat_lt 1024 bytes
+
+-- the line of such a text
 abbrev pub length_note : (indent name : List ℕ) → (bytes : ℕ) → List ℕ
 length_note indent name bytes =
-    if nat_lt 1024 bytes then length_line indent name bytes else []
+    if is_too_long bytes then length_line indent name bytes else []
+
+-- the line of one that counts otherwise, too
+unfoldable pub emptied_words : List ℕ
+emptied_words = codes " bytes: as an attribute it is the empty text\n"
+
+abbrev pub emptied_part : (name : List ℕ) → (bytes : ℕ) → List ℕ
+emptied_part name bytes = name ++ codes " has " ++ decimal bytes
+
+abbrev pub emptied_line : (indent name : List ℕ) → (bytes : ℕ) → List ℕ
+emptied_line indent name bytes = indent ++ emptied_part name bytes ++ emptied_words
+
+abbrev pub emptied_note : (indent name : List ℕ) → (bytes : ℕ) → List ℕ
+emptied_note indent name bytes =
+    if is_too_long bytes then emptied_line indent name bytes else []
 
 -- ---- by what a member has to be
+
+-- a member is there, and is no day that counts
+abbrev pub is_no_day : Option Data → Bool
+is_no_day (Some d) = is_none (known_day (option_and_then as_u64 (as_number d)))
+is_no_day None = false
 
 -- a member is there, and is no object
 abbrev pub is_no_object : Option Data → Bool
@@ -90,15 +115,22 @@ unfoldable pub text_note : (indent name : List ℕ) → Option Data → List ℕ
 text_note indent name member =
     note_if (is_no_text member) indent name member (codes "a text")
 
--- of one that has to be a whole number from 0 on, of 64 bits
-unfoldable pub number_note : (indent name : List ℕ) → Option Data → List ℕ
-number_note indent name member =
-    note_if (is_no_number member) indent name member (codes "a whole number from 0 on")
+-- of one that has to be a day that counts
+unfoldable pub day_words : List ℕ
+day_words = codes "a whole number from 0 to 4294967294"
+
+unfoldable pub day_note : (indent name : List ℕ) → Option Data → List ℕ
+day_note indent name member = note_if (is_no_day member) indent name member day_words
 
 -- of a text that rules may ask for as an attribute: it has to be short, too
 unfoldable pub attribute_note : (indent name : List ℕ) → Option Data → List ℕ
 attribute_note indent name member =
     text_note indent name member ++ length_note indent name (length_in member)
+
+-- of a version: where it is too long for an attribute, its numbers count all the same
+unfoldable pub version_note : (indent name : List ℕ) → Option Data → List ℕ
+version_note indent name member =
+    text_note indent name member ++ emptied_note indent name (length_in member)
 
 -- of one that has to be an object
 unfoldable pub object_note : (indent name : List ℕ) → Option Data → List ℕ
@@ -128,10 +160,10 @@ request_note request =
 abbrev pub indented : List ℕ
 indented = codes "  "
 
--- of an app's texts; a version's numbers count, however long it is
+-- of an app's texts
 unfoldable pub texts_note : (app : Data) → List ℕ
 texts_note app =
-    text_note indented (codes "version") (get (codes "version") app)
+    version_note indented (codes "version") (get (codes "version") app)
     ++ attribute_note indented (codes "brand") (get (codes "brand") app)
     ++ attribute_note indented (codes "ap") (get (codes "ap") app)
     ++ attribute_note indented (codes "lang") (get (codes "lang") app)
@@ -141,7 +173,7 @@ texts_note app =
 unfoldable pub app_note : (app : Data) → List ℕ
 app_note app =
     texts_note app
-    ++ number_note indented (codes "installdate") (get (codes "installdate") app)
+    ++ day_note indented (codes "installdate") (get (codes "installdate") app)
     ++ value_note indented (codes "updatecheck") (get (codes "updatecheck") app)
     ++ value_note indented (codes "ping") (get (codes "ping") app)
     ++ value_note indented (codes "event") (get (codes "event") app)

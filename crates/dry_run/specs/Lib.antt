@@ -6,6 +6,7 @@ pub mod Files
 pub mod Texts
 pub mod AppLines
 pub mod IgnoredLines
+pub mod Noted
 pub mod Meanings
 pub mod KeptRules
 pub mod Courses

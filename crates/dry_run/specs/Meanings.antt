@@ -5,29 +5,28 @@ use Rattle.attrs.specs.Attributes.{Attributes}
 use Rattle.acceptance.specs.Rule.{IsProgramOfRule}
 use Rattle.bounded_files.specs.Files.{KnownFiles}
 use Rattle.bpf_semantics.specs.Program.{ShapedProgram}
-use Rattle.cells.specs.declared.array.CellArray.{CellArray}
-use Rattle.load.specs.Loaded.{IsLoadedFrom}
 use Rattle.load.specs.Made.{IsMadeFrom}
 use Rattle.load.specs.declared.gathering.GatheredApp.{GatheredApp}
 use Rattle.load.specs.declared.kept.KeptFile.{KeptFile}
 use Rattle.load.specs.declared.kept.KeptFile.TheVariants.{Whole}
+use Rattle.load.specs.declared.made.MadeRuleset.{MadeRuleset}
 use Rattle.manifest.specs.declared.app.ProgramSource.{ProgramSource}
 use Rattle.manifest.specs.declared.app.ProgramSource.TheVariants as source
 use Rattle.rule_compile.specs.Means.{Means}
 use Rattle.rule_lang.specs.declared.rule.Statement.{Statement}
-use Rattle.ruleset.specs.Rules.{AppRule, Rules}
-use Rattle.dry_run.specs.Files.{AreOpened}
+use Rattle.ruleset.specs.Rules.{AppRule}
+use Rattle.dry_run.specs.Files.{AreOpened, IsBodyIn}
 use Rattle.dry_run.specs.declared.why_files.OpenedWhy.{OpenedWhy}
 
 -- a rule, if there is one
 abbrev pub KnownRule : Type 0
 KnownRule = Option (List Statement)
 
--- the rule of the first app of an appid
-abbrev pub meaning_of : List AppRule → List KnownRule → (appid : List ℕ) → KnownRule
-meaning_of (app ∷ apps) (rule ∷ rules) appid =
-    if bytes_eq app.appid appid then rule else meaning_of apps rules appid
-meaning_of apps rules appid = None
+-- the rule of the first app of an appid, if it is known
+abbrev pub known_rule_of : List AppRule → List KnownRule → (appid : List ℕ) → KnownRule
+known_rule_of (app ∷ apps) (rule ∷ rules) appid =
+    if bytes_eq app.appid appid then rule else known_rule_of apps rules appid
+known_rule_of apps rules appid = None
 
 -- the program has the meaning of the rule, whatever the attributes
 abbrev pub HasMeaning : ShapedProgram → KnownRule → Type 0
@@ -57,18 +56,25 @@ pub data AreRulesKept : List GatheredApp → List ShapedProgram → List KnownRu
       → IsRuleKept app.entry.source app.kept program rule → AreRulesKept apps programs rules
       → AreRulesKept (app ∷ apps) (program ∷ programs) (rule ∷ rules)
 
--- what a manifest comes to: a ruleset with its arrays, and the rule of each app. The rules are of
--- the very bytes that were gathered, of which the ruleset is made and its digest is
-pub record IsLoadedWhy (known : KnownFiles) (manifest : List ℕ) (rules : Rules)
-    (arrays : List CellArray) (meanings : List KnownRule) : Type 0 where
-  pub load : IsLoadedFrom known manifest [] rules arrays
-  pub digest : List ℕ
-  pub made : IsMadeFrom known manifest []
-      (record { rules = rules; directory = arrays; digest = digest })
-  pub rules_are : AreRulesKept made.gathered.apps.items made.made_of.programs meanings
+-- what a manifest comes to: a ruleset with its arrays and with the digest of all of it, and the
+-- rule of each app. The rules are those of the very bytes that this digest is of
+pub record IsLoadedWhy (known : KnownFiles) (manifest : List ℕ) (made : MadeRuleset)
+    (known_rules : List KnownRule) : Type 0 where
+  pub made_from : IsMadeFrom known manifest [] made
+  pub rules_are : AreRulesKept made_from.gathered.apps.items made_from.made_of.programs known_rules
+
+-- the ruleset, the arrays and the digest of what was opened
+abbrev pub made_in : OpenedWhy → MadeRuleset
+made_in o = record { rules = o.rules; directory = o.directory; digest = o.digest }
 
 -- what the files come to: that, and a body
 pub record AreOpenedWhy (known : KnownFiles) (manifest request : List ℕ) (o : OpenedWhy)
     : Type 0 where
-  pub loaded : IsLoadedWhy known manifest o.rules o.directory o.meanings.items
-  pub opened : AreOpened known manifest request o.rules o.directory o.body.items
+  pub loaded : IsLoadedWhy known manifest (made_in o) o.known_rules.items
+  pub read : IsBodyIn known request o.body.items
+
+-- it is what is opened to find the reply
+abbrev pub OpensTheSame : Type 0
+OpensTheSame = (known : KnownFiles) (manifest request : List ℕ) (o : OpenedWhy)
+    → AreOpenedWhy known manifest request o
+    → AreOpened known manifest request o.rules o.directory o.body.items

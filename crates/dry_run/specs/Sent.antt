@@ -12,8 +12,8 @@ use Rattle.answering.specs.Answer.{RepliesToBody}
 use Rattle.answering.specs.Reply.{HttpReply, success, omaha_rejection}
 use Rattle.dry_run.specs.Reply.{Replies, RepliesToBodyOn}
 
--- as Omaha's reply to a body a server, of whose watcher the newest ruleset is this one, may send
--- what its apps are answered under it, with these events, and nothing else
+-- a server whose watcher has this ruleset as the newest may send, as Omaha's reply to a body, what
+-- the body's apps are answered under it, with these events, and nothing else
 abbrev pub SendsReplies : Type 0
 SendsReplies = (watcher : Beginning) (generation : ℕ) (rules : Rules) (moment : ℤ)
     (body : List ℕ) (events : List CellEvent) (text : List ℕ) → IsLatest watcher generation rules

@@ -15,11 +15,11 @@ use Rattle.dry_run.specs.AppLines.{head_line, offer_line, unasked_line, unknown_
 use Rattle.dry_run.specs.Counters.{AreSetAsTold}
 use Rattle.dry_run.specs.Courses.{TellsCourse}
 use Rattle.dry_run.specs.IgnoredLines.{app_notes_in, request_note_in}
-use Rattle.dry_run.specs.Meanings.{KnownRule, meaning_of}
+use Rattle.dry_run.specs.Meanings.{KnownRule, known_rule_of}
 use Rattle.dry_run.specs.Told.{RepliesAsTold}
 use Rattle.dry_run.specs.declared.why_files.OpenedWhy.{OpenedWhy}
 
--- what is told of an app whose program was run, with some choice
+-- what is told of an app that the ruleset runs, with some choice
 pub record RunIsTold (known : AppRule) (rule : KnownRule) (app : AppFacts) (a : Attributes)
     (note old new text : List ℕ) : Type 0 where
   pub choice : ℕ
@@ -28,14 +28,14 @@ pub record RunIsTold (known : AppRule) (rule : KnownRule) (app : AppFacts) (a : 
   pub text_is : text ≡ head_line app a.context ++ course ++ offer_line known.releases choice
       ++ note
 
-module _ (rules : Rules) (meanings : List KnownRule) (facts : RequestFacts) (moment : ℤ) where
-  -- what is told of an app whose program was run, which is the run by which the app is answered
+module _ (rules : Rules) (known_rules : List KnownRule) (facts : RequestFacts) (moment : ℤ) where
+  -- what is told of an app that the ruleset runs: of the run by which the app is answered
   pub record TellsRun (app : AppFacts) (note old : List ℕ) (choice : ℕ) (new text : List ℕ)
       : Type 0 where
     pub known : AppRule
     pub found : app_of rules app.appid ≡ Some known
     pub course : List ℕ
-    pub course_is : TellsCourse known.program (meaning_of rules.apps meanings app.appid)
+    pub course_is : TellsCourse known.program (known_rule_of rules.apps known_rules app.appid)
         (attributes_of app facts moment) old choice new course
     pub runs : RunsApp rules facts moment app (Some choice) course_is.run.events
     pub text_is : text ≡ head_line app (context_of app facts moment) ++ course
@@ -52,7 +52,7 @@ module _ (rules : Rules) (meanings : List KnownRule) (facts : RequestFacts) (mom
         → app.updatecheck ≡ false
         → text ≡ head_line app (context_of app facts moment) ++ unasked_line ++ note
         → ExplainsApp app note old None old text
-    -- its program was run
+    -- the ruleset runs it
     was_run : {choice : ℕ} {new text : List ℕ} → TellsRun app note old choice new text
         → ExplainsApp app note old (Some choice) new text
 
@@ -94,7 +94,7 @@ pub record TellsWhy (o : OpenedWhy) (moment : ℤ) (served words : List Told) (t
   pub choices : List (Option ℕ)
   pub left : List ℕ
   pub lines : List ℕ
-  pub reasons : ExplainsApps o.rules o.meanings.items request.facts moment
+  pub reasons : ExplainsApps o.rules o.known_rules.items request.facts moment
       (app_notes_in o.body.items) counters request.apps choices left lines
   pub text_is : text ≡ request_note_in o.body.items ++ lines
 

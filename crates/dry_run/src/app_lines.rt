@@ -1,6 +1,6 @@
 //! The lines round the reasons of an app: who it is, and what it gets.
 
-ghost use Rattle.std.specs.Prelude.{◌≡◌, ◌++◌, OnOk, string_bytes, option_copied};
+ghost use Rattle.std.specs.Prelude.{◌≡◌, OnOk, option_copied};
 ghost use Rattle.printing.specs.Pushed.{Puts};
 ghost use Rattle.printing.specs.Printed.{printed};
 ghost use Rattle.dry_run.specs.AppLines as specs;
@@ -13,7 +13,7 @@ use std::alloc::AllocError;
 use std::fmt::Write;
 use trace::Jump;
 
-/// Adds the lines of an app that the ruleset doesn't know.
+/// Adds the line of an app that the ruleset doesn't know.
 pub(crate) fn push_unknown(text: &mut String, appid: &str) -> Result<(), AllocError>
     ensures { OnOk result (Puts text.old text.new (specs.unknown_line appid.now)) }
 {
@@ -28,8 +28,7 @@ pub(crate) fn push_head(
     app: &AppFacts,
     context: Context,
 ) -> Result<(), AllocError>
-    ensures { OnOk result (string_bytes text.new
-        ≡ string_bytes text.old ++ specs.head_line app.now context) }
+    ensures { OnOk result (Puts text.old text.new (specs.head_line app.now context)) }
 {
     push_front(text, app.appid.as_str())?;
     push_version(text, &app.version, context.flags)?;
@@ -37,16 +36,14 @@ pub(crate) fn push_head(
 }
 
 fn push_front(text: &mut String, appid: &str) -> Result<(), AllocError>
-    ensures { OnOk result (string_bytes text.new
-        ≡ string_bytes text.old ++ specs.app_front (printed appid.now)) }
+    ensures { OnOk result (Puts text.old text.new (specs.app_front (printed appid.now))) }
 {
     let appid = Printed(appid);
     write!(text, "app {appid}: ")
 }
 
 fn push_version(text: &mut String, version: &Option<Text>, flags: u8) -> Result<(), AllocError>
-    ensures { OnOk result (string_bytes text.new ≡ string_bytes text.old
-        ++ specs.version_part version.now flags) }
+    ensures { OnOk result (Puts text.old text.new (specs.version_part version.now flags)) }
 {
     match version {
         Some(version) => push_written(text, version.as_str(), flags),
@@ -55,8 +52,7 @@ fn push_version(text: &mut String, version: &Option<Text>, flags: u8) -> Result<
 }
 
 fn push_written(text: &mut String, version: &str, flags: u8) -> Result<(), AllocError>
-    ensures { OnOk result (string_bytes text.new ≡ string_bytes text.old
-        ++ specs.version_written version.now flags) }
+    ensures { OnOk result (Puts text.old text.new (specs.version_written version.now flags)) }
 {
     text.push_str("version ")?;
     if flags & Context::VERSION_KNOWN == 0 {
@@ -93,8 +89,7 @@ pub(crate) fn push_program(
     count: u32,
     last_jump: Option<Jump>,
 ) -> Result<(), AllocError>
-    ensures { OnOk result (string_bytes text.new
-        ≡ string_bytes text.old ++ specs.program_line slots count last_jump) }
+    ensures { OnOk result (Puts text.old text.new (specs.program_line slots count last_jump)) }
 {
     push_slots(text, slots)?;
     write!(text, ", in {count} instructions, ")?;
@@ -146,8 +141,7 @@ pub(crate) fn push_offer(
     releases: &[Release],
     choice: u8,
 ) -> Result<(), AllocError>
-    ensures { OnOk result (string_bytes text.new
-        ≡ string_bytes text.old ++ specs.offer_line releases.now choice) }
+    ensures { OnOk result (Puts text.old text.new (specs.offer_line releases.now choice)) }
 {
     if choice == 0 {
         return text.push_str("  no update\n");
@@ -156,8 +150,8 @@ pub(crate) fn push_offer(
 }
 
 fn push_release(text: &mut String, choice: u8, release: Option<&Release>) -> Result<(), AllocError>
-    ensures { OnOk result (string_bytes text.new
-        ≡ string_bytes text.old ++ specs.release_line choice (option_copied release.entry)) }
+    ensures { OnOk result
+        (Puts text.old text.new (specs.release_line choice (option_copied release.entry))) }
 {
     match release {
         Some(release) => push_update(text, release.version()),

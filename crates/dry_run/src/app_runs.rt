@@ -38,7 +38,7 @@ pub(crate) fn tell_course(
 {
     match rule {
         Some(rule) => tell_meaning(alloc, program, rule, &attrs, counters),
-        None => tell_machine(alloc, program, attrs, counters),
+        None => tell_run(alloc, program, attrs, counters),
     }
 }
 
@@ -64,7 +64,7 @@ fn tell_meaning(
 
 // By a run, whose steps are counted, and of whose jumps the last one is told.
 #[tactic(auto, using(crate::proofs::WholeRuns::by_trace))]
-fn tell_machine(
+fn tell_run(
     alloc: Global,
     program: &Verified,
     attrs: Attrs,

@@ -25,6 +25,7 @@ pub struct Opened {
 /// Loads a manifest over no arrays, as a server's first one, and reads a body, of a file of any
 /// kind; `-` is standard input. The manifest's faults come first, M1 to M8 or B3; then B3 of the
 /// body, and P5 where it has more than 1 MiB. B4 comes where memory is refused.
+// open: whether memory is refused (B4, M8).
 #[tactic(auto, using(crate::proofs::Opening::no_body))]
 pub fn open_files<D: Disk>(
     alloc: Global,

@@ -1,6 +1,5 @@
-//! Which members of a request and of its apps count as absent, since they are of another kind or
-//! too long: the body's JSON is read once more for them, since who is shown the apps of a request
-//! promises nothing.
+//! Which members of a request and of its apps count as absent, though they are there: the body's
+//! JSON is read once more for them, since who is shown the apps of a request promises nothing.
 
 ghost use Rattle.std.specs.Prelude.{◌≡◌, [], IfOk, OnOk, map, option_map, string_bytes};
 ghost use Rattle.std.specs.Prelude.{slice_index_or};
@@ -10,7 +9,8 @@ ghost use Rattle.omaha_json.specs.Request as requests;
 ghost use Rattle.dry_run.specs.IgnoredLines as specs;
 
 use crate::ignored_lines::{
-    push_attribute_note, push_number_note, push_object_note, push_text_note, push_value_note,
+    push_attribute_note, push_day_note, push_object_note, push_text_note, push_value_note,
+    push_version_note,
 };
 use serde_json::Value;
 use std::alloc::{AllocError, Global};
@@ -150,7 +150,7 @@ fn note_of(alloc: Global, app: &Value) -> Result<String, AllocError>
 {
     let mut note = String::new(alloc);
     push_texts(&mut note, app)?;
-    push_number_note(&mut note, "  ", "installdate", app.get("installdate"))?;
+    push_day_note(&mut note, "  ", "installdate", app.get("installdate"))?;
     push_value_note(&mut note, "  ", "updatecheck", app.get("updatecheck"))?;
     push_value_note(&mut note, "  ", "ping", app.get("ping"))?;
     push_value_note(&mut note, "  ", "event", app.get("event"))?;
@@ -162,7 +162,7 @@ fn note_of(alloc: Global, app: &Value) -> Result<String, AllocError>
 fn push_texts(note: &mut String, app: &Value) -> Result<(), AllocError>
     ensures { OnOk result (Puts note.old note.new (specs.texts_note (view app.now))) }
 {
-    push_text_note(note, "  ", "version", app.get("version"))?;
+    push_version_note(note, "  ", "version", app.get("version"))?;
     push_attribute_note(note, "  ", "brand", app.get("brand"))?;
     push_attribute_note(note, "  ", "ap", app.get("ap"))?;
     push_attribute_note(note, "  ", "lang", app.get("lang"))?;

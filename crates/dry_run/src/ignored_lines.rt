@@ -1,20 +1,16 @@
 //! The lines of members that are there and count as absent: each says what the member is, and what
-//! is wanted in its place.
+//! is wanted in its place, or how long its text is.
 
-ghost use Rattle.std.specs.Prelude.{◌≡◌, ◌++◌, OnOk, option_map, string_bytes};
+ghost use Rattle.std.specs.Prelude.{◌≡◌, OnOk, option_map};
 ghost use Rattle.printing.specs.Pushed.{Puts};
 ghost use Rattle.serde_json.specs.View.{view};
 ghost use Rattle.dry_run.specs.IgnoredLines as specs;
 
-use crate::member_kinds::{
-    is_no_number, is_no_object, is_no_text, is_no_value, kind_in, length_in,
-};
+use crate::length_lines::{push_emptied_note, push_length_note};
+use crate::member_kinds::{is_no_day, is_no_object, is_no_text, is_no_value, kind_in, length_in};
 use serde_json::Value;
 use std::alloc::AllocError;
 use std::fmt::Write;
-
-/// The most bytes of a text that an attribute is.
-const MOST_KEPT: usize = 1024;
 
 /// Adds the line of a member that has to be a text.
 #[tactic(auto, unfolding(crate::specs::IgnoredLines::text_note))]
@@ -24,8 +20,9 @@ pub(crate) fn push_text_note(
     name: &str,
     member: Option<&Value>,
 ) -> Result<(), AllocError>
-    ensures { OnOk result (string_bytes note.new ≡ string_bytes note.old
-        ++ specs.text_note indent.now name.now (option_map (λ v. view v.now) member.entry)) }
+    ensures { OnOk result
+        (Puts note.old note.new (specs.text_note indent.now name.now
+        (option_map (λ v. view v.now) member.entry))) }
 {
     let is_ignored = is_no_text(member);
     push_if(note, is_ignored, indent, name, member, "a text")
@@ -40,33 +37,52 @@ pub(crate) fn push_attribute_note(
     name: &str,
     member: Option<&Value>,
 ) -> Result<(), AllocError>
-    ensures { OnOk result (string_bytes note.new ≡ string_bytes note.old
-        ++ specs.attribute_note indent.now name.now (option_map (λ v. view v.now) member.entry)) }
+    ensures { OnOk result
+        (Puts note.old note.new (specs.attribute_note indent.now name.now
+        (option_map (λ v. view v.now) member.entry))) }
 {
     push_text_note(note, indent, name, member)?;
     push_length_note(note, indent, name, length_in(member))
 }
 
-/// Adds the line of a member that has to be a whole number from 0 on, of 64 bits.
-#[tactic(auto, unfolding(crate::specs::IgnoredLines::number_note))]
-pub(crate) fn push_number_note(
+/// Adds the lines of a version: one of over 1024 bytes is the empty text as an attribute, and its
+/// numbers count.
+#[tactic(auto, unfolding(crate::specs::IgnoredLines::version_note))]
+pub(crate) fn push_version_note(
     note: &mut String,
     indent: &str,
     name: &str,
     member: Option<&Value>,
 ) -> Result<(), AllocError>
-    ensures { OnOk result (string_bytes note.new ≡ string_bytes note.old
-        ++ specs.number_note indent.now name.now (option_map (λ v. view v.now) member.entry)) }
+    ensures { OnOk result
+        (Puts note.old note.new (specs.version_note indent.now name.now
+        (option_map (λ v. view v.now) member.entry))) }
 {
-    let is_ignored = is_no_number(member);
-    push_if(
-        note,
-        is_ignored,
-        indent,
-        name,
-        member,
-        "a whole number from 0 on",
-    )
+    push_text_note(note, indent, name, member)?;
+    push_emptied_note(note, indent, name, length_in(member))
+}
+
+/// Adds the line of a member that has to be a day that counts.
+#[tactic(auto, unfolding(crate::specs::IgnoredLines::day_note))]
+pub(crate) fn push_day_note(
+    note: &mut String,
+    indent: &str,
+    name: &str,
+    member: Option<&Value>,
+) -> Result<(), AllocError>
+    ensures { OnOk result
+        (Puts note.old note.new (specs.day_note indent.now name.now
+        (option_map (λ v. view v.now) member.entry))) }
+{
+    let is_ignored = is_no_day(member);
+    push_if(note, is_ignored, indent, name, member, day_words())
+}
+
+#[tactic(auto, unfolding(crate::specs::IgnoredLines::day_words))]
+fn day_words() -> &'static str
+    ensures { result.now ≡ specs.day_words }
+{
+    "a whole number from 0 to 4294967294"
 }
 
 /// Adds the line of a member that has to be an object.
@@ -77,8 +93,9 @@ pub(crate) fn push_object_note(
     name: &str,
     member: Option<&Value>,
 ) -> Result<(), AllocError>
-    ensures { OnOk result (string_bytes note.new ≡ string_bytes note.old
-        ++ specs.object_note indent.now name.now (option_map (λ v. view v.now) member.entry)) }
+    ensures { OnOk result
+        (Puts note.old note.new (specs.object_note indent.now name.now
+        (option_map (λ v. view v.now) member.entry))) }
 {
     let is_ignored = is_no_object(member);
     push_if(note, is_ignored, indent, name, member, "an object")
@@ -92,8 +109,9 @@ pub(crate) fn push_value_note(
     name: &str,
     member: Option<&Value>,
 ) -> Result<(), AllocError>
-    ensures { OnOk result (string_bytes note.new ≡ string_bytes note.old
-        ++ specs.value_note indent.now name.now (option_map (λ v. view v.now) member.entry)) }
+    ensures { OnOk result
+        (Puts note.old note.new (specs.value_note indent.now name.now
+        (option_map (λ v. view v.now) member.entry))) }
 {
     if is_no_value(member) {
         push_null(note, indent, name)
@@ -110,9 +128,9 @@ fn push_if(
     member: Option<&Value>,
     wanted: &str,
 ) -> Result<(), AllocError>
-    ensures { OnOk result (string_bytes note.new ≡ string_bytes note.old
-        ++ specs.note_if is_ignored indent.now name.now (option_map (λ v. view v.now) member.entry)
-        wanted.now) }
+    ensures { OnOk result
+        (Puts note.old note.new (specs.note_if is_ignored indent.now name.now
+        (option_map (λ v. view v.now) member.entry) wanted.now)) }
 {
     if is_ignored {
         push_line(note, indent, name, kind_in(member), wanted)
@@ -128,8 +146,8 @@ fn push_line(
     kind: &str,
     wanted: &str,
 ) -> Result<(), AllocError>
-    ensures { OnOk result (string_bytes note.new ≡ string_bytes note.old
-        ++ specs.ignored_line indent.now name.now kind.now wanted.now) }
+    ensures { OnOk result
+        (Puts note.old note.new (specs.ignored_line indent.now name.now kind.now wanted.now)) }
 {
     note.push_str(indent)?;
     push_ignored(note, name, kind)?;
@@ -137,8 +155,7 @@ fn push_line(
 }
 
 fn push_null(note: &mut String, indent: &str, name: &str) -> Result<(), AllocError>
-    ensures { OnOk result (string_bytes note.new ≡ string_bytes note.old
-        ++ specs.null_line indent.now name.now) }
+    ensures { OnOk result (Puts note.old note.new (specs.null_line indent.now name.now)) }
 {
     note.push_str(indent)?;
     push_ignored(note, name, "null")?;
@@ -153,8 +170,7 @@ fn absent_words() -> &'static str
 }
 
 fn push_ignored(note: &mut String, name: &str, kind: &str) -> Result<(), AllocError>
-    ensures { OnOk result (string_bytes note.new ≡ string_bytes note.old
-        ++ specs.ignored_part name.now kind.now) }
+    ensures { OnOk result (Puts note.old note.new (specs.ignored_part name.now kind.now)) }
 {
     write!(note, "ignored: {name} is {kind}")
 }
@@ -163,47 +179,4 @@ fn push_wanted(note: &mut String, wanted: &str) -> Result<(), AllocError>
     ensures { OnOk result (Puts note.old note.new (specs.wanted_part wanted.now)) }
 {
     writeln!(note, ", where {wanted} is wanted")
-}
-
-fn push_length_note(
-    note: &mut String,
-    indent: &str,
-    name: &str,
-    bytes: usize,
-) -> Result<(), AllocError>
-    ensures { OnOk result (string_bytes note.new ≡ string_bytes note.old
-        ++ specs.length_note indent.now name.now bytes) }
-{
-    if MOST_KEPT < bytes {
-        push_length_line(note, indent, name, bytes)
-    } else {
-        Ok(())
-    }
-}
-
-fn push_length_line(
-    note: &mut String,
-    indent: &str,
-    name: &str,
-    bytes: usize,
-) -> Result<(), AllocError>
-    ensures { OnOk result (string_bytes note.new ≡ string_bytes note.old
-        ++ specs.length_line indent.now name.now bytes) }
-{
-    note.push_str(indent)?;
-    push_length(note, name, bytes)?;
-    note.push_str(length_words())
-}
-
-fn push_length(note: &mut String, name: &str, bytes: usize) -> Result<(), AllocError>
-    ensures { OnOk result (Puts note.old note.new (specs.length_part name.now bytes)) }
-{
-    write!(note, "ignored: {name} has {bytes}")
-}
-
-#[tactic(auto, unfolding(crate::specs::IgnoredLines::length_words))]
-fn length_words() -> &'static str
-    ensures { result.now ≡ specs.length_words }
-{
-    " bytes, where at most 1024 are wanted\n"
 }

@@ -1,12 +1,14 @@
 //! What a member of a request is: its kind, how long its text is, and whether it counts as absent,
 //! though it is there.
 
-ghost use Rattle.std.specs.Prelude.{◌≡◌, Some, option_map};
+ghost use Rattle.std.specs.Prelude.{◌≡◌, Some, is_none, option_map};
+ghost use Rattle.attrs.specs.Facts.{known_day};
 ghost use Rattle.serde_json.specs.View.{view};
 ghost use Rattle.omaha_json.specs.Ignored as kinds;
 ghost use Rattle.omaha_json.specs.Request as requests;
 ghost use Rattle.dry_run.specs.IgnoredLines as specs;
 
+use attrs::Context;
 use serde_json::Value;
 
 /// Whether it is there, and is no text.
@@ -19,13 +21,23 @@ pub(crate) fn is_no_text(member: Option<&Value>) -> bool
     }
 }
 
-/// Whether it is there, and is no whole number from 0 on that fits 64 bits.
-pub(crate) fn is_no_number(member: Option<&Value>) -> bool
-    ensures { result ≡ kinds.is_no_number (option_map (λ v. view v.now) member.entry) }
+/// Whether it is there, and is no day that counts.
+pub(crate) fn is_no_day(member: Option<&Value>) -> bool
+    ensures { result ≡ specs.is_no_day (option_map (λ v. view v.now) member.entry) }
 {
     match member {
-        Some(value) => value.as_u64().is_none(),
+        Some(value) => is_unknown(value.as_u64()),
         None => false,
+    }
+}
+
+// Whether a number is no day that counts.
+fn is_unknown(number: Option<u64>) -> bool
+    ensures { result ≡ is_none (known_day number) }
+{
+    match number {
+        Some(day) if day < Context::UNKNOWN_DAY as u64 => false,
+        _ => true,
     }
 }
 

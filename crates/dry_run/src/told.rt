@@ -18,6 +18,7 @@ use told_cells::ToldCell;
 /// of arrays that the manifest has, and then for those that the words tell. B7 where it hasn't a
 /// cell of the words, or a value doesn't fit; then O1 to O4. B4 and O5 come where memory is
 /// refused.
+// open: whether memory is refused (B4, O5).
 pub fn reply_as_told(
     alloc: Global,
     opened: &Opened,

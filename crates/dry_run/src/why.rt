@@ -4,7 +4,7 @@ ghost use Rattle.std.specs.Prelude.{◌≡◌, ◌++◌, Option, IfOk, IfErr, ma
 ghost use Rattle.std.specs.Prelude.{option_copied};
 ghost use Rattle.attrs.specs.Facts.{attributes_of};
 ghost use Rattle.dry_run.specs.AppLines as lines;
-ghost use Rattle.dry_run.specs.Meanings.{HasMeaning, HaveMeanings, meaning_of};
+ghost use Rattle.dry_run.specs.Meanings.{HasMeaning, HaveMeanings, known_rule_of};
 ghost use Rattle.dry_run.specs.Told.{IsUnanswered};
 ghost use Rattle.dry_run.specs.Why as specs;
 
@@ -25,12 +25,12 @@ use told_cells::ToldCell;
 
 /// Why the apps of a body's request get what they get, at a moment, on counters as `reply_as_told`
 /// has them: first the request's members that count as absent; then of each app a first line, of
-/// its rule what was tested, what it is offered, and its members that count as absent. B7 where the
-/// manifest hasn't a cell of the words, or a value doesn't fit; then O1 to O4. B4 and O5 come where
-/// memory is refused.
+/// its rule what was tested, what it is offered, and its members that count as absent, or a version
+/// that does as an attribute. B7 where the manifest hasn't a cell of the words, or a value doesn't
+/// fit; then O1 to O4. B4 and O5 come where memory is refused.
 ///
-/// That an app's lines are those of its rule is by `meanings`, which `open_why` gives: an app for
-/// which they have none is told as a program.
+/// That an app's lines are those of its rule is by `known_rules`, which `open_why` gives: an app
+/// for which they have none is told as a program.
 // open: whether memory is refused (B4, O5).
 #[tactic(auto, using(crate::proofs::Telling::told_why, crate::proofs::Telling::unread))]
 pub fn why_as_told(
@@ -40,7 +40,7 @@ pub fn why_as_told(
     served: &[ToldCell<'_>],
     words: &[ToldCell<'_>],
 ) -> Result<String, DryRunFault>
-    requires { HaveMeanings why.now.rules.apps why.now.meanings.items }
+    requires { HaveMeanings why.now.rules.apps why.now.known_rules.items }
     ensures told { IfOk result (λ text.
         specs.TellsWhy why.now moment.now served.now words.now (string_bytes text)) }
     ensures fault { IfErr result
@@ -70,8 +70,8 @@ fn explain_request(
     notes: Notes,
     counters: &mut PlainPass,
 ) -> Result<String, AllocError>
-    requires { HaveMeanings why.now.rules.apps why.now.meanings.items }
-    ensures { IfOk result (λ text. specs.ExplainsRequest why.now.rules why.now.meanings.items
+    requires { HaveMeanings why.now.rules.apps why.now.known_rules.items }
+    ensures { IfOk result (λ text. specs.ExplainsRequest why.now.rules why.now.known_rules.items
         request.now.facts moment.now (string_bytes notes.request)
         (map string_bytes notes.apps.items) counters.old request.now.apps counters.new
         (string_bytes text)) }
@@ -95,8 +95,8 @@ fn explain_apps(
     notes: &[String],
     counters: &mut PlainPass,
 ) -> Result<String, AllocError>
-    requires { HaveMeanings why.now.rules.apps why.now.meanings.items }
-    ensures { IfOk result (λ text. specs.ExplainsAll why.now.rules why.now.meanings.items
+    requires { HaveMeanings why.now.rules.apps why.now.known_rules.items }
+    ensures { IfOk result (λ text. specs.ExplainsAll why.now.rules why.now.known_rules.items
         request.now.facts moment.now (map string_bytes notes.now) counters.old request.now.apps
         counters.new (string_bytes text)) }
 {
@@ -123,8 +123,8 @@ fn explain_app(
     note: &str,
     counters: &mut PlainPass,
 ) -> Result<String, AllocError>
-    requires { HaveMeanings why.now.rules.apps why.now.meanings.items }
-    ensures { IfOk result (λ text. specs.ExplainsOne why.now.rules why.now.meanings.items
+    requires { HaveMeanings why.now.rules.apps why.now.known_rules.items }
+    ensures { IfOk result (λ text. specs.ExplainsOne why.now.rules why.now.known_rules.items
         facts.now moment.now app.now note.now counters.old counters.new (string_bytes text)) }
 {
     let appid = app.appid();
@@ -141,7 +141,7 @@ fn explain_app(
         return Ok(text);
     }
     known.keeps();
-    let rule = rule_of(why.rules.apps(), &why.meanings, appid);
+    let rule = rule_of(why.rules.apps(), &why.known_rules, appid);
     let text = run_app(alloc, known, rule, said, attrs, note, counters)?;
     Ok(text)
 }
@@ -187,7 +187,7 @@ fn unasked_app(
     Ok(text)
 }
 
-// The lines of an app whose program is run.
+// The lines of an app that the ruleset runs.
 fn run_app(
     alloc: Global,
     known: &App,
@@ -215,7 +215,7 @@ fn run_app(
 
 // The rule of the first app of an appid.
 fn rule_of<'a>(apps: &[App], rules: &'a [Option<Rule>], appid: &str) -> Option<&'a Rule>
-    ensures { option_copied result ≡ meaning_of apps.now rules.now appid.now }
+    ensures { option_copied result ≡ known_rule_of apps.now rules.now appid.now }
 {
     let mut left = apps;
     let mut others = rules;

@@ -18,26 +18,28 @@ use rule_lang::Rule;
 use ruleset::Ruleset;
 use std::alloc::Global;
 
-/// A ruleset with the arrays of its manifest, a body, and the rule of each app, in the ruleset's
-/// order: none where its program is no rule's.
+/// A ruleset with the arrays of its manifest, the digest of the manifest and of its files, a body,
+/// and the rule of each app, in the ruleset's order: none where its program is no rule's.
 #[derive(Drop)]
 pub struct OpenedWhy {
     pub rules: Ruleset,
     pub directory: Directory,
+    pub digest: [u8; 32],
     pub body: Vec<u8>,
-    pub meanings: Vec<Option<Rule>>,
+    pub known_rules: Vec<Option<Rule>>,
 }
 
 /// A ruleset that was loaded, and the rule of each app.
 #[derive(Drop)]
 struct LoadedWhy {
     made: MadeRuleset,
-    meanings: Vec<Option<Rule>>,
+    known_rules: Vec<Option<Rule>>,
 }
 
 /// Opens what `open_files` does, with the same faults. Each file is read once, and the text of a
 /// rule is parsed twice: for its program and for its meaning.
-#[tactic(auto, using(crate::proofs::Opening::no_body_why))]
+// open: whether memory is refused (B4, M8).
+#[tactic(auto, using(crate::proofs::Opening::opened_why, crate::proofs::Opening::no_body_why))]
 pub fn open_why<D: Disk>(
     alloc: Global,
     disk: &D,
@@ -46,24 +48,26 @@ pub fn open_why<D: Disk>(
 ) -> Result<OpenedWhy, DryRunFault>
     ensures opened { IfOk result
         (specs.AreOpenedWhy (D.known disk.now) manifest.now request.now) }
-    ensures meanings { IfOk result (λ o. specs.HaveMeanings o.rules.apps o.meanings.items) }
+    ensures meanings { IfOk result (λ o. specs.HaveMeanings o.rules.apps o.known_rules.items) }
     ensures fault { IfErr result (IsOpenFault (D.known disk.now) manifest.now request.now) }
 {
-    let LoadedWhy { made, meanings } = match load_why(alloc, disk, manifest) {
+    gathered_is_made();
+    let LoadedWhy { made, known_rules } = match load_why(alloc, disk, manifest) {
         Ok(loaded) => loaded,
         Err(fault) => return Err(DryRunFault::Manifest(fault)),
     };
     let MadeRuleset {
         rules,
         directory,
-        ..
+        digest,
     } = made;
     match read_body(disk, request) {
         Ok(body) => Ok(OpenedWhy {
             rules,
             directory,
+            digest,
             body,
-            meanings,
+            known_rules,
         }),
         Err(fault) => Err(fault),
     }
@@ -72,10 +76,10 @@ pub fn open_why<D: Disk>(
 // The ruleset of a manifest over no arrays, and the rules of its apps, by one reading.
 #[tactic(auto, using(crate::proofs::Opening::loaded_meanings))]
 fn load_why<D: Disk>(alloc: Global, disk: &D, path: &str) -> Result<LoadedWhy, PathFault>
-    ensures loaded { IfOk result (λ l. specs.IsLoadedWhy (D.known disk.now) path.now
-        l.made.rules l.made.directory l.meanings.items) }
+    ensures loaded { IfOk result (λ l.
+        specs.IsLoadedWhy (D.known disk.now) path.now l.made l.known_rules.items) }
     ensures meanings { IfOk result (λ l.
-        specs.HaveMeanings l.made.rules.apps l.meanings.items) }
+        specs.HaveMeanings l.made.rules.apps l.known_rules.items) }
     ensures fault { IfErr result (RefusesPath (D.known disk.now) path.now []) }
 {
     gathered_is_loaded();
@@ -90,11 +94,11 @@ fn load_why<D: Disk>(alloc: Global, disk: &D, path: &str) -> Result<LoadedWhy, P
         Ok(gathered) => gathered,
         Err(Ungathered { fault, .. }) => return Err(PathFault::Load(fault)),
     };
-    let Ok(meanings) = read_rules(alloc, &gathered.apps) else {
+    let Ok(known_rules) = read_rules(alloc, &gathered.apps) else {
         return Err(PathFault::Resource(ResourceFault::Memory));
     };
     match make_ruleset(alloc, &bytes, gathered) {
-        Ok(made) => Ok(LoadedWhy { made, meanings }),
+        Ok(made) => Ok(LoadedWhy { made, known_rules }),
         Err(fault) => Err(PathFault::Load(fault)),
     }
 }

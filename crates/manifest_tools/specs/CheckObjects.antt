@@ -37,7 +37,7 @@ abbrev pub bits_of : CellWidth → ℕ
 bits_of Bits32 = 32
 bits_of Bits64 = 64
 
--- null where an array has no quota; where it has one, a number from 1 to 2^63 - 1
+-- null where an array has no quota; where it has one, its number (a manifest's is 1 to 2^63 - 1)
 abbrev pub quota_object : Option ℕ → Data
 quota_object None = null
 quota_object (Some quota) = number (unsigned quota)
@@ -58,8 +58,8 @@ checked_app_object app = object (
     member (codes "slots") (number (unsigned (length app.program.code)))
     no_members)))
 
--- whether it counts where a check is strict, which is told whether this one is or not; its name,
--- and where it is and what it says
+-- whether it counts in a strict check, told also where this check isn't strict; its name, and
+-- where it is and what it says
 abbrev pub warning_object : (allowed : List (Bor (List ℕ))) → Warning → Data
 warning_object allowed w = object (
     member (codes "counts") (boolean (some_counts allowed (w ∷ []))) (
@@ -80,8 +80,8 @@ accepted_object allowed path told = object (
 
 -- ---- of one that is refused
 
--- the words of its refusal, and the lines of where and why, in which control characters are
--- printed by their numbers, as in all lines
+-- the words of its refusal, and the lines of where and why (in these a control character stands
+-- by its number already)
 abbrev pub fault_object : (refusal reason : List ℕ) → Data
 fault_object refusal reason = object (
     member (codes "reason") (string reason) (

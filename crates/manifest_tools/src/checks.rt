@@ -1,6 +1,7 @@
 //! `check` of one manifest, or of several: what is printed, and whether they pass.
 
-ghost use Rattle.std.specs.Prelude.{◌≡◌, ◌++◌, IfOk, IfErr, OnOk, string_bytes};
+ghost use Rattle.std.specs.Prelude.{◌≡◌, IfOk, IfErr, OnOk, string_bytes};
+ghost use Rattle.printing.specs.Pushed.{Puts};
 ghost use Rattle.manifest_tools.specs.CheckObjects.{AreToldChecks, AreToldRefusal};
 ghost use Rattle.manifest_tools.specs.Checks as specs;
 ghost use Rattle.manifest_tools.specs.Manifests.{IsCheckRefusal};
@@ -199,32 +200,32 @@ fn add_refused(
 
 // ---- lines
 
-fn push_digest(text: &mut String, digest: [u8; 32]) -> Result<(), AllocError>
-    ensures { OnOk result
-        (string_bytes text.new ≡ string_bytes text.old ++ specs.digest_line digest) }
+/// Adds the line `digest ..` of a manifest and of its files, with the 64 hexadecimal digits, in
+/// lower case, of what `load`'s `digest_of` gives.
+// open: whether memory is refused, its one error.
+pub fn push_digest(text: &mut String, digest: [u8; 32]) -> Result<(), AllocError>
+    ensures { OnOk result (Puts text.old text.new (specs.digest_line digest)) }
 {
     let digest = hex::encode(*text.allocator(), digest)?;
     writeln!(text, "digest {digest}")
 }
 
 fn push_title(text: &mut String, path: &str) -> Result<(), AllocError>
-    ensures { OnOk result (string_bytes text.new ≡ string_bytes text.old ++ specs.title path.now) }
+    ensures { OnOk result (Puts text.old text.new (specs.title path.now)) }
 {
     let path = Printed(path);
     writeln!(text, "manifest {path}")
 }
 
 fn push_titled(text: &mut String, path: &str, lines: &str) -> Result<(), AllocError>
-    ensures { OnOk result
-        (string_bytes text.new ≡ string_bytes text.old ++ specs.titled path.now lines.now) }
+    ensures { OnOk result (Puts text.old text.new (specs.titled path.now lines.now)) }
 {
     push_title(text, path)?;
     text.push_str(lines)
 }
 
 fn push_if_any(text: &mut String, path: &str, lines: &str) -> Result<(), AllocError>
-    ensures { OnOk result
-        (string_bytes text.new ≡ string_bytes text.old ++ specs.titled_if_any path.now lines.now) }
+    ensures { OnOk result (Puts text.old text.new (specs.titled_if_any path.now lines.now)) }
 {
     if lines.is_empty() {
         return Ok(());
@@ -234,8 +235,7 @@ fn push_if_any(text: &mut String, path: &str, lines: &str) -> Result<(), AllocEr
 
 // The line of a refusal, and where and why behind it.
 fn push_refusal(text: &mut String, fault: &ManifestToolFault) -> Result<(), AllocError>
-    ensures { OnOk result
-        (string_bytes text.new ≡ string_bytes text.old ++ specs.refusal_text fault.now) }
+    ensures { OnOk result (Puts text.old text.new (specs.refusal_text fault.now)) }
 {
     writeln!(text, "refused {fault}")?;
     text.push_str(reason_behind(fault))

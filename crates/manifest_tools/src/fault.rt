@@ -12,7 +12,7 @@ use std::fmt;
 /// What is wrong; it is shown as it is printed, but for the lines of a diagnosis.
 #[derive(Debug, Drop)]
 pub enum ManifestToolFault {
-    /// B3 and B4: a manifest or a script can't be read, of `simulate` the picture can't be written,
+    /// B3 and B4: a manifest or a script can't be read, the picture of `simulate` can't be written,
     /// or memory that the command wants is refused.
     Resource(ResourceFault),
     /// M1 to M8: a manifest comes to no ruleset, and where and why.

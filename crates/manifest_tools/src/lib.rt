@@ -19,7 +19,7 @@ mod progress_lines;
 mod simulating;
 mod told_simulation;
 
-pub use checks::{ToldChecks, check_files};
+pub use checks::{ToldChecks, check_files, push_digest};
 pub use fault::ManifestToolFault;
 pub use playing::replay_script;
 pub use simulating::simulate_files;

@@ -4,6 +4,8 @@
 #![tactic(auto)]
 
 #[cfg(test)]
+mod ignored;
+#[cfg(test)]
 mod refusals;
 #[cfg(test)]
 mod replies;

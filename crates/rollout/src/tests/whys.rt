@@ -1,11 +1,11 @@
 //! Why apps get what they get, by the manifest, the files and the bodies of `asks`: a rule by its
-//! lines, and a program by its last jump, which the hour decides.
+//! lines, and a program by its last jump, which the hour decides; and the digest of those files.
 
 use super::asks::write_all;
 use super::told;
 use std::test::Fail;
 
-/// Words, and what is told.
+/// Words, and what is told before the line of the digest.
 const ROWS: [(&str, &str); 6] = [
     (
         "a_x.json --at 2026-12-01T03:00:00Z",
@@ -56,14 +56,20 @@ app x: no version, bucket 8 by its cohort, day 0
     ),
 ];
 
+/// The last line of each, and of `check`: Python's `hashlib` gives it.
+const DIGEST: &str = "digest 76f9faf4f22cd7974bd208f4912f72f986c334aff92013dc0c5e77b836174a25\n";
+
 #[test]
 fn reasons(rt: HostRuntime) -> Result<(), Fail> {
     write_all(&rt)?;
     for (words, lines) in ROWS {
         let line = format!(in rt.alloc(); "rollout ask a.toml {words} --why")?;
         let told = told(&rt, line.as_str())?;
-        assert_eq!(rt; told.out.as_str(), lines);
+        let text = format!(in rt.alloc(); "{lines}{DIGEST}")?;
+        assert_eq!(rt; told.out.as_str(), text.as_str());
         assert!(rt; told.status == 0 && told.err.is_empty());
     }
+    let checked = told(&rt, "rollout check a.toml")?;
+    assert!(rt; checked.out.as_str().ends_with(DIGEST));
     Ok(())
 }

@@ -19,14 +19,14 @@ returns-in-Ok-make_ruleset-clause-loaded g c =
     let known = g.D.Disk.known c.args.disk.now in
     let gathered = c.in-Ok-gather.gathered in
     let made = c.in-Ok-make_ruleset.made in
-    let meanings = c.in-Ok-read_rules.meanings.items in
+    let known_rules = c.in-Ok-read_rules.known_rules.items in
     let is : IsGathered (known_beside known c.args.path.now) [] c.in-Ok.bytes.items gathered =
     search rules in
-    loaded known c.args.path.now c.in-Ok.bytes.items gathered made meanings
-    c.gathered_is_made.ensures c.in-Ok.ensures.given is
+    loaded known c.args.path.now c.in-Ok.bytes.items gathered made known_rules
+    c.in-Ok.ensures.given is
     (subst (λ (b : List ℕ). IsMadeOf b gathered made) c.deref-3.ensures.value
     c.in-Ok-make_ruleset.ensures.made)
-    (subst (λ (apps : List GatheredApp). AreReadFrom apps meanings) c.deref-2.ensures.value
+    (subst (λ (apps : List GatheredApp). AreReadFrom apps known_rules) c.deref-2.ensures.value
     c.in-Ok-read_rules.ensures)
 
 pub returns-clause-fault : goal.returns-clause-fault
