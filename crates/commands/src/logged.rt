@@ -8,10 +8,11 @@ ghost use Rattle.workers.specs.Texts.{serving_line};
 
 use crate::fault::Fault;
 use crate::serve::serve_by;
-use access_log::{Excerpt, LogEvent, Start};
 use command_line::{CommandRequest, Plan};
 use load::Disk;
-use server_log::{LogOutput, LogQueue, digest_text, note_at_once, start_log};
+use server_log::{
+    LogOutput, LogQueue, Starting, note_refused_start, note_start, start_log, write_refused_start,
+};
 use serving::{Server, ServingFault};
 use std::io::Write;
 use std::net::{Net, TcpListener, TcpStream};
@@ -20,6 +21,7 @@ use std::thread::Threads;
 use std::time::Clock;
 
 /// Serves by the plan, and logs on standard error. B4 where the log's memory or thread is refused.
+// open: that the lines of the start are of this manifest, server and outcome: tests.
 pub fn serve_logged<R, D, O>(
     rt: &R,
     disk: &D,
@@ -42,10 +44,14 @@ where
         Err(fault) => return Err(ServingFault::Resource(fault)),
     };
     let ports = server.ports();
-    let (port, operator) = (ports.service().port(), ports.operator().port());
-    note_start(rt, &queue, manifest, port, operator, server.digest());
+    let starting = Starting {
+        manifest,
+        port: ports.service().port(),
+        operator: ports.operator().port(),
+    };
+    note_start(rt, &queue, starting, server.digest());
     let outcome = serve_by(rt, disk, server, plan, Some(&queue), out);
-    note_outcome(rt, &queue, manifest, port, operator, &outcome);
+    note_outcome(rt, &queue, starting, &outcome);
     drop(queue);
     end.wait(rt);
     outcome
@@ -55,9 +61,7 @@ where
 fn note_outcome<R>(
     rt: &R,
     queue: &LogQueue,
-    manifest: &str,
-    port: u16,
-    operator: u16,
+    starting: Starting<'_>,
     outcome: &Result<(), ServingFault>,
 )
 where
@@ -66,38 +70,14 @@ where
     let Err(fault) = outcome else {
         return;
     };
-    if fault.is_of_end() {
-        return;
-    }
-    if let Ok(refusal) = fault.to_string(rt.alloc()) {
-        queue.note(
-            rt,
-            &refused_start(manifest, port, operator, &refusal, fault.cause()),
-        );
-    }
-}
-
-// That it starts, with the digest of what it serves, which is left out where memory is refused.
-fn note_start<R>(
-    rt: &R,
-    queue: &LogQueue,
-    manifest: &str,
-    port: u16,
-    operator: u16,
-    digest: [u8; 32],
-)
-where
-    R: Wait + AllocGlobal + Clock,
-{
-    match digest_text(rt.alloc(), Some(digest)) {
-        Ok(digest) => queue.note(rt, &start(manifest, port, operator, digest.as_deref())),
-        Err(_) => queue.note(rt, &start(manifest, port, operator, None)),
+    if !fault.is_of_end() {
+        note_refused_start(rt, queue, starting, fault, fault.cause());
     }
 }
 
 /// Logs that a server doesn't start, and why, where a log was asked for. The line is lost where
 /// memory is refused.
-// open: all but that it is a line: tests.
+// open: that the line is of this request and fault: tests.
 pub fn note_refusal<R>(rt: &R, request: &CommandRequest<'_>, fault: &Fault)
 where
     R: AllocGlobal + Clock + LogOutput,
@@ -105,47 +85,12 @@ where
     let CommandRequest::Serve { manifest, plan } = request else {
         return;
     };
-    if !plan.log {
-        return;
-    }
-    if let Ok(refusal) = fault.to_string(rt.alloc()) {
-        let (port, operator) = (plan.port, plan.operator);
-        let event = refused_start(manifest, port, operator, &refusal, fault.cause());
-        note_at_once(rt, &event);
-    }
-}
-
-fn start<'x>(manifest: &'x str, port: u16, operator: u16, digest: Option<&'x str>) -> LogEvent<'x> {
-    LogEvent::Start(Start {
-        manifest: Excerpt::of(manifest),
-        port,
-        operator,
-        digest,
-        refusal: None,
-        cause: None,
-    })
-}
-
-fn refused_start<'x>(
-    manifest: &'x str,
-    port: u16,
-    operator: u16,
-    refusal: &'x str,
-    cause: Option<&'x str>,
-) -> LogEvent<'x> {
-    LogEvent::Start(Start {
-        manifest: Excerpt::of(manifest),
-        port,
-        operator,
-        digest: None,
-        refusal: Some(refusal),
-        cause: excerpt_of(cause),
-    })
-}
-
-fn excerpt_of<'x>(cause: Option<&'x str>) -> Option<Excerpt<'x>> {
-    match cause {
-        Some(cause) => Some(Excerpt::of(cause)),
-        None => None,
+    if plan.log {
+        let starting = Starting {
+            manifest,
+            port: plan.port,
+            operator: plan.operator,
+        };
+        write_refused_start(rt, starting, fault, fault.cause());
     }
 }

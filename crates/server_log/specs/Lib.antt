@@ -1,2 +1,3 @@
-pub mod Seen
 pub mod Loads
+pub mod Seen
+pub mod Starts

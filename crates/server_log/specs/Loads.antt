@@ -1,10 +1,18 @@
--- What the log tells of a load.
-use Rattle.std.specs.Prelude.{◌≡◌, ℕ, List, Option, Some, None, option_copied}
+-- What the log tells of a load, and its line.
+use Rattle.std.specs.Prelude.{◌≡◌, ℕ, List, Option, Some, None, IfSome}
+use Rattle.std.specs.Prelude.{option_copied, option_map}
 use Rattle.access_log.specs.Excerpt.{IsExcerpt}
+use Rattle.access_log.specs.Line.{event_line}
 use Rattle.access_log.specs.declared.event.Load.{Load}
+use Rattle.access_log.specs.declared.event.LogEvent.TheVariants as log
 use Rattle.access_log.specs.declared.excerpt.Excerpt.{Excerpt}
+use Rattle.access_log.specs.declared.utc.Utc.{Utc}
+use Rattle.hex.specs.Hex.{encode_lower}
+use Rattle.operator.specs.Texts.{refusal_text}
 use Rattle.operator.specs.declared.reply.OperatorRefusal.{OperatorRefusal}
 use Rattle.operator.specs.declared.reply.OperatorRefusal.TheVariants as refusal
+use Rattle.operator.specs.declared.reply.OperatorReply.{OperatorReply}
+use Rattle.operator.specs.declared.reply.OperatorReply.TheVariants as reply
 
 -- what is told beside a refusal: what the loader tells of its fault, and of any other nothing
 abbrev pub IsToldBeside : {F : Type 0} → (F → Option (List ℕ) → Type 0) → OperatorRefusal F
@@ -27,11 +35,42 @@ pub record TellsInstalledLoad (path : List ℕ) (generation : ℕ) (digest : Opt
   pub refusal_is : load.refusal ≡ None
   pub cause_is : load.cause ≡ None
 
--- of one that is refused: its path, the refusal, and what is told beside
-pub record TellsRefusedLoad (path refusal : List ℕ) (cause : Option (List ℕ)) (load : Load)
+-- of one that is refused: its path, the text of the refusal, and what is told beside
+pub record TellsRefusedLoad (path text : List ℕ) (cause : Option (List ℕ)) (load : Load)
     : Type 0 where
   pub path_is : IsExcerpt path load.path
   pub generation_is : load.generation ≡ 0
   pub digest_is : load.digest ≡ None
-  pub refusal_is : option_copied load.refusal ≡ Some refusal
+  pub refusal_is : option_copied load.refusal ≡ Some text
   pub cause_is : IsExcerptOf cause load.cause
+
+-- the line at a time of a load of which so much is told
+pub record IsLoadLine (time : Utc) (Tells : Load → Type 0) (line : List ℕ) : Type 0 where
+  pub load : Load
+  pub tells : Tells load
+  pub line_is : line ≡ event_line time (log.Load load)
+
+-- where it is known what a loader's fault has for a cause, and for a text
+module _ {F : Type 0} (has_cause : F → Option (List ℕ) → Type 0)
+    (fault_text : F → Option (List ℕ)) where
+  -- of one that is refused so: the refusal's own text, as far as it is known, and its cause
+  pub record TellsReplyRefusal (path : List ℕ) (refused : OperatorRefusal F) (load : Load)
+      : Type 0 where
+    pub text : List ℕ
+    pub cause : Option (List ℕ)
+    pub text_is : IfSome (refusal_text fault_text refused) (λ known. text ≡ known)
+    pub cause_is : IsToldBeside has_cause refused cause
+    pub tells : TellsRefusedLoad path text cause load
+
+  -- the line of what an operator's request for a load came to, by the reply: of one that is
+  -- installed its generation and its digest, of one that is refused why; no other reply has one
+  abbrev pub IsLineOfReply : Utc → List ℕ → Option (List ℕ) → OperatorReply F
+      → Option (List ℕ) → Type 0
+  IsLineOfReply time path digest (reply.Loaded generation) (Some line) =
+      IsLoadLine time
+      (TellsInstalledLoad path generation (option_map encode_lower digest)) line
+  IsLineOfReply time path digest (reply.Refused refused) (Some line) =
+      IsLoadLine time (TellsReplyRefusal path refused) line
+  IsLineOfReply time path digest (reply.Told lines) None = Unit {0}
+  IsLineOfReply time path digest reply.Stopping None = Unit {0}
+  IsLineOfReply time path digest other line = ⊥

@@ -7,9 +7,10 @@
 //!
 //! What a line tells of a connection is kept beside its answer: what was read and how a device
 //! failed (`Heard`), and what each app was answered (`Seen`). The line of an event is that of
-//! `log_line` in `access_log`, of which it is proved what it says. What connections come to is
-//! counted beside (`tally`), and told each minute. Of queues, threads and clocks, and of what is
-//! written, nothing is proved.
+//! `log_line` in `access_log`, of which it is proved what it says. That of a load is proved from the
+//! operator's reply on (`load_line`), that of a start from the digest or the fault on
+//! (`start_line`). What connections come to is counted beside (`tally`), and told each minute. Of
+//! queues, threads and clocks, and of what is written, nothing is proved.
 //!
 //! See docs/OPERATING.md, "The log".
 #![tactic(auto)]
@@ -26,6 +27,7 @@ mod log_queue;
 mod log_thread;
 mod seen;
 mod seen_app;
+mod start_line;
 mod tally;
 
 pub use clock::seconds_from_now;
@@ -35,6 +37,7 @@ pub use load_line::{digest_text, note_load, note_serving};
 pub use log::Log;
 pub use log_output::LogOutput;
 pub use log_queue::{LogPiece, LogQueue};
-pub use log_thread::{LogEnd, note_at_once, start_log};
+pub use log_thread::{LogEnd, start_log};
 pub use seen::Seen;
+pub use start_line::{Starting, note_refused_start, note_start, write_refused_start};
 pub use tally::{count_begun, count_ended};

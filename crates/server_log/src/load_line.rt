@@ -2,13 +2,13 @@
 
 ghost use Rattle.std.specs.Prelude.{◌≡◌, IfOk, option_copied, option_map, string_bytes};
 ghost use Rattle.hex.specs.Hex.{encode_lower};
-ghost use Rattle.server_log.specs.Loads.{IsExcerptOf, IsToldBeside};
-ghost use Rattle.server_log.specs.Loads.{TellsInstalledLoad, TellsRefusedLoad};
+ghost use Rattle.server_log.specs.Loads.{IsExcerptOf, IsLineOfReply, IsLoadLine, IsToldBeside};
+ghost use Rattle.server_log.specs.Loads.{TellsInstalledLoad, TellsReplyRefusal, TellsRefusedLoad};
 
-use crate::clock::seconds_from_now;
+use crate::clock::{seconds_from_now, utc_now};
 use crate::heard::Heard;
-use crate::log_queue::LogQueue;
-use access_log::{Excerpt, Load, LogEvent};
+use crate::log_queue::{LogPiece, LogQueue};
+use access_log::{Excerpt, Load, LogEvent, Utc, log_line};
 use hex::encode;
 use hot_swap::Generation;
 use operator::{Loader, OperatorRefusal, OperatorReply};
@@ -34,7 +34,9 @@ where
 /// Puts the line of a load into the queue, if there is one and a load was asked for: of one that is
 /// installed with this digest, and of one that is refused with what its loader tells of the fault.
 /// It is lost where memory is refused, or where it has waited for a place in vain.
-// open: all but the line of an event: tests.
+// open: that what is queued is the line of `load_line` with this digest and reply, that its path is
+// the one that was asked for, and that it comes out: no contract knows what stands in a queue.
+// Tests.
 pub fn note_load<H, R, L>(
     rt: &H,
     log: Option<&LogQueue>,
@@ -57,16 +59,73 @@ where
         }
         return;
     };
-    match reply {
-        OperatorReply::Loaded(generation) => note_loaded(rt, queue, path, *generation, digest),
-        OperatorReply::Refused(refusal) => match refusal.to_string(rt.alloc()) {
-            Ok(text) => {
-                note_outcome(rt, queue, refused(path, &text, cause_of(loader, refusal)));
-            }
-            Err(_) => queue.lose(1),
-        },
-        _ => (),
+    match load_line(rt.alloc(), &utc_now(rt), path, loader, digest, reply) {
+        Ok(Some(text)) => {
+            let until = seconds_from_now(rt, LOAD_SECONDS);
+            let _put = queue.put_until(rt, LogPiece { text, lines: 1 }, until);
+        }
+        Ok(None) => (),
+        Err(_) => queue.lose(1),
     }
+}
+
+/// The line of what a request for a load came to, with the digest of what is served then, or with
+/// what the loader tells of its fault; none of a reply that is of no load.
+// open: whether memory is refused.
+fn load_line<L: Loader>(
+    alloc: Global,
+    time: &Utc,
+    path: &str,
+    loader: &L,
+    digest: Option<[u8; 32]>,
+    reply: &OperatorReply<L::Fault>,
+) -> Result<Option<Vec<u8>>, AllocError>
+    ensures { IfOk result (λ line. IsLineOfReply L.has_cause L.Fault.output time.now path.now
+        digest reply.now (option_map (λ text. text.items) line)) }
+{
+    match reply {
+        OperatorReply::Loaded(generation) => {
+            let line = installed_line(alloc, time, path, *generation, digest)?;
+            Ok(Some(line))
+        }
+        OperatorReply::Refused(refusal) => {
+            let line = refused_line(alloc, time, path, loader, refusal)?;
+            Ok(Some(line))
+        }
+        _ => Ok(None),
+    }
+}
+
+// Of one that is installed.
+fn installed_line(
+    alloc: Global,
+    time: &Utc,
+    path: &str,
+    generation: Generation,
+    digest: Option<[u8; 32]>,
+) -> Result<Vec<u8>, AllocError>
+    ensures { IfOk result (λ line. IsLoadLine time.now (TellsInstalledLoad path.now generation
+        (option_map encode_lower digest)) line.items) }
+{
+    let digest = digest_text(alloc, digest)?;
+    let load = installed(path, generation, digest.as_deref());
+    log_line(alloc, time, &LogEvent::Load(load))
+}
+
+// Of one that is refused.
+fn refused_line<L: Loader>(
+    alloc: Global,
+    time: &Utc,
+    path: &str,
+    loader: &L,
+    refusal: &OperatorRefusal<L::Fault>,
+) -> Result<Vec<u8>, AllocError>
+    ensures { IfOk result (λ line. IsLoadLine time.now
+        (TellsReplyRefusal L.has_cause L.Fault.output path.now refusal.now) line.items) }
+{
+    let text = refusal.to_string(alloc)?;
+    let load = refused(path, &text, cause_of(loader, refusal));
+    log_line(alloc, time, &LogEvent::Load(load))
 }
 
 // What is told of a refused load beside the refusal.
@@ -76,22 +135,6 @@ fn cause_of<'x, L: Loader>(loader: &L, refusal: &'x OperatorRefusal<L::Fault>) -
     match refusal {
         OperatorRefusal::Load(fault) => loader.cause(fault),
         _ => None,
-    }
-}
-
-fn note_loaded<H>(
-    rt: &H,
-    queue: &LogQueue,
-    path: &str,
-    generation: Generation,
-    digest: Option<[u8; 32]>,
-)
-where
-    H: Wait + AllocGlobal + Clock,
-{
-    match digest_text(rt.alloc(), digest) {
-        Ok(digest) => note_outcome(rt, queue, installed(path, generation, digest.as_deref())),
-        Err(_) => queue.lose(1),
     }
 }
 
@@ -133,15 +176,8 @@ fn refused<'x>(path: &'x str, refusal: &'x str, cause: Option<&'x str>) -> Load<
     }
 }
 
-fn note_outcome<H>(rt: &H, queue: &LogQueue, load: Load<'_>)
-where
-    H: Wait + AllocGlobal + Clock,
-{
-    let until = seconds_from_now(rt, LOAD_SECONDS);
-    let _noted = queue.note_until(rt, &LogEvent::Load(load), until);
-}
-
-fn excerpt_of<'x>(cause: Option<&'x str>) -> Option<Excerpt<'x>>
+/// The excerpt of a text, if there is one.
+pub(crate) fn excerpt_of<'x>(cause: Option<&'x str>) -> Option<Excerpt<'x>>
     ensures { IsExcerptOf (option_copied cause.entry) result }
 {
     match cause {

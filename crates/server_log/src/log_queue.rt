@@ -104,8 +104,9 @@ impl LogQueue {
         let _before = self.lost.fetch_add(lines, Ordering::SeqCst);
     }
 
-    // Behind how many lines were lost, if any were.
-    fn put_until<H>(&self, rt: &H, piece: LogPiece, until: Option<Instant>) -> bool
+    /// Puts lines into the queue, behind how many were lost, if any were, and waits until then for
+    /// a place where there is none. Whether they were put there.
+    pub(crate) fn put_until<H>(&self, rt: &H, piece: LogPiece, until: Option<Instant>) -> bool
     where
         H: Wait + AllocGlobal + Clock,
     {

@@ -131,17 +131,6 @@ where
     rt.write_lines(b"\n").is_ok() && rt.write_lines(&line).is_ok()
 }
 
-/// Writes the line of an event at once, as of a start that is refused, when there is no thread. It
-/// is lost where memory is refused or standard error fails.
-pub fn note_at_once<H>(rt: &H, event: &LogEvent<'_>)
-where
-    H: AllocGlobal + Clock + LogOutput,
-{
-    if let Ok(line) = log_line(rt.alloc(), &utc_now(rt), event) {
-        let _written = rt.write_lines(&line);
-    }
-}
-
 impl LogEnd {
     /// Waits until all lines are written, once their queue is let go of; for four seconds at most.
     pub fn wait<H: Wait + Clock>(self, rt: &H) {

@@ -1,0 +1,35 @@
+-- What the log tells of a start, and its line.
+use Rattle.std.specs.Prelude.{◌≡◌, ℕ, List, Option, Some, None, option_copied}
+use Rattle.access_log.specs.Excerpt.{IsExcerpt}
+use Rattle.access_log.specs.Line.{event_line}
+use Rattle.access_log.specs.declared.event.LogEvent.TheVariants as log
+use Rattle.access_log.specs.declared.event.Start.{Start}
+use Rattle.access_log.specs.declared.utc.Utc.{Utc}
+use Rattle.server_log.specs.Loads.{IsExcerptOf}
+use Rattle.server_log.specs.declared.start_line.Starting.{Starting}
+
+-- of a server that starts: its manifest, its ports, and the digest of what it serves
+pub record TellsStart (server : Starting) (digest : Option (List ℕ)) (start : Start)
+    : Type 0 where
+  pub manifest_is : IsExcerpt server.manifest.now start.manifest
+  pub port_is : start.port ≡ server.port
+  pub operator_is : start.operator ≡ server.operator
+  pub digest_is : option_copied start.digest ≡ digest
+  pub refusal_is : start.refusal ≡ None
+  pub cause_is : start.cause ≡ None
+
+-- of one that doesn't: its manifest, its ports, the text of the refusal, and what is told beside
+pub record TellsRefusedStart (server : Starting) (text : List ℕ) (cause : Option (List ℕ))
+    (start : Start) : Type 0 where
+  pub manifest_is : IsExcerpt server.manifest.now start.manifest
+  pub port_is : start.port ≡ server.port
+  pub operator_is : start.operator ≡ server.operator
+  pub digest_is : start.digest ≡ None
+  pub refusal_is : option_copied start.refusal ≡ Some text
+  pub cause_is : IsExcerptOf cause start.cause
+
+-- the line at a time of a start of which so much is told
+pub record IsStartLine (time : Utc) (Tells : Start → Type 0) (line : List ℕ) : Type 0 where
+  pub start : Start
+  pub tells : Tells start
+  pub line_is : line ≡ event_line time (log.Start start)

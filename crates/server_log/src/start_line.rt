@@ -1,0 +1,141 @@
+//! What the log tells of a server's start: that it is about to serve what has this digest, or why
+//! it doesn't.
+
+ghost use Rattle.std.specs.Prelude.{IfOk, IfSome, option_copied, option_map};
+ghost use Rattle.hex.specs.Hex.{encode_lower};
+ghost use Rattle.server_log.specs.Starts.{IsStartLine, TellsRefusedStart, TellsStart};
+
+use crate::clock::utc_now;
+use crate::load_line::{digest_text, excerpt_of};
+use crate::log_output::LogOutput;
+use crate::log_queue::{LogPiece, LogQueue};
+use access_log::{Excerpt, LogEvent, Start, Utc, log_line};
+use std::alloc::{AllocError, Global};
+use std::fmt::Display;
+use std::sync::Wait;
+use std::time::Clock;
+
+/// A server that is to start.
+#[derive(Clone, Copy)]
+pub struct Starting<'a> {
+    /// The path of its manifest.
+    pub manifest: &'a str,
+    /// The clients' port, and the operator's.
+    pub port: u16,
+    pub operator: u16,
+}
+
+/// Puts the line of a server that starts into the queue, with the digest of what it serves, which
+/// is left out where memory is refused. Where all of it is refused the line is lost.
+// open: that what is queued is the line of `start_line` with this digest, and that it comes out: no
+// contract knows what stands in a queue. Tests.
+pub fn note_start<H>(rt: &H, queue: &LogQueue, server: Starting<'_>, digest: [u8; 32])
+where
+    H: Wait + AllocGlobal + Clock,
+{
+    let time = utc_now(rt);
+    let line = match start_line(rt.alloc(), &time, server, Some(digest)) {
+        Ok(line) => Ok(line),
+        Err(_) => start_line(rt.alloc(), &time, server, None),
+    };
+    match line {
+        Ok(text) => queue.put(rt, LogPiece { text, lines: 1 }),
+        Err(_) => queue.lose(1),
+    }
+}
+
+/// Puts the line of a server that doesn't start into the queue, with the fault's text and with what
+/// is told of it beside. It is lost where memory is refused.
+// open: that what is queued is the line of `refused_start_line` of this fault and cause, and that
+// it comes out: no contract knows what stands in a queue. Tests.
+pub fn note_refused_start<H, F>(
+    rt: &H,
+    queue: &LogQueue,
+    server: Starting<'_>,
+    fault: &F,
+    cause: Option<&str>,
+)
+where
+    H: Wait + AllocGlobal + Clock,
+    F: Display,
+{
+    match refused_start_line(rt.alloc(), &utc_now(rt), server, fault, cause) {
+        Ok(text) => queue.put(rt, LogPiece { text, lines: 1 }),
+        Err(_) => queue.lose(1),
+    }
+}
+
+/// Writes the same line at once, when there is no queue. It is lost where memory is refused or
+/// standard error fails.
+// open: that what is written is the line of `refused_start_line` of this fault and cause: of what
+// standard error takes nothing is known. Tests.
+pub fn write_refused_start<H, F>(rt: &H, server: Starting<'_>, fault: &F, cause: Option<&str>)
+where
+    H: AllocGlobal + Clock + LogOutput,
+    F: Display,
+{
+    if let Ok(line) = refused_start_line(rt.alloc(), &utc_now(rt), server, fault, cause) {
+        let _written = rt.write_lines(&line);
+    }
+}
+
+/// The line of one that starts.
+// open: whether memory is refused.
+fn start_line(
+    alloc: Global,
+    time: &Utc,
+    server: Starting<'_>,
+    digest: Option<[u8; 32]>,
+) -> Result<Vec<u8>, AllocError>
+    ensures { IfOk result (λ line. IsStartLine time.now
+        (TellsStart server.entry (option_map encode_lower digest)) line.items) }
+{
+    let digest = digest_text(alloc, digest)?;
+    log_line(
+        alloc,
+        time,
+        &LogEvent::Start(started(server, digest.as_deref())),
+    )
+}
+
+/// The line of one that doesn't.
+// open: whether memory is refused.
+fn refused_start_line<F: Display>(
+    alloc: Global,
+    time: &Utc,
+    server: Starting<'_>,
+    fault: &F,
+    cause: Option<&str>,
+) -> Result<Vec<u8>, AllocError>
+    ensures { IfOk result (λ line. IfSome (F.output fault.now) (λ text. IsStartLine time.now
+        (TellsRefusedStart server.entry text (option_copied cause.entry)) line.items)) }
+{
+    let text = fault.to_string(alloc)?;
+    log_line(alloc, time, &LogEvent::Start(refused(server, &text, cause)))
+}
+
+fn started<'x>(server: Starting<'x>, digest: Option<&'x str>) -> Start<'x>
+    ensures { TellsStart server.entry (option_copied digest.entry) result }
+{
+    Start {
+        manifest: Excerpt::of(server.manifest),
+        port: server.port,
+        operator: server.operator,
+        digest,
+        refusal: None,
+        cause: None,
+    }
+}
+
+fn refused<'x>(server: Starting<'x>, refusal: &'x str, cause: Option<&'x str>) -> Start<'x>
+    ensures { TellsRefusedStart server.entry refusal.now (option_copied cause.entry) result }
+{
+    Start {
+        manifest: Excerpt::of(server.manifest),
+        port: server.port,
+        operator: server.operator,
+        digest: None,
+        refusal: Some(refusal),
+        cause: excerpt_of(cause),
+    }
+}
