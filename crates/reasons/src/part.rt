@@ -27,7 +27,6 @@ pub(crate) struct Part {
 
 impl Model for Part {
     ghost use Rattle.std.specs.Prelude.{string_bytes};
-    ghost use Rattle.printing.specs.Pushed.{Puts};
     ghost use Rattle.reasons.specs.Stack as specs;
 
     ghost Value = { specs.Part };
