@@ -97,8 +97,10 @@ fn object_of<D: Disk>(
             Ok((value, one))
         }
         Err(fault) => {
-            let value = refused_object(alloc, path, &fault)?;
-            Ok((value, false))
+            let value = refused_object(alloc, path, &fault);
+            // By one call: at the `?` each of its many parts would have one.
+            drop(fault);
+            Ok((value?, false))
         }
     }
 }

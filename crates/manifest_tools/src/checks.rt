@@ -164,8 +164,10 @@ fn add_checked<D: Disk>(
             Ok(longer)
         }
         Err(fault) => {
-            let longer = add_refused(path, &fault, told)?;
-            Ok(longer)
+            let longer = add_refused(path, &fault, told);
+            // By one call: at the `?` each of its many parts would have one.
+            drop(fault);
+            Ok(longer?)
         }
     }
 }

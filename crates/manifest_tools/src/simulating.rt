@@ -47,7 +47,7 @@ where
         manifest.now (option_copied against.entry) (option_copied appid.entry)
         (option_copied file.entry)) }
 {
-    let told = told_of_files(rt, disk, manifest, against, appid, file, json, client)?;
+    let told = told_for(rt, disk, manifest, against, appid, file, json, client)?;
     match write_picture(rt, file, &told) {
         Ok(()) => Ok(told),
         Err(ResourceFault::File) => Err(ManifestToolFault::Resource(ResourceFault::File)),
@@ -73,7 +73,33 @@ where
     }
 }
 
-// What is told of the files, of which none is written yet.
+// What is told of the files, of which none is written yet. The client is lent to what tells it, and
+// dropped here, by one call: it has some twenty parts, and at each `?` these would be dropped, and
+// proved to be, one by one. So are the simulations below.
+fn told_for<R, D>(
+    rt: &R,
+    disk: &D,
+    manifest: &str,
+    against: Option<&str>,
+    appid: Option<&str>,
+    file: Option<&str>,
+    json: bool,
+    mut client: Client,
+) -> Result<ToldSimulation, ManifestToolFault>
+where
+    R: AllocGlobal + Clock + Eprint,
+    D: Disk,
+    ensures told { IfOk result (specs.HasSimulated (D.known disk.now) json client manifest.now
+        (option_copied against.entry) (option_copied appid.entry) (option_copied file.entry)) }
+    ensures fault { IfErr result (specs.IsLoadRefusal (D.known disk.now)
+        manifest.now (option_copied against.entry) (option_copied appid.entry)) }
+{
+    let told = told_of_files(rt, disk, manifest, against, appid, file, json, &mut client);
+    drop(client);
+    told
+}
+
+// The same, for a client that is lent.
 fn told_of_files<R, D>(
     rt: &R,
     disk: &D,
@@ -82,12 +108,12 @@ fn told_of_files<R, D>(
     appid: Option<&str>,
     file: Option<&str>,
     json: bool,
-    client: Client,
+    client: &mut Client,
 ) -> Result<ToldSimulation, ManifestToolFault>
 where
     R: AllocGlobal + Clock + Eprint,
     D: Disk,
-    ensures told { IfOk result (specs.HasSimulated (D.known disk.now) json client manifest.now
+    ensures told { IfOk result (specs.HasSimulated (D.known disk.now) json client.old manifest.now
         (option_copied against.entry) (option_copied appid.entry) (option_copied file.entry)) }
     ensures fault { IfErr result (specs.IsLoadRefusal (D.known disk.now)
         manifest.now (option_copied against.entry) (option_copied appid.entry)) }
@@ -146,16 +172,17 @@ fn told_alone<R>(
     appid: Option<&str>,
     file: Option<&str>,
     json: bool,
-    mut client: Client,
+    client: &mut Client,
 ) -> Result<ToldSimulation, AllocError>
 where
     R: AllocGlobal + Clock + Eprint,
-    ensures { IfOk result (specs.ShowsAlone json client rules (option_copied appid.entry)
+    ensures { IfOk result (specs.ShowsAlone json client.old rules (option_copied appid.entry)
         (option_copied file.entry)) }
 {
-    let next = simulation_of(rt, rules, appid, &mut client, &mut ProgressLines::new(rt))?;
-    let told = tell_alone(rt.alloc(), &next, file, json)?;
-    Ok(told)
+    let next = simulation_of(rt, rules, appid, client, &mut ProgressLines::new(rt))?;
+    let told = tell_alone(rt.alloc(), &next, file, json);
+    drop(next);
+    Ok(told?)
 }
 
 // The simulation of a ruleset: of all its apps, or of one alone.
@@ -192,16 +219,18 @@ fn told_against<R>(
     appid: Option<&str>,
     file: Option<&str>,
     json: bool,
-    mut client: Client,
+    client: &mut Client,
 ) -> Result<ToldSimulation, AllocError>
 where
     R: AllocGlobal + Clock + Eprint,
-    ensures { IfOk result (specs.ShowsAgainst json client rules serving (option_copied appid.entry)
-        (option_copied file.entry)) }
+    ensures { IfOk result (specs.ShowsAgainst json client.old rules serving
+        (option_copied appid.entry) (option_copied file.entry)) }
 {
     let mut progress = ProgressLines::new(rt);
-    let next = simulation_of(rt, rules, appid, &mut client, &mut progress)?;
-    let now = simulation_of(rt, serving, appid, &mut client, &mut progress)?;
-    let told = tell_against(rt.alloc(), &now, &next, file, json)?;
-    Ok(told)
+    let next = simulation_of(rt, rules, appid, client, &mut progress)?;
+    let now = simulation_of(rt, serving, appid, client, &mut progress)?;
+    let told = tell_against(rt.alloc(), &now, &next, file, json);
+    drop(now);
+    drop(next);
+    Ok(told?)
 }

@@ -7,7 +7,7 @@ returns g c = record {
   next = c.in_ok-next.next;
   simulated = c.in_ok-next.ensures.simulated;
   now = c.in_ok-now.now;
-  served = told_alike c.args.client c.simulation_of.new.client c.args.serving
+  served = told_alike c.args.client.now c.simulation_of.new.client c.args.serving
       (option_copied c.args.appid) c.in_ok-now.now c.simulation_of.ensures.client
       c.in_ok-now.ensures.simulated;
   tells = c.in_ok-told.ensures;

@@ -11,7 +11,7 @@ returns-in-Ok-told_against-clause-told g c =
     let has = sym c.lacks_app.ensures ∙ c.if-lacks_app.false in
     let told = c.in-Ok-told_against.told in
     subst (λ (other : Option (List ℕ)).
-    HasSimulated known c.args.json c.args.client c.args.manifest.now other
+    HasSimulated known c.args.json c.args.client.now c.args.manifest.now other
     (option_copied c.args.appid) (option_copied c.args.file) told) (sym against) (
       c.in-Ok.rules,
       (c.in-Ok.ensures.rules, has),
