@@ -98,7 +98,7 @@ fn object_of<D: Disk>(
         }
         Err(fault) => {
             let value = refused_object(alloc, path, &fault);
-            // By one call: at the `?` each of its many parts would have one.
+            // One call. Left to the `?`, each of its many parts would have a call of its own.
             drop(fault);
             Ok((value?, false))
         }

@@ -165,7 +165,7 @@ fn add_checked<D: Disk>(
         }
         Err(fault) => {
             let longer = add_refused(path, &fault, told);
-            // By one call: at the `?` each of its many parts would have one.
+            // One call. Left to the `?`, each of its many parts would have a call of its own.
             drop(fault);
             Ok(longer?)
         }

@@ -73,9 +73,9 @@ where
     }
 }
 
-// What is told of the files, of which none is written yet. The client is lent to what tells it, and
-// dropped here, by one call: it has some twenty parts, and at each `?` these would be dropped, and
-// proved to be, one by one. So are the simulations below.
+// What is told of the files, of which none is written yet. From here on the client is lent, and it
+// is dropped here, by one call: each `?` of a function that owned it would drop its twenty parts
+// one by one, and each of these calls would be proved. So it is with the simulations below.
 fn told_for<R, D>(
     rt: &R,
     disk: &D,
