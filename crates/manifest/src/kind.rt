@@ -1,6 +1,6 @@
 //! The tables of a manifest, and the members that each may have.
 
-ghost use Rattle.std.specs.Prelude.{◌≡◌, option_copied};
+ghost use Rattle.std.specs.Prelude.{◌≡◌, map, option_copied};
 ghost use Rattle.std.specs.Str.{bytes_eq};
 ghost use Rattle.std.specs.List.{list_any};
 ghost use Rattle.toml.specs.View.{table_view};
@@ -34,13 +34,42 @@ pub(crate) fn unknown_member<'a>(kind: Kind, table: &'a Table) -> Option<&'a str
 fn is_member(kind: Kind, key: &str) -> bool
     ensures { result ≡ list_any (bytes_eq key.now) (specs.members_of kind) }
 {
-    match kind {
-        Kind::Manifest => key == "server" || key == "array" || key == "app",
-        Kind::Array => key == "name" || key == "width" || key == "length" || key == "quota",
-        Kind::App => key == "appid" || key == "program" || key == "rule" || key == "release",
-        Kind::Release => key == "version" || key == "codebase" || key == "package",
-        Kind::Package => {
-            key == "name" || key == "hash_sha256" || key == "size" || key == "required"
+    is_among(key, members_of(kind))
+}
+
+// Whether a key is one of these.
+fn is_among(key: &str, keys: &[&str]) -> bool
+    ensures { result ≡ list_any (bytes_eq key.now) (map (λ other. other.now) keys.now) }
+{
+    let mut left = keys;
+    while let [other, rest @ ..] = left {
+        if key == *other {
+            return true;
         }
+        left = rest;
+    }
+    false
+}
+
+static MANIFEST: [&str; 3] = ["server", "array", "app"];
+
+static ARRAY: [&str; 4] = ["name", "width", "length", "quota"];
+
+static APP: [&str; 4] = ["appid", "program", "rule", "release"];
+
+static RELEASE: [&str; 3] = ["version", "codebase", "package"];
+
+static PACKAGE: [&str; 4] = ["name", "hash_sha256", "size", "required"];
+
+// The keys of a table's members. A match whose arms compare the key with each takes 30 s to check.
+fn members_of(kind: Kind) -> &'static [&'static str]
+    ensures { map (λ key. key.now) result.now ≡ specs.members_of kind }
+{
+    match kind {
+        Kind::Manifest => &MANIFEST,
+        Kind::Array => &ARRAY,
+        Kind::App => &APP,
+        Kind::Release => &RELEASE,
+        Kind::Package => &PACKAGE,
     }
 }
