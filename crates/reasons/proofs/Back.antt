@@ -2,8 +2,8 @@
 use Rattle.std.proofs.Common.{◌≡◌, ◌∙◌, ℕ, List, [], ◌∷◌, ◌++◌, refl, ap}
 use Rattle.std.specs.Prelude.{Option, Some, None, slice_index, slice_set}
 use Rattle.std.proofs.lemmas.List.{set-set, set-get_or}
-use Rattle.reasons.specs.Stack.{given_back}
-use Rattle.reasons.specs.Truth.{CellTake, left_at, taken_at}
+use Rattle.reasons.specs.Ending.{left_at}
+use Rattle.reasons.specs.Stack.{CellTake, given_back, taken_at}
 
 pub back_by_parts : (ts us : List CellTake) (counters : List ℕ)
     → given_back (ts ++ us) counters ≡ given_back ts (given_back us counters)

@@ -13,12 +13,12 @@ use Rattle.cells.specs.Grown.{GrewBy}
 use Rattle.cells.specs.declared.event.CellEvent.{CellEvent}
 use Rattle.cells.specs.declared.event.CellOp.TheVariants.{Add}
 use Rattle.rule_lang.specs.Meaning.{Behaviour, Chooses, Asks, HasTrace}
-use Rattle.rule_lang.specs.Meaning.{behaviour, decide, decide_one, test_then}
+use Rattle.rule_lang.specs.Meaning.{asks_then, behaviour, cell_asked, decide, decide_one}
+use Rattle.rule_lang.specs.Meaning.{test_holds, test_then}
 use Rattle.rule_lang.specs.Trees.{Tree, Asked, Negated, Both, Either, trees_from}
 use Rattle.rule_lang.specs.declared.rule.Statement.{Statement}
 use Rattle.rule_lang.specs.declared.rule.Statement.TheVariants.{Count, When}
 use Rattle.rule_lang.specs.declared.test.Test.{Test}
-use Rattle.rule_lang.specs.declared.test.Test.TheVariants as test
 use Rattle.reasons.specs.Ending.{IsMeant, counters_after, ending_on}
 
 data OnlyAdds : Behaviour → Type 0 where
@@ -33,16 +33,17 @@ either_adds : (b : Bool) {p q : Behaviour} → OnlyAdds p → OnlyAdds q
 either_adds true f g = f
 either_adds false f g = g
 
+asked_adds : (cell : Option ℕ) (next : ℕ → Behaviour) → ((reply : ℕ) → OnlyAdds (next reply))
+    → OnlyAdds (asks_then cell next)
+asked_adds (Some cell) next all = adds cell next all
+asked_adds None next all = all 0
+
 module _ (a : Attributes) (s : AppShape) where
   test_adds : (t : Test) {met unmet : Behaviour} → OnlyAdds met → OnlyAdds unmet
       → OnlyAdds (test_then a s t met unmet)
-  test_adds (test.Version r w) f g = either_adds _ f g
-  test_adds (test.Bucket salt modulus r n) f g = either_adds _ f g
-  test_adds (test.Today r n) f g = either_adds _ f g
-  test_adds (test.Installed r n) f g = either_adds _ f g
-  test_adds (test.Flag t) f g = either_adds _ g f
-  test_adds (test.Attr n text) f g = either_adds _ f g
-  test_adds (test.Take name index) f g = adds _ _ (λ reply. either_adds _ f g)
+  test_adds t {met} {unmet} f g =
+      asked_adds (cell_asked s t) (λ reply. if test_holds a s reply t then met else unmet)
+      (λ reply. either_adds (test_holds a s reply t) f g)
 
   condition_adds : (c : Tree) {met unmet : Behaviour} → OnlyAdds met → OnlyAdds unmet
       → OnlyAdds (decide a s c met unmet)

@@ -10,7 +10,7 @@ use Rattle.attrs.specs.declared.vocabulary.Attribute.TheVariants as attribute
 use Rattle.attrs.specs.declared.vocabulary.Flag.{Flag}
 use Rattle.attrs.specs.declared.vocabulary.Flag.TheVariants as flag
 use Rattle.cells.specs.Arrays.{AppShape}
-use Rattle.rule_lang.specs.Meaning.{bucket_by, remainder}
+use Rattle.rule_lang.specs.Meaning.{bucket_by, cell_asked, remainder}
 use Rattle.rule_lang.specs.Shapes.{array_named, quota_of}
 use Rattle.rule_lang.specs.Trees.{Tree, Asked, Negated, Both, Either, trees_from, with_step}
 use Rattle.rule_lang.specs.declared.condition.Step.{Step}
@@ -19,7 +19,7 @@ use Rattle.rule_lang.specs.declared.test.Comparison.{Comparison}
 use Rattle.rule_lang.specs.declared.test.Comparison.TheVariants.{Lt, Le, Eq, Ne, Ge, Gt}
 use Rattle.rule_lang.specs.declared.test.Test.{Test}
 use Rattle.rule_lang.specs.declared.test.Test.TheVariants as test
-use Rattle.reasons.specs.Ending.{alone, holds_on, value_found}
+use Rattle.reasons.specs.Ending.{holds_on, value_at}
 use Rattle.reasons.specs.Reading.{Reading, read_behind, read_one, read_steps, read_tree}
 use Rattle.reasons.specs.Texts as texts
 use Rattle.reasons.proofs.Plain.{IsPlain, joined, chosen, in_quotes, known, number}
@@ -218,7 +218,7 @@ module _ (a : Attributes) (s : AppShape) where
       → IsPlain (read_tree a s counters c).text
   tree_is_plain counters (Asked line t) plain =
       joined (test_is_plain t plain)
-      (truth_is_plain (value_found counters (alone a s t)) (holds_on a s counters t) t)
+      (truth_is_plain (value_at counters (cell_asked s t)) (holds_on a s counters t) t)
   tree_is_plain counters (Negated c) plain =
       joined (joined (known (codes "not (") refl) (tree_is_plain counters c plain))
       (known (codes ")") refl)

@@ -4,19 +4,18 @@ use Rattle.std.specs.Prelude.{Option, Some, None, option_and_then, codes}
 use Rattle.std.specs.Prelude.{Bool, true, false, not, if◌then◌else◌}
 use Rattle.attrs.specs.Attributes.{Attributes}
 use Rattle.cells.specs.Arrays.{AppShape}
+use Rattle.rule_lang.specs.Meaning.{cell_asked}
 use Rattle.rule_lang.specs.Trees.{Tree, Asked, Negated, Both, Either, trees_from, with_step}
 use Rattle.rule_lang.specs.declared.condition.Step.{Step}
 use Rattle.rule_lang.specs.declared.condition.Step.TheVariants as step
 use Rattle.rule_lang.specs.declared.test.Test.{Test}
-use Rattle.reasons.specs.Ending.{holds_on}
+use Rattle.reasons.specs.Ending.{left_at}
 use Rattle.reasons.specs.Reading.{Reading, read_behind, read_one, read_steps, read_tree}
 use Rattle.reasons.specs.Stack.{Part, Stacked, after_steps, followed, given_back, negated}
 use Rattle.reasons.specs.Stack.{stacked, stepped, tested}
-use Rattle.reasons.specs.Texts.{tested_text, negated_text}
-use Rattle.reasons.specs.Truth.{cell_asked, left_at, value_at}
+use Rattle.reasons.specs.Texts.{negated_text}
 use Rattle.reasons.proofs.Back.{back_by_parts, test_is_back}
 use Rattle.reasons.proofs.Conditions.{if_not}
-use Rattle.reasons.proofs.Truths.{is_asked}
 
 -- a part on the stack has what is told: it was read on counters of these values, has left them so,
 -- and its takes can be given back
@@ -65,16 +64,12 @@ module _ (a : Attributes) (s : AppShape) (first : List ℕ) where
   test_is : (counters : List ℕ) (line : ℕ) (t : Test)
       → IsPartOf (read_tree a s counters (Asked line t)) counters (tested a s counters t)
       (left_at counters (cell_asked s t))
-  test_is counters line t =
-      let is = is_asked a s counters t in
-      let value = value_at counters (cell_asked s t) in record {
-        text =
-            sym (ap (λ v. tested_text a s v (holds_on a s counters t) t) is.value
-            ∙ ap (λ h. tested_text a s value h t) is.holds);
-        holds = sym is.holds;
-        left = sym is.left;
-        back = test_is_back counters (cell_asked s t);
-      }
+  test_is counters line t = record {
+    text = refl;
+    holds = refl;
+    left = refl;
+    back = test_is_back counters (cell_asked s t);
+  }
 
   -- of two parts the second is asked, or it isn't
   joined_is : {ts : List Tree} {ps : List Part} {old mid new : List ℕ} (c : Tree)

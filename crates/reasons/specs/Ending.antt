@@ -1,12 +1,14 @@
 -- What a rule's behaviour comes to on counters of some values, each of which replies by its value.
-use Rattle.std.specs.Prelude.{ℕ, List, slice_index, slice_set, Bool, All, ◌==◌}
+use Rattle.std.specs.Prelude.{ℕ, List, slice_index, slice_set, Bool, All, Option, Some, None}
 use Rattle.attrs.specs.Attributes.{Attributes}
 use Rattle.cells.specs.Arrays.{AppShape}
 use Rattle.cells.specs.Events.{after, limit, reply_of, CanReply, IsEvent}
 use Rattle.cells.specs.Grown.{GrewBy}
 use Rattle.cells.specs.declared.event.CellOp.{CellOp}
+use Rattle.cells.specs.declared.event.CellOp.TheVariants.{Add}
 use Rattle.cells.specs.declared.event.CellEvent.{CellEvent}
-use Rattle.rule_lang.specs.Meaning.{Behaviour, Chooses, Asks, HasTrace, behaviour, test_then}
+use Rattle.rule_lang.specs.Meaning.{Behaviour, Chooses, Asks, HasTrace, behaviour}
+use Rattle.rule_lang.specs.Meaning.{cell_asked, test_holds}
 use Rattle.rule_lang.specs.declared.rule.Statement.{Statement}
 use Rattle.rule_lang.specs.declared.test.Test.{Test}
 
@@ -30,22 +32,19 @@ ending_on counters (Chooses k) = ending k counters
 ending_on counters (Asks cell op next) =
     ending_on (counters_after counters cell op) (next (reply_of (slice_index counters cell) op))
 
--- the value of the counter that a behaviour asks first, and 0 where it asks none
-abbrev pub value_found : (counters : List ℕ) → Behaviour → ℕ
-value_found counters (Chooses k) = 0
-value_found counters (Asks cell op next) = slice_index counters cell
+-- the value of a cell, if there is one, and else 0: what a test that asks it is replied
+abbrev pub value_at : (counters : List ℕ) → Option ℕ → ℕ
+value_at counters (Some cell) = slice_index counters cell
+value_at counters None = 0
 
--- a test by itself: it chooses 1 where the test holds, and else 0
-abbrev pub alone : Attributes → AppShape → Test → Behaviour
-alone a s t = test_then a s t (Chooses 1) (Chooses 0)
+-- the counters once 1 was added to it
+abbrev pub left_at : (counters : List ℕ) → Option ℕ → List ℕ
+left_at counters (Some cell) = counters_after counters cell (Add 1)
+left_at counters None = counters
 
 -- whether a test holds on counters of these values
 abbrev pub holds_on : Attributes → AppShape → (counters : List ℕ) → Test → Bool
-holds_on a s counters t = (ending_on counters (alone a s t)).choice == 1
-
--- how it leaves them
-abbrev pub left_by : Attributes → AppShape → (counters : List ℕ) → Test → List ℕ
-left_by a s counters t = (ending_on counters (alone a s t)).counters
+holds_on a s counters t = test_holds a s (value_at counters (cell_asked s t)) t
 
 -- what a rule comes to is what it means: there are events that are a trace of its meaning, by which
 -- the counters come to the values that it leaves; each reply fits its counter

@@ -3,5 +3,4 @@ pub mod Quoted
 pub mod Texts
 pub mod Reading
 pub mod Told
-pub mod Truth
 pub mod Stack

@@ -4,10 +4,11 @@ use Rattle.std.specs.Prelude.{ℕ, List, [], ◌∷◌, ◌++◌, codes, Option,
 use Rattle.std.specs.Prelude.{Bool, false, not, if◌then◌else◌}
 use Rattle.attrs.specs.Attributes.{Attributes}
 use Rattle.cells.specs.Arrays.{AppShape}
+use Rattle.rule_lang.specs.Meaning.{cell_asked}
 use Rattle.rule_lang.specs.Trees.{Tree, Asked, Negated, Both, Either, trees_from}
 use Rattle.rule_lang.specs.declared.condition.Step.{Step}
 use Rattle.rule_lang.specs.declared.test.Test.{Test}
-use Rattle.reasons.specs.Ending.{alone, holds_on, left_by, value_found}
+use Rattle.reasons.specs.Ending.{holds_on, left_at, value_at}
 use Rattle.reasons.specs.Texts.{tested_text, negated_text}
 
 -- the text of what is told, whether the condition holds, and the values of the counters then
@@ -29,9 +30,9 @@ module _ (a : Attributes) (s : AppShape) where
   -- a test
   abbrev pub read_test : (counters : List ℕ) → Test → Reading
   read_test counters t = record {
-    text = tested_text a s (value_found counters (alone a s t)) (holds_on a s counters t) t;
+    text = tested_text a s (value_at counters (cell_asked s t)) (holds_on a s counters t) t;
     holds = holds_on a s counters t;
-    counters = left_by a s counters t;
+    counters = left_at counters (cell_asked s t);
   }
 
   -- the second part of `and` is asked where the first holds, and that of `or` where it doesn't

@@ -2,16 +2,28 @@
 -- newest first. The second part of `and` and `or` is read before it is known whether it is asked.
 -- Where it isn't, its takes are given back. No public clause cites this: what is promised stands in
 -- Reading.antt, and that the stack comes to it is proved.
-use Rattle.std.specs.Prelude.{ℕ, List, [], ◌∷◌, ◌++◌, codes, slice_set}
+use Rattle.std.specs.Prelude.{ℕ, List, [], ◌∷◌, ◌++◌, codes, slice_index, slice_set}
 use Rattle.std.specs.Prelude.{Option, Some, None, option_and_then}
 use Rattle.std.specs.Prelude.{Bool, true, false, not, if◌then◌else◌}
 use Rattle.attrs.specs.Attributes.{Attributes}
 use Rattle.cells.specs.Arrays.{AppShape}
+use Rattle.rule_lang.specs.Meaning.{cell_asked}
 use Rattle.rule_lang.specs.declared.condition.Step.{Step}
 use Rattle.rule_lang.specs.declared.condition.Step.TheVariants as step
 use Rattle.rule_lang.specs.declared.test.Test.{Test}
+use Rattle.reasons.specs.Ending.{holds_on, left_at, value_at}
 use Rattle.reasons.specs.Texts.{tested_text, negated_text}
-use Rattle.reasons.specs.Truth.{CellTake, cell_asked, left_at, taken_at, truth_of, value_at}
+
+-- a cell that was taken from, and its value before
+pub record CellTake : Type 0 where
+  pub cell : ℕ
+  pub value : ℕ
+
+-- the take from a cell, if there is one
+abbrev pub taken_at : (counters : List ℕ) → Option ℕ → List CellTake
+taken_at counters (Some cell) =
+    record { cell = cell; value = slice_index counters cell } ∷ []
+taken_at counters None = []
 
 -- what was read of a part: its text, whether it holds, and its takes in their order
 pub record Part : Type 0 where
@@ -65,9 +77,9 @@ join_two goes_on ps counters = None
 module _ (a : Attributes) (s : AppShape) where
   -- what is read of a test
   abbrev pub tested : (counters : List ℕ) → Test → Part
-  tested counters t = let value = value_at counters (cell_asked s t) in record {
-    text = tested_text a s value (truth_of a s value t) t;
-    holds = truth_of a s value t;
+  tested counters t = record {
+    text = tested_text a s (value_at counters (cell_asked s t)) (holds_on a s counters t) t;
+    holds = holds_on a s counters t;
     taken = taken_at counters (cell_asked s t);
   }
 

@@ -7,7 +7,7 @@ use Rattle.attrs.specs.Attributes.{Attributes}
 use Rattle.cells.specs.Arrays.{AppShape}
 use Rattle.cells.specs.Events.{AreCells}
 use Rattle.cells.specs.declared.event.CellOp.TheVariants.{Add}
-use Rattle.rule_lang.specs.Meaning.{behaviour, Behaviour, decide, test_then}
+use Rattle.rule_lang.specs.Meaning.{behaviour, Behaviour, cell_asked, decide, test_then}
 use Rattle.rule_lang.specs.Shapes.{array_named, cell_of}
 use Rattle.rule_lang.specs.Tokens.{Text}
 use Rattle.rule_lang.specs.Trees.{Tree}
@@ -18,7 +18,7 @@ use Rattle.rule_lang.specs.declared.rule.Statement.{Statement}
 use Rattle.rule_lang.specs.declared.rule.Statement.TheVariants.{Count, When}
 use Rattle.rule_lang.specs.declared.test.Test.{Test}
 use Rattle.printing.specs.Printed.{is_control}
-use Rattle.reasons.specs.Ending.{IsMeant, counters_after, ending, ending_on, holds_on, left_by}
+use Rattle.reasons.specs.Ending.{IsMeant, counters_after, ending, ending_on, holds_on, left_at}
 use Rattle.reasons.specs.Reading.{read_steps, read_tree}
 
 -- the number of the line of a condition's first test, which may stand below its `when`
@@ -105,7 +105,8 @@ pub record TellsRule (a : Attributes) (s : AppShape) (rule : List Statement) (ol
 abbrev pub TruthsAreSo : Type 0
 TruthsAreSo = (a : Attributes) (s : AppShape) (counters : List ℕ) (t : Test)
     (met unmet : Behaviour) → ending_on counters (test_then a s t met unmet)
-    ≡ ending_on (left_by a s counters t) (if holds_on a s counters t then met else unmet)
+    ≡ ending_on (left_at counters (cell_asked s t))
+    (if holds_on a s counters t then met else unmet)
 
 -- so a condition that is decided goes on where it is told to hold, and else where it isn't
 abbrev pub ConditionsAreSo : Type 0

@@ -1,52 +1,18 @@
 //! What a test found: what an app has where it asks, or the value of its counter.
 
-ghost use Rattle.std.specs.Prelude.{◌≡◌, OnOk, option_copied};
+ghost use Rattle.std.specs.Prelude.{OnOk};
 ghost use Rattle.printing.specs.Pushed.{Puts};
-ghost use Rattle.rule_lang.specs.Meaning as meaning;
-ghost use Rattle.rule_lang.specs.Shapes as shapes;
 ghost use Rattle.reasons.specs.Texts as texts;
 
 use crate::quoted::push_quoted;
 use crate::test_text::push_test;
 use crate::words::push_numbers;
-use attrs::{Attribute, Attrs, Context, helper_bucket};
-use cells::{CellArray, Shape};
-use rule_lang::{Test, array_named};
+use attrs::{Attribute, Attrs, Context};
+use cells::Shape;
+use rule_eval::{bucket_tested, quota_named};
+use rule_lang::Test;
 use std::alloc::AllocError;
 use std::fmt::Write;
-
-// The bucket, or that of a salt's own.
-fn bucket_by(attrs: &Attrs, salt: Option<u64>) -> u64
-    ensures { result ≡ meaning.bucket_by attrs.now salt }
-{
-    match salt {
-        None => attrs.context().bucket as u64,
-        Some(salt) => helper_bucket(attrs, salt),
-    }
-}
-
-/// The bucket that a test compares: the app's, or that of a salt's own; with a modulus its
-/// remainder.
-pub(crate) fn bucket_found(attrs: &Attrs, salt: Option<u64>, modulus: Option<u32>) -> u64
-    ensures { result ≡ meaning.remainder modulus (meaning.bucket_by attrs.now salt) }
-{
-    let number = bucket_by(attrs, salt);
-    match modulus {
-        None => number,
-        Some(0) => number,
-        Some(modulus) => number % modulus as u64,
-    }
-}
-
-/// The quota of an array; 0 without one.
-pub(crate) fn quota_of(array: Option<&CellArray>) -> u64
-    ensures { result ≡ shapes.quota_of (option_copied array.entry) }
-{
-    match array {
-        Some(array) => array.quota.unwrap_or(0),
-        None => 0,
-    }
-}
 
 /// Adds a test with its truth, and with what was found. Of a take `value` is the cell's value
 /// before.
@@ -90,11 +56,7 @@ fn push_held(text: &mut String, shape: &Shape, value: u64, test: &Test) -> Resul
     match test {
         Test::Take { array, .. } => {
             text.push_str(": yes")?;
-            push_value(
-                text,
-                value,
-                quota_of(array_named(shape.arrays(), array.as_str())),
-            )
+            push_value(text, value, quota_named(shape, array.as_str()))
         }
         _ => text.push_str(" yes"),
     }
@@ -116,7 +78,7 @@ fn push_found(
             push_numbers(text, attrs.context().version)
         }
         Test::Bucket { salt, modulus, .. } => {
-            let bucket = bucket_found(attrs, *salt, *modulus);
+            let bucket = bucket_tested(attrs, *salt, *modulus);
             write!(text, ", {bucket}")
         }
         Test::Today { .. } => {
@@ -129,13 +91,7 @@ fn push_found(
         }
         Test::Flag(_) => Ok(()),
         Test::Attr { attribute, .. } => push_text(text, attrs, *attribute),
-        Test::Take { array, .. } => {
-            push_value(
-                text,
-                value,
-                quota_of(array_named(shape.arrays(), array.as_str())),
-            )
-        }
+        Test::Take { array, .. } => { push_value(text, value, quota_named(shape, array.as_str())) }
     }
 }
 

@@ -19,7 +19,6 @@
 mod condition;
 mod counters;
 mod found;
-mod holding;
 mod law;
 mod line;
 mod part;

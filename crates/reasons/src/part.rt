@@ -2,15 +2,16 @@
 
 ghost use Rattle.std.specs.Prelude.{◌≡◌, ◌++◌, IfOk, OnOk, string_bytes};
 ghost use Rattle.printing.specs.Pushed.{Puts};
+ghost use Rattle.reasons.specs.Ending.{left_at, value_at};
 ghost use Rattle.reasons.specs.Stack as specs;
 ghost use Rattle.reasons.specs.Texts as texts;
-ghost use Rattle.reasons.specs.Truth as truth;
+ghost use Rattle.rule_lang.specs.Meaning as meaning;
 
 use crate::counters::{CellTake, cell_of, take_one};
 use crate::found::push_tested;
-use crate::holding::holds;
 use attrs::Attrs;
 use cells::{PlainPass, Shape};
+use rule_eval::test_holds;
 use rule_lang::{Test, array_named};
 use std::alloc::{AllocError, Global};
 use std::fmt::Write;
@@ -40,7 +41,7 @@ impl Model for Part {
 
 // The cell that a test takes from.
 fn cell_asked(shape: &Shape, test: &Test) -> Option<u32>
-    ensures { result ≡ truth.cell_asked shape.now test.now }
+    ensures { result ≡ meaning.cell_asked shape.now test.now }
 {
     match test {
         Test::Take { array, index } => {
@@ -56,10 +57,10 @@ fn ask_cell(
     cell: Option<u32>,
     taken: &mut Vec<CellTake>,
 ) -> Result<u64, AllocError>
-    ensures value { IfOk result (λ value. value ≡ truth.value_at counters.old cell) }
-    ensures left { OnOk result (counters.new ≡ truth.left_at counters.old cell) }
+    ensures value { IfOk result (λ value. value ≡ value_at counters.old cell) }
+    ensures left { OnOk result (counters.new ≡ left_at counters.old cell) }
     ensures taken { OnOk result
-        (taken.new.items ≡ taken.old.items ++ truth.taken_at counters.old cell) }
+        (taken.new.items ≡ taken.old.items ++ specs.taken_at counters.old cell) }
 {
     let Some(cell) = cell else {
         return Ok(0);
@@ -80,11 +81,11 @@ pub(crate) fn read_test(
     ensures part { IfOk result (λ p.
         p ≡ specs.tested attrs.now shape.now counters.old test.now) }
     ensures left { OnOk result
-        (counters.new ≡ truth.left_at counters.old (truth.cell_asked shape.now test.now)) }
+        (counters.new ≡ left_at counters.old (meaning.cell_asked shape.now test.now)) }
 {
     let mut taken = Vec::new(alloc);
     let value = ask_cell(counters, cell_asked(shape, test), &mut taken)?;
-    let holds = holds(attrs, shape, value, test);
+    let holds = test_holds(attrs, shape, value, test);
     let mut text = String::new(alloc);
     push_tested(&mut text, attrs, shape, value, holds, test)?;
     Ok(Part { text, holds, taken })

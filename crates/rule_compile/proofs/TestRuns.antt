@@ -1,7 +1,7 @@
 -- Each test's code runs as the test says.
 use Rattle.std.proofs.Common.{◌≡◌, ℕ, ◌<◌, ◌≤◌, ◌^◌, List, [], ◌∷◌, length, Option, Some, None}
 use Rattle.std.proofs.Common.{Bool, true, false, refl, sym, ap, subst, ◌∙◌, arith}
-use Rattle.std.specs.Prelude.{nat_le, ◌==◌, bytes_eq, slice_index, if◌then◌else◌}
+use Rattle.std.specs.Prelude.{nat_le, ◌==◌, bit_and, bytes_eq, slice_index, if◌then◌else◌}
 use Rattle.std.specs.Int.{w32}
 use Rattle.std.specs.List.{list_all}
 use Rattle.std.specs.Ordering.{nat_cmp}
@@ -36,6 +36,7 @@ use Rattle.rule_compile.proofs.Runs.{Comes, Nothing, Reads}
 use Rattle.rule_compile.proofs.Fields.{FitFields, today_reads, installed_reads}
 use Rattle.rule_compile.proofs.Fields.{first_reads, second_reads, third_reads, fourth_reads}
 use Rattle.rule_compile.proofs.Compares.{IsRelation, by_sense, field_runs, flag_runs, bucket_runs}
+use Rattle.rule_compile.proofs.Compares.{turned_if}
 use Rattle.rule_compile.proofs.VersionWords.{AreRead, equal_runs, order_runs}
 use Rattle.rule_compile.proofs.CounterPieces.{take_runs}
 use Rattle.rule_compile.proofs.StackTexts.{AreBytes}
@@ -209,8 +210,11 @@ module _ (p : ShapedProgram) (a : Attributes) (fit : FitFields a) (shape : IsSha
       field_test Word 20 a.context.install_day r n sense l q choice x y
       (installed_reads p a fit) fit.install_day range to on
   test_runs (test.Flag f) sense l q choice x y range fits within to on =
-      let small = flag_small f in flag_runs p a fit (flag_bit f) sense l q choice x y
-      (omega (arith, small)) to on
+      let small = flag_small f in
+      subst (Goes (code.flag_code (flag_bit f) sense l q) choice)
+      (sym (turned_if (bit_and a.context.flags (flag_bit f) == 0) (if sense then x else y)
+      (if sense then y else x)))
+      (flag_runs p a fit (flag_bit f) sense l q choice x y (omega (arith, small)) to on)
   test_runs (test.Attr n text) sense l q choice x y range fits within to on =
       subst (Goes (code.attribute_code (attribute_number n) text sense l q) choice)
       (asked_text (attribute a (attribute_number n)) text (if sense then x else y)

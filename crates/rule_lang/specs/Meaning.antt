@@ -2,7 +2,7 @@
 -- asked from left to right, until it is decided; so its meaning is what comes next.
 use Rattle.std.specs.Prelude.{◌≡◌, ℕ, ◌<◌, ◌^◌, ◌%◌, List, [], ◌∷◌, Option, Some, None}
 use Rattle.std.specs.Prelude.{slice_index}
-use Rattle.std.specs.Prelude.{Bool, true, false, nat_lt, ◌==◌, bit_and, if◌then◌else◌}
+use Rattle.std.specs.Prelude.{Bool, true, false, not, nat_lt, ◌==◌, bit_and, if◌then◌else◌}
 use Rattle.std.specs.Ordering.{nat_cmp, ordering_then}
 use Rattle.std.specs.declared.cmp.Ordering.{Ordering}
 use Rattle.std.specs.declared.cmp.Ordering.TheVariants.{Less, Equal, Greater}
@@ -75,28 +75,31 @@ HasTrace (Asks cell op next) (e ∷ es) choice =
 
 -- ---- tests and conditions
 
--- one Add of 1, whose reply is below the quota
-abbrev pub take_then : (cell quota : ℕ) → Behaviour → Behaviour → Behaviour
-take_then cell quota met unmet =
-    Asks cell (Add 1) (λ reply. if nat_lt reply quota then met else unmet)
+-- whether a test holds; a take by what its cell replied
+abbrev pub test_holds : Attributes → AppShape → (reply : ℕ) → the_test.Test → Bool
+test_holds a s reply (test.Version r w) = allows r (version_cmp a.context.version w)
+test_holds a s reply (test.Bucket salt modulus r n) =
+    allows r (nat_cmp (remainder modulus (bucket_by a salt)) n)
+test_holds a s reply (test.Today r n) = allows r (nat_cmp a.context.today n)
+test_holds a s reply (test.Installed r n) = allows r (nat_cmp a.context.install_day n)
+test_holds a s reply (test.Flag f) = not (bit_and a.context.flags (flag_bit f) == 0)
+test_holds a s reply (test.Attr n text) = attr_is a (attribute_number n) text == 1
+test_holds a s reply (test.Take name index) = nat_lt reply (quota_of (array_named name s.arrays))
+
+-- the cell that a test asks: only a take asks one
+abbrev pub cell_asked : AppShape → the_test.Test → Option ℕ
+cell_asked s (test.Take name index) = Some (cell_of (array_named name s.arrays) index)
+cell_asked s t = None
+
+-- one Add of 1 to the cell, and what comes by its reply; without a cell that is 0
+abbrev pub asks_then : Option ℕ → (ℕ → Behaviour) → Behaviour
+asks_then (Some cell) next = Asks cell (Add 1) next
+asks_then None next = next 0
 
 -- what comes where a test holds, or where it doesn't
 abbrev pub test_then : Attributes → AppShape → the_test.Test → Behaviour → Behaviour → Behaviour
-test_then a s (test.Version r w) met unmet =
-    if allows r (version_cmp a.context.version w) then met else unmet
-test_then a s (test.Bucket salt modulus r n) met unmet =
-    if allows r (nat_cmp (remainder modulus (bucket_by a salt)) n) then met else unmet
-test_then a s (test.Today r n) met unmet =
-    if allows r (nat_cmp a.context.today n) then met else unmet
-test_then a s (test.Installed r n) met unmet =
-    if allows r (nat_cmp a.context.install_day n) then met else unmet
-test_then a s (test.Flag f) met unmet =
-    if bit_and a.context.flags (flag_bit f) == 0 then unmet else met
-test_then a s (test.Attr n text) met unmet =
-    if attr_is a (attribute_number n) text == 1 then met else unmet
-test_then a s (test.Take name index) met unmet =
-    let array = array_named name s.arrays in
-    take_then (cell_of array index) (quota_of array) met unmet
+test_then a s t met unmet =
+    asks_then (cell_asked s t) (λ reply. if test_holds a s reply t then met else unmet)
 
 -- a condition, from left to right, until it is decided: what comes where it holds, and where it
 -- doesn't

@@ -1,8 +1,8 @@
 -- What a test comes to, for an app of those for which it was asked, is what it may come to.
 use Rattle.std.proofs.Common.{◌≡◌, ℕ, ◌<◌, ◌≤◌, ◌%◌, List, [], ◌∷◌, ◌++◌, ◌⊎◌, inl, inr, Option}
-use Rattle.std.proofs.Common.{Some, None, Bool, true, false, not, ◌||◌, ◌==◌, cond}
+use Rattle.std.proofs.Common.{Some, None, Bool, true, false, not, ◌||◌, cond}
 use Rattle.std.proofs.Common.{refl, sym, ap, ◌∙◌, arith}
-use Rattle.std.specs.Prelude.{nat_lt, bit_and, min}
+use Rattle.std.specs.Prelude.{min}
 use Rattle.std.specs.Cmp.{nat_cmp_is}
 use Rattle.std.specs.Int.{w64, to_le_bytes}
 use Rattle.std.specs.Ordering.{nat_cmp}
@@ -11,17 +11,14 @@ use Rattle.std.proofs.lemmas.Bool.{cases_order, or_left, or_right}
 use Rattle.attrs.specs.Attributes.{Attributes}
 use Rattle.attrs.specs.Bucket.{four_digits}
 use Rattle.attrs.specs.Hash.{fnv1a}
-use Rattle.attrs.specs.Helpers.{attr_is}
 use Rattle.cells.specs.Arrays.{AppShape}
 use Rattle.cells.specs.declared.event.CellEvent.{CellEvent}
-use Rattle.attrs.specs.Vocabulary.{attribute_number, flag_bit}
 use Rattle.rule_lang.specs.declared.test.Comparison.{Comparison}
 use Rattle.rule_lang.specs.declared.test.Test.{Test}
 use Rattle.rule_lang.specs.declared.test.Test.TheVariants as test
-use Rattle.rule_lang.specs.Meaning.{Behaviour, HasTrace, allows}
-use Rattle.rule_lang.specs.Meaning.{bucket_by}
-use Rattle.rule_lang.specs.Meaning.{remainder, take_then, test_then, version_cmp}
-use Rattle.rule_lang.specs.Shapes.{array_named, cell_of, quota_of}
+use Rattle.rule_lang.specs.Meaning.{Behaviour, HasTrace, allows, asks_then, bucket_by}
+use Rattle.rule_lang.specs.Meaning.{remainder, test_holds, test_then, version_cmp}
+use Rattle.rule_lang.specs.Shapes.{array_named, cell_of}
 use Rattle.warnings.specs.declared.possible.Possible.{Possible}
 use Rattle.warnings.specs.declared.spot.Spot.{Spot}
 use Rattle.warnings.specs.Possible.{day_possible, decided}
@@ -64,35 +61,24 @@ by_decided b c is =
 by_open : (b : Bool) → Comes undecided (λ m u. cond b m u)
 by_open b = by_truth b undecided (λ h. refl) (λ h. refl)
 
-by_flag : (b : Bool) → Comes undecided (λ m u. cond b u m)
-by_flag true = record {
-  no_met = λ h m n u. absurd cc;
-  no_unmet = λ h m u v. absurd cc;
-  leads = λ m u choice h. inr (refl, h);
-}
-by_flag false = record {
-  no_met = λ h m n u. absurd cc;
-  no_unmet = λ h m u v. absurd cc;
-  leads = λ m u choice h. inl (refl, h);
-}
-
 by_reply : (b : Bool) (m u : Behaviour) (choice : ℕ) → Leads (cond b m u) choice
     → ((true ≡ true) × Leads m choice) ⊎ ((true ≡ true) × Leads u choice)
 by_reply true m u choice h = inl (refl, h)
 by_reply false m u choice h = inr (refl, h)
 
-after_take : (cell quota : ℕ) (m u : Behaviour) (choice : ℕ)
-    → Leads (take_then cell quota m u) choice
+after_take : (cell : ℕ) (holds : ℕ → Bool) (m u : Behaviour) (choice : ℕ)
+    → Leads (asks_then (Some cell) (λ reply. cond (holds reply) m u)) choice
     → ((true ≡ true) × Leads m choice) ⊎ ((true ≡ true) × Leads u choice)
-after_take cell quota m u choice ([], h) = absurd h
-after_take cell quota m u choice (e ∷ events, h) =
-    by_reply (nat_lt e.reply quota) m u choice (events, h.3)
+after_take cell holds m u choice ([], h) = absurd h
+after_take cell holds m u choice (e ∷ events, h) =
+    by_reply (holds e.reply) m u choice (events, h.3)
 
-by_take : (cell quota : ℕ) → Comes undecided (take_then cell quota)
-by_take cell quota = record {
+by_take : (cell : ℕ) (holds : ℕ → Bool)
+    → Comes undecided (λ m u. asks_then (Some cell) (λ reply. cond (holds reply) m u))
+by_take cell holds = record {
   no_met = λ h m n u. absurd cc;
   no_unmet = λ h m u v. absurd cc;
-  leads = after_take cell quota;
+  leads = after_take cell holds;
 }
 
 -- one of three stands for a day
@@ -180,7 +166,8 @@ module _ (spot : Spot) (asked a : Attributes) (is : IsOneOf spot asked a) (s : A
   test_comes (test.Today r n) alike = by_day 2919382 r a.context.today n is.today
   test_comes (test.Installed r n) alike =
       by_day 4294967295 r a.context.install_day n is.install_day
-  test_comes (test.Flag f) alike = by_flag (bit_and a.context.flags (flag_bit f) == 0)
-  test_comes (test.Attr n text) alike = by_open (attr_is a (attribute_number n) text == 1)
+  test_comes (test.Flag f) alike = by_open (test_holds a s 0 (test.Flag f))
+  test_comes (test.Attr n text) alike = by_open (test_holds a s 0 (test.Attr n text))
   test_comes (test.Take name index) alike =
-      by_take (cell_of (array_named name s.arrays) index) (quota_of (array_named name s.arrays))
+      by_take (cell_of (array_named name s.arrays) index)
+      (λ reply. test_holds a s reply (test.Take name index))

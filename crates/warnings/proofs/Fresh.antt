@@ -1,30 +1,23 @@
 -- A run in which each counter replies 0.
 use Rattle.std.proofs.Common.{◌≡◌, ℕ, inl, inr, List, [], ◌∷◌, Option, Some, None, Bool, true}
 use Rattle.std.proofs.Common.{false, not}
-use Rattle.std.proofs.Common.{◌&&◌, ◌||◌, ◌==◌, cond, refl, sym, ap, ◌∙◌, subst, All, lit<}
-use Rattle.std.specs.Prelude.{nat_lt, bit_and}
-use Rattle.std.specs.Ordering.{nat_cmp}
+use Rattle.std.proofs.Common.{◌&&◌, ◌||◌, cond, refl, sym, ap, ◌∙◌, subst, All, lit<}
 use Rattle.std.proofs.lemmas.List.Elements.{All-cons, All-nil}
 use Rattle.std.proofs.lemmas.Bool.{and_parts, cases_Bool}
 use Rattle.attrs.specs.Attributes.{Attributes}
-use Rattle.attrs.specs.Helpers.{attr_is}
 use Rattle.cells.specs.Arrays.{AppShape}
 use Rattle.cells.specs.declared.event.CellEvent.{CellEvent}
 use Rattle.cells.specs.declared.event.CellOp.TheVariants.{Add}
-use Rattle.attrs.specs.Vocabulary.{attribute_number, flag_bit}
 use Rattle.rule_lang.specs.declared.rule.Statement.{Statement}
 use Rattle.rule_lang.specs.declared.rule.Statement.TheVariants.{Count, When}
 use Rattle.rule_lang.specs.declared.test.Test.{Test}
-use Rattle.rule_lang.specs.declared.test.Test.TheVariants as test
-use Rattle.rule_lang.specs.Meaning.{Asks, Behaviour, Chooses, HasTrace, allows}
-use Rattle.rule_lang.specs.Meaning.{behaviour, bucket_by, decide}
-use Rattle.rule_lang.specs.Meaning.{decide_one, remainder, take_then}
-use Rattle.rule_lang.specs.Meaning.{test_then, version_cmp}
-use Rattle.rule_lang.specs.Shapes.{array_named, cell_of, quota_of}
+use Rattle.rule_lang.specs.Meaning.{Asks, Behaviour, Chooses, HasTrace, asks_then, behaviour}
+use Rattle.rule_lang.specs.Meaning.{cell_asked, decide, decide_one, test_holds, test_then}
+use Rattle.rule_lang.specs.Shapes.{array_named, cell_of}
 use Rattle.rule_lang.specs.Trees.{Tree, Asked, Negated, Both, Either, trees_from}
 use Rattle.warnings.specs.declared.possible.Possible.{Possible}
 use Rattle.warnings.specs.Course.{first_offer}
-use Rattle.warnings.specs.Possible.{both, decided, either, holds_of, negated, one_possible}
+use Rattle.warnings.specs.Possible.{both, decided, either, negated, one_possible}
 use Rattle.warnings.specs.Possible.{steps_possible, tree_possible}
 
 -- ---- truth
@@ -89,42 +82,27 @@ by_truth false = record {
   unmet = λ is m u choice h. h;
 }
 
-by_flag : (b : Bool) → Goes (decided (not b)) (λ m u. cond b u m)
-by_flag true = record {
+by_reply : (cell : ℕ) (holds : ℕ → Bool)
+    → Goes (decided (holds 0)) (λ m u. Asks cell (Add 1) (λ reply. cond (holds reply) m u))
+by_reply cell holds = record {
   sure = refl;
-  met = λ is m u choice h. absurd cc;
-  unmet = λ is m u choice h. h;
-}
-by_flag false = record {
-  sure = refl;
-  met = λ is m u choice h. h;
-  unmet = λ is m u choice h. absurd cc;
+  met = λ is m u choice h. asks_on cell (λ reply. cond (holds reply) m u) choice
+      (subst (λ b. LeadsFresh (cond b m u) choice) (sym is) h);
+  unmet = λ is m u choice h. asks_on cell (λ reply. cond (holds reply) m u) choice
+      (subst (λ b. LeadsFresh (cond b m u) choice) (sym (twice_not (holds 0) ∙ ap not is)) h);
 }
 
-by_take : (cell quota : ℕ) → Goes (decided (nat_lt 0 quota)) (take_then cell quota)
-by_take cell quota = record {
-  sure = refl;
-  met = λ is m u choice h. asks_on cell (λ reply. cond (nat_lt reply quota) m u) choice
-      (subst (λ b. LeadsFresh (cond b m u) choice) (sym is) h);
-  unmet = λ is m u choice h. asks_on cell (λ reply. cond (nat_lt reply quota) m u) choice
-      (subst (λ b. LeadsFresh (cond b m u) choice)
-      (sym (twice_not (nat_lt 0 quota) ∙ ap not is)) h);
-}
+by_cell : (cell : Option ℕ) (holds : ℕ → Bool)
+    → Goes (decided (holds 0)) (λ m u. asks_then cell (λ reply. cond (holds reply) m u))
+by_cell None holds = by_truth (holds 0)
+by_cell (Some cell) holds = by_reply cell holds
 
 module _ (a : Attributes) (s : AppShape) where
   abbrev comes_of : Test → Possible
-  comes_of t = decided (holds_of a s t)
+  comes_of t = decided (test_holds a s 0 t)
 
   by_test : (t : Test) → Goes (comes_of t) (test_then a s t)
-  by_test (test.Version r w) = by_truth (allows r (version_cmp a.context.version w))
-  by_test (test.Bucket salt modulus r n) =
-      by_truth (allows r (nat_cmp (remainder modulus (bucket_by a salt)) n))
-  by_test (test.Today r n) = by_truth (allows r (nat_cmp a.context.today n))
-  by_test (test.Installed r n) = by_truth (allows r (nat_cmp a.context.install_day n))
-  by_test (test.Flag f) = by_flag (bit_and a.context.flags (flag_bit f) == 0)
-  by_test (test.Attr n text) = by_truth (attr_is a (attribute_number n) text == 1)
-  by_test (test.Take name index) =
-      by_take (cell_of (array_named name s.arrays) index) (quota_of (array_named name s.arrays))
+  by_test t = by_cell (cell_asked s t) (λ reply. test_holds a s reply t)
 
 -- ---- conditions
 

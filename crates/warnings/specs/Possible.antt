@@ -1,19 +1,15 @@
 -- What a condition may come to, for all apps in a bucket whose version lies somewhere, or for one
 -- app where each counter replies 0.
-use Rattle.std.specs.Prelude.{ℕ, List, [], ◌∷◌, Option, Some, nat_lt, min}
-use Rattle.std.specs.Prelude.{Bool, true, false, not, ◌==◌, ◌&&◌, ◌||◌, bit_and}
+use Rattle.std.specs.Prelude.{ℕ, List, [], ◌∷◌, Option, Some, min}
+use Rattle.std.specs.Prelude.{Bool, true, false, not, ◌&&◌, ◌||◌}
 use Rattle.std.specs.Ordering.{nat_cmp}
 use Rattle.attrs.specs.Attributes.{Attributes}
-use Rattle.attrs.specs.Helpers.{attr_is}
 use Rattle.cells.specs.Arrays.{AppShape}
-use Rattle.attrs.specs.Vocabulary.{attribute_number, flag_bit}
 use Rattle.rule_lang.specs.declared.condition.Step.{Step}
 use Rattle.rule_lang.specs.declared.test.Comparison.{Comparison}
 use Rattle.rule_lang.specs.declared.test.Test.{Test}
 use Rattle.rule_lang.specs.declared.test.Test.TheVariants as test
-use Rattle.rule_lang.specs.Meaning.{allows, bucket_by}
-use Rattle.rule_lang.specs.Meaning.{remainder, version_cmp}
-use Rattle.rule_lang.specs.Shapes.{array_named, quota_of}
+use Rattle.rule_lang.specs.Meaning.{allows, test_holds}
 use Rattle.rule_lang.specs.Trees.{Tree, Asked, Negated, Both, Either, trees_from}
 use Rattle.warnings.specs.declared.possible.Possible.{Possible}
 use Rattle.warnings.specs.declared.possible.Asker.{Asker}
@@ -29,17 +25,6 @@ abbrev pub undecided : Possible
 undecided = record { holds = true; fails = true }
 
 -- ---- tests
-
--- whether a test holds for an app that says this, where each counter replies 0
-abbrev pub holds_of : Attributes → AppShape → Test → Bool
-holds_of a s (test.Version r w) = allows r (version_cmp a.context.version w)
-holds_of a s (test.Bucket salt modulus r n) =
-    allows r (nat_cmp (remainder modulus (bucket_by a salt)) n)
-holds_of a s (test.Today r n) = allows r (nat_cmp a.context.today n)
-holds_of a s (test.Installed r n) = allows r (nat_cmp a.context.install_day n)
-holds_of a s (test.Flag f) = not (bit_and a.context.flags (flag_bit f) == 0)
-holds_of a s (test.Attr n text) = attr_is a (attribute_number n) text == 1
-holds_of a s (test.Take name index) = nat_lt 0 (quota_of (array_named name s.arrays))
 
 -- the last day on which a server is asked, that of 9999-12-31
 abbrev pub last_today : ℕ
@@ -65,14 +50,14 @@ day_possible last r n =
 abbrev pub open_possible : Spot → Attributes → AppShape → Test → Possible
 open_possible spot a s (test.Version r w) = decided (allows r (spot_cmp spot (spot_at w)))
 open_possible spot a s (test.Bucket salt modulus r n) =
-    decided (holds_of a s (test.Bucket salt modulus r n))
+    decided (test_holds a s 0 (test.Bucket salt modulus r n))
 open_possible spot a s (test.Today r n) = day_possible last_today r n
 open_possible spot a s (test.Installed r n) = day_possible last_install_day r n
 open_possible spot a s t = undecided
 
 abbrev pub test_possible : Asker → Attributes → AppShape → Test → Possible
 test_possible (AllAt spot) a s t = open_possible spot a s t
-test_possible One a s t = decided (holds_of a s t)
+test_possible One a s t = decided (test_holds a s 0 t)
 
 -- ---- conditions
 

@@ -4,11 +4,11 @@ ghost use Rattle.std.specs.Prelude.{◌≡◌, IfOk, Some, option_copied};
 ghost use Rattle.warnings.specs.Asking as specs;
 
 use crate::course::first_offer;
-use crate::holding::{allows, compare_versions};
 use crate::possible::{Asker, Possible};
 use attrs::{Attrs, Bucket, read_version};
 use cells::Shape;
 use releases::Release;
+use rule_eval::{allows, compare_versions};
 use rule_lang::{Comparison, Statement};
 use std::alloc::{AllocError, Global};
 

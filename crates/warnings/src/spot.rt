@@ -4,7 +4,7 @@ ghost use Rattle.std.specs.Prelude.{◌≡◌, OnOk, IfOk};
 ghost use Rattle.std.specs.Ordering.{bool_cmp, is_eq};
 ghost use Rattle.warnings.specs.Spots as specs;
 
-use crate::holding::compare_versions;
+use rule_eval::compare_versions;
 use rule_lang::{Statement, Step, Test};
 use std::alloc::{AllocError, Global};
 use std::cmp::Ordering;
