@@ -14,7 +14,8 @@ from pathlib import Path
 from hosts import DEPLOY, Skipped, called, needs
 from launching import BARE, BUILT_FROM, ROOT, Repository
 
-SHARED = ["README.md", "CHANGELOG.md", "VERSION", "built-from", "docs/internals/COSTS.md"]
+SHARED = ["README.md", "CHANGELOG.md", "VERSION", "built-from"]
+SHARED += ["docs/internals/COSTS.md", "docs/reference/README.md"]
 SHARED += ["examples/one.rule", *(f"examples/deploy/{it.name}" for it in DEPLOY.iterdir())]
 INSTALLED = {"bin/rollout", "libexec/rollout", *(f"share/rollout/{it}" for it in SHARED)}
 PORTS = [18098, 18099]
@@ -61,7 +62,9 @@ def not_installed(one, place):
     (place / "libexec" / "rollout").mkdir()
     (one.away / "file").touch()
     before = tree(one.away)
-    for words in ("place", "file", "file/place"):
+    for words in ("place", "file", "file/place", "no reference"):
+        if words == "no reference":
+            (one.top / "docs" / "check.py").write_text("raise SystemExit(1)\n")
         status, _, lines = one.build("--install", words)
         if status != 1 or len(lines) != 1 or "nothing is installed" not in lines[0]:
             return f"where it can't be written: {status} {lines}"

@@ -6,12 +6,14 @@ is set in its place. Where a step fails those before it are undone.
 import contextlib
 import os
 import shutil
+import subprocess
 import sys
 
 from building.crates import BUILT, PROGRAM, ROOT, say
 from building.version import BUILT_FROM
 
 SHARE = "share/rollout"
+DOCS = ROOT / "docs"
 # The program comes last: it is replaced in one step, with nothing behind it that could fail. A
 # server that runs goes on with the file that it has.
 PLACES = {
@@ -19,13 +21,14 @@ PLACES = {
     f"{SHARE}/CHANGELOG.md": ROOT / "CHANGELOG.md",
     f"{SHARE}/VERSION": ROOT / "VERSION",
     f"{SHARE}/built-from": BUILT_FROM,
-    f"{SHARE}/docs": ROOT / "docs",
+    f"{SHARE}/docs": DOCS,
     f"{SHARE}/examples": ROOT / "examples",
     "bin/rollout": ROOT / "building" / "installed",
     "libexec/rollout": BUILT / PROGRAM,
 }
-# What checks the pages stays with the sources.
-LEFT_OUT = shutil.ignore_patterns("*.py", "checking", "__pycache__")
+# What checks the pages stays with the sources, and a reference that somebody wrote there, too: it may
+# be of other sources.
+LEFT_OUT = shutil.ignore_patterns("*.py", "checking", "__pycache__", "reference")
 
 
 def beside(place, ending):
@@ -54,6 +57,13 @@ def make_folder(folder, undo):
         open_to_all(folder)
 
 
+def write_reference(folder):
+    """The pages of contracts and definitions, which aren't in git, from the sources as they are."""
+    words = [sys.executable, "-B", "-X", "utf8", DOCS / "check.py", "--write", folder]
+    if subprocess.run(words).returncode:
+        raise OSError("docs/check.py doesn't write the reference")
+
+
 def write_beside(source, place, undo):
     make_folder(place.parent, undo)
     new = beside(place, "new")
@@ -61,6 +71,8 @@ def write_beside(source, place, undo):
     undo.callback(remove, new)
     if source.is_dir():
         shutil.copytree(source, new, ignore=LEFT_OUT)
+        if source == DOCS:
+            write_reference(new / "reference")
     else:
         shutil.copy(source, new)
         with open(new) as it:

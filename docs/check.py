@@ -1,26 +1,33 @@
 #!/usr/bin/env python3
-"""Checks that the pages speak of what is there. The pages of docs/reference, a crate each, and the
-picture of all crates are what the sources and crates.txt say. What a library hands out has a
-comment that tells it. Each link leads to a file, and each clause that is cited behind a call stands
-in that call's contract. What PROOF quotes is to the letter what its file has, each name that it
-cites is one of the sources, each definition stands in the file of its link, and its sizes are no
-more than a tenth off. README is short, and names the logic of the toolchain that there is; VERSION,
-README and CHANGELOG name one version. The pages by hand have few long sentences. Each wrong body
-can be put in place: what it replaces stands once in its file.
+"""Checks that the pages speak of what is there. The picture of all crates is what crates.txt says,
+and OPEN has each comment of the sources on what is open. What a library hands out has a comment.
+Each link leads to a file, and each clause that is cited behind a call stands in that call's
+contract. What PROOF quotes is to the letter what its file has, each name that it cites is one of
+the sources, each definition stands in the file of its link, and its sizes are no more than a tenth
+off. README is short, and names the logic of the toolchain that there is; VERSION, README and
+CHANGELOG name one version. The pages by hand have few long sentences. Each wrong body can be put in
+place: what it replaces stands once in its file.
 
-usage: docs/check.py [--write | --long]     --write writes those pages, quotes and sizes anew, and
---long prints the sentences of over 35 words of each page by hand
+usage: docs/check.py [--write [FOLDER] | --long]
+
+--write writes the picture, OPEN, and PROOF's quotes and sizes anew. With a FOLDER it writes the
+reference there instead: a page for each crate, with its contracts and definitions. The pages' links
+to sources work in the folder docs/reference, which git ignores. --long prints the sentences of over
+35 words of each page by hand.
 """
 import sys
+from pathlib import Path
 
-from checking import crates_page, quotes, reference
+from checking import crates_page, left_open, quotes, reference
+from checking.exports import lost_comments
 from checking.names import contracts, false_clauses, lost_edits, strangers, unknown_names
 from checking.pages import (
     dead_links, other_logic, other_versions, tell_long, too_long, too_many_long
 )
-from checking.places import CITING, CRATES_PAGE, PROOF, README, pages
+from checking.places import CITING, CRATES_PAGE, OPEN, PROOF, README, pages
 
-WRITTEN = {CRATES_PAGE: crates_page.anew, PROOF: quotes.anew}
+DRAWN = {CRATES_PAGE: crates_page.anew, OPEN: left_open.anew}
+WRITTEN = {**DRAWN, PROOF: quotes.anew}
 CHECKS = {
     CRATES_PAGE: (crates_page.other_crates,),
     README: (too_long, other_logic),
@@ -29,7 +36,6 @@ CHECKS = {
 
 
 def write():
-    reference.write()
     for page, anew in WRITTEN.items():
         page.write_text(anew(page.read_text()))
 
@@ -43,20 +49,26 @@ def faults():
     clauses = contracts()
     for page in CITING:
         yield from (f"{page.name}: {it}" for it in false_clauses(page, clauses))
-    if CRATES_PAGE.read_text() != crates_page.anew(CRATES_PAGE.read_text()):
-        yield f"{CRATES_PAGE.name}: not as the sources have it (docs/check.py --write)"
-    yield from reference.faults()
+    for page, anew in DRAWN.items():
+        if page.read_text() != anew(page.read_text()):
+            yield f"{page.name}: not as the sources have it (docs/check.py --write)"
+    yield from lost_comments()
+    yield from left_open.lost_open()
+    reference.texts()  # each install writes these, so none may fail
     yield from other_versions()
     yield from too_many_long()
     yield from lost_edits()
 
 
 def main():
-    if sys.argv[1:] not in ([], ["--write"], ["--long"]):
-        sys.exit(__doc__)
-    if sys.argv[1:] == ["--long"]:
+    words = sys.argv[1:]
+    if words == ["--long"]:
         return tell_long()
-    if sys.argv[1:] == ["--write"]:
+    if words[:1] == ["--write"] and len(words) == 2:
+        return reference.write(Path(words[1]))
+    if words not in ([], ["--write"]):
+        sys.exit(__doc__)
+    if words:
         write()
     found = [*faults()]
     print("\n".join(found) or "pages: all links, names and clauses are there")

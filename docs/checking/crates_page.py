@@ -7,16 +7,14 @@ from checking.places import CRATES, crates, storeys
 from checking.sources import first_lines
 
 PICTURE = re.compile(r"(?<=\n## By storeys\n\n```\n).*?(?=```\n)", re.S)
-INDEX = """<!-- docs/check.py --write writes this page from crates.txt and crates/*/src. -->
-
-# Reference
+INDEX = """# Reference
 
 A page for each crate, from its sources: what it exports, with the comments and the contracts, and
 its definitions. The crates are ordered by storeys, the lowest first; crates of tests have no page.
 
-- **Open** says what no clause of a call pins, and [OPEN](OPEN.md) has these on one page. Most often
-  it is whether memory is refused: this may happen at any allocation, so no clause says that a call
-  succeeds, but a test makes each such call with ample memory.
+- **Open** says what no clause of a call pins, and [OPEN](../OPEN.md) has these on one page. Most
+  often it is whether memory is refused: this may happen at any allocation, so no clause says that a
+  call succeeds, but a test makes each such call with ample memory.
 - **In contracts** says what a contract reads in a value of a type, and by which definitions the
   type has a trait.
 - **Terms** lead to the definitions that a contract names. Those that aren't among them are in the

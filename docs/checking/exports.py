@@ -2,8 +2,10 @@
 these stand the functions whose comment says what is open, exported or not."""
 import re
 from dataclasses import dataclass, field
+from functools import cache
 
-from checking.places import CRATES
+from checking.markdown import lost_sections
+from checking.places import CRATES, crates
 from checking.sources import first_lines, implements, items, method
 
 PASSED_ON = re.compile(r"^pub use ([\w:]+?)(?:::(\w+)|::\{([^}]*)\});", re.M)
@@ -133,3 +135,16 @@ def ordered(module):
     """What of a module is told, in the order of its file."""
     places = {id(it): k for k, it in enumerate(module.items)}
     return sorted(module.told.items(), key=lambda it: places[id(it[1])])
+
+
+@cache
+def told_crates():
+    return [Crate(it) for it in crates() if (CRATES / it).is_dir()]
+
+
+def lost_comments():
+    """What is handed out with no comment, and what a crate names that isn't there."""
+    for crate in told_crates():
+        yield from (f"{crate.name}: lib.rt hands out {it}, which no file has" for it in crate.lost)
+        yield from (f"{crate.name}: no /// line of {it}" for it in crate.untold())
+        yield from (f"{crate.name}: lib.rt names {it}" for it in lost_sections(crate.first))

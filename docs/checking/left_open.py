@@ -1,43 +1,31 @@
 """The page of what no clause pins: the `// open:` comments at calls, crate by crate."""
-from checking.places import storeys
+from checking.exports import told_crates
+from checking.sources import OPEN
 
-HEAD = """<!-- docs/check.py --write writes this page from crates/*/src. -->
-
-# What no clause pins
-
-[All crates](README.md)
-
-What a contract says is proved. This page has what contracts leave open, crate by crate, the lowest
-storey first, from the comments at the calls. Where tests or a script show it, the comment names
-them; without that take it as neither proved nor tested. A crate that isn't here has no such
-comment.
-
-"Whether memory is refused" means that no clause says that the call succeeds: any allocation may be
-refused, and a test calls it with ample memory. Time and the stack of the process are open for every
-call.
-"""
+MARK = "<!-- docs/check.py --write writes the rest from crates/*/src. -->\n"
 
 
 def left_open(crate):
-    """What is open, each with the calls of which it is."""
+    """A line for each thing that is open, with the calls of which it is."""
     found = {}
     for name, item, _ in crate.calls():
         if item.open():
-            found.setdefault(item.open(), []).append(name)
-    return found
+            found.setdefault(item.open(), []).append(f"`{name}`")
+    return "".join(f"- {', '.join(calls)}: {what}\n" for what, calls in found.items())
 
 
-def text(told, paged):
-    """The page: of the crates that have one of their own the heading leads there."""
-    blocks = [HEAD]
-    crates = {it.name: it for it in told}
-    for _, _, members in storeys():
-        for name in (it for it in members if it in crates):
-            rows = [
-                f"- {', '.join(f'`{it}`' for it in calls)}: {what}"
-                for what, calls in left_open(crates[name]).items()
-            ]
-            title = f"[`{name}`]({name}.md)" if name in paged else f"`{name}`"
-            if rows:
-                blocks.append(f"## {title}\n\n" + "\n".join(rows) + "\n")
+def anew(text):
+    """The page, with what stands in it by hand up to the mark."""
+    blocks = [text.partition(MARK)[0] + MARK]
+    for crate in told_crates():
+        if lines := left_open(crate):
+            blocks.append(f"## [`{crate.name}`](../crates/{crate.name}/src)\n\n{lines}")
     return "\n".join(blocks)
+
+
+def lost_open():
+    """Crates with a comment on what is open that no call has, so that the page lacks it."""
+    for crate in told_crates():
+        written = sum(it.path.read_text().count(OPEN) for it in crate.modules.values())
+        if written != (found := sum(bool(it.open()) for _, it, _ in crate.calls())):
+            yield f"{crate.name}: {written} comments {OPEN.strip()}, {found} of them at calls"

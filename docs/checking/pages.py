@@ -4,7 +4,7 @@ import re
 import shutil
 import subprocess
 
-from checking.places import CHANGELOG, README, REFERENCE, VERSION, pages
+from checking.places import CHANGELOG, OPEN, README, VERSION, pages
 
 # README is for a visitor.
 MOST_LINES, MOST_WORDS = 150, 1200
@@ -58,8 +58,7 @@ def long_sentences(text):
 
 
 def long_by_page():
-    by_hand = [it for it in pages() if it.parent != REFERENCE]
-    return {page: long_sentences(page.read_text()) for page in by_hand}
+    return {page: long_sentences(page.read_text()) for page in pages() if page != OPEN}
 
 
 def too_many_long():

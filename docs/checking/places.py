@@ -5,6 +5,7 @@ from pathlib import Path
 ROOT = Path(__file__).resolve().parent.parent.parent
 CRATES = ROOT / "crates"
 DOCS = ROOT / "docs"
+# The pages of contracts and definitions go here in a checkout; git ignores it.
 REFERENCE = DOCS / "reference"
 README = ROOT / "README.md"
 CHANGELOG = ROOT / "CHANGELOG.md"
@@ -12,6 +13,7 @@ VERSION = ROOT / "VERSION"
 CRATES_PAGE = DOCS / "ARCHITECTURE.md"
 PROMISE = DOCS / "PROMISE.md"
 PROOF = DOCS / "PROOF.md"
+OPEN = DOCS / "OPEN.md"
 TOP = [README, CHANGELOG, ROOT / "CONTRIBUTING.md"]
 # The pages by hand that say what is so today. Those for provers also tell of names that there
 # aren't.
@@ -21,7 +23,8 @@ STOREY = re.compile(r"^# (\w+): (.+)\n((?:\w.*\n)+)", re.M)
 
 
 def pages():
-    return [*TOP, *sorted(DOCS.glob("**/*.md")), *sorted((ROOT / "bench").glob("*.md"))]
+    found = [it for it in sorted(DOCS.glob("**/*.md")) if it.parent != REFERENCE]
+    return [*TOP, *found, *sorted((ROOT / "bench").glob("*.md"))]
 
 
 def names_in(lines):

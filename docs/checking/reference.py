@@ -1,16 +1,16 @@
-"""The pages of `docs/reference`, one a crate, written from its sources: what it hands out, with the
-contracts, and its definitions."""
+"""The reference, a page for each crate, from its sources: what it hands out, with the contracts, and
+its definitions. The links to sources and to pages by hand lead there from `docs/reference`."""
 import os
+import sys
 
-from checking import left_open
 from checking.crates_page import index
 from checking.definitions import SpecFile, prose, titled
-from checking.exports import TYPES, Crate, calls_of, ordered
-from checking.markdown import Headings, fenced, linked, lost_sections, slug
-from checking.places import CRATES, REFERENCE, crates
+from checking.exports import TYPES, calls_of, ordered, told_crates
+from checking.markdown import Headings, fenced, linked, slug
+from checking.places import REFERENCE
 from checking.telling import constants, declaration, is_law, own, view
 
-HEAD = "<!-- docs/check.py --write writes this page from crates/{name}. -->"
+MARK = "<!-- docs/check.py --write FOLDER wrote this page from the sources. -->\n\n"
 ALL = "[All crates](README.md)"
 
 
@@ -20,14 +20,11 @@ class Page:
     def __init__(self, crate):
         self.crate = crate
         self.parts = Headings()
-        specs = crate.folder / "specs"
-        files = {path: SpecFile(path) for path in sorted(specs.glob("**/*.antt"))}
-        self.specs = {path: spec for path, spec in files.items() if spec.has_definitions}
         modules = [it for it in crate.modules.values() if it.told]
         for module in sorted(modules, key=lambda it: all(map(is_law, it.told.values()))):
             self.tell_module(module)
-        for path, spec in self.specs.items():
-            self.tell_definitions(path, spec)
+        for path in sorted((crate.folder / "specs").glob("**/*.antt")):
+            self.tell_definitions(path, SpecFile(path))
 
     def is_empty(self):
         return not any(it.told for it in self.crate.modules.values())
@@ -79,6 +76,8 @@ class Page:
             self.tell_call(4, call, it, home, "")
 
     def tell_definitions(self, path, spec):
+        if not spec.has_definitions:
+            return
         blocks = [prose(spec.first)]
         for title, parts in spec.sections:
             blocks += [titled(title), fenced("\n\n".join(parts)) if parts else ""]
@@ -86,7 +85,7 @@ class Page:
 
     def text(self):
         crate = self.crate
-        head = [HEAD.format(name=crate.name), f"# {crate.name}", ALL, linked(crate.first)]
+        head = [f"# {crate.name}", ALL, linked(crate.first)]
         passed = [
             f"- It hands on {', '.join(f'`{it}`' for it in names)} of [`{home}`]({home}.md)."
             for home, names in crate.passed_on.items()
@@ -96,38 +95,21 @@ class Page:
         return "\n\n".join(it.strip("\n") for it in blocks if it) + "\n"
 
 
-def told_crates():
-    return [Crate(it) for it in crates() if (CRATES / it).is_dir()]
-
-
-def texts(told):
-    """The text of each page by its path."""
-    pages = {it.name: Page(it) for it in told}
+def texts():
+    """The text of each page by its name."""
+    pages = {it.name: Page(it) for it in told_crates()}
     written = {name: page.text() for name, page in pages.items() if not page.is_empty()}
-    whole = {"README": index(written), "OPEN": left_open.text(told, written)}
-    return {REFERENCE / f"{k}.md": v for k, v in {**whole, **written}.items()}
+    return {"README": index(written), **written}
 
 
-def write():
-    REFERENCE.mkdir(exist_ok=True)
-    written = texts(told_crates())
-    for page in REFERENCE.glob("*.md"):
-        if page not in written:
-            page.unlink()
-    for page, text in written.items():
-        page.write_text(text)
-
-
-def faults():
-    """Pages that aren't what would be written, and calls with no comment that tells them."""
-    told = told_crates()
-    written = texts(told)
-    for page in sorted({*written, *REFERENCE.glob("*")}):
-        if page not in written:
-            yield f"reference/{page.name}: it is no crate's (docs/check.py --write)"
-        elif not page.is_file() or page.read_text() != written[page]:
-            yield f"reference/{page.name}: not as the sources have it (docs/check.py --write)"
-    for crate in told:
-        yield from (f"{crate.name}: lib.rt hands out {it}, which no file has" for it in crate.lost)
-        yield from (f"{crate.name}: no /// line of {it}" for it in crate.untold())
-        yield from (f"{crate.name}: lib.rt names {it}" for it in lost_sections(crate.first))
+def write(folder):
+    """Writes all pages into a folder, in the place of those of an earlier call and of nothing else."""
+    folder.mkdir(parents=True, exist_ok=True)
+    there = [*folder.iterdir()]
+    for it in there:
+        if not it.is_file() or not it.read_bytes().startswith(MARK.encode()):
+            sys.exit(f"{it}: no page of the reference, so nothing is written")
+    for it in there:
+        it.unlink()
+    for name, text in texts().items():
+        (folder / f"{name}.md").write_text(MARK + text)
