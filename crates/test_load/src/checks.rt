@@ -1,10 +1,8 @@
-//! Checks: a manifest of two apps with its files, and what is told of a manifest.
+//! Checks: a manifest of two apps with its files, and what is told of a manifest whose files are in
+//! other folders.
 
-mod accepted;
-mod further;
 mod lines;
-mod refused;
-mod unread;
+mod outside;
 
 use crate::files::MemFiles;
 use crate::sample::{changed, files, halves, must};
@@ -42,11 +40,6 @@ rule = "y.rule"
 /// Texts by the names of their files.
 const RULES: &str = r#"
 y.rule: otherwise none;
-token.rule: # a comment / otherwise none; $
-shape.rule: when offer 1; / otherwise none;
-name.rule: when take(q, 0) offer 1; / otherwise none;
-unfinished.rule: count n[0];
-count.rule: count n[9]; /   count q[0]; / otherwise none;
 /abs/token.rule: # a comment / otherwise none; $
 ../token.rule: # a comment / otherwise none; $
 sub/../token.rule: # a comment / otherwise none; $
@@ -79,27 +72,12 @@ fn told(alloc: Global, files: &mut MemFiles, manifest: &str) -> Result<String, A
     }
 }
 
-/// What is told of one manifest.
-fn told_alone(alloc: Global, manifest: &str) -> Result<String, Fail> {
-    let mut files = files(alloc, RULES)?;
-    Ok(told(alloc, &mut files, manifest)?)
-}
-
-/// Whether that is what is wanted. What the reader of TOML says behind its place is its own affair;
-/// how tables begin stands behind it.
-fn fits(told: &str, want: &str) -> bool {
-    if want.starts_with("M1") {
-        return told.starts_with(want.trim()) && told.ends_with("[[app.release.package]] / ");
-    }
-    told.trim() == want.trim()
-}
-
 fn is_told(alloc: Global, files: &mut MemFiles, row: &str) -> Result<(), Fail> {
     let (changes, want) = halves(row, " | ")?;
     let manifest = changed(alloc, SAMPLE, changes)?;
     let told = told(alloc, files, manifest.as_str())?;
     let want = want.replace(alloc, "\n", " ")?;
-    must(row, told.as_str(), fits(told.as_str(), want.as_str()))
+    must(row, told.as_str(), told.trim() == want.trim())
 }
 
 /// Each row: what is changed in the sample, and what is told, where a new line is a blank.

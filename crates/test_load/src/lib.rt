@@ -1,7 +1,6 @@
-//! Tests of what a server's owner writes. Manifests: each refusal with each way to get it, and the
-//! ranges on both sides. Loads: what good manifests give with their files, and each refusal.
-//! Checks: what is told of a manifest, and each refusal with its reason. Scripts: their texts, and
-//! what their lines print when they are played from files. Devices: files of each kind.
+//! Tests of loads that no command shows: how many tables a manifest has, what good manifests give
+//! with their files, what refused ones leave, files in other folders, and files of each kind. What
+//! `check` and `replay` print is rows of the program `rows`.
 #![tactic(auto)]
 
 #[cfg(test)]

@@ -49,11 +49,6 @@ required = false
 const RULES: &str = r#"
 y.rule: when take(q, 0) offer 1; otherwise none;
 token.rule: otherwise none; $
-shape.rule: when offer 1; otherwise none;
-name.rule: when take(r, 0) offer 1; otherwise none;
-index.rule: when take(q, 1) offer 1; otherwise none;
-release.rule: when bucket < 5000 offer 2; otherwise none;
-third.rule: when bucket < 5000 offer 1; / count q[0]; / otherwise none;
 "#;
 
 /// The ruleset of a manifest. It has no clauses, so that no proof reads the texts of a test.

@@ -11,31 +11,16 @@ const PROGRAMS: &str = r#"
 mov r0, 0 / exit
 - none.bpf: mov r0, 0 / exit
 - first.bpf: mov r0, 1 / exit
-- second.bpf: mov r0, 2 / exit
 - unset.bpf: exit
-- unreached.bpf: mov r0, 0 / exit / exit
-- back.bpf: mov r0, 0 / ja -2
 - ../back.bpf: mov r0, 0 / ja -2
-- other_array.bpf: ldcell r6, 1, 0 / mov r0, 0 / exit
-- wide.bpf: lddw r6, 0 / ldcell r7, 2, 8 / mov r0, 0 / exit
 "#;
 
-/// Files by their bytes: no byte, a part of an instruction, no text, and a text whose last line is
-/// empty.
-const BYTES: [(&str, &[u8]); 4] = [
+/// Files by their bytes: no byte, a part of an instruction, and a text whose last line is empty.
+const BYTES: [(&str, &[u8]); 3] = [
     ("empty.bpf", b""),
     ("truncated.bpf", b"\xb7\0\0\0\x01\0\0"),
-    ("no_text.rule", b"\xff\xfe\x20"),
     ("ended.rule", b"count n[0];\n"),
 ];
-
-/// A statement with a text of 64 bytes: 300 of them pass 4096 slots.
-const COSTLY: &str = r#"
-when attr version is "vvvvvvvvvvvvvvvvvvvvvvvvvvvvvvvvvvvvvvvvvvvvvvvvvvvvvvvvvvvvvvvv" offer 1;"#;
-
-/// A statement of six lexemes: 5000 of them are a rule's text of 55000 bytes, and with a line end
-/// behind each lexeme they would be 80000.
-const DENSE: &str = "count n[0];";
 
 /// All files that the manifests of the tests name, but for those that aren't there. The rules are
 /// lines of a file's name and its text, of which ` / ` ends a line.
@@ -49,22 +34,8 @@ fn add_files(alloc: Global, files: &mut MemFiles, rules: &str) -> Result<(), Fai
     add_programs(alloc, files)?;
     add_rules(alloc, files, rules)?;
     add_bytes(alloc, files)?;
-    let costly = repeated(alloc, 300, COSTLY)?;
-    add_ended(files, "costly.rule", costly, "\notherwise none;")?;
-    let dense = repeated(alloc, 5000, DENSE)?;
-    add_ended(files, "dense.rule", dense, "\notherwise none; $")?;
-    add_long(alloc, files)?;
-    Ok(files.add("unreadable.bpf", None)?)
-}
-
-// Files of more bytes than they may have: texts, one of them no UTF-8, and a program that begins
-// with an instruction.
-fn add_long(alloc: Global, files: &mut MemFiles) -> Result<(), AllocError> {
     files.add("long.rule", Some(vec![in alloc; b' '; 65537]?))?;
-    files.add("long_no_text.rule", Some(vec![in alloc; 255; 65537]?))?;
-    let mut program = Vec::from_slice(alloc, b"\x95")?;
-    program.extend_from_slice(&vec![in alloc; 0; 32768]?)?;
-    files.add("long.bpf", Some(program))
+    Ok(files.add("unreadable.bpf", None)?)
 }
 
 fn add_programs(alloc: Global, files: &mut MemFiles) -> Result<(), Fail> {
@@ -88,18 +59,6 @@ fn add_bytes(alloc: Global, files: &mut MemFiles) -> Result<(), AllocError> {
         files.add(name, Some(Vec::from_slice(alloc, bytes)?))?;
     }
     Ok(())
-}
-
-/// Adds a rule of these statements, and what stands behind them.
-fn add_ended(
-    files: &mut MemFiles,
-    name: &str,
-    statements: String,
-    end: &str,
-) -> Result<(), AllocError> {
-    let mut text = statements;
-    text.push_str(end)?;
-    files.add(name, Some(text.into_bytes()))
 }
 
 /// Adds the program of a text in which the mark ends a line.

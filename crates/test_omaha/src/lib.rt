@@ -1,6 +1,6 @@
-//! Requests and replies of Omaha 3.1 in JSON, worked by hand: each fault with each way to get it,
-//! hostile JSON, the limits, what a request says, whole requests of other products' updaters, and
-//! replies byte for byte.
+//! Requests and replies of Omaha 3.1 in JSON, worked by hand, as far as no command shows them: what a
+//! request says of itself and of its apps, whole requests of other products' updaters, and the
+//! longest reply. Bodies and their faults, and replies byte for byte, are rows of the program `rows`.
 #![tactic(auto)]
 
 #[cfg(test)]
@@ -15,5 +15,3 @@ mod events;
 mod facts;
 #[cfg(test)]
 mod limits;
-#[cfg(test)]
-mod replies;

@@ -1,5 +1,5 @@
-//! Worked rows: bytes and what they spell, and bytes and why they spell nothing. The calls are made
-//! by helpers without clauses, so that no proof computes with the rows.
+//! Worked rows: bytes, and the instruction and its width that they spell. The calls are made by
+//! helpers without clauses, so that no proof computes with the rows.
 
 use bpf_insn::{
     AluOp, AtomicOp, AtomicSize, Bits, ByteOrder, Condition, Distance, EndSize, Extension, Insn,
@@ -130,7 +130,7 @@ fn encoded(insn: &Insn) -> ([u8; 16], usize) {
     encode(insn)
 }
 
-/// Whether the bytes, so many of them, spell the instruction of this width and no other.
+/// Whether the first `count` bytes spell the instruction of this width, and it has no other bytes.
 fn is_spelled(row: &Spelled, width: Width, count: usize) -> bool {
     decoded(&row.bytes, 0) == Ok((row.insn, width)) && encoded(&row.insn) == (row.bytes, count)
 }
@@ -145,96 +145,7 @@ fn spells_worked_rows(rt: HostRuntime) {
     }
 }
 
-/// Bytes that spell no instruction, and why.
-#[derive(Clone, Copy)]
-struct Faulty {
-    why: &'static str,
-    bytes: &'static [u8],
-    fault: InsnFault,
-}
-
-const FAULTY: [Faulty; 15] = [
-    Faulty {
-        why: "seven bytes",
-        bytes: b"\xb7\0\0\0\0\0\0",
-        fault: InsnFault::Truncated,
-    },
-    Faulty {
-        why: "half a wide load",
-        bytes: b"\x18\0\0\0\0\0\0\0",
-        fault: InsnFault::Truncated,
-    },
-    Faulty {
-        why: "a code of arithmetic that isn't there",
-        bytes: b"\xe7\0\0\0\0\0\0\0",
-        fault: InsnFault::Opcode,
-    },
-    Faulty {
-        why: "register 11",
-        bytes: b"\xb7\x0b\0\0\0\0\0\0",
-        fault: InsnFault::Register,
-    },
-    Faulty {
-        why: "src 1 of CALL",
-        bytes: b"\x85\x10\0\0\x01\0\0\0",
-        fault: InsnFault::Register,
-    },
-    Faulty {
-        why: "src 1 of a wide load",
-        bytes: b"\x18\x10\0\0\0\0\0\0\0\0\0\0\0\0\0\0",
-        fault: InsnFault::Register,
-    },
-    Faulty {
-        why: "src of mov with an imm",
-        bytes: b"\xb7\x10\0\0\0\0\0\0",
-        fault: InsnFault::UnusedField,
-    },
-    Faulty {
-        why: "imm and a wrong offset of mov with a register",
-        bytes: b"\xbf\x12\x07\0\x01\0\0\0",
-        fault: InsnFault::UnusedField,
-    },
-    Faulty {
-        why: "MUL with an offset",
-        bytes: b"\x27\0\x01\0\0\0\0\0",
-        fault: InsnFault::UnusedField,
-    },
-    Faulty {
-        why: "END of 8 bits",
-        bytes: b"\xd4\x01\0\0\x08\0\0\0",
-        fault: InsnFault::Imm,
-    },
-    Faulty {
-        why: "MOVSX of 7 bits",
-        bytes: b"\xbf\x12\x07\0\0\0\0\0",
-        fault: InsnFault::Offset,
-    },
-    Faulty {
-        why: "DIV with offset 2",
-        bytes: b"\x37\0\x02\0\0\0\0\0",
-        fault: InsnFault::Offset,
-    },
-    Faulty {
-        why: "DIV with an imm, a source register and offset 2",
-        bytes: b"\x3f\0\x02\0\x01\0\0\0",
-        fault: InsnFault::UnusedField,
-    },
-    Faulty {
-        why: "an opcode in the second half",
-        bytes: b"\x18\0\0\0\0\0\0\0\x01\0\0\0\0\0\0\0",
-        fault: InsnFault::SecondHalf,
-    },
-    Faulty {
-        why: "a map with a second imm",
-        bytes: b"\x18\x51\0\0\0\0\0\0\0\0\0\0\x01\0\0\0",
-        fault: InsnFault::SecondHalf,
-    },
-];
-
 #[test]
-fn answers_the_least_fault(rt: HostRuntime) {
-    for row in &FAULTY {
-        assert!(rt; decoded(row.bytes, 0) == Err(row.fault), "{}", row.why);
-    }
+fn no_slot_is_past_the_bytes(rt: HostRuntime) {
     assert!(rt; decoded(&[0x95; 16], usize::MAX) == Err(InsnFault::Truncated));
 }

@@ -1,11 +1,11 @@
-//! What the tests are given: the report of the lines of a text, in a window of time.
+//! What the tests are given: the report of the lines of a text.
 
 use report::{LogOnlooker, Report, Window, count_log};
 use std::alloc::Global;
 use std::io;
 
 /// All times.
-pub(crate) const ALWAYS: Window<'static> = Window {
+const ALWAYS: Window<'static> = Window {
     since: None,
     until: None,
 };
@@ -19,18 +19,18 @@ impl LogOnlooker for Nobody {
 }
 
 /// The report of these lines.
-pub(crate) fn report_of(alloc: Global, log: &str, window: &Window<'_>) -> io::Result<Report> {
-    report_by(alloc, log, window, false)
+pub(crate) fn report_of(alloc: Global, log: &str) -> io::Result<Report> {
+    report_by(alloc, log, false)
 }
 
 /// The same, by which a picture may be drawn.
 pub(crate) fn drawn_report_of(alloc: Global, log: &str) -> io::Result<Report> {
-    report_by(alloc, log, &ALWAYS, true)
+    report_by(alloc, log, true)
 }
 
-fn report_by(alloc: Global, log: &str, window: &Window<'_>, drawn: bool) -> io::Result<Report> {
+fn report_by(alloc: Global, log: &str, drawn: bool) -> io::Result<Report> {
     let mut report = Report::new(alloc, drawn);
     let mut bytes = log.as_bytes();
-    count_log(alloc, &mut bytes, window, &mut report, &mut Nobody {})?;
+    count_log(alloc, &mut bytes, &ALWAYS, &mut report, &mut Nobody {})?;
     Ok(report)
 }

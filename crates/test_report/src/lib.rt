@@ -1,4 +1,5 @@
-//! Tests of reports: lines of logs and the text of what they come to, which was counted by hand.
+//! Tests of reports that no row holds: the bounds of a log, days and times, and pictures of a log.
+//! The texts of reports are rows of the program `rows`.
 #![tactic(auto)]
 
 #[cfg(test)]
@@ -9,7 +10,5 @@ mod given;
 mod limits;
 #[cfg(test)]
 mod pictures;
-#[cfg(test)]
-mod texts;
 #[cfg(test)]
 mod times;

@@ -1,4 +1,4 @@
-//! Moments that are named, and their times.
+//! Moments that are so long ago, and their times.
 
 use jiff_core::Timestamp;
 use moments::{moment_in, time_text};
@@ -9,10 +9,7 @@ use std::test::Fail;
 const NOW: i128 = 1795600800 * 1_000_000_000;
 
 /// A moment, and its time.
-const ROWS: [(&str, &str); 10] = [
-    ("2026-11-25T08:00:00Z", "2026-11-25T08:00:00.000Z"),
-    ("2026-11-25T08:00:00.5Z", "2026-11-25T08:00:00.500Z"),
-    ("2026-11-25T08:00:00+02:00", "2026-11-25T06:00:00.000Z"),
+const ROWS: [(&str, &str); 7] = [
     ("90s", "2026-11-25T09:58:30.000Z"),
     ("10m", "2026-11-25T09:50:00.000Z"),
     ("2h", "2026-11-25T08:00:00.000Z"),
@@ -39,25 +36,4 @@ fn told_of(alloc: Global, text: &str) -> Result<String, Fail> {
         Some(moment) => Ok(time_text(alloc, moment, now)?),
         None => Ok(String::from_str(alloc, "none")?),
     }
-}
-
-/// What names no moment.
-const NONE: [&str; 9] = [
-    "",
-    "10",
-    "m",
-    "-1m",
-    "+1m",
-    "100000s",
-    "1m2",
-    "2026-11-25",
-    "today",
-];
-
-#[test]
-fn other_texts_name_none(rt: HostRuntime) -> Result<(), Fail> {
-    for text in &NONE {
-        assert!(rt; moment_in(text).is_none(), "{text}");
-    }
-    Ok(())
 }

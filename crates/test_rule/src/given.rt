@@ -1,7 +1,5 @@
-//! What the tests read and compile rules for: a shape, two apps, and long texts; and the rows of
-//! tables.
+//! What the tests read and compile rules for: a shape, and long texts; and the rows of tables.
 
-use attrs::{AppFacts, AttrFault, Attrs, RequestFacts, Text};
 use cells::{ArrayNo, CellWidth, CellsFault, Directory, Shape};
 use std::alloc::{AllocError, Global};
 use std::test::Fail;
@@ -36,81 +34,8 @@ fn shape_over(alloc: Global, releases: u8, directory: &Directory) -> Result<Shap
     Shape::of(alloc, releases.min(64), directory, &numbers)
 }
 
-/// Makes texts, and keeps whether memory was refused: so a struct of many texts is made in one go.
-#[derive(Clone, Copy)]
-struct Texts {
-    alloc: Global,
-    is_refused: bool,
-}
-
-impl Texts {
-    fn text(&mut self, text: &str) -> Option<Text> {
-        match String::from_str(self.alloc, text) {
-            Ok(text) => Some(Text::new(text)),
-            Err(_) => {
-                self.is_refused = true;
-                None
-            }
-        }
-    }
-}
-
-fn app_facts(alloc: Global) -> Result<AppFacts, AllocError> {
-    let appid = Text::new(String::from_str(alloc, "x")?);
-    let mut texts = Texts {
-        alloc,
-        is_refused: false,
-    };
-    let app = AppFacts {
-        appid,
-        version: texts.text("1.2.3.4"),
-        brand: texts.text("GGLS"),
-        ap: texts.text("aaaaaaaaaaaaaaaaaaaaaaaaaaaaaaaaaaaaaaaaaaaaaaaaaaaaaaaaaaaaaaaa"),
-        lang: texts.text("en-GB"),
-        cohort: texts.text("b:1996"),
-        installdate: Some(5000),
-        updatecheck: true,
-        ping: false,
-        event: true,
-    };
-    if texts.is_refused {
-        return Err(AllocError);
-    }
-    Ok(app)
-}
-
-fn request_facts(alloc: Global) -> Result<RequestFacts, AllocError> {
-    Ok(RequestFacts {
-        requestid: None,
-        sessionid: None,
-        platform: Some(Text::new(String::from_str(alloc, "win")?)),
-    })
-}
-
-fn attrs_of(alloc: Global, app: &AppFacts) -> Result<Attrs, AttrFault> {
-    match request_facts(alloc) {
-        Ok(request) => Attrs::of(alloc, app, &request, 1772409605),
-        Err(_) => Err(AttrFault::Memory),
-    }
-}
-
-/// An app of version 1.2.3.4 and bucket 1996, installed on day 5000, that asks for an update on day
-/// 7000, with an event and no ping. Its `ap` has 64 bytes, and it has no cohort's text but its
-/// bucket's.
-pub(crate) fn app(alloc: Global) -> Result<Attrs, AttrFault> {
-    match app_facts(alloc) {
-        Ok(app) => attrs_of(alloc, &app),
-        Err(_) => Err(AttrFault::Memory),
-    }
-}
-
-/// An app with an appid alone, of a bucket, on day 0.
-pub(crate) fn bare_app(alloc: Global, bucket: u16) -> Result<Attrs, AttrFault> {
-    Attrs::plain(alloc, "x", None, bucket.min(9999))
-}
-
 /// A text so many times. It has no clauses, so that no proof computes with it.
-pub(crate) fn repeated(alloc: Global, times: usize, text: &str) -> Result<String, AllocError> {
+fn repeated(alloc: Global, times: usize, text: &str) -> Result<String, AllocError> {
     text.repeat(alloc, times)
 }
 
@@ -126,26 +51,9 @@ pub(crate) fn chain(
     format!(in alloc; "{front}{links}{back}")
 }
 
-fn links_of(row: &str) -> Option<(usize, &str, &str, &str)> {
-    let (times, parts) = row.split_once(" | ")?;
-    let (front, rest) = parts.split_once('|')?;
-    let (link, back) = rest.split_once('|')?;
-    Some((times.parse().ok()?, front, link, back))
-}
-
-/// The chain of a row's end: how often the link stands, and its front, its link and its back.
-pub(crate) fn chain_of(alloc: Global, row: &str) -> Result<String, Fail> {
-    let (times, front, link, back) = links_of(row).ok_or("a row of another form")?;
-    Ok(chain(alloc, front, link, times, back)?)
-}
-
 /// What stands before the first mark of a row, and behind it.
 pub(crate) fn halves<'a>(row: &'a str, mark: &str) -> Result<(&'a str, &'a str), Fail> {
     Ok(row.split_once(mark).ok_or("a row of another form")?)
-}
-
-pub(crate) fn number(digits: &str) -> Result<u16, Fail> {
-    Ok(digits.parse().ok().ok_or("no number")?)
 }
 
 /// Fails with what is found, and the row of which it is, unless that is right.

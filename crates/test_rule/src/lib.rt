@@ -1,17 +1,8 @@
-//! Tests of rules. Texts are read: their verdicts, lengths and depths on both sides of their
-//! bounds, and the longest chains. Texts are compiled, and their programs run on the machine over
-//! counters that the runs share, or measured: each test of the language at its boundaries and in
-//! both senses, counters, the slots that each kind of test takes, and memory that is refused.
+//! Tests of rules that no command shows: the longest texts as they are read, the slots that each
+//! kind of test takes, what words stand for in programs, and memory that is refused. Other texts,
+//! and what their programs choose, are rows of the program `rows`.
 #![tactic(auto)]
 
-#[cfg(test)]
-mod bounds;
-#[cfg(test)]
-mod chains;
-#[cfg(test)]
-mod choices;
-#[cfg(test)]
-mod counters;
 #[cfg(test)]
 mod given;
 #[cfg(test)]
@@ -22,7 +13,5 @@ mod memory;
 mod sizes;
 #[cfg(test)]
 mod told;
-#[cfg(test)]
-mod verdicts;
 #[cfg(test)]
 mod words;

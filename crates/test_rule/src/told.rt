@@ -1,15 +1,12 @@
-//! What is told of a rule's text: once it is read, once it is compiled, and once its program is
-//! run. The calls have no clauses here, so that no proof reads the bytes of a test.
+//! What is told of a rule's text, once it is read and once it is compiled. The calls have no clauses
+//! here, so that no proof reads the bytes of a test.
 
 use crate::given::{must, shape};
-use attrs::Attrs;
-use bpf_machine::Run;
 use bpf_verify::Verified;
-use cells::{PlainCells, PlainPass, Shape};
+use cells::Shape;
 use rule_compile::{CompileFault, compile};
 use rule_lang::{Rule, RuleFault, parse};
 use std::alloc::{AllocError, Global};
-use std::sync::Arc;
 use std::test::Fail;
 
 const UNFIT: &str = "a rule that does not fit";
@@ -92,32 +89,4 @@ pub(crate) fn told(alloc: Global, text: &str) -> Result<String, AllocError> {
         Ok(shape) => told_of_text(alloc, text, &shape),
         Err(_) => Err(AllocError),
     }
-}
-
-fn choice_of(
-    program: Arc<Verified>,
-    attrs: Arc<Attrs>,
-    cells: &PlainCells,
-    pass: &mut PlainPass,
-) -> u8 {
-    let (choice, _count) = Run::start(program, attrs).run(cells, pass);
-    choice
-}
-
-/// The choice of one run.
-pub(crate) fn choice(
-    alloc: Global,
-    text: &str,
-    attrs: Attrs,
-    cells: &PlainCells,
-    pass: &mut PlainPass,
-) -> Result<u8, Fail> {
-    let program = Arc::new(alloc, program(alloc, text)?)?;
-    Ok(choice_of(program, Arc::new(alloc, attrs)?, cells, pass))
-}
-
-/// The choice of a text for an app, over cells of its own.
-pub(crate) fn chosen(alloc: Global, text: &str, attrs: Attrs) -> Result<u8, Fail> {
-    let (cells, mut pass) = PlainCells::new(alloc)?;
-    choice(alloc, text, attrs, &cells, &mut pass)
 }

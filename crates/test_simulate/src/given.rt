@@ -23,14 +23,13 @@ impl Onlooker for NobodyLooks {
     fn asked(&mut self, _done: usize, _all: usize) {}
 }
 
-/// So many releases, 64 at most, and the array q of one counter with this quota, at least 1.
-pub(crate) fn shape_of(alloc: Global, releases: usize, quota: u32) -> Result<Shape, Fail> {
+/// So many releases, 64 at most, and the array q of one counter with a quota of 2.
+pub(crate) fn shape_of(alloc: Global, releases: usize) -> Result<Shape, Fail> {
     if releases > 64 {
         return Err(Fail::from("too many releases"));
     }
     let mut all = Directory::new(alloc);
-    let quota = Some(quota.max(1) as u64);
-    let _number = all.declare(alloc, "q", CellWidth::Bits64, 1, quota)?;
+    let _number = all.declare(alloc, "q", CellWidth::Bits64, 1, Some(2))?;
     if all.arrays().is_empty() {
         return Ok(Shape::plain(alloc, releases as u8));
     }
@@ -50,26 +49,21 @@ pub(crate) fn attributes(alloc: Global) -> Result<Arc<Attrs>, Fail> {
 }
 
 /// The ruleset of a text: a line an app, which has its appid, the versions of its releases and its
-/// program, with ` | ` between them. Each program may use q[0], whose quota is 126.
+/// program, with ` | ` between them.
 pub(crate) fn rules_of(alloc: Global, text: &str) -> Result<Ruleset, Fail> {
-    rules_over(alloc, text, 126)
-}
-
-/// The same with another quota.
-pub(crate) fn rules_over(alloc: Global, text: &str, quota: u32) -> Result<Ruleset, Fail> {
     let mut apps = Vec::new(alloc);
     for line in text.lines() {
-        apps.push(app_in(alloc, line, quota)?)?;
+        apps.push(app_in(alloc, line)?)?;
     }
     Ok(Ruleset::new(String::new(alloc), apps)?.ok_or("an appid stands twice")?)
 }
 
-fn app_in(alloc: Global, line: &str, quota: u32) -> Result<App, Fail> {
+fn app_in(alloc: Global, line: &str) -> Result<App, Fail> {
     let (appid, rest) = line.split_once(" | ").unwrap_or((line, ""));
     let (versions, program) = rest.split_once(" | ").unwrap_or((rest, ""));
     let releases = releases_of(alloc, versions)?;
     let text = program.replace(alloc, " / ", "\n")?;
-    let shape = shape_of(alloc, releases.len(), quota)?;
+    let shape = shape_of(alloc, releases.len())?;
     let program = program_of(alloc, text.as_str(), &shape)?;
     app_of(alloc, appid, Arc::new(alloc, program)?, releases)
 }

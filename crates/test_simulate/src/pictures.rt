@@ -1,7 +1,7 @@
 //! Pictures of what a simulation came to: their texts are those of another program.
 
-use crate::tables::simulated;
-use simulate::draw;
+use crate::given::{NobodyLooks, client, rules_of};
+use simulate::{Simulated, draw};
 use std::alloc::Global;
 use std::test::Fail;
 
@@ -54,6 +54,12 @@ const MANY: &str =
 31 32 33 34 35 36 37 38 39 40 41 42 43 44 45 46 47 48 49 50 51 52 53 54 55 56 57 \
 58 59 60 61 62 63 64 | \
 ldxh r2, [r1+16] / mov r0, 0 / jgt r2, 63, +2 / mov r0, r2 / add r0, 1 / exit";
+
+fn simulated(alloc: Global, rules: &str) -> Result<Simulated, Fail> {
+    let rules = rules_of(alloc, rules)?;
+    let mut client = client(alloc)?;
+    Ok(Simulated::of(alloc, rules, &mut client, &mut NobodyLooks)?)
+}
 
 fn drawn(alloc: Global, rules: &str) -> Result<String, Fail> {
     let simulated = simulated(alloc, rules)?;

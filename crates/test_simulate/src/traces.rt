@@ -1,63 +1,10 @@
-//! Traces of programs.
+//! Traces of programs on counters that have values.
 
 use crate::given::{attributes, program_of, shape_of};
 use cells::{CellNo, CellOp, CellSteps, PlainCells, PlainPass};
 use std::alloc::{AllocError, Global};
 use std::test::Fail;
-use trace::{Jump, TracedRun, trace, trace_on};
-
-/// A program, with one release and q[0] of a quota of 2, and the trace of its run.
-const ROWS: &[(&str, &str)] = &[
-    (
-        "ldcell r6, 0, 0
-mov r2, 1
-fadddw [r6+0], r2
-jge r2, 2, +2
-mov r0, 1
-exit
-mov r0, 0
-exit
-",
-        "0: ldcell r6, 0, 0 ; r6 805306368
-2: mov r2, 1 ; r2 1
-3: fadddw [r6+0], r2 ; q[0] add 1 replied 0 ; r2 0
-4: jge r2, 2, +2
-5: mov r0, 1 ; r0 1
-6: exit
-choice 1 after 6
-",
-    ),
-    (
-        "mov r2, 258
-stxh [r10-8], r2
-stb [r10-7], 5
-ldxh r3, [r10-8]
-mov r0, 0
-exit
-",
-        "0: mov r2, 258 ; r2 258
-1: stxh [r10-8], r2 ; [r10-8] 258
-2: stb [r10-7], 5 ; [r10-7] 5
-3: ldxh r3, [r10-8] ; r3 1282
-4: mov r0, 0 ; r0 0
-5: exit
-choice 0 after 6
-",
-    ),
-    (
-        "ldxh r1, [r1+16]
-call 4
-mov r0, 0
-exit
-",
-        "0: ldxh r1, [r1+16] ; r1 42
-1: call 4 ; r0 5873
-2: mov r0, 0 ; r0 0
-3: exit
-choice 0 after 4
-",
-    ),
-];
+use trace::{Jump, trace_on};
 
 /// The program of the first two rows jumps by what q[0] has.
 const BY_COUNTER: &str = "ldcell r6, 0, 0
@@ -70,8 +17,8 @@ mov r0, 0
 exit
 ";
 
-/// A program as above, what q[0] has before its run, and the trace; then what it comes to, the last
-/// jump that was taken, and what q[0] has after it.
+/// A program, with one release and q[0] of a quota of 2; what q[0] has before its run, and the
+/// trace; then what it comes to, the last jump that was taken, and what q[0] has after it.
 const ROWS_ON: &[(&str, u64, &str)] = &[
     (
         BY_COUNTER,
@@ -139,19 +86,6 @@ choice 1 after 2; no jump; q[0] 7
     ),
 ];
 
-fn traced(alloc: Global, text: &str) -> Result<TracedRun, Fail> {
-    let program = program_of(alloc, text, &shape_of(alloc, 1, 2)?)?;
-    Ok(trace(alloc, &program, attributes(alloc)?)?)
-}
-
-fn told(alloc: Global, text: &str) -> Result<String, Fail> {
-    let run = traced(alloc, text)?;
-    let lines = run.text.as_str();
-    let choice = run.choice;
-    let count = run.count;
-    Ok(format!(in alloc; "{lines}choice {choice} after {count}\n")?)
-}
-
 fn counters_with(alloc: Global, value: u64) -> Result<PlainPass, Fail> {
     let (cells, mut counters) = PlainCells::new(alloc)?;
     let _reply = cells.act(&mut counters, CellNo::new(0), CellOp::Store(value));
@@ -166,7 +100,7 @@ fn jump_text(alloc: Global, jump: Option<Jump>) -> Result<String, AllocError> {
 }
 
 fn told_on(alloc: Global, text: &str, value: u64) -> Result<String, Fail> {
-    let program = program_of(alloc, text, &shape_of(alloc, 1, 2)?)?;
+    let program = program_of(alloc, text, &shape_of(alloc, 1)?)?;
     let mut counters = counters_with(alloc, value)?;
     let run = trace_on(alloc, &program, attributes(alloc)?, &mut counters)?;
     let left = counters.value(CellNo::new(0));
@@ -175,15 +109,6 @@ fn told_on(alloc: Global, text: &str, value: u64) -> Result<String, Fail> {
     let count = run.count;
     let jump = jump_text(alloc, run.last_jump)?;
     Ok(format!(in alloc; "{lines}choice {choice} after {count}; {jump}; q[0] {left}\n")?)
-}
-
-#[test]
-fn each_step_has_its_line(rt: HostRuntime) -> Result<(), Fail> {
-    for (program, expected) in ROWS {
-        let found = told(rt.alloc(), program)?;
-        assert_eq!(rt; found.as_str(), *expected);
-    }
-    Ok(())
 }
 
 #[test]

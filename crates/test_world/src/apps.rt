@@ -1,23 +1,19 @@
-//! Rulesets of apps whose releases no test reads, worlds over them and their events. The calls have
-//! no clauses here, so that no proof computes with the events of a test.
+//! Apps whose releases no test reads, and the events of worlds. The calls have no clauses here, so
+//! that no proof computes with the events of a test.
 
 ghost use Rattle.std.specs.Prelude.{◌≡◌, IfOk, length};
 
 use acceptance::accept;
-use attrs::{Attrs, Text};
+use attrs::Text;
 use bpf_text::assemble;
 use bpf_verify::Verified;
 use cells::Shape;
 use releases::{Package, Release, is_appid};
-use ruleset::{App, Ruleset};
+use ruleset::App;
 use std::alloc::{AllocError, Global};
 use std::sync::Arc;
 use std::test::Fail;
 use world::{Effect, Event, World, WorldFault, play};
-
-/// Chooses the first release for buckets below 100.
-pub(crate) const BELOW_100: &str =
-    "ldxh r2, [r1+16]\nmov r0, 0\njge r2, 100, +1\nmov r0, 1\nexit\n";
 
 /// Two slots, and no release.
 pub(crate) const NONE: &str = "mov r0, 0\nexit\n";
@@ -70,44 +66,6 @@ fn package(alloc: Global) -> Result<Package, AllocError> {
 pub(crate) fn app_over(alloc: Global, appid: &str, text: &str, shape: &Shape) -> Result<App, Fail> {
     let program = accept(alloc, &assemble(alloc, text)?, shape)?;
     Ok(app_of(alloc, appid, Arc::new(alloc, program)?)?)
-}
-
-/// The ruleset of one app, of this shape.
-pub(crate) fn rules_over(
-    alloc: Global,
-    appid: &str,
-    text: &str,
-    shape: &Shape,
-) -> Result<Arc<Ruleset>, Fail> {
-    let apps = vec![in alloc; app_over(alloc, appid, text, shape)?]?;
-    let rules = Ruleset::new(String::new(alloc), apps)?.ok_or("an appid stands twice")?;
-    Ok(Arc::new(alloc, rules)?)
-}
-
-/// The ruleset of one app, which has so many releases and no array.
-pub(crate) fn rules(
-    alloc: Global,
-    appid: &str,
-    text: &str,
-    releases: u8,
-) -> Result<Arc<Ruleset>, Fail> {
-    rules_over(alloc, appid, text, &Shape::plain(alloc, releases.min(64)))
-}
-
-/// A world of 1 to 64 workers: of none it has one, and above 64 it has 64.
-pub(crate) fn world_over(
-    alloc: Global,
-    workers: usize,
-    rules: Arc<Ruleset>,
-) -> Result<World, Fail> {
-    Ok(World::new(alloc, workers.max(1).min(64), rules)?)
-}
-
-/// A Start of a run for a bucket, of 9999 where it is greater.
-pub(crate) fn start(alloc: Global, worker: usize, appid: &str, bucket: u16) -> Result<Event, Fail> {
-    let attrs = Attrs::plain(alloc, appid, None, bucket.min(9999))?;
-    let attrs = Arc::new(alloc, attrs)?;
-    Ok(Event::Start { worker, attrs })
 }
 
 pub(crate) fn applied(world: &mut World, event: &Event) -> Result<Effect, WorldFault> {

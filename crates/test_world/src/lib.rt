@@ -1,18 +1,12 @@
-//! Tests of rulesets and worlds: lists of events with their effects, swaps among them, and memory
-//! that is refused once in each call of the libraries.
+//! Tests of rulesets and worlds: that a ruleset has its apps, and memory that is refused once in each
+//! call of the libraries. Lists of events with their effects are rows of the program `rows`.
 #![tactic(auto)]
 
 #[cfg(test)]
 mod apps;
 #[cfg(test)]
-mod events;
+mod faults;
 #[cfg(test)]
 mod memory;
 #[cfg(test)]
 mod rulesets;
-#[cfg(test)]
-mod swaps;
-#[cfg(test)]
-mod table;
-#[cfg(test)]
-mod world_cells;

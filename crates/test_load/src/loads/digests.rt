@@ -10,10 +10,6 @@ use std::test::Fail;
 /// What is changed of the sample, how, and the digest: what the `hashlib` of Python makes of the
 /// manifest and of its two files, each behind its length in eight bytes. `-` stands for none.
 const ROWS: &str = r#"
-- a program and a rule | "x.bpf" => "first.bpf"
- | 285e0083d9ad2a2b79f7701e150ac1972c83e09ce8da1365ab848d01c8b57c63
-- a space in the manifest | "x.bpf" =>  "first.bpf"
- | 06d631786067e5299746024af3076d8f1e0e5034b68b9cf2c373b29ed8dd9dbd
 - other files | "x.bpf" => "truncated.bpf" & "y.rule" => "ended.rule"
  | 38b8077e3f48bc7b0b4a10023ad4633f403efad7876d5471ecc0b3a808984277
 - a file of no bytes | "x.bpf" => "empty.bpf"

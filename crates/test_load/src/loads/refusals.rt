@@ -1,4 +1,4 @@
-//! Each refusal, by changes of the sample.
+//! What a refused load leaves: a way to get each kind of refusal, by changes of the sample.
 
 use super::{Loader, SAMPLE};
 use crate::sample::{changed, halves, must};
@@ -11,40 +11,14 @@ const ROWS: &str = r#"
 - nothing |  | ok
 - no TOML | server = => server | M1 Toml
 - an unknown member | quota = 2 => limit = 2 | M2 Field
-- a wrong width | width = 64 => width = 16 | M2 Field
-- a program and a rule | rule = "y.rule" => rule = "y.rule" / program = "x.bpf" | M2 Field
-- neither | rule = "y.rule" =>  | M2 Field
 - an appid twice | appid = "y" => appid = "x" | M3 Duplicate
-- array twice | [[app]] => [[array]] / name = "q" / width = 64 / length = 1 / [[app]] | M3 Duplicate
 - too many cells | [[app]] => [[array]] / name = "r"
 width = 64 / length = 4096 / [[app]] | M7 Cells N1 CellsFull in array 2
 - no such file | "x.bpf" => "z.bpf" | M4 File in app 1
 - a file that can't be read | "x.bpf" => "unreadable.bpf" | M4 File in app 1
 - no such file of a rule | "y.rule" => "z.rule" | M4 File in app 2
-- no bytes | "x.bpf" => "empty.bpf" | M5 Program F6 Empty at slot 0 in app 1
-- half a slot | "x.bpf" => "truncated.bpf" | M5 Program F8 Insn I1 Truncated at slot 0 in app 1
-- unreached | "x.bpf" => "unreached.bpf" | M5 Program F5 Unreached at slot 2 in app 1
 - no choice | "x.bpf" => "unset.bpf" | M5 Program V1 Unusable at slot 0 in app 1
-- no such release | "x.bpf" => "second.bpf" | M5 Program V13 Result at slot 1 in app 1
-- no such array | "x.bpf" => "other_array.bpf" | M5 Program V11 MapIndex at slot 0 in app 1
-- a text as a program | "x.bpf" => "y.rule" | M5 Program F8 Insn I4 UnusedField at slot 0 in app 1
-- no UTF-8 | "y.rule" => "no_text.rule" | M6 Rule L1 Token at line 1 in app 2
 - no token | "y.rule" => "token.rule" | M6 Rule L1 Token at line 1 in app 2
-- no rule | "y.rule" => "shape.rule" | M6 Rule L2 Shape at line 1 in app 2
-- an unknown array | "y.rule" => "name.rule" | M6 Rule L3 Name at line 1 in app 2
-- a count on a quota | "y.rule" => "third.rule" | M6 Rule L3 Name at line 2 in app 2
-- an index | "y.rule" => "index.rule" | M6 Rule L4 Range at line 1 in app 2
-- a release of another app | "y.rule" => "release.rule" | M6 Rule L4 Range at line 1 in app 2
-- 65537 bytes | "y.rule" => "long.rule" | M6 Rule L4 Range at line 1 in app 2
-- over 4096 slots | "y.rule" => "costly.rule" | M6 Rule C1 TooLong in app 2
-- M2 before M3 | quota = 2 => limit = 2 & appid = "y" => appid = "x" | M2 Field
-- M3 before M7 | appid = "y" => appid = "x" & [[app]] => [[array]] / name = "r"
-width = 64 / length = 4096 / [[app]] | M3 Duplicate
-- M7 before M4 | "x.bpf" => "z.bpf" & [[app]] => [[array]] / name = "r"
-width = 64 / length = 4096 / [[app]] | M7 Cells N1 CellsFull in array 2
-- app 1 first
- | "x.bpf" => "unset.bpf" & "y.rule" => "z.rule" | M5 Program V1 Unusable at slot 0 in app 1
-- app 1 before app 2, turned | "x.bpf" => "z.bpf" & "y.rule" => "shape.rule" | M4 File in app 1
 "#;
 
 /// The changes of a row, and what is told.

@@ -1,0 +1,24 @@
+//! The rows: commands with the files that they read, and what each prints. They are data, the files
+//! `data/*.rows`, which `reading.rt` describes; the words of this program name them. For each file
+//! it prints how many rows it has, and each row whose output or status isn't the wanted one.
+#![tactic(auto)]
+
+mod escapes;
+mod printed;
+mod reading;
+mod running;
+mod steps;
+
+use crate::running::run_files;
+use anyhow::Result;
+use std::env;
+use std::process::ExitCode;
+
+fn main(rt: HostRuntime) -> Result<ExitCode> {
+    let names: Vec<String> = env::args(&rt)?.collect(rt.alloc())?;
+    Ok(if run_files(&rt, names.as_slice())? {
+        ExitCode::SUCCESS
+    } else {
+        ExitCode::FAILURE
+    })
+}

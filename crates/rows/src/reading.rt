@@ -1,0 +1,89 @@
+//! How a file of rows is read. It is a text, and the mark at a line's start says what the line is:
+//!
+//! ```text
+//! -- NAME        writes the file NAME: its text are the lines below, up to the next line that
+//!                begins with a mark of a file or of a command
+//! + NAME TEXT    writes the file NAME with this text, in which ` / ` and `\n` are a line feed, and
+//!                `\r`, `\t`, `\\` and `\xHH` one byte each; nothing else ends it
+//! * N TEXT       appends this text, with the same escapes, N times to the last file
+//! % WORDS        a command that prepares: it ends with status 0, whatever it prints
+//! $ WORDS        a row: a command, whose status and whole output are compared
+//! | LINE         a line of its standard output
+//! ! LINE         a line of its standard error
+//! = N            its status, if that isn't 0
+//! ? LINE         all its output: a line that begins with `refused ` is alone on standard error,
+//!                with status 1; `usage` is `error: ` at the start of standard error, with status
+//!                2; any other line is alone on standard output, with status 0
+//! ~ TEXT         its standard output or its standard error contains this text
+//! # TEXT         a comment, but not in the text of a file
+//! each           the lines up to `rows` are read once for each line of the table below `rows`,
+//! rows           which an empty line ends; in them `<1>`, `<2>` .. are the columns of that line,
+//!                which ` | ` divides; a line of the table that begins with `# ` is a comment
+//! ```
+//!
+//! Blanks divide the words; two single quotes enclose one word, in which the escapes of `+` hold. A
+//! wanted output that ends with `...` need only be the beginning. All files of one file of rows are
+//! in one folder, and stay there until they are written again.
+
+use crate::steps::{Step, Steps};
+use anyhow::Result;
+use std::alloc::Global;
+
+/// Which lines are read: each as it is, those of a block, or those of its table.
+#[derive(Clone, Copy)]
+enum Part {
+    Plain,
+    Block,
+    Table,
+}
+
+/// A line of a block, with the columns that it names.
+fn filled(alloc: Global, line: &str, columns: &[&str]) -> Result<String> {
+    let mut line = String::from_str(alloc, line)?;
+    for (number, column) in columns.iter().enumerate() {
+        let name = format!(in alloc; "<{}>", number.saturating_add(1))?;
+        line = line.replace(alloc, name.as_str(), column)?;
+    }
+    Ok(line)
+}
+
+/// Reads a block for a line of its table, which has a number.
+fn read_block(
+    alloc: Global,
+    steps: &mut Steps,
+    block: &[&str],
+    number: usize,
+    row: &str,
+) -> Result<()> {
+    if row.starts_with("# ") {
+        return Ok(());
+    }
+    let columns: Vec<&str> = row.split(" | ").collect(alloc)?;
+    for line in block {
+        let line = filled(alloc, line, columns.as_slice())?;
+        steps.read(number, line.as_str())?;
+    }
+    Ok(())
+}
+
+/// What a file of rows does, step by step.
+pub(crate) fn read_steps(alloc: Global, text: &str) -> Result<Vec<Step>> {
+    let mut steps = Steps::new(alloc);
+    let mut block: Vec<&str> = Vec::new(alloc);
+    let mut part = Part::Plain;
+    for (number, line) in text.lines().enumerate() {
+        let number = number.saturating_add(1);
+        match (part, line) {
+            (Part::Plain, "each") => {
+                block.clear();
+                part = Part::Block;
+            }
+            (Part::Plain, _) => steps.read(number, line)?,
+            (Part::Block, "rows") => part = Part::Table,
+            (Part::Block, _) => block.push(line)?,
+            (Part::Table, "") => part = Part::Plain,
+            (Part::Table, row) => read_block(alloc, &mut steps, block.as_slice(), number, row)?,
+        }
+    }
+    steps.finish()
+}

@@ -1,0 +1,157 @@
+//! What a file of rows does, step by step, as its lines are read.
+
+use crate::escapes::unescape;
+use crate::printed::{Wanted, push_line};
+use anyhow::{Result, bail};
+use std::alloc::Global;
+
+/// What a file of rows does.
+#[derive(Drop)]
+pub(crate) enum Step {
+    /// Writes a file.
+    Write {
+        name: String,
+        bytes: Vec<u8>,
+    },
+    /// Runs a command. If nothing is wanted of it, it prepares: only its status is looked at.
+    Run {
+        line: usize,
+        words: String,
+        wanted: Option<Wanted>,
+    },
+}
+
+/// The steps of the lines that were read.
+#[derive(Drop)]
+pub(crate) struct Steps {
+    alloc: Global,
+    whole: Vec<Step>,
+    last: Option<Step>,
+    /// Whether the lines below are the text of the last step's file.
+    is_text: bool,
+}
+
+impl Steps {
+    pub(crate) fn new(alloc: Global) -> Steps {
+        Steps {
+            alloc,
+            whole: Vec::new(alloc),
+            last: None,
+            is_text: false,
+        }
+    }
+
+    /// All steps.
+    pub(crate) fn finish(self) -> Result<Vec<Step>> {
+        let Steps {
+            mut whole,
+            last,
+            ..
+        } = self;
+        if let Some(last) = last {
+            whole.push(last)?;
+        }
+        Ok(whole)
+    }
+
+    fn begin(&mut self, step: Step, is_text: bool) -> Result<()> {
+        self.is_text = is_text;
+        if let Some(whole) = self.last.replace(step) {
+            self.whole.push(whole)?;
+        }
+        Ok(())
+    }
+
+    /// Reads a line, which has a number and, up to its first blank, a mark.
+    pub(crate) fn read(&mut self, number: usize, line: &str) -> Result<()> {
+        let alloc = self.alloc;
+        let (mark, text) = line.split_once(' ').unwrap_or((line, ""));
+        match mark {
+            "--" => {
+                let name = String::from_str(alloc, text)?;
+                self.begin(
+                    Step::Write {
+                        name,
+                        bytes: Vec::new(alloc),
+                    },
+                    true,
+                )
+            }
+            "+" => {
+                let (name, text) = text.split_once(' ').unwrap_or((text, ""));
+                let bytes = unescape(alloc, text)?;
+                let name = String::from_str(alloc, name)?;
+                self.begin(Step::Write { name, bytes }, false)
+            }
+            "*" => self.repeat(text),
+            "%" => self.run(number, text, None),
+            "$" => self.run(number, text, Some(Wanted::nothing(alloc))),
+            _ => self.go_on(number, line, mark, text),
+        }
+    }
+
+    fn run(&mut self, line: usize, words: &str, wanted: Option<Wanted>) -> Result<()> {
+        let words = String::from_str(self.alloc, words)?;
+        self.begin(
+            Step::Run {
+                line,
+                words,
+                wanted,
+            },
+            false,
+        )
+    }
+
+    /// Appends a text to the last file as often as the number before it says.
+    fn repeat(&mut self, text: &str) -> Result<()> {
+        self.is_text = false;
+        let (times, text) = text.split_once(' ').unwrap_or((text, ""));
+        let times: u32 = times.parse()?;
+        let more = unescape(self.alloc, text)?;
+        if let Some(Step::Write { bytes, .. }) = &mut self.last {
+            for _ in 0..times {
+                bytes.extend_from_slice(&more)?;
+            }
+        }
+        Ok(())
+    }
+
+    /// Reads a line that belongs to the last step.
+    fn go_on(&mut self, number: usize, line: &str, mark: &str, text: &str) -> Result<()> {
+        match &mut self.last {
+            Some(Step::Write { bytes, .. }) if self.is_text => {
+                bytes.extend_from_slice(line.as_bytes())?;
+                bytes.push(b'\n')?;
+                Ok(())
+            }
+            Some(
+                Step::Run {
+                    wanted: Some(wanted),
+                    ..
+                },
+            ) => { want(self.alloc, wanted, number, mark, text) }
+            _ => pass_over(number, mark),
+        }
+    }
+}
+
+/// Adds what a line says to what a row wants.
+fn want(alloc: Global, wanted: &mut Wanted, number: usize, mark: &str, text: &str) -> Result<()> {
+    match mark {
+        "|" => push_line(&mut wanted.printed.out, text)?,
+        "!" => push_line(&mut wanted.printed.err, text)?,
+        "=" => wanted.printed.status = text.parse()?,
+        "?" => wanted.want_line(text)?,
+        "~" => wanted.parts.push(String::from_str(alloc, text)?)?,
+        _ => pass_over(number, mark)?,
+    }
+    Ok(())
+}
+
+/// Passes over a comment or an empty line, and refuses any other one.
+fn pass_over(number: usize, mark: &str) -> Result<()> {
+    if mark.is_empty() || mark.starts_with('#') {
+        return Ok(());
+    }
+    bail!("line {number}: {mark} is no mark")
+}
