@@ -19,12 +19,13 @@ pub refuses : (known : KnownFiles) (path : List ℕ) (old : List CellArray) (fau
     (cause : Option (String Global)) → RefusesTelling known path old fault cause
     → RefusesPath known path old fault
 refuses known path old (Resource fault) cause told = told.0
-refuses known path old (Load fault) cause told = (told.0, told.1, told.2)
+refuses known path old (Load fault) cause told = (told.0, told.1, told.2.fault_is)
 
 no_cause : (known : KnownFiles) (path : List ℕ) (old : List CellArray) (fault : PathFault)
     → RefusesPath known path old fault → RefusesTelling known path old fault None
 no_cause known path old (Resource fault) refused = (refused, refl)
-no_cause known path old (Load fault) refused = (refused.0, refused.1, refused.2, tt)
+no_cause known path old (Load fault) refused =
+    (refused.0, refused.1, record { fault_is = refused.2; cause_is = tt })
 
 -- where nothing is told beside
 pub untold : (known : KnownFiles) (path : List ℕ) (old : List CellArray) (fault told : PathFault)

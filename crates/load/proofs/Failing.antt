@@ -1,10 +1,17 @@
 -- How many files couldn't be read, counted app by app.
-use Rattle.std.proofs.Common.{◌≡◌, ◌<◌, ℕ, ◌+◌, List, [], ◌∷◌, ◌++◌, cond, ap, ◌∙◌, arith}
+use Rattle.std.proofs.Common.{◌≡◌, ◌≢◌, ◌<◌, ℕ, ◌+◌, List, [], ◌∷◌, ◌++◌, cond, refl, ap, ◌∙◌}
+use Rattle.std.proofs.Common.{arith}
 use Rattle.std.proofs.lemmas.List.Sums.{sum_by-append}
+use Rattle.bpf_semantics.specs.Program.{ShapedProgram}
+use Rattle.cells.specs.Directory.{Declaration}
+use Rattle.manifest.specs.declared.app.ProgramSource.{ProgramSource}
 use Rattle.load.specs.declared.fault.AppFault.TheVariants as app
-use Rattle.load.specs.Gathered.{failures_in}
-use Rattle.load.specs.Judged.{IsFirstRefused, here, there}
-use Rattle.load.specs.Kept.{CountsFile, is_unread}
+use Rattle.load.specs.declared.fault.LoadFault.{LoadFault}
+use Rattle.load.specs.declared.fault.LoadFault.TheVariants as load
+use Rattle.load.specs.Gathered.{AreArraysBeside, failures_in}
+use Rattle.load.specs.Judged.{AreJudged, next_program, IsFirstRefused, here, there, RefusesFirst}
+use Rattle.load.specs.Kept.{CountsFile, IsProgramKept, is_unread}
+use Rattle.load.specs.Load.{CountsFault}
 use Rattle.load.specs.declared.gathering.GatheredApp.{GatheredApp}
 use Rattle.load.specs.declared.kept.KeptFile.{KeptFile}
 use Rattle.load.specs.declared.kept.KeptFile.TheVariants.{Unread, Whole, Longer}
@@ -52,3 +59,41 @@ first_failed (a ∷ apps) (here refused) =
     omega (arith, one, parted a apps)
 first_failed (a ∷ apps) (there p judged behind) =
     let rest = first_failed apps behind in omega (arith, rest, parted a apps)
+
+-- ---- and with all programs every file was read
+
+none_unread : (from : ProgramSource) (kept : KeptFile) (p : ShapedProgram)
+    → IsProgramKept from kept p → failures_of kept ≡ 0
+none_unread from Unread p h = absurd h
+none_unread from (Whole v) p h = refl
+none_unread from (Longer v n is_text) p h = refl
+
+pub all_read : (apps : List GatheredApp) (programs : List ShapedProgram) → AreJudged apps programs
+    → failures_in apps ≡ 0
+all_read [] programs judged = refl
+all_read (a ∷ apps) [] judged = elim judged [ ]
+all_read (a ∷ apps) (p ∷ programs) (next_program j rest) =
+    let one = none_unread a.entry.source a.kept p j.program_is in
+    omega (arith, one, parted a apps, all_read apps programs rest)
+
+-- ---- how the count goes with the fault
+
+pub judged_counts : (old new : ℕ) (apps : List GatheredApp) (fault : LoadFault)
+    → new ≡ old + failures_in apps → RefusesFirst apps fault → CountsFault old new fault
+judged_counts old new apps (load.File number) count refused =
+    let some = first_failed apps refused in omega (arith, count, some)
+judged_counts old new apps (load.Program number fault) count refused = omega (arith, count)
+judged_counts old new apps (load.Rule number fault) count refused = omega (arith, count)
+judged_counts old new apps load.Memory count refused = tt
+judged_counts old new apps (load.Manifest fault) count refused = absurd refused
+judged_counts old new apps (load.Cells number fault) count refused = absurd refused
+
+pub early_counts : (old new : ℕ) (bytes : List ℕ) (fault : LoadFault) (arrays : List Declaration)
+    → AreArraysBeside bytes fault arrays → (fault ≢ load.Memory → new ≡ old)
+    → CountsFault old new fault
+early_counts old new bytes (load.Manifest fault) arrays are count = count (λ e. absurd cc)
+early_counts old new bytes (load.Cells number fault) arrays are count = count (λ e. absurd cc)
+early_counts old new bytes load.Memory arrays are count = tt
+early_counts old new bytes (load.File number) arrays are count = absurd are
+early_counts old new bytes (load.Program number fault) arrays are count = absurd are
+early_counts old new bytes (load.Rule number fault) arrays are count = absurd are

@@ -1,6 +1,6 @@
 -- From what is kept of a file to what its bytes come to, and to what is counted.
-use Rattle.std.proofs.Common.{◌≡◌, ◌≢◌, ℕ, ◌<◌, List, length, Vec, Bool, true, false}
-use Rattle.std.proofs.Common.{Some, None, Result, Ok, Err, IfOk, IfErr, refl, sym, ap, ◌∙◌, subst}
+use Rattle.std.proofs.Common.{◌≡◌, ℕ, ◌<◌, List, length, Vec, Bool, true, false}
+use Rattle.std.proofs.Common.{Some, None, Result, Ok, Err, IfOk, IfErr, refl, sym, ◌∙◌, subst}
 use Rattle.std.specs.Prelude.{◌↔◌, IsTrue, IsUtf8}
 use Rattle.std.specs.declared.alloc.Global.{Global}
 use Rattle.acceptance.specs.Rule.{no_rule, no_text}
@@ -22,8 +22,7 @@ use Rattle.load.specs.declared.fault.AppFault.{AppFault}
 use Rattle.load.specs.declared.fault.AppFault.TheVariants as app
 use Rattle.load.specs.declared.kept.KeptFile.{KeptFile}
 use Rattle.load.specs.declared.kept.KeptFile.TheVariants.{Unread, Whole, Longer}
-use Rattle.load.specs.App.{CountsApp}
-use Rattle.load.specs.Kept.{CountsFile, FailsIfUnread}
+use Rattle.load.specs.Kept.{CountsFile}
 use Rattle.load.specs.Kept.{IsKeptFrom, IsLonger, IsProgramKept, Retains, RefusesKept}
 use Rattle.load.specs.Kept.{long_count, most_of}
 use Rattle.load.specs.Source.{Given, IsProgramFrom, IsProgramIn, RefusesBytes, RefusesFile}
@@ -34,10 +33,6 @@ pub no_file : (from : ProgramSource) (bytes : List ℕ) (shape : AppShape)
     → RefusesFile from bytes shape app.File → ⊥
 no_file (source.Program file) bytes shape h = h
 no_file (source.Rule file) bytes shape h = h
-
-abbrev in_result : {X : Type 0} → Result X AppFault → AppFault
-in_result (Ok x) = app.Memory
-in_result (Err fault) = fault
 
 -- ---- a file that couldn't be read
 
@@ -64,19 +59,6 @@ module _ (from : ProgramSource) (kept : KeptFile) (v : Vec ℕ Global) (bytes : 
       subst (λ (x : KeptFile). RefusesKept from x shape fault) (sym is)
       (subst (λ (b : List ℕ). RefusesFile from b shape fault) same h)
 
-  other_fault : (shape : AppShape) (r : Result ShapedProgram AppFault)
-      → IfErr r (RefusesFile from bytes shape) → r ≢ Err app.File
-  other_fault shape (Ok p) h = λ e. absurd cc
-  other_fault shape (Err app.File) h = λ e. no_file from bytes shape h
-  other_fault shape (Err app.Memory) h = λ e. absurd cc
-  other_fault shape (Err (app.Program fault)) h = λ e. absurd cc
-  other_fault shape (Err (app.Rule fault)) h = λ e. absurd cc
-
-  pub whole_read : (shape : AppShape) (r : Result ShapedProgram AppFault)
-      → IfErr r (RefusesFile from bytes shape) → FailsIfUnread kept r
-  whole_read shape r h =
-      subst (λ (x : KeptFile). FailsIfUnread x r) (sym is) (other_fault shape r h)
-
 -- ---- a longer one
 
 pub long_program : (bytes : List ℕ) (shape : AppShape) → 32768 < length bytes
@@ -102,11 +84,6 @@ module _ (from : ProgramSource) (kept : KeptFile) (beginning : Vec ℕ Global) (
       subst (λ (x : KeptFile). RefusesKept from x shape fault) (sym is)
       (λ bytes longer. refuses bytes shape longer)
 
-  pub longer_read : (X : Type 0) → fault ≢ app.File → FailsIfUnread {X = X} kept (Err fault)
-  longer_read X other =
-      subst (λ (x : KeptFile). FailsIfUnread {X = X} x (Err fault)) (sym is)
-      (λ e. other (ap (λ (r : Result X AppFault). in_result r) e))
-
 -- ---- what has a program isn't longer
 
 pub none_long : (from : ProgramSource) (kept : KeptFile) (p : ShapedProgram)
@@ -114,23 +91,6 @@ pub none_long : (from : ProgramSource) (kept : KeptFile) (p : ShapedProgram)
 none_long from Unread p h = absurd h
 none_long from (Whole v) p h = refl
 none_long from (Longer v n is_text) p h = absurd h
-
--- ---- what is counted
-
-pub counted : (old new : ℕ) (kept : KeptFile) (r : Result ShapedProgram AppFault)
-    → CountsFile old new kept → FailsIfUnread kept r → CountsApp old new r
-counted old new Unread r count fails =
-    subst (λ (x : Result ShapedProgram AppFault). CountsApp old new x) (sym fails) count
-counted old new (Whole v) (Ok p) count fails = count
-counted old new (Whole v) (Err app.File) count fails = absurd (fails refl)
-counted old new (Whole v) (Err app.Memory) count fails = count
-counted old new (Whole v) (Err (app.Program fault)) count fails = count
-counted old new (Whole v) (Err (app.Rule fault)) count fails = count
-counted old new (Longer v n is_text) (Ok p) count fails = count
-counted old new (Longer v n is_text) (Err app.File) count fails = absurd (fails refl)
-counted old new (Longer v n is_text) (Err app.Memory) count fails = count
-counted old new (Longer v n is_text) (Err (app.Program fault)) count fails = count
-counted old new (Longer v n is_text) (Err (app.Rule fault)) count fails = count
 
 -- ---- the file of which it is kept
 
@@ -220,13 +180,3 @@ module _ (known : KnownFiles) (from : ProgramSource) (kept : KeptFile)
   pub fault_of : (shape : AppShape) (fault : AppFault) → RefusesKept from kept shape fault
       → RefusesSource known from shape fault
   fault_of shape fault h = fault_given known from kept shape fault is.0 is.1 is.2 h
-
-  pub program_in : (r : Result ShapedProgram AppFault) → IfOk r (IsProgramKept from kept)
-      → IfOk r (IsProgramIn known from)
-  program_in (Ok p) h = program_of p h
-  program_in (Err fault) h = tt
-
-  pub fault_in : (shape : AppShape) (r : Result ShapedProgram AppFault)
-      → IfErr r (RefusesKept from kept shape) → IfErr r (RefusesSource known from shape)
-  fault_in shape (Ok p) h = tt
-  fault_in shape (Err fault) h = fault_of shape fault h

@@ -1,4 +1,3 @@
-mod Walk
 mod Long
 mod Keeping
 mod Slices

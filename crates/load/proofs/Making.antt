@@ -1,6 +1,6 @@
 -- What is made of what was gathered is what is loaded.
-use Rattle.std.proofs.Common.{ℕ, List, sym, ◌∙◌, subst}
-use Rattle.bounded_files.specs.Files.{KnownFiles}
+use Rattle.std.proofs.Common.{◌≡◌, ℕ, List, Some, sym, ◌∙◌, subst}
+use Rattle.bounded_files.specs.Files.{KnownFiles, Gives, regular_files}
 use Rattle.bpf_semantics.specs.Program.{ShapedProgram}
 use Rattle.cells.specs.Apart.{NumberedArraysAreNamed}
 use Rattle.cells.specs.Directory.{IsDirectory}
@@ -13,7 +13,7 @@ use Rattle.load.specs.Gathered.{IsGathered}
 use Rattle.load.specs.Judged.{AreJudged, IsLoadOf, apps_of}
 use Rattle.load.specs.Load.{IsRulesetOf}
 use Rattle.load.specs.Loaded.{IsLoadedFrom}
-use Rattle.load.specs.Made.{GatheredIsMade, IsMadeFrom, IsMadeOf}
+use Rattle.load.specs.Made.{GatheredIsMade, IsMadeFrom, IsMadeOf, IsMadeOver}
 use Rattle.load.specs.declared.gathering.Gathered.{Gathered}
 use Rattle.load.specs.declared.made.MadeRuleset.{MadeRuleset}
 use Rattle.load.proofs.Gathers.{gathered_is_loaded}
@@ -76,4 +76,15 @@ is_loaded known path old made from = record {
   given = from.given;
   loaded = is_ruleset (known_beside known path) old from.bytes from.gathered from.is_gathered made
       from.made_of;
+}
+
+pub from_path : (known : KnownFiles) (path : List ℕ) (old : List CellArray) (bytes file : List ℕ)
+    (made : MadeRuleset) → bytes ≡ file → Gives (regular_files known) path (Some file)
+    → IsMadeOver (known_beside known path) old bytes made → IsMadeFrom known path old made
+from_path known path old bytes file made same given over = record {
+  bytes = bytes;
+  given = subst (λ (b : List ℕ). Gives (regular_files known) path (Some b)) (sym same) given;
+  gathered = over.gathered;
+  is_gathered = over.is_gathered;
+  made_of = over.made_of;
 }

@@ -1,12 +1,12 @@
 -- An app of a manifest, with the program of its file.
-use Rattle.std.specs.Prelude.{◌≡◌, ℕ, ◌+◌, List, length, Result, Err}
+use Rattle.std.specs.Prelude.{◌≡◌, List, length}
 use Rattle.cells.specs.Arrays.{AppShape, AreNumbered}
 use Rattle.cells.specs.declared.array.ArrayNo.{ArrayNo}
 use Rattle.cells.specs.declared.array.CellArray.{CellArray}
 use Rattle.manifest.specs.App.{AppEntry}
 use Rattle.ruleset.specs.Rules.{AppRule}
 use Rattle.load.specs.declared.fault.AppFault.{AppFault}
-use Rattle.load.specs.declared.fault.AppFault.TheVariants.{File, Memory}
+use Rattle.load.specs.declared.fault.AppFault.TheVariants.{Memory}
 use Rattle.bounded_files.specs.Files.{KnownFiles}
 use Rattle.load.specs.Source.{IsProgramIn, RefusesSource}
 
@@ -31,8 +31,3 @@ module _ (known : KnownFiles) (directory : List CellArray) (numbers : List Array
   RefusesApp entry fault =
       (shape : AppShape) × IsShapeOf directory numbers entry shape
       × RefusesSource known entry.source shape fault
-
--- an app has no file only where a reading failed, and that is counted
-abbrev pub CountsApp : {X : Type 0} → ℕ → ℕ → Result X AppFault → Type 0
-CountsApp old new (Err File) = new ≡ old + 1
-CountsApp old new result = new ≡ old

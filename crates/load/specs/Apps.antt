@@ -1,5 +1,5 @@
 -- The apps of a manifest, one after another.
-use Rattle.std.specs.Prelude.{◌≡◌, ℕ, ◌+◌, List, [], ◌∷◌, ◌++◌, length, Result, Err}
+use Rattle.std.specs.Prelude.{◌≡◌, ℕ, ◌+◌, List, [], ◌∷◌, ◌++◌, length}
 use Rattle.cells.specs.declared.array.ArrayNo.{ArrayNo}
 use Rattle.cells.specs.declared.array.CellArray.{CellArray}
 use Rattle.manifest.specs.App.{AppEntry}
@@ -44,8 +44,3 @@ in_app number app.File = File number
 in_app number (app.Program fault) = Program number fault
 in_app number (app.Rule fault) = Rule number fault
 in_app number app.Memory = Memory
-
--- a file that couldn't be read is the fault of its app, and is counted
-abbrev pub CountsLoad : {X : Type 0} → ℕ → ℕ → Result X LoadFault → Type 0
-CountsLoad old new (Err (File number)) = new ≡ old + 1
-CountsLoad old new result = new ≡ old

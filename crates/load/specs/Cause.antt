@@ -67,14 +67,19 @@ IsCause old bytes (load.Cells number fault) text =
     × (cause_in old manifest.arrays number fault ≡ Some text)
 IsCause old bytes fault text = ⊥
 
+-- this is the fault of these bytes, and its cause, if it has one
+pub record IsFaultWithCause (known : KnownFiles) (old : List CellArray) (bytes : List ℕ)
+    (fault : LoadFault) (cause : Option (String Global)) : Type 0 where
+  pub fault_is : IsLoadFault known old bytes fault
+  pub cause_is : IfSome cause (λ text. IsCause old bytes fault (string_bytes text))
+
 module _ (known : KnownFiles) (path : List ℕ) (old : List CellArray) where
   -- the file can't be read, and nothing is told beside; or it gives bytes of which this is the
   -- fault, and of which the cause is, if it is told
   abbrev pub RefusesTelling : PathFault → Option (String Global) → Type 0
   RefusesTelling (Load fault) cause =
       (bytes : List ℕ) × Gives (regular_files known) path (Some bytes)
-      × IsLoadFault (known_beside known path) old bytes fault
-      × IfSome cause (λ text. IsCause old bytes fault (string_bytes text))
+      × IsFaultWithCause (known_beside known path) old bytes fault cause
   RefusesTelling (Resource fault) cause =
       RefusesPath known path old (Resource fault) × (cause ≡ None)
 

@@ -1,5 +1,5 @@
 -- What is kept of a file that an app names: enough to judge it, whatever its length.
-use Rattle.std.specs.Prelude.{◌≡◌, ◌≢◌, ◌↔◌, ℕ, ◌+◌, ◌<◌, List, length}
+use Rattle.std.specs.Prelude.{◌≡◌, ◌↔◌, ℕ, ◌+◌, ◌<◌, List, length}
 use Rattle.std.specs.Prelude.{Bool, true, false, Some, None, Result, Ok, Err, IsTrue, IsUtf8}
 use Rattle.bounded_files.specs.Files.{KnownFiles, Gives}
 use Rattle.bounded_files.specs.Kept.{IsKeptOf}
@@ -70,8 +70,3 @@ CountsFile old new kept = new ≡ old
 abbrev pub CountsKept : {E : Type 0} → ℕ → ℕ → Result KeptFile E → Type 0
 CountsKept old new (Ok kept) = CountsFile old new kept
 CountsKept old new (Err e) = new ≡ old
-
--- and it is the one that is refused for this
-abbrev pub FailsIfUnread : {X : Type 0} → KeptFile → Result X AppFault → Type 0
-FailsIfUnread Unread result = result ≡ Err app.File
-FailsIfUnread kept result = result ≢ Err app.File

@@ -23,6 +23,14 @@ pub record IsMadeOf (bytes : List ℕ) (g : Gathered) (made : MadeRuleset) : Typ
   pub directory_is : made.directory ≡ g.directory
   pub digest_is : digest_of bytes g.apps.items ≡ Some made.digest
 
+-- This is gathered of these bytes and of files over the arrays that stand, and of that the ruleset
+-- is made.
+pub record IsMadeOver (known : KnownFiles) (old : List CellArray) (bytes : List ℕ)
+    (made : MadeRuleset) : Type 0 where
+  pub gathered : Gathered
+  pub is_gathered : IsGathered known old bytes gathered
+  pub made_of : IsMadeOf bytes gathered made
+
 -- The file at a path gives these bytes, this is gathered of them and of the files of its folder
 -- over the arrays that stand, and of that the ruleset is made.
 pub record IsMadeFrom (known : KnownFiles) (path : List ℕ) (old : List CellArray)

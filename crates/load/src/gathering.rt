@@ -11,10 +11,10 @@ ghost use Rattle.load.specs.Kept.{CountsFile};
 ghost use Rattle.manifest.specs.Manifest.{ReadsManifest};
 ghost use Rattle.manifest.specs.Parsed.{IsNoManifest};
 
+use crate::arrays::declare_arrays;
 use crate::fault::LoadFault;
 use crate::files::Files;
 use crate::kept::{KeptFile, file_of, gather_file, long_count};
-use crate::loading::declare_arrays;
 use attrs::Text;
 use cells::{ArrayNo, Directory, Shape};
 use declarations::ArrayDeclaration;

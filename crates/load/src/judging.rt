@@ -1,11 +1,11 @@
 //! What is kept of an app's file is judged: it gives a program of the app's shape, or has a fault.
 
-ghost use Rattle.std.specs.Prelude.{◌≡◌, ◌≢◌, ◌↔◌, ◌<◌, ℕ, List, length, IfOk, IfErr};
+ghost use Rattle.std.specs.Prelude.{◌≡◌, ◌↔◌, ◌<◌, ℕ, List, length, IfOk, IfErr};
 ghost use Rattle.std.specs.Prelude.{IsTrue, IsUtf8};
 ghost use Rattle.acceptance.specs.Program.{IsProgramOf};
 ghost use Rattle.acceptance.specs.Rule.{IsProgramOfRule};
 ghost use Rattle.cells.specs.Arrays.{AppShape};
-ghost use Rattle.load.specs.Kept.{FailsIfUnread, IsLonger, IsProgramKept, RefusesKept};
+ghost use Rattle.load.specs.Kept.{IsLonger, IsProgramKept, RefusesKept};
 ghost use Rattle.load.specs.Source.{IsProgramFrom, RefusesBytes, RefusesFile, RefusesText};
 
 use crate::fault::AppFault;
@@ -21,7 +21,7 @@ use std::alloc::Global;
 /// The program of an app, by what is kept of its file: M4 where it couldn't be read, M5 where its
 /// bytes are no program, M6 where its text is no rule, and M8 where memory is refused. Whatever
 /// bytes the file gave of which this is kept, the answer is theirs.
-pub fn judge_file(
+pub(crate) fn judge_file(
     alloc: Global,
     source: &ProgramSource,
     kept: &KeptFile,
@@ -30,7 +30,6 @@ pub fn judge_file(
     ensures shape { IfOk result (λ program. program.shape ≡ shape.now) }
     ensures program { IfOk result (IsProgramKept source.now kept.now) }
     ensures fault { IfErr result (RefusesKept source.now kept.now shape.now) }
-    ensures unread { FailsIfUnread kept.now result }
 {
     match kept {
         KeptFile::Unread => Err(AppFault::File),
@@ -81,9 +80,8 @@ fn program_of_rule(alloc: Global, text: &[u8], shape: &Shape) -> Result<Verified
 
 // The fault of a file of more bytes than it may have, under any shape.
 fn too_long(source: &ProgramSource, is_text: bool) -> AppFault
-    ensures fault { (bytes : List ℕ) (shape : AppShape) → IsLonger source.now is_text bytes
+    ensures { (bytes : List ℕ) (shape : AppShape) → IsLonger source.now is_text bytes
         → RefusesFile source.now bytes shape result }
-    ensures other { result ≢ AppFault.File }
 {
     match source {
         ProgramSource::Program(_) => long_program(),
@@ -92,9 +90,8 @@ fn too_long(source: &ProgramSource, is_text: bool) -> AppFault
 }
 
 fn long_program() -> AppFault
-    ensures fault { (bytes : List ℕ) (shape : AppShape) → 32768 < length bytes
+    ensures { (bytes : List ℕ) (shape : AppShape) → 32768 < length bytes
         → RefusesBytes bytes shape result }
-    ensures other { result ≢ AppFault.File }
 {
     AppFault::Program(ProgramFault::Flow(FlowFault::Rule {
         slot: 0,
@@ -103,9 +100,8 @@ fn long_program() -> AppFault
 }
 
 fn long_rule(is_text: bool) -> AppFault
-    ensures fault { (bytes : List ℕ) (shape : AppShape) → 65536 < length bytes
+    ensures { (bytes : List ℕ) (shape : AppShape) → 65536 < length bytes
         → (IsTrue is_text ↔ IsUtf8 bytes) → RefusesText bytes shape result }
-    ensures other { result ≢ AppFault.File }
 {
     if is_text {
         return rule_fault(RuleFaultKind::Range);

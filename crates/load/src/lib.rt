@@ -12,8 +12,8 @@
 // is made of them, with the digest of the very bytes that were judged (`made.rt`, `digest.rt`).
 // Only then is the directory exchanged for the copy, so a load that is refused declares nothing.
 //
-// `load_over` comes to the same ruleset or fault, app by app (`apps.rt`): it keeps no file longer
-// than it takes to judge it, and reads none behind the first that is refused.
+// A load is this, of a manifest's bytes and of any files (`load_bytes` in `loading.rt`). Servers
+// load the manifest at a path by it (`path.rt`); `load_over` and `load_ruleset` are calls of it.
 //
 // A file is read to its end, but of one that is longer than it may be only the beginning is kept,
 // how many bytes it has, and whether they are a text. Such a file is a fault of its own, so once
@@ -23,8 +23,7 @@
 // Files are read through a trait, so that files in memory can stand in for those of a device; of
 // these the contracts say which file of which folder was taken.
 
-mod app;
-mod apps;
+mod arrays;
 mod cause;
 mod digest;
 mod fault;
@@ -40,7 +39,6 @@ mod path;
 mod programs;
 mod refusal;
 
-pub use apps::in_app;
 pub use bounded_files::{Device, Disk};
 pub use digest::{digest_of, judged_digest};
 pub use fault::{AppFault, LoadFault, PathFault};
@@ -52,5 +50,5 @@ pub use law::{gathered_is_loaded, gathered_is_made, one_load};
 pub use loading::{load_over, load_ruleset};
 pub use made::{MadeRuleset, make_ruleset};
 pub use path::{MOST_MANIFEST, load_path, load_told, manifest_bytes};
-pub use programs::{judge, judge_app, supply};
+pub use programs::{in_app, judge, judge_app, supply};
 pub use refusal::LoadRefusal;

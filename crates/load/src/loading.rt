@@ -1,32 +1,33 @@
 //! From the bytes of a manifest to a ruleset.
 
-ghost use Rattle.std.specs.Prelude.{◌≡◌, ◌^◌, ◌-◌, ◌<◌, length, All, IfOk, IfErr};
-ghost use Rattle.declarations.specs.Order.{AreDeclared};
-ghost use Rattle.load.specs.Apps.{CountsLoad};
-ghost use Rattle.load.specs.Load.{Loads, LoadsOver, RefusesArrays, RefusesManifest};
-ghost use Rattle.ruleset.specs.Rules.{KnowsOnly};
+ghost use Rattle.std.specs.Prelude.{◌≡◌, ℕ, List, IfOk, IfErr, None};
 ghost use mathlib.Core.List.{IsPrefix};
-ghost use Rattle.manifest.specs.Manifest.{ReadsManifest};
+ghost use Rattle.bounded_files.specs.Files.{KnownFiles};
+ghost use Rattle.load.specs.Cause.{IsFaultWithCause};
+ghost use Rattle.load.specs.Gathered.{IsUngathered};
+ghost use Rattle.load.specs.Load.{CountsFault, CountsLoad, IsRulesetOf, Loads, LoadsOver};
+ghost use Rattle.load.specs.Made.{IsMadeOver};
+ghost use Rattle.ruleset.specs.Rules.{KnowsOnly};
 
-use crate::apps::load_apps;
+use crate::cause::cause_of;
 use crate::fault::LoadFault;
 use crate::files::Files;
-use cells::{ArrayNo, CellsFault, Directory, arrays_stay};
-use declarations::{ArrayDeclaration, RefusedArray, declare_all};
-use manifest::{Manifest, ManifestFault, ManifestParts, read_manifest};
+use crate::gathering::{Ungathered, gather};
+use crate::law::{gathered_is_loaded, gathered_is_made};
+use crate::made::{MadeRuleset, make_ruleset};
+use cells::{Directory, arrays_stay};
 use ruleset::Ruleset;
 use std::alloc::Global;
 
 /// What `load_over` comes to, with the directory changed in place. After any refusal it is as it
 /// was.
-// open: whether memory is refused (M8); what a device's files give.
+// open: what `load_over` leaves open.
 pub fn load_ruleset<F: Files>(
     alloc: Global,
     manifest: &[u8],
     files: &mut F,
     directory: &mut Directory,
 ) -> Result<Ruleset, LoadFault>
-    requires { F.failed files.old < 2 ^ 64 - 1 }
     ensures known { F.known files.new ≡ F.known files.old }
     ensures loads { Loads (F.known files.old) directory.old manifest.now result directory.new }
     ensures only { IfOk result (KnowsOnly directory.new) }
@@ -47,76 +48,90 @@ pub fn load_ruleset<F: Files>(
 /// from 0, is map i of each of its programs.
 ///
 /// The faults come in this order: M1 to M3 of the manifest; M7 of the first array that isn't
-/// declared; then app by app M4 where its file can't be read, M5 where its bytes are no program,
-/// or M6 where they spell no rule. M8 comes where memory is refused.
-// open: whether memory is refused (M8); what a device's files give.
+/// declared; then app by app M4 if its file can't be read, M5 if its bytes are no program, or M6
+/// if they spell no rule. All files are read before the first is judged, as by `gather`. M8 comes
+/// if memory is refused, or if as many files couldn't be read as can be counted.
+// open: whether memory is refused (M8), and beside M8 how many of the files that were read couldn't
+// be; what a device's files give.
 pub fn load_over<F: Files>(
     alloc: Global,
     manifest: &[u8],
     files: &mut F,
     directory: &Directory,
 ) -> Result<(Ruleset, Directory), LoadFault>
-    requires { F.failed files.old < 2 ^ 64 - 1 }
     ensures known { F.known files.new ≡ F.known files.old }
     ensures loads { LoadsOver (F.known files.old) directory.now manifest.now result }
     ensures only { IfOk result (λ loaded. KnowsOnly loaded.1 loaded.0) }
     ensures grown { IfOk result (λ loaded. IsPrefix directory.now loaded.1) }
     ensures count { CountsLoad (F.failed files.old) (F.failed files.new) result }
 {
-    arrays_stay();
-    let manifest = read(alloc, manifest)?;
-    let ManifestParts {
-        server,
-        arrays,
-        apps,
-    } = manifest.into_parts();
-    let Ok(mut grown) = directory.copy(alloc) else {
-        return Err(LoadFault::Memory);
-    };
-    let numbers = declare_arrays(alloc, &mut grown, &arrays)?;
-    let _arrays = grown.arrays();
-    let apps = load_apps(alloc, files, &grown, &numbers, apps)?;
-    let Ok(rules) = Ruleset::known(server.into_string(), apps) else {
-        return Err(LoadFault::Memory);
-    };
-    Ok((rules, grown))
-}
-
-/// The manifest that bytes spell.
-pub(crate) fn read(alloc: Global, bytes: &[u8]) -> Result<Manifest, LoadFault>
-    ensures manifest { IfOk result (λ manifest. ReadsManifest bytes.now (Ok manifest)) }
-    ensures fault { IfErr result (RefusesManifest bytes.now) }
-{
-    match read_manifest(alloc, bytes) {
-        Ok(manifest) => Ok(manifest),
-        Err(ManifestFault::Memory) => Err(LoadFault::Memory),
-        Err(fault) => Err(LoadFault::Manifest(fault)),
-    }
-}
-
-/// Declares the arrays of a manifest, in their order.
-pub(crate) fn declare_arrays(
-    alloc: Global,
-    directory: &mut Directory,
-    arrays: &[ArrayDeclaration],
-) -> Result<Vec<ArrayNo>, LoadFault>
-    ensures declared { IfOk result (λ v.
-        AreDeclared directory.old arrays.now v.items directory.new) }
-    ensures within { IfOk result (λ v. All (λ n. n.number < length directory.new) v.items) }
-    ensures grown { IsPrefix directory.old directory.new }
-    ensures fault { IfErr result (RefusesArrays directory.old arrays.now) }
-{
-    match declare_all(alloc, directory, arrays) {
-        Ok(numbers) => Ok(numbers),
-        Err(
-            RefusedArray {
-                fault: CellsFault::Memory,
-                ..
+    match load_bytes(alloc, manifest, files, directory) {
+        Ok(
+            MadeRuleset {
+                rules,
+                directory,
+                digest: _,
             },
-        ) => Err(LoadFault::Memory),
-        Err(RefusedArray { number, fault }) => Err(LoadFault::Cells {
-            array: number,
-            fault,
-        }),
+        ) => Ok((rules, directory)),
+        Err(
+            BytesRefusal {
+                fault,
+                cause: _cause,
+            },
+        ) => Err(fault),
     }
+}
+
+/// Why the bytes of a manifest come to no ruleset, and what a log prints beside it.
+#[derive(Drop)]
+pub(crate) struct BytesRefusal {
+    pub(crate) fault: LoadFault,
+    pub(crate) cause: Option<String>,
+}
+
+/// What these bytes, of a manifest, and the files that they name come to.
+pub(crate) fn load_bytes<F: Files>(
+    alloc: Global,
+    manifest: &[u8],
+    files: &mut F,
+    directory: &Directory,
+) -> Result<MadeRuleset, BytesRefusal>
+    ensures known { F.known files.new ≡ F.known files.old }
+    ensures made { IfOk result (IsMadeOver (F.known files.old) directory.now manifest.now) }
+    ensures rules { IfOk result (λ made. IsRulesetOf (F.known files.old) directory.now
+        manifest.now made.rules made.directory) }
+    ensures fault { IfErr result (λ refused. IsFaultWithCause (F.known files.old) directory.now
+        manifest.now refused.fault refused.cause) }
+    ensures only { IfOk result (λ made. KnowsOnly made.directory made.rules) }
+    ensures grown { IfOk result (λ made. IsPrefix directory.now made.directory) }
+    ensures count { IfOk result (λ made. F.failed files.new ≡ F.failed files.old) }
+    // M4 comes only if the count rose.
+    ensures failed { IfErr result (λ refused.
+        CountsFault (F.failed files.old) (F.failed files.new) refused.fault) }
+{
+    gathered_is_loaded();
+    gathered_is_made();
+    arrays_stay();
+    match gather(alloc, manifest, files, directory) {
+        Ok(gathered) => {
+            let _arrays = gathered.directory.arrays();
+            match make_ruleset(alloc, manifest, gathered) {
+                Ok(made) => Ok(made),
+                Err(fault) => Err(BytesRefusal { fault, cause: None }),
+            }
+        }
+        Err(ungathered) => Err(refused(alloc, directory, ungathered)),
+    }
+}
+
+// Why nothing is gathered of a manifest's bytes, with its cause.
+fn refused(alloc: Global, directory: &Directory, ungathered: Ungathered) -> BytesRefusal
+    ensures fault { result.fault ≡ ungathered.fault }
+    ensures cause { (known : KnownFiles) (bytes : List ℕ)
+        → IsUngathered directory.now bytes ungathered
+        → IsFaultWithCause known directory.now bytes result.fault result.cause }
+{
+    let Ungathered { fault, arrays, .. } = ungathered;
+    let cause = cause_of(alloc, directory, &arrays, &fault);
+    BytesRefusal { fault, cause }
 }

@@ -1,23 +1,20 @@
 //! From the path of a manifest to a ruleset.
 
-ghost use Rattle.std.specs.Prelude.{ℕ, List, IfOk, IfErr, Some};
+ghost use Rattle.std.specs.Prelude.{List, IfOk, IfErr, Some};
 ghost use mathlib.Core.List.{IsPrefix};
-ghost use Rattle.bounded_files.specs.Files.{Gives, KnownFiles, regular_files};
+ghost use Rattle.bounded_files.specs.Files.{Gives, regular_files};
 ghost use Rattle.cells.specs.declared.array.CellArray.{CellArray};
-ghost use Rattle.load.specs.Cause.{LoadsTelling, RefusesTelling};
-ghost use Rattle.load.specs.Gathered.{IsUngathered};
+ghost use Rattle.load.specs.Cause.{LoadsTelling};
 ghost use Rattle.load.specs.Loaded.{IsLoadedFrom, LoadsFrom, RefusesPath};
 ghost use Rattle.ruleset.specs.Rules.{KnowsOnly};
 
-use crate::cause::cause_of;
 use crate::fault::{LoadFault, PathFault};
 use crate::folder::FolderFiles;
-use crate::gathering::{Ungathered, gather};
-use crate::law::{gathered_is_loaded, gathered_is_made};
-use crate::made::{MadeRuleset, make_ruleset};
+use crate::loading::{BytesRefusal, load_bytes};
+use crate::made::MadeRuleset;
 use crate::refusal::LoadRefusal;
 use bounded_files::Disk;
-use cells::{Directory, arrays_stay};
+use cells::Directory;
 use manifest::{ManifestFault, TomlFault};
 use ruleset::Ruleset;
 use std::alloc::Global;
@@ -73,9 +70,17 @@ pub fn load_told<D: Disk>(
     ensures only { IfOk result (λ made. KnowsOnly made.directory made.rules) }
     ensures grown { IfOk result (λ made. IsPrefix directory.now made.directory) }
 {
-    match manifest_bytes(disk, path) {
-        Ok(bytes) => load_bytes(alloc, disk, path, &bytes, directory),
-        Err(fault) => Err(LoadRefusal::of(fault)),
+    let bytes = match manifest_bytes(disk, path) {
+        Ok(bytes) => bytes,
+        Err(fault) => return Err(LoadRefusal::of(fault)),
+    };
+    let mut files = FolderFiles::beside(alloc, disk, path);
+    match load_bytes(alloc, &bytes, &mut files, directory) {
+        Ok(made) => Ok(made),
+        Err(BytesRefusal { fault, cause }) => Err(LoadRefusal {
+            fault: PathFault::Load(fault),
+            cause,
+        }),
     }
 }
 
@@ -96,49 +101,5 @@ pub fn manifest_bytes<D: Disk>(disk: &D, path: &str) -> Result<Vec<u8>, PathFaul
             Err(PathFault::Load(LoadFault::Manifest(fault)))
         }
         Err(fault) => Err(PathFault::Resource(fault)),
-    }
-}
-
-// What these bytes, of the manifest at a path, and the files of its folder come to.
-fn load_bytes<D: Disk>(
-    alloc: Global,
-    disk: &D,
-    path: &str,
-    bytes: &[u8],
-    directory: &Directory,
-) -> Result<MadeRuleset, LoadRefusal>
-    requires { Gives (regular_files (D.known disk.now)) path.now (Some bytes.now) }
-    ensures loads { LoadsTelling (D.known disk.now) path.now directory.now result }
-    ensures only { IfOk result (λ made. KnowsOnly made.directory made.rules) }
-    ensures grown { IfOk result (λ made. IsPrefix directory.now made.directory) }
-{
-    gathered_is_loaded();
-    gathered_is_made();
-    arrays_stay();
-    let mut files = FolderFiles::beside(alloc, disk, path);
-    match gather(alloc, bytes, &mut files, directory) {
-        Ok(gathered) => {
-            let _arrays = gathered.directory.arrays();
-            match make_ruleset(alloc, bytes, gathered) {
-                Ok(made) => Ok(made),
-                Err(fault) => Err(LoadRefusal::of(PathFault::Load(fault))),
-            }
-        }
-        Err(ungathered) => Err(refused(alloc, directory, ungathered)),
-    }
-}
-
-// Why nothing is gathered of a manifest's bytes, with its cause.
-fn refused(alloc: Global, directory: &Directory, ungathered: Ungathered) -> LoadRefusal
-    ensures { (known : KnownFiles) (path bytes : List ℕ)
-        → Gives (regular_files known) path (Some bytes)
-        → IsUngathered directory.now bytes ungathered
-        → RefusesTelling known path directory.now result.fault result.cause }
-{
-    let Ungathered { fault, arrays, .. } = ungathered;
-    let cause = cause_of(alloc, directory, &arrays, &fault);
-    LoadRefusal {
-        fault: PathFault::Load(fault),
-        cause,
     }
 }

@@ -1,11 +1,11 @@
 //! Apps that were gathered are judged: each gives its program, or the first that gives none counts.
 
 ghost use Rattle.std.specs.Prelude.{◌≡◌, All, IfOk, IfErr};
+ghost use Rattle.load.specs.Apps as specs;
 ghost use Rattle.load.specs.Gathered.{HasItsReleases};
 ghost use Rattle.load.specs.Judged.{AreJudged, IsJudged, RefusesFirst, RefusesGathered};
 ghost use Rattle.load.specs.Judged.{app_of, apps_of};
 
-use crate::apps::in_app;
 use crate::fault::{AppFault, LoadFault};
 use crate::gathering::GatheredApp;
 use crate::judging::judge_file;
@@ -43,6 +43,18 @@ pub fn judge_app(alloc: Global, app: &GatheredApp) -> Result<Verified, AppFault>
     ensures fault { IfErr result (RefusesGathered app.now) }
 {
     judge_file(alloc, app.entry.source(), &app.kept, &app.shape)
+}
+
+/// The fault of the app of this number.
+pub fn in_app(app: usize, fault: AppFault) -> LoadFault
+    ensures { result ≡ specs.in_app app fault }
+{
+    match fault {
+        AppFault::File => LoadFault::File { app },
+        AppFault::Program(fault) => LoadFault::Program { app, fault },
+        AppFault::Rule(fault) => LoadFault::Rule { app, fault },
+        AppFault::Memory => LoadFault::Memory,
+    }
 }
 
 /// The apps, each with its program.

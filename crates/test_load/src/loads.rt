@@ -9,7 +9,7 @@ mod refusals;
 use crate::files::MemFiles;
 use crate::sample::{files, must};
 use cells::Directory;
-use load::{Files, LoadFault, load_ruleset};
+use load::{LoadFault, load_ruleset};
 use ruleset::Ruleset;
 use std::alloc::{AllocError, Global};
 use std::test::Fail;
@@ -58,9 +58,6 @@ fn ruleset_from(
     directory: &mut Directory,
     manifest: &str,
 ) -> Result<Ruleset, LoadFault> {
-    if files.failures() == u64::MAX {
-        return Err(LoadFault::Memory);
-    }
     load_ruleset(alloc, manifest.as_bytes(), files, directory)
 }
 

@@ -1,14 +1,9 @@
-use Rattle.std.proofs.Common.{refl}
-use Rattle.load.proofs.Keeping.{longer_fault, longer_read, unread_fault}
-use Rattle.load.proofs.Keeping.{whole_fault, whole_program, whole_read}
+use Rattle.load.proofs.Keeping.{longer_fault, unread_fault, whole_fault, whole_program}
 use Rattle.load.proofs.judging.judge_file.Goals as goal
 
 pub returns-in-Unread-clause-fault : goal.returns-in-Unread-clause-fault
 returns-in-Unread-clause-fault c =
     unread_fault c.args.source.now c.args.kept.now c.args.shape.now c.in-Unread.is
-
-pub returns-in-Unread-clause-unread : goal.returns-in-Unread-clause-unread
-returns-in-Unread-clause-unread c = rw c.in-Unread.is refl
 
 pub returns-in-Whole-clause-program : goal.returns-in-Whole-clause-program
 returns-in-Whole-clause-program c =
@@ -20,17 +15,7 @@ returns-in-Whole-clause-fault c =
     whole_fault c.args.source.now c.args.kept.now _ _ c.in-Whole.is c.as_slice.ensures.value
     c.args.shape.now c.judge_bytes.result c.judge_bytes.ensures.fault
 
-pub returns-in-Whole-clause-unread : goal.returns-in-Whole-clause-unread
-returns-in-Whole-clause-unread c =
-    whole_read c.args.source.now c.args.kept.now _ _ c.in-Whole.is c.as_slice.ensures.value
-    c.args.shape.now c.judge_bytes.result c.judge_bytes.ensures.fault
-
 pub returns-in-Longer-clause-fault : goal.returns-in-Longer-clause-fault
 returns-in-Longer-clause-fault c =
     longer_fault c.args.source.now c.args.kept.now _ _ _ c.too_long.result c.in-Longer.is
-    c.args.shape.now c.too_long.ensures.fault
-
-pub returns-in-Longer-clause-unread : goal.returns-in-Longer-clause-unread
-returns-in-Longer-clause-unread c =
-    longer_read c.args.source.now c.args.kept.now _ _ _ c.too_long.result c.in-Longer.is _
-    c.too_long.ensures.other
+    c.args.shape.now c.too_long.ensures

@@ -1,9 +1,9 @@
 use Rattle.load.proofs.judging.too_long.Goals as goal
 
-pub returns-in-Program-clause-fault : goal.returns-in-Program-clause-fault
-returns-in-Program-clause-fault c = rw c.in-Program.is (λ bytes shape longer.
-    c.long_program.ensures.fault bytes shape longer.0)
+pub returns-in-Program : goal.returns-in-Program
+returns-in-Program c = rw c.in-Program.is (λ bytes shape longer.
+    c.long_program.ensures bytes shape longer.0)
 
-pub returns-in-Rule-clause-fault : goal.returns-in-Rule-clause-fault
-returns-in-Rule-clause-fault c = rw c.in-Rule.is (λ bytes shape longer.
-    c.long_rule.ensures.fault bytes shape longer.0 longer.1)
+pub returns-in-Rule : goal.returns-in-Rule
+returns-in-Rule c = rw c.in-Rule.is (λ bytes shape longer.
+    c.long_rule.ensures bytes shape longer.0 longer.1)

@@ -1,4 +1,8 @@
+use Rattle.std.proofs.Common.{rules, ◌≡◌}
+use Rattle.load.specs.Folder.{known_beside}
+use Rattle.load.specs.Made.{IsMadeOver}
 use Rattle.load.proofs.Causes.{untold}
+use Rattle.load.proofs.Making.{from_path}
 use Rattle.load.proofs.path.load_told.Goals as goal
 
 pub returns-in-Err-clause-loads : goal.returns-in-Err-clause-loads
@@ -6,3 +10,13 @@ returns-in-Err-clause-loads g c =
     untold (g.D.Disk.known c.args.disk.now) c.args.path.now c.args.directory.now c.in-Err.fault
     c.of.result.fault c.of.result.cause c.of.ensures.fault c.of.ensures.cause
     (c.in-Err.ensures.fault c.args.directory.now)
+
+pub returns-in-Ok-load_bytes-clause-loads : goal.returns-in-Ok-load_bytes-clause-loads
+returns-in-Ok-load_bytes-clause-loads g c =
+    let known = g.D.Disk.known c.args.disk.now in
+    let bytes = c.deref.result.now in
+    let same : bytes ≡ c.in-Ok.bytes.items = search rules in
+    let over : IsMadeOver (known_beside known c.args.path.now) c.args.directory.now bytes
+    c.in-Ok-load_bytes.made = search rules in
+    from_path known c.args.path.now c.args.directory.now bytes c.in-Ok.bytes.items
+    c.in-Ok-load_bytes.made same c.in-Ok.ensures.given over

@@ -1,0 +1,59 @@
+use Rattle.std.proofs.Common.{List, sym, ◌∙◌, subst, arith}
+use Rattle.cells.specs.Directory.{IsDirectory}
+use Rattle.cells.specs.declared.array.CellArray.{CellArray}
+use Rattle.load.proofs.Failing.{all_read, early_counts, judged_counts}
+use Rattle.load.proofs.Making.{knows}
+use Rattle.load.proofs.loading.load_bytes.Goals as goal
+
+pub make_ruleset-requires-clause-shaped : goal.make_ruleset-requires-clause-shaped
+make_ruleset-requires-clause-shaped g c =
+    (c.gathered_is_loaded.ensures.manifest _ _ _ _ c.in-Ok.ensures.gathered).shaped
+
+pub returns-in-Ok-make_ruleset-clause-made : goal.returns-in-Ok-make_ruleset-clause-made
+returns-in-Ok-make_ruleset-clause-made g c = record {
+  gathered = c.in-Ok.gathered;
+  is_gathered = c.in-Ok.ensures.gathered;
+  made_of = c.in-Ok-make_ruleset.ensures.made;
+}
+
+pub returns-in-Ok-make_ruleset-clause-rules : goal.returns-in-Ok-make_ruleset-clause-rules
+returns-in-Ok-make_ruleset-clause-rules g c =
+    (c.gathered_is_made.ensures _ _ _ _ c.in-Ok.ensures.gathered).made _
+    c.in-Ok-make_ruleset.ensures.made
+
+pub returns-in-Ok-make_ruleset-clause-only : goal.returns-in-Ok-make_ruleset-clause-only
+returns-in-Ok-make_ruleset-clause-only g c =
+    let made = c.in-Ok-make_ruleset.ensures.made in
+    let directory = subst (λ (d : List CellArray). IsDirectory d)
+    (c.arrays-arrays.ensures.arrays ∙ sym made.directory_is) c.arrays-arrays.ensures.directory in
+    knows c.arrays_stay.ensures.numbered _ _ _ _ _ directory
+    (returns-in-Ok-make_ruleset-clause-rules g c)
+
+pub returns-in-Ok-make_ruleset-clause-count : goal.returns-in-Ok-make_ruleset-clause-count
+returns-in-Ok-make_ruleset-clause-count g c =
+    let made = c.in-Ok-make_ruleset.ensures.made in
+    let none = all_read c.in-Ok.gathered.apps.items made.programs made.judged in
+    omega (arith, c.in-Ok.ensures.count, none)
+
+pub returns-in-Err-make_ruleset-clause-fault : goal.returns-in-Err-make_ruleset-clause-fault
+returns-in-Err-make_ruleset-clause-fault g c =
+    let load = c.gathered_is_loaded.ensures.manifest _ _ _ _ c.in-Ok.ensures.gathered in
+    record {
+      fault_is = load.refused _ c.in-Err-make_ruleset.ensures.fault;
+      cause_is = tt;
+    }
+
+pub returns-in-Err-make_ruleset-clause-failed : goal.returns-in-Err-make_ruleset-clause-failed
+returns-in-Err-make_ruleset-clause-failed g c =
+    judged_counts _ _ c.in-Ok.gathered.apps.items c.in-Err-make_ruleset.fault
+    c.in-Ok.ensures.count c.in-Err-make_ruleset.ensures.fault
+
+pub returns-in-Err-clause-fault : goal.returns-in-Err-clause-fault
+returns-in-Err-clause-fault g c =
+    c.refused.ensures.cause _ c.args.manifest.now c.in-Err.ensures.fault
+
+pub returns-in-Err-clause-failed : goal.returns-in-Err-clause-failed
+returns-in-Err-clause-failed g c =
+    rw c.refused.ensures.fault
+    (early_counts _ _ c.args.manifest.now c.in-Err.ungathered.fault _
+    c.in-Err.ensures.fault.arrays_are c.in-Err.ensures.uncounted)
