@@ -1,4 +1,4 @@
-//! Tests of what is told of runs: traces on counters that have values, and pictures of simulations.
+//! Tests of runs: traces on counters that have values, and pictures of simulations.
 //! Expected values are worked out by hand, and those of pictures by another program, which hashes
 //! the buckets. Traces on counters of 0, and tables, are rows of the program `rows`.
 #![tactic(auto)]

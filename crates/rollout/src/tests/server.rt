@@ -1,6 +1,7 @@
 //! A server, from its words to its operator's stop: both ends in one process.
 
-use super::{Printed, prints, text_of, told, write_program};
+use super::{Printed, text_of, told};
+use bpf_text::assemble;
 use commands::LogOutput;
 use std::io::{self, Read, Write};
 use std::net::{Ipv4Addr, Net, TcpListener, TcpStream};
@@ -168,6 +169,13 @@ where
     Ok((first.local_addr()?.port(), second.local_addr()?.port()))
 }
 
+/// Writes the program of a text, whose lines are divided by ` / `.
+fn write_program<R: Files + AllocGlobal>(rt: &R, path: &str, text: &str) -> Result<(), Fail> {
+    let text = text.replace(rt.alloc(), " / ", "\n")?;
+    fs::write(rt, path, &assemble(rt.alloc(), text.as_str())?)?;
+    Ok(())
+}
+
 pub(super) fn write_files<R: Files + AllocGlobal>(rt: &R) -> Result<(), Fail> {
     fs::write(rt, "s_first.toml", FIRST)?;
     fs::write(rt, "s_unset.toml", UNSET)?;
@@ -179,8 +187,22 @@ pub(super) fn write_files<R: Files + AllocGlobal>(rt: &R) -> Result<(), Fail> {
     write_program(rt, "s_exit.bin", "exit")
 }
 
+/// Whether all that a command prints is this line on standard error, with status 1.
+fn is_refused<R>(rt: &R, words: &str, line: &str) -> io::Result<bool>
+where
+    R: Files + Threads + Wait + AllocGlobal + Clock + LogOutput,
+    R: Copy + Drop + Send + Sync + 'static,
+    R: Net<Listener = TcpListener, Stream = TcpStream>,
+    R::File: Send,
+    R::Dir: Send,
+{
+    let told = told(rt, words)?;
+    Ok(told.status == 1 && told.out.is_empty() && told.err.as_str() == line)
+}
+
 /// Refused loads change nothing, a load is generation 2, and a stop ends the server: without the
-/// log and with it. A port that is taken can't be bound.
+/// log and with it. A port that is taken can't be bound, and without its manifest no
+/// server starts.
 #[test]
 fn sessions(rt: HostRuntime) -> Result<(), Fail> {
     write_files(&rt)?;
@@ -207,5 +229,8 @@ fn sessions(rt: HostRuntime) -> Result<(), Fail> {
     let words = format!(in rt.alloc();
         "rollout serve s_first.toml --port {taken} --operator {taken} --workers 1"
     )?;
-    prints(&rt, words.as_str(), "refused B6 Bind")
+    assert!(rt; is_refused(&rt, words.as_str(), "refused B6 Bind\n")?);
+    let words = "rollout serve no.toml --port 1 --operator 1 --workers 64 --timeout 3600 --log";
+    assert!(rt; is_refused(&rt, words, "refused B3 File\n")?);
+    Ok(())
 }
