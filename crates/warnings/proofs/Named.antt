@@ -53,12 +53,7 @@ module _ (P : Test → Type 0) (steps : List Step) (release : ℕ) (rest : List 
 abbrev HasBoth : List Spot → Test → Type 0
 HasBoth spots (test.Version r w) =
     (has_spot spots (spot_at w) ≡ true) × (has_spot spots (just_above w) ≡ true)
-HasBoth spots (test.Bucket salt modulus r n) = Unit {0}
-HasBoth spots (test.Today r n) = Unit {0}
-HasBoth spots (test.Installed r n) = Unit {0}
-HasBoth spots (test.Flag f) = Unit {0}
-HasBoth spots (test.Attr n text) = Unit {0}
-HasBoth spots (test.Take name index) = Unit {0}
+HasBoth spots t = Unit {0}
 
 abbrev Keeps : List Spot → List Spot → Type 0
 Keeps spots more = (s : Spot) → has_spot spots s ≡ true → has_spot more s ≡ true
@@ -67,12 +62,7 @@ keeps_both : (spots more : List Spot) → Keeps spots more → (t : Test) → Ha
     → HasBoth more t
 keeps_both spots more keeps (test.Version r w) h =
     (keeps (spot_at w) h.0, keeps (just_above w) h.1)
-keeps_both spots more keeps (test.Bucket salt modulus r n) h = tt
-keeps_both spots more keeps (test.Today r n) h = tt
-keeps_both spots more keeps (test.Installed r n) h = tt
-keeps_both spots more keeps (test.Flag f) h = tt
-keeps_both spots more keeps (test.Attr n text) h = tt
-keeps_both spots more keeps (test.Take name index) h = tt
+keeps_both spots more keeps t h = tt
 
 keeps_version : (spots : List Spot) (w : List ℕ) → Keeps spots (add_version spots w)
 keeps_version spots w s has =
@@ -80,15 +70,8 @@ keeps_version spots w s has =
 
 keeps_step : (spots : List Spot) (x : Step) → Keeps spots (add_step spots x)
 keeps_step spots (step.Test line (test.Version r w)) s has = keeps_version spots w s has
-keeps_step spots (step.Test line (test.Bucket salt modulus r n)) s has = has
-keeps_step spots (step.Test line (test.Today r n)) s has = has
-keeps_step spots (step.Test line (test.Installed r n)) s has = has
-keeps_step spots (step.Test line (test.Flag f)) s has = has
-keeps_step spots (step.Test line (test.Attr n text)) s has = has
-keeps_step spots (step.Test line (test.Take name index)) s has = has
-keeps_step spots step.Not s has = has
-keeps_step spots step.And s has = has
-keeps_step spots step.Or s has = has
+keeps_step spots (step.Test line t) s has = has
+keeps_step spots x s has = has
 
 keeps_steps : (spots : List Spot) (xs : List Step) → Keeps spots (add_steps spots xs)
 keeps_steps spots [] s has = has
@@ -108,15 +91,8 @@ named_step spots (step.Test line (test.Version r w)) = (
   still_has (add_spot spots (spot_at w)) (just_above w) (spot_at w) (added spots (spot_at w)),
   added (add_spot spots (spot_at w)) (just_above w),
 )
-named_step spots (step.Test line (test.Bucket salt modulus r n)) = tt
-named_step spots (step.Test line (test.Today r n)) = tt
-named_step spots (step.Test line (test.Installed r n)) = tt
-named_step spots (step.Test line (test.Flag f)) = tt
-named_step spots (step.Test line (test.Attr n text)) = tt
-named_step spots (step.Test line (test.Take name index)) = tt
-named_step spots step.Not = tt
-named_step spots step.And = tt
-named_step spots step.Or = tt
+named_step spots (step.Test line t) = tt
+named_step spots x = tt
 
 named_steps : (spots : List Spot) (xs : List Step) → StepsTests (HasBoth (add_steps spots xs)) xs
 named_steps spots [] = tt
@@ -150,12 +126,7 @@ has_lowest rule =
 answers : (spots : List Spot) (v : List ℕ) (h : Highest spots v) (t : Test) → HasBoth spots t
     → AnswersAlike h.spot v t
 answers spots v h (test.Version r w) has = answers_alike spots v w h has.0 has.1
-answers spots v h (test.Bucket salt modulus r n) has = tt
-answers spots v h (test.Today r n) has = tt
-answers spots v h (test.Installed r n) has = tt
-answers spots v h (test.Flag f) has = tt
-answers spots v h (test.Attr n text) has = tt
-answers spots v h (test.Take name index) has = tt
+answers spots v h t has = tt
 
 pub all_alike : (rule : List Statement) (v : List ℕ) (h : Highest (spots_of rule) v)
     → RuleTests (AnswersAlike h.spot v) rule
