@@ -6,6 +6,7 @@ ghost use Rattle.std.specs.Prelude.{option_copied, string_bytes};
 ghost use Rattle.bpf_insn.specs.Program.{at};
 ghost use Rattle.bpf_semantics.specs.Program.{shaped};
 ghost use Rattle.bpf_verify.specs.Accepted.{FailsAt, IsAccepted, IsRefusal, entry_of};
+ghost use Rattle.bpf_verify.specs.Walk.{IsWalkBefore};
 ghost use Rattle.explain.specs.RefusedPlace.{IsRefusedPlace};
 
 use crate::sentence::push_cited_rule;
@@ -59,8 +60,26 @@ pub fn refused_place(
         IsRefusedPlace (shaped flow.now shape.now) told.slot (string_bytes told.sentence))) }
     ensures accepted { result ≡ Ok None → IsAccepted flow.now shape.now }
 {
-    flow.keeps();
     let mut walk = Walk::start(alloc, flow)?;
+    // By one call: at each `?` its many parts would be dropped one by one.
+    let found = first_refused(alloc, flow, shape, &mut walk);
+    drop(walk);
+    found
+}
+
+// The same, by a walk that begins.
+fn first_refused(
+    alloc: Global,
+    flow: &Flow,
+    shape: &Shape,
+    walk: &mut Walk,
+) -> Result<Option<RefusedPlace>, AllocError>
+    requires { IsWalkBefore flow.now shape.now 0 walk.old }
+    ensures refused { IfOk result (λ found. IfSome found (λ told.
+        IsRefusedPlace (shaped flow.now shape.now) told.slot (string_bytes told.sentence))) }
+    ensures accepted { result ≡ Ok None → IsAccepted flow.now shape.now }
+{
+    flow.keeps();
     let mut slot = 0;
     while slot < flow.len() {
         let insn = flow.insn(slot);

@@ -5,6 +5,7 @@ ghost use Rattle.std.specs.Prelude.{string_bytes, option_copied};
 ghost use Rattle.std.specs.Prelude.{Ok};
 ghost use Rattle.bpf_text.specs.Assembly.{Assembles};
 ghost use Rattle.bpf_semantics.specs.Program.{shaped};
+ghost use Rattle.bpf_verify.specs.Walk.{IsWalkBefore};
 ghost use Rattle.flow_check.specs.Flow.{program_bytes};
 ghost use Rattle.cells.specs.Arrays.{AppShape};
 ghost use Rattle.explain.specs.Lines.{IsExplained, IsFinding, WalkParts, TellsOn};
@@ -62,8 +63,26 @@ fn tell(alloc: Global, flow: &Flow, shape: &Shape) -> Result<Explained, AllocErr
         (λ x. IsExplained (shaped flow.now shape.now) (string_bytes x.text)) }
     ensures verdict { IfOk result (λ x. IsFinding flow.now shape.now x.refusal) }
 {
-    flow.keeps();
     let mut walk = Walk::start(alloc, flow)?;
+    // By one call: at each `?` its many parts would be dropped one by one.
+    let told = tell_walk(alloc, flow, shape, &mut walk);
+    drop(walk);
+    told
+}
+
+// The same, by a walk that begins.
+fn tell_walk(
+    alloc: Global,
+    flow: &Flow,
+    shape: &Shape,
+    walk: &mut Walk,
+) -> Result<Explained, AllocError>
+    requires { IsWalkBefore flow.now shape.now 0 walk.old }
+    ensures text { IfOk result
+        (λ x. IsExplained (shaped flow.now shape.now) (string_bytes x.text)) }
+    ensures verdict { IfOk result (λ x. IsFinding flow.now shape.now x.refusal) }
+{
+    flow.keeps();
     let mut text = String::new(alloc);
     let mut way = Way::still();
     let mut slot = 0;

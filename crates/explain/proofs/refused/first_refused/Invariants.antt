@@ -1,7 +1,7 @@
 use Rattle.std.proofs.Common.{◌-◌, length}
 use Rattle.bpf_verify.specs.Walk.{IsWalkBefore}
 use Rattle.explain.specs.Lines.{WalkParts}
-use Rattle.explain.proofs.refused.refused_place.Given as goal
+use Rattle.explain.proofs.refused.first_refused.Given as goal
 
 abbrev pub invariant-loop-slot : goal.invariant-loop-slot
 invariant-loop-slot l = WalkParts l.flow l.slot × IsWalkBefore l.flow l.shape l.slot l.walk

@@ -1,6 +1,6 @@
 use Rattle.std.proofs.Common.{arith}
 use Rattle.explain.proofs.Walking.{first_parts, parts_next, place_there}
-use Rattle.explain.proofs.refused.refused_place.Goals as goal
+use Rattle.explain.proofs.refused.first_refused.Goals as goal
 
 pub insn-insn-requires : goal.insn-insn-requires
 insn-insn-requires c =
@@ -10,7 +10,7 @@ insn-insn-requires c =
 pub loop-slot-init : goal.loop-slot-init
 loop-slot-init c = (
   first_parts c.args.flow.now c.keeps.ensures.flow.program,
-  c.in_ok-walk.ensures c.args.shape.now,
+  c.requires,
 )
 
 pub loop-slot-preserved : goal.loop-slot-preserved

@@ -7,13 +7,13 @@ use Rattle.explain.specs.declared.way.Way.{Way}
 use Rattle.explain.specs.Lines.{TellsOn}
 use Rattle.explain.proofs.Walking.{parts_next, tells_first, tells_next, tells_whole}
 use Rattle.explain.proofs.Walking.{line_grown, fine_way, refused_way}
-use Rattle.explain.proofs.telling.tell.Goals as goal
+use Rattle.explain.proofs.telling.tell_walk.Goals as goal
 
 pub loop-slot-init : goal.loop-slot-init
 loop-slot-init c = (
   rw (c.still-way.ensures, c.new-text.ensures.bytes)
       (tells_first (shaped c.args.flow.now c.args.shape.now) c.keeps.ensures.flow.program),
-  c.in_ok-walk.ensures c.args.shape.now,
+  c.requires,
 )
 
 pub push_rest-requires : goal.push_rest-requires
