@@ -1,6 +1,6 @@
 //! What the words say of the app that asks.
 
-ghost use Rattle.std.specs.Prelude.{◌≡◌, [], IfOk};
+ghost use Rattle.std.specs.Prelude.{◌≡◌, [], IfOk, false};
 ghost use Rattle.std.specs.Option.{option_copied, unwrap_or};
 
 use attrs::{AppFacts, Attrs, Bucket, Moment, RequestFacts, Text};
@@ -24,6 +24,7 @@ pub struct ToldApp<'a> {
 }
 
 impl<'a> ToldApp<'a> {
+    ghost use Rattle.attrs.specs.Facts.{attributes_of};
     ghost use Rattle.command_line.specs.Apps as specs;
 
     /// What its request would say of it; it asks for an update.
@@ -31,18 +32,25 @@ impl<'a> ToldApp<'a> {
     pub fn app(&self, alloc: Global) -> Result<AppFacts, AllocError>
         ensures { IfOk result (λ app. app ≡ specs.app_facts self.now) }
     {
-        Ok(AppFacts {
-            appid: text_of(alloc, text_or_empty(self.appid))?,
-            version: told_text(alloc, self.version)?,
-            brand: told_text(alloc, self.brand)?,
-            ap: told_text(alloc, self.ap)?,
-            lang: told_text(alloc, self.lang)?,
-            cohort: told_text(alloc, self.cohort)?,
+        let appid = text_of(alloc, text_or_empty(self.appid))?;
+        // One test of the memory, at the end: each `?` would drop every text before it.
+        let mut copies = Copies::new(alloc);
+        let app = AppFacts {
+            appid,
+            version: copies.of(self.version),
+            brand: copies.of(self.brand),
+            ap: copies.of(self.ap),
+            lang: copies.of(self.lang),
+            cohort: copies.of(self.cohort),
             installdate: date_of(self.installed),
             updatecheck: true,
             ping: self.ping,
             event: self.event,
-        })
+        };
+        if copies.is_refused {
+            return Err(AllocError);
+        }
+        Ok(app)
     }
 
     /// What that request would say of itself: it has no id, and names no session.
@@ -70,13 +78,56 @@ impl<'a> ToldApp<'a> {
         ensures { IfOk result (λ a. a ≡ specs.attributes_told self.now bucket) }
     {
         let app = self.app(alloc)?;
-        let request = self.request(alloc)?;
-        let Ok(attrs) = Attrs::of(alloc, &app, &request, self.moment()) else {
-            return Err(AllocError);
-        };
+        let attrs = self.attributes_of(alloc, &app);
+        drop(app);
         match bucket {
-            Some(bucket) => Ok(attrs.in_bucket(bucket)),
-            None => Ok(attrs),
+            Some(bucket) => Ok(attrs?.in_bucket(bucket)),
+            None => attrs,
+        }
+    }
+
+    // The attributes of an app that it tells, in the bucket that its cohort names.
+    fn attributes_of(&self, alloc: Global, app: &AppFacts) -> Result<Attrs, AllocError>
+        ensures { IfOk result (λ a. a
+            ≡ attributes_of app.now (specs.request_facts self.now) (specs.moment self.now)) }
+    {
+        let request = self.request(alloc)?;
+        let attrs = Attrs::of(alloc, app, &request, self.moment());
+        drop(request);
+        match attrs {
+            Ok(attrs) => Ok(attrs),
+            Err(_) => Err(AllocError),
+        }
+    }
+}
+
+// Copies texts, and keeps whether memory was refused.
+#[derive(Clone, Copy)]
+struct Copies {
+    alloc: Global,
+    is_refused: bool,
+}
+
+impl Copies {
+    fn new(alloc: Global) -> Copies
+        ensures { result.is_refused ≡ false }
+    {
+        Copies {
+            alloc,
+            is_refused: false,
+        }
+    }
+
+    fn of(&mut self, text: Option<&str>) -> Option<Text>
+        ensures same { self.new.is_refused ≡ false → result ≡ option_copied text.entry }
+        ensures kept { self.new.is_refused ≡ false → self.old.is_refused ≡ false }
+    {
+        match told_text(self.alloc, text) {
+            Ok(copy) => copy,
+            Err(_) => {
+                self.is_refused = true;
+                None
+            }
         }
     }
 }
