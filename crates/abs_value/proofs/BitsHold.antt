@@ -1,4 +1,4 @@
--- What is known of the bits of a result is known of what the machine computes.
+-- The known bits of a result are those of the machine's result.
 use Rattle.std.proofs.Common.{◌≡◌, ℕ, ◌+◌, ◌-◌, ◌*◌, ◌/◌, ◌%◌, ◌^◌, ◌<◌, ◌≤◌}
 use Rattle.std.proofs.Common.{max, refl, sym, ◌∙◌, subst, arith, inl, inr}
 use Rattle.std.specs.Prelude.{if◌then◌else◌, ◌&&◌, nat_lt, bit_or, bit_xor}
@@ -27,7 +27,7 @@ use Rattle.abs_value.proofs.ShiftedRanges.{arsh_low}
 use Rattle.abs_value.proofs.Within.{zero_within, within_and, within_or}
 use Rattle.abs_value.proofs.Within.{within_right, within_left, within_mod}
 
--- no bits but those of a class
+-- any bits of the class
 pub some_of_fits : (k z : ℕ) → z < 2 ^ k → Fits (some_of (2 ^ k - 1)) z
 some_of_fits k z lt = record { has = zero_within z; no_others = within }
   where
@@ -43,7 +43,7 @@ pub any_of_fits : (w : Bits) (z : ℕ) → IsOf w z → Fits (any_of w) z
 any_of_fits Bits64 z h = some_of_fits 64 z (omega (arith, h))
 any_of_fits Bits32 z h = some_of_fits 32 z (omega (arith, h))
 
--- one bit of XOR: a, b and x are of the first number, c, d and y of the second
+-- one bit of XOR: a, b and x belong to the first number, c, d and y to the second
 xor_least : (a b x c d y : ℕ) → a ≤ x → x ≤ b → b < 2 → c ≤ y → y ≤ d → d < 2
     → (max ((a + c) % 2) (max ((a + b) % 2) ((c + d) % 2)) + max ((a + b) % 2) ((c + d) % 2)) % 2
     ≤ (x + y) % 2
@@ -116,7 +116,7 @@ shifted_fits : (w : Bits) (p : KnownBits) (x k : ℕ) → Fits p x
 shifted_fits w p x k h = subst (Fits (cut_bits w (left_bits p k))) (cut_of_word w (x * 2 ^ k))
     (cut_fits w (left_bits p k) (x * 2 ^ k % 2 ^ 64) (left_fits p x k h))
 
--- by a single count, or by any
+-- for a single count, or for any
 bits_by_count : (b : Interval) (y z : ℕ) (one other : KnownBits) → IsBetween b y
     → (b.lo ≡ y → Fits one z) → Fits other z → Fits (if is_just b then one else other) z
 bits_by_count b y z one other h first second = elim (cases_Bool (is_just b)) [
@@ -142,7 +142,7 @@ signed_fits w a b x y h k fz =
           (any_of_fits w (arithmetic (word_width w) Arsh x y) fz)
     ]
 
--- what is known of the bits is known of the result, which is a number of the class
+-- the machine's result, a number of the class, has the known bits
 pub bits_fit : (w : Bits) (op : AluOp) (a b : Number) (x y : ℕ) → Holds a x → Holds b y
     → IsOf w (arithmetic (word_width w) op x y)
     → Fits (known_bits w op a b) (arithmetic (word_width w) op x y)

@@ -1,4 +1,4 @@
--- What a call leaves covers the state after it.
+-- The abstract state after a call covers the state after it.
 use Rattle.std.proofs.Common.{◌≡◌, ℕ, zero, suc, ◌+◌, ◌-◌, ◌^◌, ◌<◌, ◌≤◌, ℤ}
 use Rattle.std.proofs.Common.{List, drop, Option, Some, None}
 use Rattle.std.proofs.Common.{Bool, true, false, refl, subst, arith, inl, inr}
@@ -34,7 +34,7 @@ use Rattle.abs_value.proofs.ResultsHold.{up_to_holds}
 use Rattle.abs_value.proofs.Computes.{covers_some}
 use Rattle.abs_value.proofs.Known.{covers_later, is_more}
 
--- ---- what a helper gives, where it gives something
+-- ---- the result of a helper, if it has one
 
 after : {A : Type 0} (o : Option A) (f : A → Option ℕ) (P : ℕ → Type 0)
     → ((x : A) → IfSome (f x) P) → IfSome (o >>= f) P
@@ -171,7 +171,7 @@ called_at g values s v x h k (suc (suc (suc (suc (suc zero))))) = tt
 called_at g values s v x h k (suc (suc (suc (suc (suc (suc r)))))) =
     past_five g values s x r (suc (suc (suc (suc (suc (suc r)))))) (omega arith) h
 
--- by the law of bpf_semantics that a helper gives no more than its prototype says
+-- by the law of bpf_semantics that a helper returns no more than its prototype says
 pub covers_call : ((a : Attributes) → AreShort a.texts → AllKeepMost a)
     → (g : Returns) (e : AbsState) (s : State) (helper : ℤ) (x : ℕ)
     → HasWords s → AreBefore s.slot g → Covers g e s → helper_result g.shape s helper ≡ Some x

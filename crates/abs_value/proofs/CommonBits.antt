@@ -1,4 +1,4 @@
--- Numbers that have a bit in common, and numbers that have none.
+-- Numbers with a common bit, and numbers without one.
 use Rattle.std.proofs.Common.{◌≡◌, ◌≢◌, ℕ, suc, ◌-◌, ◌*◌, ◌/◌, ◌%◌, ◌^◌, ◌<◌, ◌≤◌, true}
 use Rattle.std.proofs.Common.{sym, ap, subst, ◌∙◌, arith, inl, inr, pow-suc, zero-mul}
 use Rattle.std.specs.Prelude.{bit_and}
@@ -33,7 +33,7 @@ one_bit_power n j none from to = elim (cases_eq n (2 ^ j)) [
       absurd (omega (arith, s, z, one, two))
 ]
 
--- of a number that shares a bit with a power of two that bit is set
+-- a number that has a bit in common with a power of two has that bit
 set_bit : (x j : ℕ) → bit_and x (2 ^ j) ≢ 0 → bit_at x j ≡ 1
 set_bit x j some = elim (cases_eq (bit_at x j) 0) [
   | inl none ↦ absurd (some (and_pow x j ∙ ap (λ (d : ℕ). d * 2 ^ j) none ∙ zero-mul (2 ^ j)))
@@ -69,7 +69,7 @@ one_of_fits n x p wn h some = elim (cases_Bool (is_one_bit n)) [
   | inr is ↦ rw is h
 ]
 
--- what is possible shares a bit where the number does
+-- if the number has a bit of n, so have its possible bits
 pub shares_too : (m n x : ℕ) → AreBitsOf x m → bit_and x n ≢ 0 → bit_and m n ≢ 0
 shares_too m n x h some none =
     let le = within_le (bit_and x n) (bit_and m n) (within_and x n m n h (within_itself n)) in

@@ -1,4 +1,4 @@
--- What is computed with values includes what the machine computes.
+-- The results of abstract operations include the machine's results.
 use Rattle.std.proofs.Common.{◌≡◌, ℕ, ◌-◌, ◌%◌, ◌^◌, ◌≤◌, Option, Some, None}
 use Rattle.std.proofs.Common.{Bool, true, refl, arith, inl, inr, false, sym, subst}
 use Rattle.std.specs.Prelude.{option_map, if◌then◌else◌, ◌==◌}
@@ -45,7 +45,7 @@ use Rattle.abs_value.proofs.ResultsHold.{alu_number_holds, join_first, join_seco
 use Rattle.abs_value.proofs.Moves.{context_moves, stack_moves}
 use Rattle.abs_value.proofs.Edges.{Keeps, narrowed_keeps}
 
--- ---- operations of two values
+-- ---- operations on two values
 
 context_includes : (g : Returns) (op : AluOp) (from : Places) (by : Number) (x y : ℕ)
     (o : Option Places) → moved_in_context op from by ≡ o → Includes g (Ctx from) x → IsWord y
@@ -71,7 +71,7 @@ alu_includes fit g Bits64 op (Stk place) (Num by) x y wx wy hx hy =
 alu_includes fit g Bits64 op a b x y wx wy hx hy = tt
 alu_includes fit g Bits32 op a b x y wx wy hx hy = tt
 
--- ---- operations of one value
+-- ---- operations on one value
 
 pub copied_includes : (g : Returns) (w : Bits) (a : Abs) (x : ℕ) → Includes g a x
     → Includes g (copied_value w a) (word w x)
@@ -145,7 +145,7 @@ kept_if g false v x h = tt
 same_is : (a b : Lookup) → same_lookup a b ≡ true → a ≡ b
 same_is a b t = grind (arith, t)
 
--- the answer of a call is that of any lookup by it
+-- all lookups by one call have the same result
 answered : (g : Returns) (a b : Lookup) (x : ℕ) → same_lookup a b ≡ true → Answered g a x
     → Answered g b x
 answered g a b x t h = subst (λ (k : Lookup). Answered g k x) (same_is a b t) h

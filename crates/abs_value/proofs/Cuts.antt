@@ -1,4 +1,4 @@
--- What a class takes of a number is a number of the class, and the cut interval holds it.
+-- A number truncated to the class is a number of the class, and the truncated interval contains it.
 use Rattle.std.proofs.Common.{ℕ, ◌≤◌, arith}
 use Rattle.bpf_insn.specs.declared.operand.Bits.{Bits}
 use Rattle.bpf_insn.specs.declared.operand.Bits.TheVariants.{Bits64, Bits32}

@@ -1,4 +1,4 @@
--- An edge that a run takes isn't dropped, and the numbers that are left on it hold those that were
+-- An edge that a run takes isn't dropped, and the narrowed numbers on it include those that were
 -- compared.
 use Rattle.std.proofs.Common.{◌≡◌, ◌≢◌, ℕ, ◌+◌, ◌-◌, ◌<◌, ◌≤◌, min, max, Option, Some}
 use Rattle.std.proofs.Common.{Bool, true, false, refl, sym, subst, ◌∙◌, arith, inl, inr}
@@ -32,7 +32,7 @@ use Rattle.abs_value.proofs.Within.{or_within, within_both}
 use Rattle.abs_value.proofs.Tidy.{tidy_holds, not_empty}
 use Rattle.abs_value.proofs.CommonBits.{one_of_fits, shares_too, without_fits}
 
--- ---- what a relation leaves
+-- ---- intervals narrowed by a relation
 
 pub record Leaves (o : Option IntervalPair) (x y : ℕ) : Type 0 where
   pub pair : IntervalPair
@@ -87,9 +87,9 @@ swapped_keeps : (o : Option IntervalPair) (x y : ℕ) → Leaves o y x
 swapped_keeps o x y k =
     record { pair = (k.pair.1, k.pair.0); is = rw k.is refl; first = k.second; second = k.first }
 
--- ---- what it leaves of two numbers
+-- ---- numbers narrowed by a relation
 
--- the edge isn't dropped, and what is left of the two numbers on it holds them
+-- the edge isn't dropped, and the narrowed numbers on it include x and y
 pub record Keeps (o : Option NumberPair) (x y : ℕ) : Type 0 where
   pub pair : NumberPair
   pub is : o ≡ Some pair
@@ -176,7 +176,7 @@ left_by_keeps Misses a b x y h k none =
     (without_fits b.range.lo x a.bits h.word (subst IsWord (sym e) k.word) h.bits
     (subst (λ (n : ℕ). bit_and x n ≡ 0) (sym e) none)))
 
--- ---- what an edge tells
+-- ---- what an edge implies
 
 -- on one side of the sign bit
 abbrev pub OnOneSide : Bits → ℕ → ℕ → Type 0
@@ -238,7 +238,7 @@ taken_related w c true x y s t = true_related w c x y s t
 taken_related w c false x y s t =
     false_related w c x y s (not-true (compares (word_width w) c x y) t)
 
--- ---- where the ranges are comparable
+-- ---- comparable ranges
 
 sided : (w : Bits) (c : Condition) (a b : Interval) (x y : ℕ)
     → IsBetween a x → IsBetween b y → is_comparable w c a b ≡ true → IsSided w c x y

@@ -1,4 +1,4 @@
--- The join of two states is the same in either order.
+-- The join of two states doesn't depend on their order.
 use Rattle.std.proofs.Common.{◌≡◌, ℕ, List, [], ◌∷◌, true, false, refl, ap, ◌∙◌, arith, inl, inr}
 use Rattle.std.specs.Prelude.{◌==◌, if◌then◌else◌, map, min, max}
 use Rattle.std.specs.List.{range_with_len}
@@ -42,7 +42,7 @@ numbers-comm a b =
 place_hull-comm : (a b : Places) → place_hull a b ≡ place_hull b a
 place_hull-comm a b = let lo = min-comm a.lo b.lo in let hi = max-comm a.hi b.hi in rw (lo, hi) refl
 
--- what is the same may be taken from either side
+-- equal values may be taken from either side
 either : (f : ℕ → Abs) (a b : ℕ)
     → (if a == b then f a else Unusable) ≡ (if b == a then f b else Unusable)
 either f a b = elim (cases_Bool (a == b)) [

@@ -1,4 +1,4 @@
--- What is learnt of answers covers the states in which they were given.
+-- Narrowing by the results of calls covers the states after these calls.
 use Rattle.std.proofs.Common.{◌≡◌, ℕ, ◌<◌, ◌≤◌, List, map, Option, Some, None}
 use Rattle.std.proofs.Common.{Bool, true, false, refl, sym, ◌∙◌, subst, arith, inl, inr}
 use Rattle.std.specs.Prelude.{not, ◌==◌, if◌then◌else◌}
@@ -24,7 +24,7 @@ use Rattle.abs_value.proofs.Computes.{covers_some}
 
 -- ---- values
 
--- a value that stands for a number that is there
+-- an abstract value of a register that is set
 pub included : (g : Returns) (a : Abs) (x : ℕ) → CoversValue g a (Some x) → Includes g a x
 included g Unusable x h = tt
 included g (Num a) x h = h
@@ -34,7 +34,7 @@ included g (Map a) x h = h
 included g (MayCell a) x h = h
 included g (Cell a) x h = h
 
--- where one value stands for all that another does
+-- if one value represents all that another does
 pub covers_by : (g after : Returns) (a b : Abs) (v : Option ℕ) → (a ≡ Unusable → b ≡ Unusable)
     → ((x : ℕ) → Includes g a x → Includes after b x) → CoversValue g a v → CoversValue after b v
 covers_by g after Unusable b None same more h = rw (same refl) tt
@@ -46,7 +46,7 @@ covers_by g after (MayCell a) b None same more h = absurd h
 covers_by g after (Cell a) b None same more h = absurd h
 covers_by g after a b (Some x) same more h = covers_some after b x (more x (included g a x h))
 
--- ---- more answers
+-- ---- more results
 
 more_answered : (g after : Returns) (call : Lookup) (x : ℕ) → IsMore g after → Answered g call x
     → Answered after call x
@@ -90,7 +90,7 @@ answers_before g slot next x lt before call from =
 some_none : (y : ℕ) → None ≡ Some y → ⊥
 some_none y e = cc
 
--- a call that hasn't answered before answers
+-- a call that hadn't returned before returns
 pub is_more : (g : Returns) (slot x : ℕ) → AreBefore slot g → IsMore g (answering g slot x)
 is_more g slot x before = record { shape = refl; answers = keeps }
   where
@@ -101,7 +101,7 @@ is_more g slot x before = record { shape = refl; answers = keeps }
       | inr other ↦ rw other h
     ]
 
--- ---- an answer that is known
+-- ---- a result that is known
 
 known : (g : Returns) (lookup : Lookup) (x : ℕ) → Answered g lookup x
     → Includes g (answer_of lookup (not (x == 0))) x
@@ -111,7 +111,7 @@ known g lookup x h = elim (cases_Bool (x == 0)) [
   | inr some ↦ rw some (h, grind (arith, some))
 ]
 
--- both are the answer of the call
+-- both are the result of the call
 one_answer : (g : Returns) (lookup : Lookup) (call x y : ℕ)
     → (lookup.slot == call) ≡ true → g.by call ≡ Some x → Answered g lookup y → y ≡ x
 one_answer g lookup call x y same is h = grind (arith, same, is, h.0)

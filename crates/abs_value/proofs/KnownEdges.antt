@@ -1,4 +1,4 @@
--- What is known along an edge of a comparison covers the states that take it.
+-- The abstract state on an edge of a comparison covers the states that take it.
 use Rattle.std.proofs.Common.{◌≡◌, ◌≢◌, ℕ, zero, suc, pos, Option, Some}
 use Rattle.std.proofs.Common.{Bool, true, false, refl, subst, arith, inl, inr}
 use Rattle.std.specs.Prelude.{not, ◌==◌, ◌&&◌, option_map}
@@ -59,7 +59,7 @@ imm_is_zero : (n y : ℕ) → (n == 0) ≡ true → Some (immediate Bits64 (pos 
 imm_is_zero zero y none is = grind (arith, is)
 imm_is_zero (suc n) y none is = absurd (grind (arith, none))
 
--- on the edge that a run takes, what was compared with 0 isn't 0 or is
+-- on the edge that a run takes, `is_found` is whether the left operand isn't 0
 found_is : (s : State) (bits : Bits) (condition : Condition) (right : Operand) (jumps : Bool)
     (x y : ℕ) → compares_with_zero bits condition right ≡ true → operand s bits right ≡ Some y
     → is_taken jumps (holds bits condition x y) ≡ true

@@ -8,7 +8,7 @@ use Rattle.std.proofs.lemmas.List.{length-map, length-append, take-append-drop}
 use Rattle.std.proofs.lemmas.List.Edits.{map_over_more}
 use Rattle.std.proofs.lemmas.Grind.{get_or-set_at}
 
--- at place j: the new element, or none as at place i, or the old one
+-- at index j: the new element, the default, or the old element
 pub data SetAt (X : Type 0) (xs : List X) (i : ℕ) (v d : X) (j : ℕ) : Type 0 where
   here : j ≡ i → get_or (set xs i v) j d ≡ v → SetAt X xs i v d j
   past : get_or (set xs i v) j d ≡ d → SetAt X xs i v d j
@@ -26,7 +26,7 @@ set_at X xs i v d j = elim (cases_eq j i) [
 
 -- ---- a loop that puts f of each element in its place
 
--- so far: those below i are done, the others are as they were
+-- the elements below i are mapped, the others unchanged
 abbrev pub IsMapped : {X : Type 0} → (X → X) → List X → ℕ → List X → Type 0
 IsMapped f old i new = new ≡ map f (take i old) ++ drop i old
 
@@ -43,9 +43,9 @@ mapped_more f xs ys i v d lt h e =
     ap (λ w. set ys i w) e ∙ map_over_more f xs ys i (get_or ys i d) lt h
     (get_or_default ys i d (get_or ys i d) (omega (arith, long, lt)))
 
--- ---- a loop that puts the i-th of some values in its place, or leaves it where it stands there
+-- ---- a loop that sets the i-th element, unless it already has its value
 
--- one more is put
+-- one more is set
 pub put_more : {X : Type 0} (xs : List X) (i : ℕ) (v d : X) (f : ℕ → X) → i < length xs → v ≡ f i
     → ((k : ℕ) → k < i → get_or xs k d ≡ f k)
     → (k : ℕ) → k < i + 1 → get_or (set xs i v) k d ≡ f k
@@ -53,12 +53,12 @@ put_more xs i v d f lt is before = below_more _ _
     (λ k h. let ne : k ≢ i = omega (arith, h) in get_or-set_other xs i k v d ne ∙ before k h)
     (get_or-set_at xs i i v d refl lt ∙ is)
 
--- one more stands there
+-- one more already has its value
 pub stands_more : {X : Type 0} (xs : List X) (i : ℕ) (d : X) (f : ℕ → X) → get_or xs i d ≡ f i
     → ((k : ℕ) → k < i → get_or xs k d ≡ f k) → (k : ℕ) → k < i + 1 → get_or xs k d ≡ f k
 stands_more xs i d f is before = below_more _ _ before is
 
--- and those after it are as they were
+-- the elements after it are unchanged
 pub put_before : {X : Type 0} (xs old : List X) (i : ℕ) (v d : X)
     → ((k : ℕ) → i ≤ k → get_or xs k d ≡ get_or old k d)
     → (k : ℕ) → i + 1 ≤ k → get_or (set xs i v) k d ≡ get_or old k d

@@ -1,4 +1,4 @@
--- A load from the stack finds a number that its value includes.
+-- A load from the stack reads a number that its value includes.
 use Rattle.std.proofs.Common.{◌≡◌, ℕ, zero, suc, ◌+◌, ◌-◌, ◌*◌, ◌/◌, ◌%◌, ◌^◌, ◌<◌, ◌≤◌, pos}
 use Rattle.std.proofs.Common.{List, [], ◌∷◌, Option, Some, None}
 use Rattle.std.proofs.Common.{Bool, true, false, refl, sym, ap, subst, ◌∙◌, arith, inl, inr}
@@ -105,7 +105,7 @@ bytes_there g e s place n within words h set =
     reads s.stack place n words.stack (each_set g e.stack s.stack place n h.stack within set) in
     rw found.is refl
 
--- ---- a kept number is read as it is
+-- ---- a kept number is read unchanged
 
 record ReadsOf (stack : ℕ → Option ℕ) (place n x : ℕ) : Type 0 where
   bytes : List ℕ

@@ -1,5 +1,4 @@
--- Where a pointer is moved within its region, the machine computes an address of the places that
--- are left.
+-- If a pointer is moved within its region, the machine computes an address of the resulting places.
 use Rattle.std.proofs.Common.{◌≡◌, ℕ, suc, ◌+◌, ◌-◌, ◌%◌, ◌^◌, ◌<◌, ◌≤◌, ℤ, pos, negsuc, ◌+ℤ◌}
 use Rattle.std.proofs.Common.{neg_ℤ, Option, Some, None, false, refl, sym, ap, ◌∙◌, arith, inl, inr}
 use Rattle.std.specs.Prelude.{nat_lt}
@@ -35,7 +34,7 @@ moved_within : (size place : ℕ) (by : Option ℤ) (n : ℕ)
 moved_within size place None n h = absurd cc
 moved_within size place (Some z) n h = (place_is size (pos place +ℤ z) n h).within
 
--- ---- the machine's arithmetic, on an address that lies so far behind a place
+-- ---- the machine's arithmetic on an address whose distance to a place is fixed
 
 low_half : (m : ℕ) → m < 2 ^ 63 → cast_signed w64 m ≡ pos m
 low_half m lt = to_z_pos w64 m lt
@@ -56,7 +55,7 @@ added x y n place fits le lt is = elim (cases_lt y (2 ^ 63)) [
       let f : place + y ≡ n + 2 ^ 64 = omega (arith, ints, e) in omega arith
 ]
 
--- and taken
+-- and subtracted
 taken : (x y n place : ℕ) → y < 2 ^ 64 → place ≤ x → x + n < place + 2 ^ 64
     → pos place +ℤ neg_ℤ (cast_signed w64 y) ≡ pos n → (x + (2 ^ 64 - y)) % 2 ^ 64 + place ≡ x + n
 taken x y n place fits le lt is = elim (cases_lt y (2 ^ 63)) [
@@ -70,7 +69,7 @@ taken x y n place fits le lt is = elim (cases_lt y (2 ^ 63)) [
       let f : place + 2 ^ 64 ≡ n + y = omega (arith, ints, e) in omega arith
 ]
 
--- by a single number the address moves as far as the place
+-- a single number moves the address as far as the place
 single_moves : (op : AluOp) (size x y place n : ℕ) → IsWord y → place ≤ x → x + n < place + 2 ^ 64
     → moved size place (distance op y) ≡ Some n
     → alu_result Bits64 op x y + place ≡ x + n
@@ -108,7 +107,7 @@ both_some None p r h = absurd cc
 both_some (Some lo) None r h = absurd cc
 both_some (Some lo) (Some hi) r h = (grind arith, grind arith)
 
--- by one distance both ends move equally far
+-- the same distance moves both ends equally far
 spread : (size lo hi m k : ℕ) (by : Option ℤ)
     → moved size lo by ≡ Some m → moved size hi by ≡ Some k → hi + m ≡ lo + k
 spread size lo hi m k None e f = absurd cc

@@ -1,4 +1,4 @@
--- What is computed of values whose ends are in order has its ends in order.
+-- If the ends of values are in order, so are those of the results.
 use Rattle.std.proofs.Common.{◌≡◌, ℕ, ℤ, ◌+◌, ◌-◌, ◌*◌, ◌/◌, ◌%◌, ◌^◌, ◌≤◌}
 use Rattle.std.proofs.Common.{Option, Some, None, Bool, true, false, refl, arith, inl, inr}
 use Rattle.std.specs.Prelude.{option_map, nat_lt, ◌==◌, ◌||◌, if◌then◌else◌, bit_and}
@@ -77,7 +77,7 @@ cut_range Bits32 a h = grind arith
 right_range : (a : Interval) (count : ℕ) → IsRange a → IsRange (shifted_right a count)
 right_range a count h = (shifted_right_holds a count a.hi (h, omega arith)).0
 
--- a range that a number lies in
+-- a range that contains a number
 range_round : (a : Interval) (x : ℕ) → IsBetween a x → IsRange a
 range_round a x h = omega (arith, h.0, h.1)
 
@@ -216,7 +216,7 @@ chosen_pair : (b : Bool) (one other : Option NumberPair) → AreNumbers one → 
 chosen_pair true one other h k = h
 chosen_pair false one other h k = k
 
--- what is kept isn't empty
+-- the kept numbers aren't empty
 kept_ranges : (a b : Number) → AreNumbers (kept a b)
 unfolding AreNumbers
 kept_ranges a b = elim (cases_Bool (is_empty a || is_empty b)) [

@@ -1,5 +1,4 @@
--- Products, quotients and remainders of the numbers of two ranges lie between the ends that are
--- computed.
+-- Products, quotients and remainders of the numbers of two ranges are between the computed ends.
 use Rattle.std.proofs.Common.{◌≡◌, ℕ, ◌*◌, ◌/◌, ◌%◌, ◌^◌, ◌<◌, ◌≤◌, false}
 use Rattle.std.proofs.Common.{arith, inl, inr, div-le_self, div-mul-le_self}
 use Rattle.std.specs.Prelude.{nat_le, ◌==◌, if◌then◌else◌}
@@ -19,7 +18,7 @@ pub product_holds : (w : Bits) (a b : Interval) (x y : ℕ) → IsBetween a x �
 product_holds w a b x y h k = fitting_holds w (a.lo * b.lo) (a.hi * b.hi) (x * y)
     (mul-le a.lo b.lo x y h.0 k.0) (mul-le x y a.hi b.hi h.1 k.1)
 
--- by a greater divisor no more comes
+-- a greater divisor gives no greater quotient
 div_down : (x m n : ℕ) → 0 < m → m ≤ n → x / n ≤ x / m
 div_down x m n some le =
     let part = div-mul-le_self x n in

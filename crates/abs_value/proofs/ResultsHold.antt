@@ -1,4 +1,4 @@
--- What the machine computes of two numbers is one of those that what is computed stands for.
+-- The abstract result includes what the machine computes of two numbers.
 use Rattle.std.proofs.Common.{◌≡◌, ℕ, ◌+◌, ◌-◌, ◌%◌, ◌^◌, ◌<◌, ◌≤◌, subst, arith, inl, inr}
 use Rattle.std.specs.Prelude.{if◌then◌else◌, bit_and, bit_or}
 use Rattle.std.specs.Int.{w64, leading_zeros}
@@ -53,7 +53,7 @@ result_is_of : FitsWidth → (w : Bits) (op : AluOp) (x y : ℕ) → IsOf w x �
 result_is_of fit w op x y fx fy = is_of w (arithmetic (word_width w) op x y)
     (fit (word_width w) op x y (below w x fx) (below w y fy))
 
--- by a single count, or by any
+-- for a single count, or for any
 by_count : (b : Interval) (y z : ℕ) (one other : Interval) → IsBetween b y
     → (b.lo ≡ y → IsBetween one z)
     → IsBetween other z → IsBetween (if is_just b then one else other) z

@@ -1,5 +1,5 @@
--- A number that tidy leaves as it is: its ends don't lie beyond its bits, and no bit that isn't
--- known lies above the highest in which the ends differ.
+-- A number that tidy leaves unchanged: the bits allow both ends, and no bit above the highest one
+-- in which the ends differ is unknown.
 use Rattle.std.proofs.Common.{◌≡◌, ℕ, ◌+◌, ◌-◌, ◌/◌, ◌^◌, ◌<◌, ◌≤◌, min, max, true}
 use Rattle.std.proofs.Common.{refl, sym, ap, ◌∙◌, arith, inl, inr}
 use Rattle.std.specs.Prelude.{bit_and, bit_or, bit_xor, nat_le, ◌&&◌, ◌==◌}
@@ -21,7 +21,7 @@ use Rattle.std.proofs.lemmas.Nat.{and_le_l}
 use Rattle.abs_value.proofs.Within.{right_bit, no_difference, and_of_within, within_itself}
 use Rattle.abs_value.proofs.Tidy.{above_within, within_above}
 
--- ---- bits of one number above the highest of another
+-- ---- bits of one number above the highest bit of another
 
 high_bit : (u s k j : ℕ) → u < 2 ^ 64 → s < 2 ^ k → k ≤ 64 → bit_and u (bit_not w64 s) ≤ s
     → k ≤ j → bit_at u j ≡ 0
@@ -46,7 +46,7 @@ none_higher u s k word small le less = same_from_bits (u / 2 ^ k) 0 one
         let high = high_bit u s k (k + i) word small le less (omega arith) in
         let none = bit_at-zero i in omega (arith, there, high, none)
 
--- ---- what tidy leaves
+-- ---- the result of tidy
 
 or_of_within : (m n : ℕ) → AreBitsOf m n → bit_or n m ≡ n
 or_of_within m n h = same_from_bits (bit_or n m) n one
@@ -54,7 +54,7 @@ or_of_within m n h = same_from_bits (bit_or n m) n one
     one : (i : ℕ) → bit_at (bit_or n m) i ≡ bit_at n i
     one i = let s = bit_at_or n m i in let le = h i in omega (arith, s, le)
 
--- above a place where all four are the same nothing more becomes known
+-- above bit k all four are the same, so nothing more becomes known
 none_shared : (a : Interval) (p : KnownBits) (k : ℕ) → k ≤ 64 → p.has ≤ a.lo → a.hi ≤ p.may_have
     → bit_xor a.lo a.hi / 2 ^ k ≡ 0 → bit_xor p.has p.may_have / 2 ^ k ≡ 0
     → combined p (known (bit_and a.lo (bit_not w64 (2 ^ k - 1))) (bit_or a.lo (2 ^ k - 1))) ≡ p
@@ -108,7 +108,7 @@ pub settled : (a : Interval) (p : KnownBits) → bit_xor p.has p.may_have < 2 ^ 
 settled a p unknown differing from to less =
     settled_by a p unknown differing from to (grind (arith, less))
 
--- where the ends are those of the bits the same bits aren't known as differ
+-- if the ends are those of the bits, the unknown bits are those that differ
 pub exact_settled : (a : Interval) (p : KnownBits) → bit_xor p.has p.may_have < 2 ^ 64
     → bit_xor a.lo a.hi < 2 ^ 64 → ((p.has == a.lo) && (p.may_have == a.hi)) ≡ true
     → tidied a p ≡ number a p

@@ -1,4 +1,4 @@
--- Shifts of the numbers of a range lie between the shifts of its ends; OR and XOR stay below a
+-- Shifts of the numbers of a range are between the shifts of its ends; OR and XOR stay below a
 -- power of two.
 use Rattle.std.proofs.Common.{◌≡◌, ℕ, zero, suc, ◌-◌, ◌*◌, ◌/◌, ◌%◌, ◌^◌, ◌<◌, ◌≤◌}
 use Rattle.std.proofs.Common.{ℤ, max, refl, ap, arith, inl, inr}
@@ -19,7 +19,7 @@ use Rattle.abs_value.specs.Bounds.{shifted_right, shifted_signed, sign_bit}
 use Rattle.abs_value.specs.Covers.{IsBetween}
 use Rattle.abs_value.proofs.Cuts.{IsOf, all_of_holds}
 
--- ---- the range where it fits, else all numbers
+-- ---- the range if it fits, otherwise all numbers
 
 pub fitting_holds : (w : Bits) (lo hi x : ℕ) → lo ≤ x → x ≤ hi
     → IsBetween (fitting w lo hi) (x % 2 ^ bits (word_width w))
@@ -52,7 +52,7 @@ wide (suc k) (suc n) h =
     let power = pow-succ' 2 k in
     wide k (suc n / 2) (le-div (2 ^ k) (suc n) 2 (omega arith) (omega (arith, power, h)))
 
--- numbers up to n, of 64 bits, lie below the power of two above n
+-- numbers up to n, of 64 bits, are below the power of two above n
 pub below_power : (n x : ℕ) → x ≤ n → x < 2 ^ 64 → x < power_above n
 below_power n x le fits = elim (cases_lt n (2 ^ 64)) [
   | inl short ↦ let digits = leading_length 64 n short in

@@ -1,4 +1,4 @@
--- The set bytes of a slot, and what a join of slots stands for.
+-- The set bytes of a slot, and what a join of slots represents.
 use Rattle.std.proofs.Common.{◌≡◌, ℕ, ◌/◌, ◌%◌, ◌^◌, ◌<◌, ◌≤◌, List}
 use Rattle.std.proofs.Common.{Option, Some, refl, ◌∙◌, arith, inl, inr, map}
 use Rattle.std.specs.Prelude.{IsSome, bit_and}
@@ -26,7 +26,7 @@ mask_set g (Kept v) bytes h =
     λ j lt bit. some_is (bytes j) (h.number / 256 ^ j % 256) (h.bytes_are j lt)
 mask_set g (Bytes mask) bytes h = h
 
--- what is known of a slot rests on its eight bytes alone
+-- a slot's abstract value depends only on its eight bytes
 pub same_bytes : (g : Returns) (slot : AbsSlot) (a b : ℕ → Option ℕ)
     → ((j : ℕ) → j < 8 → b j ≡ a j) → CoversSlot g slot a → CoversSlot g slot b
 same_bytes g (Kept v) a b same h = record {
@@ -94,7 +94,7 @@ slot_at-join_past a b i le =
     get_or_past (map f (range_with_len 0 64)) i (Bytes 0)
     (omega (arith, length-map-range_with_len f 0 64))
 
--- where no byte is known to be set
+-- no byte is known to be set
 pub none_set : (bytes : ℕ → Option ℕ) → HasSet 0 bytes
 none_set bytes j lt bit = let zero_is = bit_at-zero j in absurd (omega (arith, bit, zero_is))
 

@@ -1,4 +1,4 @@
--- Of each value in a register or a slot of the stack the ends are in order.
+-- The ends of each value in a register or a stack slot are in order.
 use Rattle.std.proofs.Common.{ℕ, zero, suc, ◌+◌, ◌/◌, ◌%◌, ℤ, List}
 use Rattle.std.proofs.Common.{Option, Some, None, Bool, true, false, arith, inl, inr}
 use Rattle.std.specs.Prelude.{IfSome, slice_set, option_map, nat_le, ◌==◌, ◌&&◌, if◌then◌else◌}
@@ -118,7 +118,7 @@ load_in_order e place Double h = by_test (place % 8 == 0)
     by_test false = loaded_in_order Double
 load_in_order e place kind h = loaded_in_order kind
 
--- ---- joins, and the start
+-- ---- joins, and the start of a run
 
 kept_slot_in_order : (v : Abs) → HasOrderedEnds v → IsSlotInOrder (kept_slot v)
 kept_slot_in_order Unusable h = tt

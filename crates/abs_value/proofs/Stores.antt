@@ -1,4 +1,4 @@
--- After a store the slots stand for the stack that it leaves.
+-- The slots after a store represent the stack after it.
 use Rattle.std.proofs.Common.{◌≡◌, ◌≢◌, ℕ, ◌+◌, ◌-◌, ◌*◌, ◌/◌, ◌%◌, ◌^◌, ◌<◌, ◌≤◌}
 use Rattle.std.proofs.Common.{List, Option, Some, true, false, refl, sym}
 use Rattle.std.proofs.Common.{ap, ◌∙◌, arith, inl, inr, get_or-set_other}
@@ -160,7 +160,7 @@ one_covers g slots stack place n x within h j = elim (set_at AbsSlot slots (plac
           (λ k lt. byte_same stack place n x j k (λ w. omega (arith, w, apart, within))) (h j))
     ]
 
--- what the next slot has set is what it had
+-- the set bytes of the next slot are unchanged
 mask_next : (slots : List AbsSlot) (i mask : ℕ)
     → slot_at (with_set slots i mask) (i + 1) ≡ slot_at slots (i + 1)
 mask_next slots i mask =

@@ -1,4 +1,4 @@
--- Tidy keeps the numbers that an interval and known bits stand for, and adds none.
+-- Tidy keeps the numbers that an interval and known bits represent, and adds none.
 use Rattle.std.proofs.Common.{◌≡◌, ℕ, ◌-◌, ◌/◌, ◌^◌, ◌<◌, ◌≤◌, true}
 use Rattle.std.proofs.Common.{false, refl, sym, ◌∙◌, arith, inl, inr}
 use Rattle.std.specs.Prelude.{bit_and, bit_or, bit_xor, nat_lt}
@@ -19,7 +19,7 @@ use Rattle.abs_value.proofs.ShiftedRanges.{div-le-div, wide, below_power}
 use Rattle.abs_value.proofs.Within.{high_bits, no_difference, and_of_within, within_le}
 use Rattle.abs_value.proofs.Within.{within_then, or_within, within_both, and_within, within_or_left}
 
--- ---- above the highest bit in which the ends differ all numbers between them are the same
+-- ---- above the highest bit in which the ends differ, all numbers between them are the same
 
 same_prefix : (lo hi x k : ℕ) → lo ≤ x → x ≤ hi → bit_xor lo hi < 2 ^ k
     → lo / 2 ^ k ≡ x / 2 ^ k
@@ -31,7 +31,7 @@ same_prefix lo hi x k from to small =
     let two = div-le-div x hi (2 ^ k) (pow_pos k) to in
     omega (arith, ends, one, two)
 
--- how many low bits may differ
+-- the number of low bits that may differ
 places : Interval → ℕ
 places a = 64 - leading_zeros w64 (bit_xor a.lo a.hi)
 
@@ -128,7 +128,7 @@ tidy_only a p x h =
       },
     )
 
--- what is found empty has no number
+-- a number that is found empty represents no number
 pub not_empty : (a : Number) (x : ℕ) → Holds a x → is_empty a ≡ false
 not_empty a x h =
     let order : nat_lt a.range.hi a.range.lo ≡ false = grind (arith, h.between) in
@@ -154,7 +154,7 @@ tidied_only a p x h = elim (cases_Bool (is_empty (tidy a p))) [
   | inr some ↦ let same : Holds (tidy a p) x = rw some at h in tidy_only a p x same
 ]
 
--- what isn't found empty has its ends in order
+-- the ends of a number that isn't found empty are in order
 pub some_range : (a : Number) → is_empty a ≡ false → IsRange a.range
 some_range a some = grind (arith, some)
 

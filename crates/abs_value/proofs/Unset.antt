@@ -1,4 +1,4 @@
--- The slots of the stack below which no byte is set: operations leave them as they are.
+-- Operations leave the slots below the lowest written one unchanged.
 use Rattle.std.proofs.Common.{◌≡◌, ◌≢◌, ℕ, zero, suc, ◌+◌, ◌-◌, ◌/◌, ◌%◌, ◌<◌, ◌≤◌, min, max}
 use Rattle.std.proofs.Common.{List, [], ◌∷◌, ◌++◌, length, map, replicate, take, drop}
 use Rattle.std.proofs.Common.{refl, sym, ap, ◌∙◌, arith, inl, inr, get_or, get_or-set_other}
@@ -67,7 +67,7 @@ joined_below slots other lowest k h lt =
     let none = h.unset k lt in
     none ∙ sym (joined_left (slot_at slots k) (slot_at other k) none)
 
--- of an array whose elements are read at whatever default
+-- for arrays whose elements are read with any default
 pub joined_at : (slots old other : List AbsSlot) (i : ℕ) (d e v : AbsSlot) → i < length slots
     → i < length other → slot_at slots i ≡ slot_at old i
     → v ≡ join_slots (get_or slots i d) (get_or other i e)
@@ -95,7 +95,7 @@ unset_joined a b i j h k = record {
       ];
 }
 
--- ---- an answer
+-- ---- a lookup's result
 
 mapped_below : {X : Type 0} (f : X → X) (xs : List X) (k : ℕ) (d : X)
     → ((i : ℕ) → i < k → f (get_or xs i d) ≡ get_or xs i d) → IsMapped f xs k xs
@@ -132,7 +132,7 @@ same_below (x ∷ xs) (y ∷ ys) (suc k) d one two h =
     let rest = same_below xs ys k d (omega (arith, one)) (omega (arith, two))
     (λ i lt. h (suc i) (omega (arith, lt))) in rw (first, rest) refl
 
--- ys are those of the other from there on
+-- ys are the other's slots from `from` on
 pub copied_above : (slots other ys : List AbsSlot) (from : ℕ) → length slots ≡ 64
     → length other ≡ 64 → AreUnsetBelow from slots → AreUnsetBelow from other
     → ys ≡ take (64 - from) (drop from other)
@@ -156,7 +156,7 @@ unset_less slots lowest lower le h = record {
   unset = λ i lt. h.unset i (omega (arith, le, lt));
 }
 
--- ---- where a run starts
+-- ---- the start of a run
 
 pub unset_at_first : AreUnsetBelow 64 (replicate 64 (Bytes 0))
 unset_at_first = record { within = omega arith; unset = λ i lt. unset 64 i }

@@ -31,14 +31,14 @@ mod_low_bit n k i lt = sym (bit_at_cat_low (n / 2 ^ k) k (n % 2 ^ k) i lt)
 pub mod_high_bit : (n k i : ℕ) → k ≤ i → bit_at (n % 2 ^ k) i ≡ 0
 mod_high_bit n k i le = bit_at_above (n % 2 ^ k) k i (mod_below n (2 ^ k) (pow_pos k)) le
 
--- above a place where the quotients are equal the bits are
+-- if the quotients by 2 ^ k are equal, so are the bits from k on
 pub high_bits : (m n k i : ℕ) → m / 2 ^ k ≡ n / 2 ^ k → k ≤ i → bit_at m i ≡ bit_at n i
 high_bits m n k i same le =
     let e : i ≡ k + (i - k) = omega arith in
     ap (bit_at m) e ∙ sym (right_bit m k (i - k)) ∙ ap (λ (q : ℕ). bit_at q (i - k)) same
     ∙ right_bit n k (i - k) ∙ ap (bit_at n) (sym e)
 
--- numbers without a different bit are equal
+-- numbers that differ in no bit are equal
 pub no_difference : (a b : ℕ) → bit_xor a b ≡ 0 → a ≡ b
 no_difference a b none = same_from_bits a b one
   where
@@ -84,7 +84,7 @@ within_or m n x y h k i =
     let one = h i in
     let two = k i in omega (arith, s, t, one, two)
 
--- both are within, or it is within both
+-- both are within x, or it is within both
 pub or_within : (m n x : ℕ) → AreBitsOf m x → AreBitsOf n x → AreBitsOf (bit_or m n) x
 or_within m n x h k i =
     let s = bit_at_or m n i in

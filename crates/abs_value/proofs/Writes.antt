@@ -1,5 +1,4 @@
--- What a state of the verifier stands for is kept where a register is written, and where two are
--- joined.
+-- Writing a register and joining two states keep what an abstract state represents.
 use Rattle.std.proofs.Common.{◌≡◌, ℕ, ◌<◌, ◌≤◌, List, Option, Some, None, false, zero, suc, refl}
 use Rattle.std.proofs.Common.{arith, inl, inr, map, replicate, true, ℤ, pos, negsuc, FitsSigned}
 use Rattle.std.specs.Prelude.{slice_set, ◌==◌}
@@ -162,7 +161,7 @@ covers_join_right g e f s h = record {
   stack = stack_right g e.stack f.stack s.stack h.stack;
 }
 
--- ---- where a run starts
+-- ---- the start of a run
 
 opening_registers_cover : (g : Returns) (r : ℕ)
     → CoversValue g (register_at opening_registers r) (start.opening_registers r)

@@ -1,4 +1,4 @@
--- Arithmetic with intervals (RFC 9669, "Arithmetic Instructions"): one formula an operation, over
+-- Interval arithmetic (RFC 9669, "Arithmetic Instructions"): one formula for each operation, over
 -- the numbers of a class.
 use Rattle.std.specs.Prelude.{ℕ, ◌+◌, ◌-◌, ◌*◌, ◌/◌, ◌%◌, ◌^◌, min, max, ◌&&◌, nat_lt, nat_le}
 use Rattle.std.specs.Prelude.{Bool, if◌then◌else◌}
@@ -12,8 +12,7 @@ use Rattle.bpf_insn.specs.Words.{word_width}
 use Rattle.abs_value.specs.declared.interval.Interval.{Interval}
 use Rattle.abs_value.specs.Intervals.{interval, is_just, greatest, from_zero, all_of}
 
--- from lo to hi, where these are numbers of the class; else the results may wrap, and may be any
--- number
+-- from lo to hi if both are numbers of the class; otherwise a result may wrap, and be any number
 abbrev pub fitting : Bits → ℕ → ℕ → Interval
 fitting w lo hi =
     if nat_le lo (greatest w) && nat_le hi (greatest w) then interval lo hi else all_of w
@@ -21,7 +20,7 @@ fitting w lo hi =
 abbrev pub sum : Bits → Interval → Interval → Interval
 sum w a b = fitting w (a.lo + b.lo) (a.hi + b.hi)
 
--- where no number of the first is below one of the second
+-- no wrap if no number of a is below one of b
 abbrev pub difference : Bits → Interval → Interval → Interval
 difference w a b = if nat_le b.hi a.lo then interval (a.lo - b.hi) (a.hi - b.lo) else all_of w
 
@@ -32,11 +31,11 @@ product w a b = fitting w (a.lo * b.lo) (a.hi * b.hi)
 abbrev pub is_above_zero : Interval → Bool
 is_above_zero b = nat_le 1 b.lo && nat_le 1 b.hi
 
--- a divisor of 0 gives 0
+-- division by 0 gives 0
 abbrev pub quotient : Interval → Interval → Interval
 quotient a b = if is_above_zero b then interval (a.lo / b.hi) (a.hi / b.lo) else from_zero a.hi
 
--- a divisor of 0 leaves the dividend
+-- the remainder of division by 0 is the dividend
 abbrev pub remainder : Interval → Interval → Interval
 remainder a b = from_zero (if is_above_zero b then min a.hi (b.hi - 1) else a.hi)
 
@@ -66,11 +65,11 @@ sign_bit w = 2 ^ (bits (word_width w) - 1)
 abbrev pub shifted_signed : Bits → Interval → ℕ → Interval
 shifted_signed w a count = if nat_lt a.hi (sign_bit w) then shifted_right a count else all_of w
 
--- a count is masked by the width
+-- the count is masked by the width
 abbrev pub count_of : Bits → Interval → ℕ
 count_of w b = b.lo % bits (word_width w)
 
--- the interval of what arithmetic gives, one formula an operation
+-- the interval of an operation's results, one formula for each operation
 abbrev pub bounds : Bits → AluOp → Interval → Interval → Interval
 bounds w Add a b = sum w a b
 bounds w Sub a b = difference w a b

@@ -1,5 +1,5 @@
--- What is stood for: of a value the numbers and addresses, of a state of the verifier the states
--- of a run.
+-- Concretization: the numbers and addresses that an abstract value represents, and the states of a
+-- run that an abstract state represents.
 use Rattle.std.specs.Prelude.{◌≡◌, ◌≢◌, ℕ, ◌+◌, ◌*◌, ◌/◌, ◌%◌, ◌^◌, ◌<◌, ◌≤◌, ◌⊎◌, ◌==◌}
 use Rattle.std.specs.Prelude.{List, Option, Some, None, IsSome, slice_get, FitsSigned}
 use Rattle.std.specs.Prelude.{if◌then◌else◌}
@@ -26,14 +26,14 @@ use Rattle.abs_value.specs.declared.state.AbsState.{AbsState}
 use Rattle.abs_value.specs.Stack.{slot_at}
 use Rattle.abs_value.specs.States.{register_at}
 
--- ---- answers
+-- ---- results of calls
 
--- what each call has answered so far, by its slot, and the arrays among which lookups choose
+-- the result of each call so far, by its slot, and the arrays that lookups use
 pub record Returns : Type 0 where
   pub shape : AppShape
   pub by : ℕ → Option ℕ
 
--- the cell is one of the array's of this index
+-- the cell belongs to the array of this index
 pub record HasCellAt (shape : AppShape) (index cell : ℕ) : Type 0 where
   pub array : CellArray
   pub there : slice_get shape.arrays index ≡ Some array
@@ -42,15 +42,15 @@ pub record HasCellAt (shape : AppShape) (index cell : ℕ) : Type 0 where
 abbrev pub IsCellOf : AppShape → ℕ → ℕ → Type 0
 IsCellOf shape index x = (cell : ℕ) × (x ≡ cell_address cell) × HasCellAt shape index cell
 
--- a lookup has answered 0, or the address of a cell of its array
+-- a lookup has returned 0, or the address of a cell of its array
 abbrev pub Answered : Returns → Lookup → ℕ → Type 0
 Answered g call x = (g.by call.slot ≡ Some x) × ((x ≡ 0) ⊎ IsCellOf g.shape call.array x)
 
--- no call at the slot, or after it, has answered
+-- no call at the slot, or after it, has returned
 abbrev pub AreBefore : ℕ → Returns → Type 0
 AreBefore slot g = (call : ℕ) → slot ≤ call → g.by call ≡ None
 
--- the answers, and then that of the call at the slot
+-- the results so far, and that of the call at the slot
 abbrev pub answering : Returns → ℕ → ℕ → Returns
 answering g slot x = record g { by = λ call. if call == slot then Some x else g.by call }
 
@@ -60,7 +60,7 @@ answering g slot x = record g { by = λ call. if call == slot then Some x else g
 abbrev pub IsWord : ℕ → Type 0
 IsWord x = x < 2 ^ 64
 
--- the number of an imm fits its field
+-- an imm fits its field
 abbrev pub FitsImm : Operand → Type 0
 FitsImm (Imm k) = FitsSigned w32 k
 FitsImm (Register r) = Unit {0}
@@ -68,16 +68,16 @@ FitsImm (Register r) = Unit {0}
 abbrev pub IsBetween : Interval → ℕ → Type 0
 IsBetween a x = (a.lo ≤ x) × (x ≤ a.hi)
 
--- each bit of the first is one of the second's
+-- each bit of m is a bit of n
 abbrev pub AreBitsOf : ℕ → ℕ → Type 0
 AreBitsOf m n = (i : ℕ) → bit_at m i ≤ bit_at n i
 
--- it has the bits that it has to have, and no others than it may have
+-- the number has all bits that it must have, and no bits but those that it may have
 pub record Fits (p : KnownBits) (x : ℕ) : Type 0 where
   pub has : AreBitsOf p.has x
   pub no_others : AreBitsOf x p.may_have
 
--- a number of 64 bits, from the least to the most that it may be, with the bits that are known
+-- a number of 64 bits, in the range, with the known bits
 pub record Holds (a : Number) (x : ℕ) : Type 0 where
   pub between : IsBetween a.range x
   pub word : IsWord x
@@ -95,7 +95,7 @@ abbrev pub IsCell : Returns → Origin → ℕ → Type 0
 IsCell g (Found call) x = Answered g call x × (x ≢ 0)
 IsCell g (Fixed cell) x = (x ≡ cell_address cell) × ((index : ℕ) × HasCellAt g.shape index cell)
 
--- the numbers and addresses that a value stands for
+-- the abstract value represents x
 abbrev pub Includes : Returns → Abs → ℕ → Type 0
 Includes g Unusable x = Unit {0}
 Includes g (Num a) x = Holds a x
@@ -105,7 +105,7 @@ Includes g (Map index) x = (x ≡ map_start + index) × IsSome (slice_get g.shap
 Includes g (MayCell call) x = Answered g call x
 Includes g (Cell origin) x = IsCell g origin x
 
--- an unset register is covered only where the value is unusable
+-- an unset register is covered only by an unusable value
 abbrev pub CoversValue : Returns → Abs → Option ℕ → Type 0
 CoversValue g Unusable v = Unit {0}
 CoversValue g a None = ⊥
@@ -113,7 +113,7 @@ CoversValue g a (Some x) = Includes g a x
 
 -- ---- the stack
 
--- the eight bytes are those of a word that the value includes, the least first
+-- the eight bytes are those of a word that the value includes, lowest byte first
 pub record KeepsNumber (g : Returns) (v : Abs) (bytes : ℕ → Option ℕ) : Type 0 where
   pub number : ℕ
   pub word : IsWord number
@@ -124,7 +124,7 @@ pub record KeepsNumber (g : Returns) (v : Abs) (bytes : ℕ → Option ℕ) : Ty
 abbrev pub HasSet : ℕ → (ℕ → Option ℕ) → Type 0
 HasSet mask bytes = (j : ℕ) → j < 8 → bit_at mask j ≡ 1 → IsSome (bytes j)
 
--- what a slot of the stack stands for
+-- the abstract slot represents these bytes
 abbrev pub CoversSlot : Returns → AbsSlot → (ℕ → Option ℕ) → Type 0
 CoversSlot g (Kept v) bytes = KeepsNumber g v bytes
 CoversSlot g (Bytes mask) bytes = HasSet mask bytes
@@ -142,12 +142,12 @@ CoversRegisters g values registers =
 abbrev pub CoversStack : Returns → List AbsSlot → (ℕ → Option ℕ) → Type 0
 CoversStack g slots stack = (i : ℕ) → CoversSlot g (slot_at slots i) (bytes_of stack i)
 
--- which states of the machine a state of the verifier stands for
+-- the abstract state represents the state of the machine
 pub record Covers (g : Returns) (e : AbsState) (s : State) : Type 0 where
   pub registers : CoversRegisters g e.registers s.registers
   pub stack : CoversStack g e.stack s.stack
 
--- what is known at a state's slot stands for the state, given the answers of calls before it
+-- an abstract state at the slot of s represents s, given the results of the calls before that slot
 pub record IsStoodFor (shape : AppShape) (e : AbsState) (s : State) : Type 0 where
   pub by : ℕ → Option ℕ
   pub before : AreBefore s.slot (record { shape = shape; by = by })

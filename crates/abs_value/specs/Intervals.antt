@@ -1,4 +1,4 @@
--- Intervals of numbers, by the least and the greatest.
+-- Intervals of numbers, by their least and greatest number.
 use Rattle.std.specs.Prelude.{ℕ, ◌-◌, ◌%◌, ◌^◌, ◌≤◌, min, max, Bool, nat_le, ◌==◌, if◌then◌else◌}
 use Rattle.bpf_insn.specs.declared.operand.Bits.{Bits}
 use Rattle.bpf_insn.specs.declared.operand.Bits.TheVariants.{Bits64, Bits32}
@@ -7,7 +7,7 @@ use Rattle.abs_value.specs.declared.interval.Interval.{Interval}
 abbrev pub interval : ℕ → ℕ → Interval
 interval lo hi = record { lo = lo; hi = hi }
 
--- one number alone
+-- only n
 abbrev pub just : ℕ → Interval
 just n = interval n n
 
@@ -26,8 +26,8 @@ from_zero hi = interval 0 hi
 abbrev pub all_of : Bits → Interval
 all_of w = from_zero (greatest w)
 
--- what a class takes of an interval: of one number its low half, of one that goes past 32 bits all
--- numbers of 32 bits
+-- an interval truncated to a class: a single number to its low half, an interval that exceeds 32
+-- bits to all numbers of 32 bits
 abbrev pub cut_interval : Bits → Interval → Interval
 cut_interval Bits64 a = a
 cut_interval Bits32 a =
@@ -35,7 +35,7 @@ cut_interval Bits32 a =
     else if nat_le a.hi (greatest Bits32) then a
     else all_of Bits32
 
--- the least interval that holds both
+-- the least interval that contains both
 abbrev pub hull : Interval → Interval → Interval
 hull a b = interval (min a.lo b.lo) (max a.hi b.hi)
 

@@ -1,4 +1,4 @@
--- What is promised of the definitions: what is computed stands for what the machine does.
+-- Laws about the definitions: abstract operations cover the machine's operations.
 use Rattle.std.specs.Prelude.{◌≡◌, ℕ, ◌+◌, ◌^◌, ◌<◌, ◌≤◌, ℤ, pos, Option, Some, None, Bool, true}
 use Rattle.std.specs.Prelude.{false, not, ◌==◌, IsSome}
 use Rattle.attrs.specs.Attributes.{Attributes}
@@ -39,14 +39,14 @@ use Rattle.abs_value.specs.Covers.{Fits, Holds, Includes, Covers}
 
 -- ---- numbers
 
--- tidy keeps the numbers that an interval and bits stand for, and adds none
+-- tidy keeps the numbers that an interval and bits represent, and adds none
 pub record IsTidy (tidy : Interval → KnownBits → Number) : Type 0 where
   pub keeps : (a : Interval) (p : KnownBits) (x : ℕ) → IsWord x → IsBetween a x → Fits p x
       → Holds (tidy a p) x
   pub adds_none : (a : Interval) (p : KnownBits) (x : ℕ) → Holds (tidy a p) x
       → IsBetween a x × Fits p x
 
--- what is found empty has no number
+-- a number that is found empty represents no number
 abbrev pub EmptyHasNone : Type 0
 EmptyHasNone = (a : Number) (x : ℕ) → Holds a x → is_empty a ≡ false
 
@@ -58,7 +58,7 @@ IncludesUpTo = (hi x : ℕ) → IsWord x → x ≤ hi → Holds (up_to hi) x
 
 -- ---- values
 
--- an operation on values stands for the operation of the machine
+-- an operation on values includes the result of the machine's operation
 abbrev pub IncludesResults : Type 0
 IncludesResults =
     (g : Returns) (bits : Bits) (op : AluOp) (a b : Abs) (x y : ℕ)
@@ -85,20 +85,20 @@ IncludesReorderings =
     (g : Returns) (order : ByteOrder) (size : EndSize) (a : Abs) (x : ℕ) → Includes g a x
     → Includes g (reordered_value order size a) (reordered order size x)
 
--- a number of as many bytes as the load has
+-- a number of as many bytes as the load reads
 abbrev pub IncludesLoaded : Type 0
 IncludesLoaded =
     (g : Returns) (kind : LoadKind) (n : ℕ) → n < 256 ^ load_count kind
     → Includes g (loaded_value kind) (filled kind n)
 
--- the edge isn't dropped, and what is left of the two values on it includes their numbers
+-- the edge isn't dropped, and the narrowed values on it include the numbers x and y
 pub record IsLeft (g : Returns) (o : Option (Abs × Abs)) (x y : ℕ) : Type 0 where
   pub pair : Abs × Abs
   pub is : o ≡ Some pair
   pub first : Includes g pair.0 x
   pub second : Includes g pair.1 y
 
--- on the edge that a run takes
+-- the edge that a run takes isn't dropped
 abbrev pub KeepsTaken : Type 0
 KeepsTaken =
     (g : Returns) (bits : Bits) (condition : Condition) (jumps : Bool) (a b : Abs) (x y : ℕ)
@@ -107,7 +107,7 @@ KeepsTaken =
 
 -- ---- registers
 
--- a value that isn't unusable stands for a number that is there
+-- the register is set, to a number that the value includes
 pub record IsThere (g : Returns) (a : Abs) (v : Option ℕ) : Type 0 where
   pub number : ℕ
   pub is : v ≡ Some number
@@ -125,23 +125,23 @@ OperandsAreThere =
     → FitsImm src → Covers g e s → is_unusable (operand_value e bits src) ≡ false
     → IsThere g (operand_value e bits src) (operand s bits src)
 
--- the register that is written gets a value
+-- a write to a register
 abbrev pub CoversWrites : Type 0
 CoversWrites =
     (g : Returns) (e : AbsState) (s : State) (r : Reg) (v : Abs) (x : ℕ)
     → Covers g e s → Includes g v x
     → Covers g (with_value e r v) (with_register s (number_of r) x)
 
--- something is learnt of an operand as it stands
+-- a narrowed value of an operand that isn't written
 abbrev pub CoversLearnt : Type 0
 CoversLearnt =
     (g : Returns) (e : AbsState) (s : State) (bits : Bits) (src : Operand) (v : Abs) (x : ℕ)
     → Covers g e s
     → operand s bits src ≡ Some x → Includes g v x → Covers g (with_operand e src v) s
 
--- ---- answers
+-- ---- results of calls
 
--- the arrays are the same, and what was answered stays so
+-- the arrays are the same, and no result has changed
 pub record IsMore (before after : Returns) : Type 0 where
   pub shape : after.shape ≡ before.shape
   pub answers : (call x : ℕ) → before.by call ≡ Some x → after.by call ≡ Some x
@@ -151,7 +151,7 @@ CoversLater =
     (g after : Returns) (e : AbsState) (s : State)
     → IsMore g after → Covers g e s → Covers after e s
 
--- answers before a slot are before each later one, that of the call at the slot too
+-- results before a slot, and that of the call there, are before each later slot
 abbrev pub StaysBefore : Type 0
 StaysBefore =
     (g : Returns) (slot next : ℕ) → slot ≤ next → AreBefore slot g → AreBefore next g
@@ -161,18 +161,18 @@ AnswersBefore =
     (g : Returns) (slot next x : ℕ)
     → slot < next → AreBefore slot g → AreBefore next (answering g slot x)
 
--- where the call has answered x, each copy of its answer is a cell's address or 0 as x is
+-- if the call has returned x, each copy of its result is a cell's address if x isn't 0, else 0
 abbrev pub CoversAnswered : Type 0
 CoversAnswered =
     (g : Returns) (e : AbsState) (s : State) (call x : ℕ)
     → g.by call ≡ Some x → Covers g e s → Covers g (state_with_answer e call (not (x == 0))) s
 
--- the edge that a run takes isn't dropped, and what is known on it covers the state
+-- the edge isn't dropped, and the abstract state on it covers the state
 abbrev pub CoversOn : Returns → Option AbsState → State → Type 0
 CoversOn g None s = ⊥
 CoversOn g (Some e) s = Covers g e s
 
--- the edge that a run takes is kept, and what is known there covers it
+-- the edge that a run takes isn't dropped, and the abstract state on it covers the state
 abbrev pub CoversEdges : Type 0
 CoversEdges =
     (g : Returns) (e : AbsState) (s : State)
@@ -181,7 +181,7 @@ CoversEdges =
     → is_taken jumps (holds bits condition x y) ≡ true
     → CoversOn g (refined_state e bits condition left right jumps) s
 
--- what a call leaves covers the state after it, once it has answered
+-- the abstract state after a call covers the state after it, given its result
 abbrev pub CoversCalls : Type 0
 CoversCalls =
     (g : Returns) (e : AbsState) (s : State) (helper : ℤ) (x : ℕ)
@@ -200,7 +200,7 @@ CoversSecond =
     (g : Returns) (e f : AbsState) (s : State)
     → Covers g f s → Covers g (join_states e f) s
 
--- in whichever order two are joined
+-- joins are commutative
 abbrev pub JoinsCommute : Type 0
 JoinsCommute = (e f : AbsState) → join_states e f ≡ join_states f e
 
@@ -209,12 +209,12 @@ CoversOpening = (g : Returns) (a : Attributes) → Covers g opening_state (openi
 
 -- ---- the stack
 
--- a store is possible, and what is known afterwards covers the state that it leaves
+-- a store is possible, and the abstract state after it covers the state after it
 abbrev pub CoversAfter : Returns → AbsState → Option State → Type 0
 CoversAfter g e None = ⊥
 CoversAfter g e (Some t) = Covers g e t
 
--- what is known after a store covers the state after it
+-- stores within the stack
 abbrev pub CoversStores : Type 0
 CoversStores =
     (g : Returns) (e : AbsState) (s : State) (place : ℕ) (size : Size) (v : Abs) (x : ℕ)
@@ -222,7 +222,7 @@ CoversStores =
     → CoversAfter g (with_stored e place (byte_count size) v)
     (written_at s (stack_start + place) (byte_count size) x)
 
--- a load finds a number that the value includes
+-- a load reads a number that the value includes
 pub record Finds (g : Returns) (a : Abs) (kind : LoadKind) (o : Option ℕ) : Type 0 where
   pub number : ℕ
   pub is : o ≡ Some number
@@ -236,7 +236,7 @@ CoversLoads =
     → Finds g (loaded_from e.stack place kind) kind
     (read_at s (stack_start + place) (load_count kind))
 
--- so many bytes of the stack that are all set are there
+-- n bytes of the stack that are all set can be read
 abbrev pub BytesAreThere : Type 0
 BytesAreThere =
     (g : Returns) (e : AbsState) (s : State) (place n : ℕ)

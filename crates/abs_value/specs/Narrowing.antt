@@ -1,6 +1,5 @@
--- What a conditional jump teaches of the two numbers that it compares (RFC 9669, "Jump
--- Instructions"): on the edge that jumps its condition holds, and on the edge that goes on it
--- doesn't.
+-- Narrowing of the two numbers that a conditional jump compares (RFC 9669, "Jump Instructions"):
+-- its condition holds on the edge that jumps, and doesn't on the fall-through edge.
 use Rattle.std.specs.Prelude.{ℕ, ◌+◌, ◌-◌, min, max, Option, Some, None, option_map, Bool, true}
 use Rattle.std.specs.Prelude.{false, ◌&&◌, ◌||◌, not, nat_lt, nat_le, ◌==◌, if◌then◌else◌}
 use Rattle.std.specs.Prelude.{bit_and, bit_or}
@@ -20,9 +19,9 @@ use Rattle.abs_value.specs.Bounds.{sign_bit}
 use Rattle.abs_value.specs.Known.{known, combined}
 use Rattle.abs_value.specs.Numbers.{tidy, is_empty, is_single, are_single, least}
 
--- ---- the relation that an edge tells
+-- ---- the relation that an edge implies
 
--- of two numbers for which the condition holds; numbers with a bit in common meet
+-- the relation of two numbers for which the condition holds; Meets means a common bit
 abbrev pub relation : Condition → Relation
 relation jump.Eq = Equal
 relation jump.Ne = Unequal
@@ -50,26 +49,26 @@ abbrev pub learnt : Condition → Bool → Relation
 learnt condition true = relation condition
 learnt condition false = opposite (relation condition)
 
--- ---- what a relation leaves of two intervals; none where one would be empty
+-- ---- two intervals narrowed by a relation; none if one would be empty
 
 abbrev pub IntervalPair : Type 0
 IntervalPair = Interval × Interval
 
--- the first is below the second
+-- a is below b
 abbrev pub below : Interval → Interval → Option IntervalPair
 below a b =
     if nat_lt a.lo b.hi
     then Some (interval a.lo (min a.hi (b.hi - 1)), interval (max (a.lo + 1) b.lo) b.hi)
     else None
 
--- the first is at most the second
+-- a is at most b
 abbrev pub at_most : Interval → Interval → Option IntervalPair
 at_most a b =
     if nat_le a.lo b.hi
     then Some (interval a.lo (min a.hi b.hi), interval (max a.lo b.lo) b.hi)
     else None
 
--- the part that both have in common
+-- the intersection
 abbrev pub overlap : Interval → Interval → Interval
 overlap a b = interval (max a.lo b.lo) (min a.hi b.hi)
 
@@ -80,14 +79,14 @@ without n a =
     then interval (if a.lo == n then a.lo + 1 else a.lo) (if a.hi == n then a.hi - 1 else a.hi)
     else a
 
--- the other's single number isn't there
+-- without b, if b is a single number
 abbrev pub apart_from : Interval → Interval → Interval
 apart_from b a = if is_just b then without b.lo a else a
 
 abbrev pub swapped : IntervalPair → IntervalPair
 swapped p = (p.1, p.0)
 
--- ---- what a relation leaves of two numbers; none where one is found empty
+-- ---- two numbers narrowed by a relation; none if one is found empty
 
 abbrev pub NumberPair : Type 0
 NumberPair = Number × Number
@@ -95,28 +94,28 @@ NumberPair = Number × Number
 abbrev pub kept : Number → Number → Option NumberPair
 kept a b = if is_empty a || is_empty b then None else Some (a, b)
 
--- with other intervals, and the bits that are known
+-- with narrowed intervals, and the bits that are known
 abbrev pub kept_in : Number → Number → Option IntervalPair → Option NumberPair
 kept_in a b None = None
 kept_in a b (Some p) = kept (tidy p.0 a.bits) (tidy p.1 b.bits)
 
--- of equal numbers what either side knows
+-- equal numbers have what either side knows
 abbrev pub equal : Number → Number → Number
 equal a b = tidy (overlap a.range b.range) (combined a.bits b.bits)
 
--- the first with other bits, beside the second as it is
+-- the first with other bits, and the second unchanged
 abbrev pub kept_with : KnownBits → Number → Number → Option NumberPair
 kept_with p a b = if is_empty (tidy a.range p) then None else Some (tidy a.range p, b)
 
--- without its lowest bit it is 0
+-- n has at most one bit that is set
 abbrev pub is_one_bit : ℕ → Bool
 is_one_bit n = bit_and n (n - 1) == 0
 
--- one of the bits of n is there: where n has one alone, it is that one
+-- the number has at least one bit of n; if n is one bit, it is set
 abbrev pub with_one_of : ℕ → KnownBits → KnownBits
 with_one_of n p = if is_one_bit n then known (bit_or p.has n) p.may_have else p
 
--- the bits of n aren't there
+-- the number has no bit of n
 abbrev pub without_bits : ℕ → KnownBits → KnownBits
 without_bits n p = known p.has (bit_and p.may_have (bit_not w64 n))
 
@@ -133,12 +132,12 @@ left_by Less a b = kept_in a b (below a.range b.range)
 left_by AtMost a b = kept_in a b (at_most a.range b.range)
 left_by More a b = kept_in a b (option_map swapped (below b.range a.range))
 left_by AtLeast a b = kept_in a b (option_map swapped (at_most b.range a.range))
--- the bits of a single number tell something of the first
+-- a single second operand narrows the bits of the first
 left_by Meets a b = if is_single b then meeting (least b) a b else Some (a, b)
 left_by Misses a b =
     if is_single b then kept_with (without_bits (least b) a.bits) a b else Some (a, b)
 
--- ---- where the order of the intervals is that of the comparison
+-- ---- when intervals have the order of the comparison
 
 abbrev pub is_signed : Condition → Bool
 is_signed jump.Slt = true
@@ -153,16 +152,15 @@ on_one_side w a b =
     (nat_lt a.hi (sign_bit w) && nat_lt b.hi (sign_bit w))
     || (nat_le (sign_bit w) a.lo && nat_le (sign_bit w) b.lo)
 
--- both are numbers of the class, and a signed comparison sees them in the order of the unsigned
--- ones
+-- both are numbers of the class, and a signed comparison orders them as the unsigned one does
 abbrev pub is_comparable : Bits → Condition → Interval → Interval → Bool
 is_comparable w condition a b =
     nat_le a.hi (greatest w) && nat_le b.hi (greatest w)
     && (not (is_signed condition) || on_one_side w a b)
 
--- ---- what is left on an edge
+-- ---- narrowing on an edge
 
--- the edge is taken where the condition's answer is this
+-- a run takes the edge that jumps if the condition holds, and otherwise the fall-through edge
 abbrev pub is_taken : Bool → Bool → Bool
 is_taken true answer = answer
 is_taken false answer = not answer

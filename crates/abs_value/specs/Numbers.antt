@@ -1,5 +1,4 @@
--- What is known of a number: the interval in which it lies, and some of its bits. Each tells
--- something of the other.
+-- Abstract numbers: an interval and known bits, which tighten each other.
 use Rattle.std.specs.Prelude.{ℕ, ◌-◌, min, max, Bool, ◌&&◌, ◌||◌, not, ◌==◌, nat_lt, nat_le}
 use Rattle.std.specs.Prelude.{if◌then◌else◌}
 use Rattle.bpf_insn.specs.declared.operand.Bits.{Bits}
@@ -18,7 +17,7 @@ number range bits = record { range = range; bits = bits }
 abbrev pub single : ℕ → Number
 single n = number (just n) (exactly n)
 
--- bits above those of hi aren't there
+-- no bits above those of hi
 abbrev pub up_to : ℕ → Number
 up_to hi = number (from_zero hi) (some_of (power_above hi - 1))
 
@@ -26,13 +25,13 @@ up_to hi = number (from_zero hi) (some_of (power_above hi - 1))
 abbrev pub full : Bits → Number
 full w = number (all_of w) (any_of w)
 
--- what a class takes of a number
+-- truncated to the class
 abbrev pub cut : Bits → Number → Number
 cut w a = number (cut_interval w a.range) (cut_bits w a.bits)
 
--- ---- the interval and the bits tell one another what they know
+-- ---- the interval and the bits tighten each other
 
--- no number below the bits that are there, or above those that may be
+-- no number is below the bits that are 1, or above those that may be 1
 abbrev pub trimmed : Interval → KnownBits → Interval
 trimmed a p = interval (max a.lo p.has) (min a.hi p.may_have)
 
@@ -43,11 +42,11 @@ with_shared a p = number a (combined p (shared a))
 unfoldable pub tidy : Interval → KnownBits → Number
 tidy a p = with_shared (trimmed a p) p
 
--- found empty: an end is past the other, or a bit is known both ways
+-- found empty: the ends are out of order, or a bit is known to be both 1 and 0
 abbrev pub is_empty : Number → Bool
 is_empty a = nat_lt a.range.hi a.range.lo || not (is_consistent a.bits)
 
--- a result: what tidy finds empty stays as it was computed
+-- a result: if tidy finds it empty, it stays as it was computed
 unfoldable pub tidied : Interval → KnownBits → Number
 tidied a p = if is_empty (tidy a p) then number a p else tidy a p
 
@@ -57,27 +56,27 @@ is_same a b =
     (a.range.lo == b.range.lo) && (a.range.hi == b.range.hi)
     && (a.bits.has == b.bits.has) && (a.bits.may_have == b.bits.may_have)
 
--- what is known on both sides
+-- the join
 abbrev pub join_numbers : Number → Number → Number
 join_numbers a b = tidied (hull a.range b.range) (common a.bits b.bits)
 
--- ---- questions
+-- ---- tests
 
--- no number is below the least, or above the most
+-- the least and the greatest number
 abbrev pub least : Number → ℕ
 least a = a.range.lo
 
 abbrev pub most : Number → ℕ
 most a = a.range.hi
 
--- one number alone
+-- only one number
 abbrev pub is_single : Number → Bool
 is_single a = is_just a.range
 
 abbrev pub are_single : Number → Number → Bool
 are_single a b = is_single a && is_single b
 
--- this number alone
+-- only n
 abbrev pub is_only : Number → ℕ → Bool
 is_only a n = (least a == n) && (most a == n)
 

@@ -1,4 +1,4 @@
--- What is promised of the ends of what is known: where they are in order, they stay so.
+-- Laws about the ends of intervals: if they are in order, they stay in order.
 use Rattle.std.specs.Prelude.{ℕ, ◌≤◌, ℤ, Option, Some, None, Bool, IfSome}
 use Rattle.bpf_insn.specs.declared.operand.AluOp.{AluOp}
 use Rattle.bpf_insn.specs.declared.operand.Bits.{Bits}
@@ -59,7 +59,7 @@ ReorderingsInOrder =
 abbrev pub LoadedInOrder : Type 0
 LoadedInOrder = (kind : LoadKind) → HasOrderedEnds (loaded_value kind)
 
--- what is left on an edge
+-- the narrowed values on an edge
 abbrev pub EdgesInOrder : Type 0
 EdgesInOrder =
     (bits : Bits) (condition : Condition) (jumps : Bool) (a b : Abs) → HasOrderedEnds a
@@ -81,7 +81,7 @@ abbrev pub IsSlotInOrder : AbsSlot → Type 0
 IsSlotInOrder (Kept v) = HasOrderedEnds v
 IsSlotInOrder (Bytes mask) = Unit {0}
 
--- of each value in a register, or kept in the stack, the ends are in order
+-- the ends of each value in a register or a stack slot are in order
 pub record IsStateInOrder (e : AbsState) : Type 0 where
   pub registers : (r : ℕ) → HasOrderedEnds (value_at e r)
   pub stack : (i : ℕ) → IsSlotInOrder (slot_at e.stack i)

@@ -1,5 +1,5 @@
--- Arithmetic with what is known of numbers (RFC 9669, "Arithmetic Instructions" and "Byte Swap
--- Instructions"). On single numbers it is the machine's own result.
+-- Arithmetic with abstract numbers (RFC 9669, "Arithmetic Instructions" and "Byte Swap
+-- Instructions"). For single numbers it is the machine's own result.
 use Rattle.std.specs.Prelude.{◌-◌, ◌^◌, ◌&&◌, nat_lt, if◌then◌else◌}
 use mir.Val.{bits}
 use Rattle.bpf_insn.specs.declared.operand.AluOp.{AluOp}
@@ -19,7 +19,7 @@ use Rattle.abs_value.specs.Known.{cut_bits}
 use Rattle.abs_value.specs.Numbers.{single, is_single, are_single, least, most, up_to, full, cut}
 use Rattle.abs_value.specs.Numbers.{tidied}
 
--- the bits of a result that are known, of operands of the class
+-- the known bits of a result, for operands of the class
 abbrev pub known_bits : Bits → AluOp → Number → Number → KnownBits
 known_bits w Or a b = or_bits a.bits b.bits
 known_bits w And a b = and_bits a.bits b.bits
@@ -34,12 +34,12 @@ known_bits w Arsh a b =
     then right_bits a.bits (count_of w b.range) else any_of w
 known_bits w op a b = any_of w
 
--- the formulas, of operands of the class
+-- the formulas, for operands of the class
 abbrev pub result : Bits → AluOp → Number → Number → Number
 result w op a b = tidied (bounds w op a.range b.range) (known_bits w op a b)
 
--- of two single numbers what the machine computes, else the formulas on what the class takes of
--- them
+-- for two single numbers what the machine computes, otherwise the formulas on the truncated
+-- operands
 abbrev pub alu_number : Bits → AluOp → Number → Number → Number
 alu_number w op a b =
     if are_single a b then single (alu_result w op (least a) (least b))

@@ -1,5 +1,5 @@
--- What is known of the stack: of each of its 64 aligned slots of 8 bytes the value that it keeps,
--- or which bytes are set.
+-- The abstract stack: for each of its 64 aligned slots of 8 bytes, the value that it keeps, or
+-- which bytes are set.
 use Rattle.std.specs.Prelude.{◌≡◌, ◌<◌, ◌≤◌, ℕ, zero, suc, ◌+◌, ◌-◌, ◌*◌, ◌/◌, ◌%◌, ◌^◌}
 use Rattle.std.specs.Prelude.{ℤ, pos, negsuc, ◌+ℤ◌}
 use Rattle.std.specs.Prelude.{List, map, Bool, false, ◌&&◌, ◌||◌, not, nat_lt, nat_le, ◌==◌}
@@ -14,7 +14,7 @@ use Rattle.abs_value.specs.declared.slot.AbsSlot.{AbsSlot}
 use Rattle.abs_value.specs.declared.slot.AbsSlot.TheVariants.{Kept, Bytes}
 use Rattle.abs_value.specs.Values.{is_unusable, loaded_value, join_values}
 
--- ---- the set bytes of a slot: a bit for each, the first byte the lowest bit
+-- ---- the set bytes of a slot: one bit for each, the lowest for the first byte
 
 abbrev pub all_set : ℕ
 all_set = 255
@@ -31,17 +31,17 @@ slot_at slots i = slice_index_or slots i (Bytes 0)
 abbrev pub is_set : List AbsSlot → ℕ → Bool
 is_set slots place = bit_at (mask_of (slot_at slots (place / 8))) (place % 8) == 1
 
--- the byte lies in the stack and isn't set
+-- the byte is in the stack and isn't set
 abbrev pub is_unset : List AbsSlot → ℤ → Bool
 is_unset slots (pos place) = nat_lt place stack_size && not (is_set slots place)
 is_unset slots (negsuc n) = false
 
--- no byte of the slots below this one is set
+-- no byte of the slots below `lowest` is set
 pub record AreUnsetBelow (lowest : ℕ) (slots : List AbsSlot) : Type 0 where
   pub within : lowest ≤ 64
   pub unset : (i : ℕ) → i < lowest → slot_at slots i ≡ Bytes 0
 
--- of n bytes from a place on, one lies in the stack and isn't set
+-- any of n bytes from a place is in the stack and unset
 abbrev pub has_unset : List AbsSlot → ℤ → ℕ → Bool
 has_unset slots place zero = false
 has_unset slots place (suc n) = has_unset slots place n || is_unset slots (place +ℤ pos n)
@@ -54,7 +54,7 @@ is_whole_slot place n = (n == 8) && (place % 8 == 0)
 abbrev pub with_set : List AbsSlot → ℕ → ℕ → List AbsSlot
 with_set slots i mask = slice_set slots i (Bytes (bit_or (mask_of (slot_at slots i)) mask))
 
--- the bits of n bytes from a place on, in its slot and in the next
+-- the mask of n bytes from a place, for its slot and the next
 abbrev pub bits_of : ℕ → ℕ → ℕ
 bits_of place n = (2 ^ n - 1) * 2 ^ (place % 8)
 
@@ -64,35 +64,35 @@ first_bits place n = bits_of place n % 2 ^ 8
 abbrev pub next_bits : ℕ → ℕ → ℕ
 next_bits place n = bits_of place n / 2 ^ 8
 
--- each slot that is touched keeps its set bytes, and gets those that are written: one slot, or two
--- where its end is passed
+-- each slot that is touched gets the bytes that are written: one slot, or two if the store passes
+-- its end
 abbrev pub with_written : List AbsSlot → ℕ → ℕ → List AbsSlot
 with_written slots place n =
     if nat_le (place % 8 + n) 8 then with_set slots (place / 8) (first_bits place n)
     else
     with_set (with_set slots (place / 8) (first_bits place n)) (place / 8 + 1) (next_bits place n)
 
--- after a store of n bytes: a whole slot keeps the value
+-- the slots after a store of n bytes: a whole slot keeps the value
 abbrev pub stored : List AbsSlot → ℕ → ℕ → Abs → List AbsSlot
 stored slots place n v =
     if is_whole_slot place n then slice_set slots (place / 8) (Kept v)
     else with_written slots place n
 
--- 8 bytes of a slot that keeps a value are that value
+-- the value that the whole slot keeps, otherwise the other
 abbrev pub kept_or : AbsSlot → Abs → Abs
 kept_or (Kept v) other = v
 kept_or (Bytes mask) other = other
 
--- what a load from the stack gives
+-- the value of a load from the stack
 abbrev pub loaded_from : List AbsSlot → ℕ → LoadKind → Abs
 loaded_from slots place Double =
     if place % 8 == 0 then kept_or (slot_at slots (place / 8)) (loaded_value Double)
     else loaded_value Double
 loaded_from slots place kind = loaded_value kind
 
--- ---- what stands for both
+-- ---- joins
 
--- a value that may be anything isn't kept
+-- an unusable value isn't kept
 abbrev pub kept_slot : Abs → AbsSlot
 kept_slot v = if is_unusable v then Bytes all_set else Kept v
 

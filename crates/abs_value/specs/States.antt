@@ -1,4 +1,4 @@
--- What is known where an instruction begins: a value for each register, and the slots of the stack.
+-- The abstract state before an instruction: a value for each register, and the slots of the stack.
 use Rattle.std.specs.Prelude.{ℕ, List, [], ◌∷◌, map, replicate, slice_index_or, slice_set}
 use Rattle.std.specs.List.{range_with_len}
 use Rattle.bpf_insn.specs.declared.reg.Reg.{Reg}
@@ -33,7 +33,7 @@ operand_value e bits (Register r) = value_of e r
 abbrev pub with_value : AbsState → Reg → Abs → AbsState
 with_value e r v = record e { registers = slice_set e.registers (number_of r) v }
 
--- an imm stays what it is
+-- an imm is unchanged
 abbrev pub with_operand : AbsState → Operand → Abs → AbsState
 with_operand e (Imm k) v = e
 with_operand e (Register r) v = with_value e r v
@@ -46,20 +46,19 @@ unfoldable pub join_registers : List Abs → List Abs → List Abs
 join_registers a b =
     map (λ r. join_values (register_at a r) (register_at b r)) (range_with_len 0 11)
 
--- what is known on both sides, of each register and each slot
+-- the join, of each register and each slot
 abbrev pub join_states : AbsState → AbsState → AbsState
 join_states e f = record {
   registers = join_registers e.registers f.registers;
   stack = join_stacks e.stack f.stack;
 }
 
--- where a run starts: R1 is the address of the context, R10 the end of the stack, and no byte is
--- set
+-- at the start of a run R1 is the address of the context, and R10 the end of the stack
 abbrev pub opening_registers : List Abs
 opening_registers =
     Unusable ∷ Ctx (places 0 0) ∷ Unusable ∷ Unusable ∷ Unusable ∷ Unusable
     ∷ Unusable ∷ Unusable ∷ Unusable ∷ Unusable ∷ Stk stack_size ∷ []
 
--- what is known where a run starts
+-- the abstract state at the start of a run: no byte of the stack is set
 abbrev pub opening_state : AbsState
 opening_state = record { registers = opening_registers; stack = replicate 64 (Bytes 0) }

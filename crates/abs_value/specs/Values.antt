@@ -1,5 +1,5 @@
--- What is known of a value: nothing, the range and the bits of a number, or the region that it
--- points into with the places there.
+-- Abstract values: unusable, a number with its range and known bits, or a pointer with its region
+-- and the places there.
 use Rattle.std.specs.Prelude.{ℕ, ◌-◌, ◌*◌, ◌%◌, ◌^◌, min, max, ℤ, pos, neg_ℤ, ◌+ℤ◌, unsigned_abs}
 use Rattle.std.specs.Prelude.{int_le, Option, Some, None, option_map, Bool, true, false, ◌&&◌, ◌==◌}
 use Rattle.std.specs.Prelude.{if◌then◌else◌}
@@ -42,7 +42,7 @@ abbrev pub is_number : Abs → Bool
 is_number (Num a) = true
 is_number v = false
 
--- ---- places in a region, counted from its start
+-- ---- places: offsets from the start of a region
 
 abbrev pub places : ℕ → ℕ → Places
 places lo hi = record { lo = lo; hi = hi }
@@ -50,7 +50,7 @@ places lo hi = record { lo = lo; hi = hi }
 abbrev pub place_hull : Places → Places → Places
 place_hull a b = places (min a.lo b.lo) (max a.hi b.hi)
 
--- a place is from a region's start to its end
+-- a place is between a region's start and its end
 abbrev pub place_in : ℕ → ℤ → Option ℕ
 place_in size z = if int_le (pos 0) z && int_le z (pos size) then Some (unsigned_abs z) else None
 
@@ -63,7 +63,7 @@ distance Add n = Some (signed_view n)
 distance Sub n = Some (neg_ℤ (signed_view n))
 distance op n = None
 
--- an end of a range counts as it is, and is only added
+-- an end of a range counts as unsigned, and can only be added
 abbrev pub distance_of_end : AluOp → ℕ → Option ℤ
 distance_of_end Add n = Some (pos n)
 distance_of_end op n = None
@@ -76,7 +76,7 @@ abbrev pub greatest_distance : AluOp → Number → Option ℤ
 greatest_distance op by =
     if is_single by then distance op (most by) else distance_of_end op (most by)
 
--- none where the place may leave the region
+-- none if the place may leave the region
 abbrev pub moved : ℕ → ℕ → Option ℤ → Option ℕ
 moved size place distance = distance >>= λ z. place_in size (pos place +ℤ z)
 
@@ -92,7 +92,7 @@ abbrev pub moved_in_stack : AluOp → ℕ → Number → Option ℕ
 moved_in_stack op place by =
     if is_single by then moved stack_size place (distance op (least by)) else None
 
--- 64-bit arithmetic of a pointer and a number; none where no pointer comes of it
+-- 64-bit arithmetic of a pointer and a number; none if the result isn't a pointer
 abbrev pub pointer_result : Bits → AluOp → Abs → Abs → Option Abs
 pointer_result Bits64 op (Ctx from) (Num by) = option_map Ctx (moved_in_context op from by)
 pointer_result Bits64 op (Stk place) (Num by) = option_map Stk (moved_in_stack op place by)
@@ -104,18 +104,18 @@ abbrev pub or_unusable : Option Abs → Abs
 or_unusable None = Unusable
 or_unusable (Some v) = v
 
--- what arithmetic gives of two values
+-- the result of arithmetic
 abbrev pub alu_value : Bits → AluOp → Abs → Abs → Abs
 alu_value bits op (Num a) (Num b) = Num (alu_number bits op a b)
 alu_value bits op a b = or_unusable (pointer_result bits op a b)
 
--- MOV: only 64 bits of a pointer are one
+-- MOV: for a pointer, only a 64-bit MOV gives a pointer
 abbrev pub copied_value : Bits → Abs → Abs
 copied_value bits (Num a) = Num (copied_number bits a)
 copied_value Bits64 v = v
 copied_value Bits32 v = Unusable
 
--- NEG: from 0 the number is taken
+-- NEG: 0 minus the number
 abbrev pub negated_value : Bits → Abs → Abs
 negated_value bits v = alu_value bits Sub (Num (single 0)) v
 
@@ -127,19 +127,19 @@ abbrev pub reordered_value : ByteOrder → EndSize → Abs → Abs
 reordered_value order size (Num a) = Num (reordered_number order size a)
 reordered_value order size v = Unusable
 
--- any number of the load's width; one that is sign-extended may be any number
+-- any number of the load's width; a sign-extending load may give any number
 abbrev pub loaded_value : LoadKind → Abs
 loaded_value SignedByte = Num (full Bits64)
 loaded_value SignedHalf = Num (full Bits64)
 loaded_value SignedWord = Num (full Bits64)
 loaded_value kind = Num (up_to (2 ^ (8 * load_count kind) - 1))
 
--- ---- two values at a jump, on the edge that jumps or on the one that goes on
+-- ---- two values at a jump, on the edge that jumps or on the fall-through edge
 
 abbrev pub numbers : Number × Number → Abs × Abs
 numbers p = (Num p.0, Num p.1)
 
--- of a pointer nothing is learnt
+-- a pointer isn't narrowed
 abbrev pub refined : Bits → Condition → Bool → Abs → Abs → Option (Abs × Abs)
 refined bits condition jumps (Num a) (Num b) =
     option_map numbers (narrowed bits condition jumps a b)
@@ -147,7 +147,7 @@ refined bits condition jumps a b = Some (a, b)
 
 -- ---- cells
 
--- lookups of one array by one call
+-- the same array, and the same call
 abbrev pub same_lookup : Lookup → Lookup → Bool
 same_lookup a b = (a.array == b.array) && (a.slot == b.slot)
 
@@ -161,9 +161,9 @@ same_origin (Found a) (Found b) = same_lookup a b
 same_origin (Fixed a) (Fixed b) = a == b
 same_origin a b = false
 
--- ---- what stands for both
+-- ---- joins
 
--- what is known on both sides
+-- what both sides know
 abbrev pub join_values : Abs → Abs → Abs
 join_values (Num a) (Num b) = Num (join_numbers a b)
 join_values (Ctx a) (Ctx b) = Ctx (place_hull a b)

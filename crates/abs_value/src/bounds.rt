@@ -1,4 +1,5 @@
-//! Arithmetic with intervals: one formula an operation, over the numbers of a class.
+//! Interval arithmetic: one formula for each operation, over the numbers of a class (32 or 64
+//! bits).
 
 ghost use Rattle.std.specs.Prelude.{◌≡◌, ◌<◌, ◌-◌};
 ghost use Rattle.abs_value.specs.Bounds as bounds;
@@ -6,7 +7,7 @@ ghost use Rattle.abs_value.specs.Bounds as bounds;
 use crate::interval::{Interval, greatest};
 use bpf_insn::{AluOp, Bits};
 
-/// From `lo` to `hi`, where these are numbers of the class; else any.
+/// The interval from `lo` to `hi` if both are numbers of the class, otherwise the whole class.
 fn fitting(bits: Bits, lo: u128, hi: u128) -> Interval
     ensures { result ≡ bounds.fitting bits lo hi }
 {
@@ -54,7 +55,7 @@ fn product(bits: Bits, a: Interval, b: Interval) -> Interval
     )
 }
 
-/// Whether neither end is 0: of ends in order, no number is.
+/// Whether neither end is 0. If the ends are in order, the interval then excludes 0.
 fn is_above_zero(b: Interval) -> bool
     ensures { result ≡ bounds.is_above_zero b }
 {
@@ -90,7 +91,7 @@ fn conjunction(a: Interval, b: Interval) -> Interval
     Interval::from_zero(a.hi.min(b.hi))
 }
 
-/// All ones up to the highest bit that is set.
+/// All ones up to the highest bit of `n` that is set.
 pub(crate) fn ones_of(n: u64) -> u64
     ensures { result ≡ bounds.power_above n - 1 }
 {
@@ -121,7 +122,7 @@ fn shifted_right(a: Interval, count: u32) -> Interval
     }
 }
 
-/// The least number that is negative.
+/// The least number whose sign bit is set.
 pub fn sign_bit(bits: Bits) -> u64
     ensures { result ≡ bounds.sign_bit bits }
 {
@@ -142,7 +143,7 @@ fn shifted_signed(bits: Bits, a: Interval, count: u32) -> Interval
     }
 }
 
-/// By how much a single number shifts.
+/// The shift count of a single number, masked by the width.
 pub(crate) fn count_of(bits: Bits, b: Interval) -> u32
     ensures count { result ≡ bounds.count_of bits b }
     ensures masked { result < 64 }
@@ -153,7 +154,7 @@ pub(crate) fn count_of(bits: Bits, b: Interval) -> u32
     }
 }
 
-/// The formula of an operation, on numbers of the class.
+/// The interval of an operation's results, for operands of the class.
 pub(crate) fn bounds_of(bits: Bits, op: AluOp, a: Interval, b: Interval) -> Interval
     ensures { result ≡ bounds.bounds bits op a b }
 {

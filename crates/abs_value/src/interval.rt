@@ -1,4 +1,4 @@
-//! Intervals of numbers, by their ends.
+//! Intervals of numbers, by their least and greatest number.
 
 ghost use Rattle.std.specs.Prelude.{◌≡◌};
 ghost use Rattle.abs_value.specs.Intervals as intervals;
@@ -13,14 +13,14 @@ pub struct Interval {
 }
 
 impl Interval {
-    /// The interval that has this number alone.
+    /// The interval that contains only `n`.
     pub fn just(n: u64) -> Interval
         ensures { result ≡ intervals.just n }
     {
         Interval { lo: n, hi: n }
     }
 
-    /// Whether it is one number alone.
+    /// Whether it contains only one number.
     pub fn is_just(self) -> bool
         ensures { result ≡ intervals.is_just self }
     {
@@ -41,7 +41,7 @@ impl Interval {
         Interval::from_zero(greatest(bits))
     }
 
-    /// What a class takes of it.
+    /// The interval of its numbers, truncated to the class.
     pub(crate) fn cut(self, bits: Bits) -> Interval
         ensures { result ≡ intervals.cut_interval bits self }
     {
@@ -53,7 +53,7 @@ impl Interval {
         }
     }
 
-    /// The least interval that holds both.
+    /// The least interval that contains both.
     pub(crate) fn hull(self, other: Interval) -> Interval
         ensures { result ≡ intervals.hull self other }
     {

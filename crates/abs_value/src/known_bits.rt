@@ -1,5 +1,5 @@
-//! What is known of the bits of a number: which it has, and which it may have. Kept as these two,
-//! what AND, OR and shifts leave of bits is the machine's own operation on both.
+//! The known bits of a number (a tnum): the bits that are 1, and the bits that may be 1. With these
+//! two masks, AND, OR and shifts are the machine's operations applied to each.
 
 ghost use Rattle.std.specs.Prelude.{◌≡◌, ◌<◌};
 ghost use Rattle.abs_value.specs.Known as known;
@@ -8,8 +8,8 @@ use crate::bounds::ones_of;
 use crate::interval::{Interval, greatest};
 use bpf_insn::Bits;
 
-/// The bits that a number has, and all that it may have. A bit that it may have and needn't is
-/// unknown.
+/// The bits that are 1 in each number, and those that may be 1. A bit of `may_have` that isn't in
+/// `has` is unknown.
 #[derive(Clone, Copy, Debug, PartialEq, Eq)]
 pub struct KnownBits {
     pub has: u64,
@@ -17,7 +17,7 @@ pub struct KnownBits {
 }
 
 impl KnownBits {
-    /// All bits are those of `n`.
+    /// All bits are known to be those of `n`.
     pub(crate) fn exactly(n: u64) -> KnownBits
         ensures { result ≡ known.exactly n }
     {
@@ -27,7 +27,7 @@ impl KnownBits {
         }
     }
 
-    /// No bits but some of these.
+    /// No bits except some of `bits`.
     pub(crate) fn some_of(bits: u64) -> KnownBits
         ensures { result ≡ known.some_of bits }
     {
@@ -37,21 +37,21 @@ impl KnownBits {
         }
     }
 
-    /// No bits but those of a class.
+    /// Any bits of the class.
     pub(crate) fn any_of(bits: Bits) -> KnownBits
         ensures { result ≡ known.any_of bits }
     {
         KnownBits::some_of(greatest(bits))
     }
 
-    /// Whether no bit is known both to be there and not to be.
+    /// Whether no bit is known to be both 1 and 0.
     pub(crate) fn is_consistent(self) -> bool
         ensures { result ≡ known.is_consistent self }
     {
         self.has & self.may_have == self.has
     }
 
-    /// What either knows.
+    /// The bits that `self` or `other` knows.
     pub(crate) fn combined(self, other: KnownBits) -> KnownBits
         ensures { result ≡ known.combined self other }
     {
@@ -61,7 +61,7 @@ impl KnownBits {
         }
     }
 
-    /// What both know alike.
+    /// The bits that both know to be the same.
     pub(crate) fn common(self, other: KnownBits) -> KnownBits
         ensures { result ≡ known.common self other }
     {
@@ -71,7 +71,7 @@ impl KnownBits {
         }
     }
 
-    /// What AND leaves.
+    /// The known bits of AND.
     pub(crate) fn and(self, other: KnownBits) -> KnownBits
         ensures { result ≡ known.and_bits self other }
     {
@@ -81,7 +81,7 @@ impl KnownBits {
         }
     }
 
-    /// What OR leaves.
+    /// The known bits of OR.
     pub(crate) fn or(self, other: KnownBits) -> KnownBits
         ensures { result ≡ known.or_bits self other }
     {
@@ -91,14 +91,14 @@ impl KnownBits {
         }
     }
 
-    /// The bits that aren't known.
+    /// The mask of unknown bits.
     fn unknown(self) -> u64
         ensures { result ≡ known.unknown self }
     {
         self.has ^ self.may_have
     }
 
-    /// What XOR leaves: a bit is known where both know it.
+    /// The known bits of XOR: a bit is known if both operands know it.
     pub(crate) fn xor(self, other: KnownBits) -> KnownBits
         ensures { result ≡ known.xor_bits self other }
     {
@@ -110,7 +110,7 @@ impl KnownBits {
         }
     }
 
-    /// What LSH leaves: the bits that come in are 0.
+    /// The known bits of LSH: the bits that are shifted in are 0.
     pub(crate) fn left(self, count: u32) -> KnownBits
         requires { count < 64 }
         ensures { result ≡ known.left_bits self count }
@@ -121,7 +121,7 @@ impl KnownBits {
         }
     }
 
-    /// What RSH leaves: the bits that come in are 0.
+    /// The known bits of RSH: the bits that are shifted in are 0.
     pub(crate) fn right(self, count: u32) -> KnownBits
         requires { count < 64 }
         ensures { result ≡ known.right_bits self count }
@@ -132,7 +132,7 @@ impl KnownBits {
         }
     }
 
-    /// What a class takes of them: in 32 bits the low half, and the upper half is 0.
+    /// The bits, truncated to the class: with 32 bits, the upper half is 0.
     pub(crate) fn cut(self, bits: Bits) -> KnownBits
         ensures { result ≡ known.cut_bits bits self }
     {
@@ -145,8 +145,8 @@ impl KnownBits {
         }
     }
 
-    /// What all numbers of an interval share: the bits above the highest one in which its ends
-    /// differ.
+    /// The bits that all numbers of an interval share: those above the highest bit in which its
+    /// ends differ.
     pub(crate) fn shared(range: Interval) -> KnownBits
         ensures { result ≡ known.shared range }
     {

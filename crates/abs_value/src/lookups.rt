@@ -1,6 +1,6 @@
-//! What is learnt at a conditional jump, of the two values that it compares, and of lookups: on the
-//! edges of a comparison with 0 each copy of an answer, in a register or kept in the stack, becomes
-//! 0 or the address of a cell.
+//! What a conditional jump implies for the two values that it compares, and for lookups. After a
+//! comparison of a lookup's result with 0, each copy of it, in a register or in the stack, is 0 or
+//! the address of a cell.
 
 ghost use Rattle.std.specs.Prelude.{◌≡◌, map};
 ghost use Rattle.abs_value.specs.Lookups as lookups;
@@ -10,7 +10,7 @@ use crate::state::AbsState;
 use crate::value::Abs;
 use bpf_insn::{Bits, Condition, Operand, Reg};
 
-/// Whether all 64 bits are compared with 0, to be equal or not.
+/// Whether the condition is 64-bit JEQ or JNE with imm 0.
 pub fn compares_with_zero(bits: Bits, condition: Condition, right: Operand) -> bool
     ensures { result ≡ lookups.compares_with_zero bits condition right }
 {
@@ -20,7 +20,7 @@ pub fn compares_with_zero(bits: Bits, condition: Condition, right: Operand) -> b
     }
 }
 
-/// Whether what is compared with 0 isn't 0 on the edge.
+/// Whether the operand that is compared with 0 is nonzero on this edge.
 fn is_found(condition: Condition, jumps: bool) -> bool
     ensures { result ≡ lookups.is_found condition jumps }
 {
@@ -49,7 +49,7 @@ fn answer_in_registers(registers: &mut [Abs; 11], call: u16, found: bool)
 }
 
 impl AbsState {
-    /// Makes each copy of the answer to the CALL at this slot known: the address of a cell, or 0.
+    /// Makes each copy of the result of the CALL at slot `call` known: the address of a cell, or 0.
     pub(crate) fn narrow_lookup(&mut self, call: u16, found: bool)
         ensures { self.new ≡ lookups.state_with_answer self.old call found }
     {
@@ -57,7 +57,7 @@ impl AbsState {
         self.stack.narrow_lookup(call, found);
     }
 
-    /// Where a pointer is compared with 0. The address of a cell isn't 0.
+    /// Narrows a pointer that is compared with 0. The address of a cell isn't 0.
     fn refine_pointer(&mut self, value: Abs, found: bool) -> bool
         ensures { IsEdge result (lookups.after_null_check self.old value found) self.old self.new }
     {
@@ -93,9 +93,9 @@ impl AbsState {
         }
     }
 
-    /// Learns what an edge of a conditional jump implies, the edge that jumps or the one that goes
-    /// on. `false` if no run takes it, and then nothing is changed. From a register that is
-    /// compared with itself nothing is learnt.
+    /// Narrows the state by what an edge of a conditional jump implies: the edge that jumps, or the
+    /// fall-through edge. Returns `false` if no run takes it, and then changes nothing. A
+    /// comparison of a register with itself narrows nothing.
     pub fn refine(
         &mut self,
         bits: Bits,

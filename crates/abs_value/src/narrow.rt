@@ -1,5 +1,5 @@
-//! What a conditional jump leaves of the two numbers that it compares, on the edge that jumps and
-//! on the edge that goes on. An edge on which a number is found empty is taken by no run.
+//! Narrowing: what remains of the two numbers that a conditional jump compares, on the edge that
+//! jumps and on the fall-through edge. No run takes an edge on which a number is found empty.
 
 ghost use Rattle.std.specs.Prelude.{◌≡◌, option_map};
 ghost use Rattle.abs_value.specs.Narrowing as narrowing;
@@ -11,7 +11,7 @@ use crate::number::Number;
 use crate::relation::Relation;
 use bpf_insn::{Bits, Condition};
 
-/// The first is below the second.
+/// Narrows both if the first is below the second.
 fn below(a: Interval, b: Interval) -> Option<(Interval, Interval)>
     ensures { result ≡ narrowing.below a b }
 {
@@ -29,7 +29,7 @@ fn below(a: Interval, b: Interval) -> Option<(Interval, Interval)>
     Some((first, second))
 }
 
-/// The first is at most the second.
+/// Narrows both if the first is at most the second.
 fn at_most(a: Interval, b: Interval) -> Option<(Interval, Interval)>
     ensures { result ≡ narrowing.at_most a b }
 {
@@ -47,7 +47,7 @@ fn at_most(a: Interval, b: Interval) -> Option<(Interval, Interval)>
     Some((first, second))
 }
 
-/// The part that both have in common.
+/// The intersection.
 fn overlap(a: Interval, b: Interval) -> Interval
     ensures { result ≡ narrowing.overlap a b }
 {
@@ -57,7 +57,7 @@ fn overlap(a: Interval, b: Interval) -> Interval
     }
 }
 
-/// The range without `n`, where `n` is one of its ends; a single number stays.
+/// The interval without `n`, if `n` is one of its ends; a single number stays.
 fn without(n: u64, a: Interval) -> Interval
     ensures { result ≡ narrowing.without n a }
 {
@@ -82,7 +82,7 @@ fn swapped(pair: Option<(Interval, Interval)>) -> Option<(Interval, Interval)>
     pair.map(|(first, second)| (second, first))
 }
 
-/// Both, where neither is found empty.
+/// Both, unless one is found empty.
 fn kept(a: Number, b: Number) -> Option<(Number, Number)>
     ensures { result ≡ narrowing.kept a b }
 {
@@ -93,7 +93,7 @@ fn kept(a: Number, b: Number) -> Option<(Number, Number)>
     }
 }
 
-/// With intervals that have moved in, and the bits that were known.
+/// Both with narrowed intervals, and the bits that were known.
 fn kept_in(a: Number, b: Number, moved: Option<(Interval, Interval)>) -> Option<(Number, Number)>
     ensures { result ≡ narrowing.kept_in a b moved }
 {
@@ -103,7 +103,7 @@ fn kept_in(a: Number, b: Number, moved: Option<(Interval, Interval)>) -> Option<
     }
 }
 
-/// Both are one number: of it is known what either side knows.
+/// Narrows both if they are equal: each gets what either knows.
 fn equal(a: Number, b: Number) -> Option<(Number, Number)>
     ensures { result ≡ narrowing.kept (narrowing.equal a b) (narrowing.equal a b) }
 {
@@ -111,7 +111,7 @@ fn equal(a: Number, b: Number) -> Option<(Number, Number)>
     kept(both, both)
 }
 
-/// The first with other bits, beside the second as it is.
+/// The first with other bits, and the second unchanged.
 fn kept_with(bits: KnownBits, a: Number, b: Number) -> Option<(Number, Number)>
     ensures { result ≡ narrowing.kept_with bits a b }
 {
@@ -123,14 +123,14 @@ fn kept_with(bits: KnownBits, a: Number, b: Number) -> Option<(Number, Number)>
     }
 }
 
-/// Whether it has one bit, or none.
+/// Whether `n` has at most one bit that is set.
 fn is_one_bit(n: u64) -> bool
     ensures { result ≡ narrowing.is_one_bit n }
 {
     n & n.saturating_sub(1) == 0
 }
 
-/// One of the bits of `n` is there: where it has one alone, that one.
+/// Narrows the bits of a number that has at least one bit of `n`: if `n` is one bit, it is set.
 fn with_one_of(n: u64, bits: KnownBits) -> KnownBits
     ensures { result ≡ narrowing.with_one_of n bits }
 {
@@ -144,7 +144,7 @@ fn with_one_of(n: u64, bits: KnownBits) -> KnownBits
     }
 }
 
-/// The bits of `n` aren't there.
+/// Narrows the bits of a number that has no bit of `n`.
 fn without_bits(n: u64, bits: KnownBits) -> KnownBits
     ensures { result ≡ narrowing.without_bits n bits }
 {
@@ -154,7 +154,7 @@ fn without_bits(n: u64, bits: KnownBits) -> KnownBits
     }
 }
 
-/// The first has a bit of `n`.
+/// Narrows the first if it has a bit of `n`.
 fn meeting(n: u64, a: Number, b: Number) -> Option<(Number, Number)>
     ensures { result ≡ narrowing.meeting n a b }
 {
@@ -206,8 +206,8 @@ fn is_comparable(bits: Bits, condition: Condition, a: Interval, b: Interval) -> 
 }
 
 impl Number {
-    /// What is left of the two on the edge that jumps, or on the one that goes on; none where no
-    /// run takes it. Whether both are the same register is for the caller to ask first.
+    /// What remains of the two numbers on the edge that jumps, or on the fall-through edge; `None`
+    /// if no run takes it. The caller must first test whether both are the same register.
     pub(crate) fn narrowed(
         self,
         bits: Bits,

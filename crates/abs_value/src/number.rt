@@ -1,5 +1,5 @@
-//! What is known of a number: the interval in which it lies, and some of its bits. Outside this
-//! crate a number is asked, and not opened.
+//! Abstract numbers: an interval, and known bits. Other crates call the methods of a number, and
+//! don't read its fields.
 
 ghost use Rattle.std.specs.Prelude.{◌≡◌, true, ◌&&◌, ◌==◌};
 ghost use Rattle.abs_value.specs.Intervals.{interval};
@@ -19,7 +19,7 @@ pub struct Number {
 }
 
 impl Number {
-    /// One number, of which all is known.
+    /// A single number, with all bits known.
     pub fn single(n: u64) -> Number
         ensures { result ≡ numbers.single n }
     {
@@ -49,7 +49,7 @@ impl Number {
         }
     }
 
-    /// The least that it may be.
+    /// The least number that it includes.
     #[inline]
     pub fn least(self) -> u64
         ensures { result ≡ numbers.least self }
@@ -57,7 +57,7 @@ impl Number {
         self.range.lo
     }
 
-    /// Whether it is one number alone.
+    /// Whether it includes only one number.
     #[inline]
     pub fn is_single(self) -> bool
         ensures { result ≡ numbers.is_single self }
@@ -65,7 +65,7 @@ impl Number {
         self.range.is_just()
     }
 
-    /// Whether it is `n` alone.
+    /// Whether it includes only `n`.
     #[inline]
     pub fn is_only(self, n: u64) -> bool
         ensures { result ≡ numbers.is_only self n }
@@ -73,7 +73,7 @@ impl Number {
         self.range.lo == n && self.range.hi == n
     }
 
-    /// Whether it can't be above `n`.
+    /// Whether no number that it includes exceeds `n`.
     #[inline]
     pub fn is_at_most(self, n: u64) -> bool
         ensures { result ≡ numbers.is_at_most self n }
@@ -81,7 +81,7 @@ impl Number {
         self.range.hi <= n
     }
 
-    /// What a class takes of it: of a single number its low half.
+    /// Its numbers, truncated to the class: for a single number, its low half.
     pub(crate) fn cut(self, bits: Bits) -> Number
         ensures { result ≡ numbers.cut bits self }
     {
@@ -91,8 +91,8 @@ impl Number {
         }
     }
 
-    /// Lets an interval and bits tell one another what they know, once: the ends move in to the
-    /// bits, and then the bits that all numbers of the interval share become known.
+    /// Tightens the interval and the bits by each other, once. First the ends move in to the bits,
+    /// and then the bits that all numbers of the interval share become known.
     #[tactic(auto, unfolding(crate::specs::Numbers::tidy))]
     pub(crate) fn tidy(range: Interval, bits: KnownBits) -> Number
         ensures { result ≡ numbers.tidy range bits }
@@ -107,15 +107,15 @@ impl Number {
         }
     }
 
-    /// Whether it is found empty: an end is past the other, or a bit is known both ways.
+    /// Whether it is found empty: the ends are out of order, or a bit is known to be both 1 and 0.
     pub(crate) fn is_empty(self) -> bool
         ensures { result ≡ numbers.is_empty self }
     {
         self.range.hi < self.range.lo || !self.bits.is_consistent()
     }
 
-    /// A result, tidy. One that tidy finds empty stays as it was computed: no run comes there, and
-    /// only a jump drops an edge.
+    /// A result, tidied. If `tidy` finds it empty, it stays as it was computed: no run gets there,
+    /// and only a jump drops an edge.
     #[tactic(auto, unfolding(crate::specs::Numbers::tidied))]
     pub(crate) fn tidied(range: Interval, bits: KnownBits) -> Number
         ensures { result ≡ numbers.tidied range bits }
@@ -128,7 +128,7 @@ impl Number {
         }
     }
 
-    /// Whether both are the same.
+    /// Whether both have the same range and the same bits.
     pub fn is_same(self, other: Number) -> bool
         ensures { result ≡ numbers.is_same self other }
     {
@@ -138,7 +138,7 @@ impl Number {
             && self.bits.may_have == other.bits.may_have
     }
 
-    /// Whether it is known to stand for both by itself: where both are the same, and tidy.
+    /// Whether `self` is known to be the join of both, because both are the same, and tidy.
     pub(crate) fn stays(self, other: Number) -> bool
         ensures { result ≡ true → numbers.join_numbers self other ≡ self }
     {
@@ -150,7 +150,7 @@ impl Number {
         }
     }
 
-    /// What is known on both sides.
+    /// The join.
     pub(crate) fn join(self, other: Number) -> Number
         ensures { result ≡ numbers.join_numbers self other }
     {
@@ -158,7 +158,7 @@ impl Number {
     }
 }
 
-/// Whether the ends are the least and the most that the bits allow, as of a single number and of a
+/// Whether the ends are the least and the most that the bits allow, as for a single number and a
 /// load.
 fn is_exact(lo: u64, hi: u64, has: u64, may_have: u64) -> bool
     ensures { result ≡ ((has == lo) && (may_have == hi)) }
@@ -166,8 +166,8 @@ fn is_exact(lo: u64, hi: u64, has: u64, may_have: u64) -> bool
     has == lo && may_have == hi
 }
 
-/// Whether tidy is known to leave a number as it is: the ends don't lie beyond the bits, and no bit
-/// that isn't known lies above the highest in which the ends differ.
+/// Whether `tidy` is known to leave a number unchanged. That is so if the bits allow both ends, and
+/// no bit above the highest one in which the ends differ is unknown.
 fn is_settled(lo: u64, hi: u64, has: u64, may_have: u64) -> bool
     ensures { result ≡ true → numbers.tidied (interval lo hi) (known has may_have)
         ≡ numbers.number (interval lo hi) (known has may_have) }

@@ -1,4 +1,4 @@
-//! Where the address of a cell comes from: a lookup that found it, or a fixed cell.
+//! The origin of a cell's address: a lookup that found it, or a fixed cell.
 
 ghost use Rattle.std.specs.Prelude.{◌≡◌};
 ghost use Rattle.abs_value.specs.Lookups as lookups;
@@ -7,7 +7,7 @@ ghost use Rattle.abs_value.specs.Values as values;
 use crate::number::Number;
 use crate::value::Abs;
 
-/// A lookup in an array of the program's shape, by the CALL at a slot.
+/// A lookup in an array of the program's shape, by the CALL at `slot`.
 #[derive(Clone, Copy, Debug, PartialEq, Eq)]
 pub struct Lookup {
     pub array: u32,
@@ -15,14 +15,14 @@ pub struct Lookup {
 }
 
 impl Lookup {
-    /// Whether both are the same.
+    /// Whether both are by the same CALL, in the same array.
     pub fn is_same(self, other: Lookup) -> bool
         ensures { result ≡ values.same_lookup self other }
     {
         self.array == other.array && self.slot == other.slot
     }
 
-    /// Its answer, where it is known whether it found a cell.
+    /// The value of its result, once it is known whether it found a cell.
     pub fn answer(self, found: bool) -> Abs
         ensures { result ≡ lookups.answer_of self found }
     {
@@ -37,9 +37,9 @@ impl Lookup {
 /// The origin of a cell's address.
 #[derive(Clone, Copy, Debug, PartialEq, Eq)]
 pub enum Origin {
-    /// A lookup gave it.
+    /// The result of a lookup.
     Found(Lookup),
-    /// The cell of this number, as a wide load names it.
+    /// The cell of this number, named by a wide load.
     Fixed(u16),
 }
 
@@ -53,7 +53,7 @@ impl Origin {
         }
     }
 
-    /// Whether both are the same.
+    /// Whether both are the same lookup, or the same fixed cell.
     pub fn is_same(self, other: Origin) -> bool
         ensures { result ≡ values.same_origin self other }
     {

@@ -1,5 +1,5 @@
-//! Places in a region, counted from its start: 0 to 64 in the context, 0 to 512 in the stack. The
-//! end of a region is a place too, so that a pointer may be just past the last byte.
+//! Places: offsets from the start of a region, 0 to 64 in the context and 0 to 512 in the stack.
+//! The end of a region is also a place, so that a pointer may be just past the last byte.
 
 ghost use Rattle.std.specs.Prelude.{◌≡◌};
 ghost use Rattle.abs_value.specs.Values as values;
@@ -16,7 +16,7 @@ pub struct Places {
 }
 
 impl Places {
-    /// The least range that holds both.
+    /// The least range that contains both.
     pub(crate) fn hull(self, other: Places) -> Places
         ensures { result ≡ values.place_hull self other }
     {
@@ -26,7 +26,7 @@ impl Places {
         }
     }
 
-    /// Where arithmetic leads in the context; `None` where that may be outside.
+    /// The places after arithmetic in the context; `None` if one may be outside.
     pub(crate) fn moved(self, op: AluOp, by: Number) -> Option<Places>
         ensures { result ≡ values.moved_in_context op self by }
     {
@@ -41,7 +41,7 @@ impl Places {
     }
 }
 
-/// Where arithmetic leads in the stack; `None` where that may be outside.
+/// The place after arithmetic in the stack; `None` if it may be outside.
 pub fn moved_in_stack(op: AluOp, place: u16, by: Number) -> Option<u16>
     ensures { result ≡ values.moved_in_stack op place by }
 {
@@ -52,7 +52,7 @@ pub fn moved_in_stack(op: AluOp, place: u16, by: Number) -> Option<u16>
     }
 }
 
-/// Where a place leads to which a single number is added; the number counts by its signed view.
+/// The place plus a single number, which counts by its signed view.
 fn moved_up(size: u16, place: u16, n: u64) -> Option<u16>
     ensures { result ≡ values.moved size place (values.distance AluOp.Add n) }
 {
@@ -64,7 +64,7 @@ fn moved_up(size: u16, place: u16, n: u64) -> Option<u16>
     }
 }
 
-/// Where a place leads from which a single number is taken; the number counts by its signed view.
+/// The place minus a single number, which counts by its signed view.
 fn moved_down(size: u16, place: u16, n: u64) -> Option<u16>
     ensures { result ≡ values.moved size place (values.distance AluOp.Sub n) }
 {
@@ -86,7 +86,7 @@ fn moved_by_single(size: u16, op: AluOp, place: u16, n: u64) -> Option<u16>
     }
 }
 
-/// An end of a range counts as it is, and is only added.
+/// The place plus an end of a range, which counts as unsigned and can only be added.
 fn moved_by_end(size: u16, op: AluOp, place: u16, n: u64) -> Option<u16>
     ensures { result ≡ values.moved size place (values.distance_of_end op n) }
 {

@@ -1,4 +1,4 @@
-//! How two numbers are related, as an edge of a conditional jump tells it.
+//! The relation of two numbers that an edge of a conditional jump implies.
 
 ghost use Rattle.std.specs.Prelude.{◌≡◌};
 ghost use Rattle.abs_value.specs.Narrowing as narrowing;
@@ -51,7 +51,7 @@ impl Relation {
         }
     }
 
-    /// What is learnt where the jump is taken, or where it isn't.
+    /// The relation if the jump is taken, or if it isn't.
     pub(crate) fn learnt(condition: Condition, jumps: bool) -> Relation
         ensures { result ≡ narrowing.learnt condition jumps }
     {

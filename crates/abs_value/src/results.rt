@@ -1,4 +1,4 @@
-//! What operations give. On two single numbers it is what the machine computes.
+//! Results of operations. For two single numbers, the result is what the machine computes.
 
 ghost use Rattle.std.specs.Prelude.{◌≡◌};
 ghost use Rattle.abs_value.specs.Results as results;
@@ -8,7 +8,7 @@ use crate::known_bits::KnownBits;
 use crate::number::Number;
 use bpf_insn::{AluOp, Bits, ByteOrder, EndSize, Extension};
 
-/// The bits of a result that are known, of operands of the class.
+/// The known bits of a result, for operands of the class.
 fn known_bits_of(bits: Bits, op: AluOp, a: Number, b: Number) -> KnownBits
     ensures { result ≡ results.known_bits bits op a b }
 {
@@ -25,7 +25,7 @@ fn known_bits_of(bits: Bits, op: AluOp, a: Number, b: Number) -> KnownBits
     }
 }
 
-/// What an operation gives of operands of the class.
+/// The result of an operation, for operands of the class.
 fn result_of(bits: Bits, op: AluOp, a: Number, b: Number) -> Number
     ensures { result ≡ results.result bits op a b }
 {
@@ -36,7 +36,7 @@ fn result_of(bits: Bits, op: AluOp, a: Number, b: Number) -> Number
 }
 
 impl Number {
-    /// What an operation gives, in 32 bits of the low halves alone.
+    /// The result of an operation; with 32 bits, only the low halves of the operands count.
     pub fn alu(self, bits: Bits, op: AluOp, other: Number) -> Number
         ensures { result ≡ results.alu_number bits op self other }
     {
@@ -47,14 +47,14 @@ impl Number {
         }
     }
 
-    /// What MOV gives.
+    /// The result of MOV.
     pub(crate) fn copied(self, bits: Bits) -> Number
         ensures { result ≡ results.copied_number bits self }
     {
         Number::tidied(self.range.cut(bits), self.bits.cut(bits))
     }
 
-    /// What MOVSX gives.
+    /// The result of MOVSX.
     pub fn extended(self, extension: Extension) -> Number
         ensures { result ≡ results.extended_number extension self }
     {
@@ -67,7 +67,7 @@ impl Number {
         }
     }
 
-    /// What END gives.
+    /// The result of END.
     pub fn reordered(self, order: ByteOrder, size: EndSize) -> Number
         ensures { result ≡ results.reordered_number order size self }
     {

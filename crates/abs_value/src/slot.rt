@@ -1,5 +1,6 @@
-//! What is known of an aligned slot of 8 bytes of the stack: a value that was stored there as a
-//! whole, or which of its bytes are set. The set bytes are a mask, one bit for each byte.
+//! The abstract value of an aligned slot of 8 bytes of the stack. Either a value that was stored
+//! there as a whole is known, or which of its bytes are set. The set bytes are a mask, one bit for
+//! each byte.
 
 ghost use Rattle.std.specs.Prelude.{◌≡◌, ◌==◌, ◌<◌, bit_or, true};
 ghost use Rattle.std.specs.Int.{bit_at};
@@ -11,17 +12,17 @@ use crate::value::Abs;
 /// All 8 bytes.
 pub const ALL_SET: u8 = 0xff;
 
-/// What is known of an aligned slot of 8 bytes.
+/// The abstract value of an aligned slot of 8 bytes.
 #[derive(Clone, Copy, Debug, PartialEq, Eq)]
 pub enum AbsSlot {
-    /// Its 8 bytes are set, to a value of which this is known.
+    /// All 8 bytes are set, and the slot keeps this value.
     Kept(Abs),
-    /// At least these bytes are set: a bit for each, the first byte the lowest.
+    /// At least these bytes are set. The mask has one bit for each, the lowest for the first byte.
     Bytes(u8),
 }
 
 impl AbsSlot {
-    /// The bytes that are set: all of a slot that keeps a value.
+    /// The mask of the bytes that are set; a slot that keeps a value has all of them set.
     pub(crate) fn mask(self) -> u8
         ensures { result ≡ slots.mask_of self }
     {
@@ -31,7 +32,7 @@ impl AbsSlot {
         }
     }
 
-    /// Whether this byte of the slot is set, from 0 to 7.
+    /// Whether the byte of this number, from 0 to 7, is set.
     pub(crate) fn has_set(self, byte: u16) -> bool
         requires { byte < 8 }
         ensures { result ≡ (bit_at (slots.mask_of self) byte == 1) }
@@ -39,14 +40,14 @@ impl AbsSlot {
         (self.mask() >> byte) % 2 == 1
     }
 
-    /// What is known once these bytes are written too: which bytes are set.
+    /// The slot after these bytes are written: only which bytes are set is known.
     pub(crate) fn with_set(self, mask: u8) -> AbsSlot
         ensures { result ≡ AbsSlot.Bytes (bit_or (slots.mask_of self) mask) }
     {
         AbsSlot::Bytes(self.mask() | mask)
     }
 
-    /// The value that the whole slot keeps, or else the other.
+    /// The value that the whole slot keeps, otherwise `other`.
     pub(crate) fn kept_or(self, other: Abs) -> Abs
         ensures { result ≡ slots.kept_or self other }
     {
@@ -56,7 +57,7 @@ impl AbsSlot {
         }
     }
 
-    /// What it is where a lookup is known to have found a cell, or none.
+    /// The slot once it is known whether the lookup at `call` found a cell.
     pub(crate) fn with_answer(self, call: u16, found: bool) -> AbsSlot
         ensures { result ≡ slot_with_answer call found self }
     {
@@ -76,7 +77,7 @@ impl AbsSlot {
         }
     }
 
-    /// Whether it is known to stand for both by itself.
+    /// Whether `self` is known to be the join of both.
     pub(crate) fn stays(&self, other: &AbsSlot) -> bool
         ensures { result ≡ true → slots.join_slots self.now other.now ≡ self.now }
     {
@@ -88,7 +89,7 @@ impl AbsSlot {
         }
     }
 
-    /// What stands for both.
+    /// The join.
     pub(crate) fn join(self, other: AbsSlot) -> AbsSlot
         ensures { result ≡ slots.join_slots self other }
     {

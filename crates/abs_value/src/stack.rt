@@ -1,6 +1,7 @@
-//! The stack, slot by slot: which bytes are set, what a load reads and what a store leaves. It is
-//! changed in place. Programs use it from its end down, and most of them little of it, so it keeps
-//! the slot below which nothing was written: joins and copies go down to that one.
+//! The abstract stack, slot by slot: which bytes are set, what a load reads and what a store
+//! leaves. Operations change it in place. Programs use the stack from its end down, and most use
+//! little of it. So the type keeps the lowest slot that may have been written; joins and copies
+//! stop there.
 
 ghost use Rattle.std.specs.Prelude.{◌≡◌, ◌≤◌, ◌<◌, ◌+◌, ◌-◌, ◌^◌, ◌%◌, ℤ, pos, negsuc, ◌≤ℤ◌};
 ghost use Rattle.std.specs.Prelude.{map, replicate};
@@ -38,7 +39,7 @@ impl Model for Stack {
 }
 
 impl Stack {
-    /// One of which no byte is set.
+    /// The stack with no byte set.
     pub(crate) fn empty() -> Stack
         ensures { result ≡ replicate 64 (Bytes 0) }
     {
@@ -57,7 +58,7 @@ impl Stack {
         }
     }
 
-    /// Makes it what the other is.
+    /// Makes it equal to `other`.
     pub(crate) fn copy_from(&mut self, other: &Stack)
         ensures { self.new ≡ other.now }
     {
@@ -66,8 +67,8 @@ impl Stack {
         self.lowest = other.lowest;
     }
 
-    /// Whether of so many bytes from a place on, which may lie outside the stack, one lies in the
-    /// stack and isn't set.
+    /// Whether any of `count` bytes from `place` is in the stack and unset; the range may leave the
+    /// stack.
     pub(crate) fn has_unset(&self, place: i64, count: u16) -> bool
         requires from { negsuc (2 ^ 32) ≤ℤ place }
         requires to { place ≤ℤ pos (2 ^ 32) }
@@ -76,7 +77,7 @@ impl Stack {
         has_unset(&self.slots, place, count)
     }
 
-    /// What a load from a place in the stack gives.
+    /// The value that a load from `place` gives.
     #[inline]
     pub(crate) fn load(&self, place: u16, kind: LoadKind) -> Abs
         requires { place < stack_size }
@@ -85,7 +86,7 @@ impl Stack {
         load(&self.slots, place, kind)
     }
 
-    /// Stores so many low bytes of a value to a place in the stack.
+    /// Stores the low bytes of a value, as many as `size` says, to `place`.
     pub(crate) fn store(&mut self, place: u16, size: Size, value: Abs)
         requires { place + counts.byte_count size ≤ stack_size }
         ensures { self.new ≡ slots.stored self.old place (counts.byte_count size) value }
@@ -94,14 +95,14 @@ impl Stack {
         self.lowest = self.lowest.min((place / 8) as usize);
     }
 
-    /// Makes each copy of the answer to the CALL at this slot known: the address of a cell, or 0.
+    /// Makes each copy of the result of the CALL at slot `call` known: the address of a cell, or 0.
     pub(crate) fn narrow_lookup(&mut self, call: u16, found: bool)
         ensures { self.new ≡ map (slot_with_answer call found) self.old }
     {
         answer_from(&mut self.slots, self.lowest, call, found);
     }
 
-    /// Joins another stack in, slot by slot.
+    /// Joins another stack into this one, slot by slot.
     pub(crate) fn join_in(&mut self, other: &Stack)
         ensures { self.new ≡ slots.join_stacks self.old other.now }
     {
@@ -110,7 +111,7 @@ impl Stack {
     }
 }
 
-/// Copies the slots from one on, below which no byte is set on either side.
+/// Copies the slots from `from` up; below it no byte is set on either side.
 fn copy_from(stack: &mut [AbsSlot; 64], from: usize, other: &[AbsSlot; 64])
     requires below { slots.AreUnsetBelow from stack.old }
     requires other { slots.AreUnsetBelow from other.now }
@@ -119,7 +120,7 @@ fn copy_from(stack: &mut [AbsSlot; 64], from: usize, other: &[AbsSlot; 64])
     stack[from..].copy_from_slice(&other[from..]);
 }
 
-/// Makes an answer known in the slots from one on, below which no byte is set.
+/// Makes a lookup's result known in the slots from `from` up; below it no byte is set.
 fn answer_from(stack: &mut [AbsSlot; 64], from: usize, call: u16, found: bool)
     requires { slots.AreUnsetBelow from stack.old }
     ensures { stack.new ≡ map (slot_with_answer call found) stack.old }
@@ -129,7 +130,7 @@ fn answer_from(stack: &mut [AbsSlot; 64], from: usize, call: u16, found: bool)
     }
 }
 
-/// Joins other slots in from one on, below which no byte is set.
+/// Joins other slots in, from slot `from` up; below it no byte is set.
 fn join_from(stack: &mut [AbsSlot; 64], from: usize, other: &[AbsSlot; 64])
     requires { slots.AreUnsetBelow from stack.old }
     ensures { stack.new ≡ slots.join_stacks stack.old other.now }
@@ -141,7 +142,6 @@ fn join_from(stack: &mut [AbsSlot; 64], from: usize, other: &[AbsSlot; 64])
     }
 }
 
-/// Whether the byte is set.
 fn is_set(stack: &[AbsSlot; 64], place: u16) -> bool
     requires { place < stack_size }
     ensures { result ≡ slots.is_set stack.now place }
@@ -149,15 +149,14 @@ fn is_set(stack: &[AbsSlot; 64], place: u16) -> bool
     stack[(place / 8) as usize].has_set(place % 8)
 }
 
-/// Whether a byte lies in the stack and isn't set.
+/// Whether a byte is in the stack and isn't set.
 fn is_unset(stack: &[AbsSlot; 64], place: i64) -> bool
     ensures { result ≡ slots.is_unset stack.now place }
 {
     place >= 0 && place < STACK_SIZE as i64 && !is_set(stack, place as u16)
 }
 
-/// Whether of so many bytes from a place on, which may lie outside the stack, one lies in the stack
-/// and isn't set.
+/// Whether any of `count` bytes from `place` is in the stack and unset.
 fn has_unset(stack: &[AbsSlot; 64], place: i64, count: u16) -> bool
     requires from { negsuc (2 ^ 32) ≤ℤ place }
     requires to { place ≤ℤ pos (2 ^ 32) }
@@ -170,7 +169,6 @@ fn has_unset(stack: &[AbsSlot; 64], place: i64, count: u16) -> bool
     found
 }
 
-/// What a load from a place in the stack gives.
 fn load(stack: &[AbsSlot; 64], place: u16, kind: LoadKind) -> Abs
     requires { place < stack_size }
     ensures { result ≡ slots.loaded_from stack.now place kind }
@@ -183,7 +181,7 @@ fn load(stack: &[AbsSlot; 64], place: u16, kind: LoadKind) -> Abs
     }
 }
 
-/// Joins bytes that are written into what a slot has set.
+/// Adds the bytes that are written to the set bytes of a slot.
 fn set_bytes(stack: &mut [AbsSlot; 64], slot: usize, mask: u8)
     requires { slot < 64 }
     ensures { stack.new ≡ slots.with_set stack.old slot mask }
@@ -191,7 +189,8 @@ fn set_bytes(stack: &mut [AbsSlot; 64], slot: usize, mask: u8)
     stack[slot] = stack[slot].with_set(mask);
 }
 
-/// The bits of so many bytes from a place on, in its slot and in the next.
+/// The mask of `count` bytes from `place`: the low byte for the slot of `place`, the high byte for
+/// the next.
 fn bits_of(place: u16, count: u16) -> u16
     requires { count ≤ 8 }
     ensures bits { result ≡ slots.bits_of place count }
@@ -199,8 +198,8 @@ fn bits_of(place: u16, count: u16) -> u16
     ((1 << count) - 1) << (place % 8)
 }
 
-/// What a store of so many low bytes of a value to a place leaves: a whole slot keeps the value, of
-/// any other slot that it touches only the set bytes are known.
+/// Stores `size` low bytes of a value to `place`. A whole slot keeps the value; for any other slot
+/// that is touched, only the set bytes are known.
 fn store(stack: &mut [AbsSlot; 64], place: u16, size: Size, value: Abs)
     requires { place + counts.byte_count size ≤ stack_size }
     ensures { stack.new ≡ slots.stored stack.old place (counts.byte_count size) value }

@@ -1,6 +1,6 @@
-//! What is known where an instruction begins: a value for each of the eleven registers, and the 64
-//! slots of the stack. It is changed in place, and joined in place, value by value: a copy of it
-//! costs more than all that is computed at a slot.
+//! The abstract state before an instruction: a value for each of the eleven registers, and the 64
+//! slots of the stack. It is changed and joined in place, value by value: copying it costs more
+//! than all that is computed at a slot.
 
 ghost use Rattle.std.specs.Prelude.{◌≡◌, ◌+◌, ◌^◌, ◌≤◌, ◌<◌, pos, negsuc, ◌≤ℤ◌};
 ghost use Rattle.bpf_semantics.specs.Memory.{stack_size};
@@ -16,7 +16,8 @@ use crate::value::Abs;
 use bpf_insn::{Bits, LoadKind, Operand, Reg, Size};
 use bpf_semantics::STACK_SIZE;
 
-/// A value for each register, by its number, and the 64 slots of the stack, from its start up.
+/// A value for each register, by its number, and the 64 slots of the stack, from the lowest
+/// address.
 #[derive(Debug, Drop)]
 pub struct AbsState {
     pub registers: [Abs; 11],
@@ -24,7 +25,7 @@ pub struct AbsState {
 }
 
 impl AbsState {
-    /// Where a run starts.
+    /// The abstract state at the start of a run.
     pub fn opening() -> AbsState
         ensures { result ≡ states.opening_state }
     {
@@ -37,7 +38,7 @@ impl AbsState {
         }
     }
 
-    /// A copy of the entry.
+    /// A copy of the state.
     pub fn copy(&self) -> AbsState
         ensures { result ≡ self.now }
     {
@@ -47,7 +48,7 @@ impl AbsState {
         }
     }
 
-    /// Makes it what the other is. It takes as long as the two have slots of the stack that were
+    /// Makes it equal to `other`. The time grows with the number of stack slots that either has
     /// written.
     pub fn copy_from(&mut self, other: &AbsState)
         ensures { self.new ≡ other.now }
@@ -56,7 +57,7 @@ impl AbsState {
         self.stack.copy_from(&other.stack);
     }
 
-    /// What is known of a register.
+    /// The value of a register.
     #[inline]
     pub fn value(&self, r: Reg) -> Abs
         ensures { result ≡ states.value_of self.now r }
@@ -64,7 +65,7 @@ impl AbsState {
         self.registers[r.index()]
     }
 
-    /// The second operand of arithmetic, or of a jump.
+    /// The value of the second operand of arithmetic, or of a jump.
     #[inline]
     pub fn operand(&self, bits: Bits, src: Operand) -> Abs
         ensures { result ≡ states.operand_value self.now bits src }
@@ -75,7 +76,7 @@ impl AbsState {
         }
     }
 
-    /// Sets what is known of a register.
+    /// Sets the value of a register.
     #[inline]
     pub fn set(&mut self, r: Reg, value: Abs)
         ensures { self.new ≡ states.with_value self.old r value }
@@ -83,7 +84,7 @@ impl AbsState {
         self.registers[r.index()] = value;
     }
 
-    /// Sets the register that an operand is; an imm stays what it is.
+    /// Sets the value of the register that is the operand; does nothing for an imm.
     #[inline]
     pub fn set_operand(&mut self, src: Operand, value: Abs)
         ensures { self.new ≡ states.with_operand self.old src value }
@@ -93,8 +94,8 @@ impl AbsState {
         }
     }
 
-    /// Whether of so many bytes from a place on, which may lie outside the stack, one lies in the
-    /// stack and isn't set.
+    /// Whether any of `count` bytes from `place` is in the stack and unset; the range may leave the
+    /// stack.
     pub fn has_unset(&self, place: i64, count: u16) -> bool
         requires from { negsuc (2 ^ 32) ≤ℤ place }
         requires to { place ≤ℤ pos (2 ^ 32) }
@@ -103,7 +104,7 @@ impl AbsState {
         self.stack.has_unset(place, count)
     }
 
-    /// What a load from a place in the stack gives.
+    /// The value that a load from `place` in the stack gives.
     #[inline]
     pub fn load(&self, place: u16, kind: LoadKind) -> Abs
         requires { place < stack_size }
@@ -112,7 +113,7 @@ impl AbsState {
         self.stack.load(place, kind)
     }
 
-    /// Stores the low bytes of a value to a place in the stack.
+    /// Stores the low bytes of a value to `place` in the stack, as many as `size` says.
     pub fn store(&mut self, place: u16, size: Size, value: Abs)
         requires { place + byte_count size ≤ stack_size }
         ensures { self.new ≡ states.with_stored self.old place (byte_count size) value }
@@ -120,8 +121,8 @@ impl AbsState {
         self.stack.store(place, size, value);
     }
 
-    /// What a CALL at this slot leaves, by the number of its helper: R0 is its result, R1 to R5 are
-    /// unset.
+    /// The state after a CALL at `slot` of the helper of this number: R0 is its result, R1 to R5
+    /// are unset.
     pub fn call(&mut self, helper: i32, slot: u16)
         ensures { self.new ≡ called self.old helper slot }
     {
@@ -131,7 +132,7 @@ impl AbsState {
         self.registers[..6].copy_from_slice(&registers);
     }
 
-    /// Joins another state in: what stands for both is left here.
+    /// Joins another state into this one.
     pub fn join_in(&mut self, other: &AbsState)
         ensures { self.new ≡ states.join_states self.old other.now }
     {
@@ -140,7 +141,6 @@ impl AbsState {
     }
 }
 
-/// Joins other registers in.
 fn join_registers(registers: &mut [Abs; 11], other: &[Abs; 11])
     ensures { registers.new ≡ states.join_registers registers.old other.now }
 {

@@ -1,6 +1,5 @@
-//! What is known of a value: nothing, the range and the bits of a number, or the region that it
-//! points into with the places there. A pointer stays in its region, or nothing is known of it any
-//! more.
+//! Abstract values: unusable, a number with its range and known bits, or a pointer with its region
+//! and the places there. An operation keeps a pointer in its region, or its result is unusable.
 
 ghost use Rattle.std.specs.Prelude.{◌≡◌, true};
 ghost use Rattle.abs_value.specs.Lookups as lookups;
@@ -12,27 +11,27 @@ use crate::places::{Places, moved_in_stack};
 use bpf_insn::{AluOp, Bits, ByteOrder, Condition, EndSize, Extension, LoadKind};
 use bpf_semantics::helpers::Prototype;
 
-/// What is known of a register, or of a slot of the stack that keeps a value.
+/// The abstract value of a register, or of a stack slot that keeps a value.
 #[derive(Clone, Copy, Debug, PartialEq, Eq)]
 pub enum Abs {
-    /// Nothing: a register may also be unset.
+    /// Nothing is known; a register may also be unset.
     Unusable,
-    /// A number of the range, with these bits.
+    /// A number of the range, with these known bits.
     Num(Number),
-    /// The address of one of these places in the context.
+    /// An address in the context, at one of these places.
     Ctx(Places),
     /// The address of this place in the stack.
     Stk { place: u16 },
     /// The map of this index.
     Map { index: u32 },
-    /// What a lookup gave: the address of a cell of its array, or 0.
+    /// The result of a lookup: the address of a cell of its array, or 0.
     MayCell(Lookup),
     /// The address of a cell.
     Cell(Origin),
 }
 
 impl Abs {
-    /// Whether nothing is known of it: it may be unset.
+    /// Whether nothing is known of it; a register may be unset.
     #[inline]
     pub fn is_unusable(self) -> bool
         ensures { result ≡ values.is_unusable self }
@@ -40,7 +39,7 @@ impl Abs {
         matches!(self, Abs::Unusable)
     }
 
-    /// Whether it is an address, an array, or what a lookup gave, which may be 0.
+    /// Whether it is an address, an array, or the result of a lookup, which may be 0.
     #[inline]
     pub fn is_pointer(self) -> bool
         ensures { result ≡ values.is_pointer self }
@@ -56,8 +55,8 @@ impl Abs {
         matches!(self, Abs::Num(_))
     }
 
-    /// What 64-bit arithmetic of a pointer with a number gives; `None` where the address may leave
-    /// its region, and for other arithmetic with a pointer.
+    /// The result of 64-bit arithmetic of a pointer with a number. `None` if the address may leave
+    /// its region, and for any other arithmetic with a pointer.
     pub fn pointer_result(self, bits: Bits, op: AluOp, other: Abs) -> Option<Abs>
         ensures { result ≡ values.pointer_result bits op self other }
     {
@@ -70,7 +69,7 @@ impl Abs {
         }
     }
 
-    /// What an operation gives.
+    /// The result of an operation.
     pub fn alu(self, bits: Bits, op: AluOp, other: Abs) -> Abs
         ensures { result ≡ values.alu_value bits op self other }
     {
@@ -83,7 +82,7 @@ impl Abs {
         }
     }
 
-    /// What MOV gives: of a pointer only all 64 bits are one.
+    /// The result of MOV. For a pointer, only a 64-bit MOV gives a pointer.
     pub fn copied(self, bits: Bits) -> Abs
         ensures { result ≡ values.copied_value bits self }
     {
@@ -94,14 +93,14 @@ impl Abs {
         }
     }
 
-    /// What NEG gives.
+    /// The result of NEG.
     pub fn negated(self, bits: Bits) -> Abs
         ensures { result ≡ values.negated_value bits self }
     {
         Abs::Num(Number::single(0)).alu(bits, AluOp::Sub, self)
     }
 
-    /// What MOVSX gives.
+    /// The result of MOVSX.
     pub fn extended(self, extension: Extension) -> Abs
         ensures { result ≡ values.extended_value extension self }
     {
@@ -111,7 +110,7 @@ impl Abs {
         }
     }
 
-    /// What END gives.
+    /// The result of END.
     pub fn reordered(self, order: ByteOrder, size: EndSize) -> Abs
         ensures { result ≡ values.reordered_value order size self }
     {
@@ -121,7 +120,7 @@ impl Abs {
         }
     }
 
-    /// What a load gives of bytes of which nothing more is known.
+    /// The result of a load of unknown bytes.
     pub fn loaded(kind: LoadKind) -> Abs
         ensures { result ≡ values.loaded_value kind }
     {
@@ -134,9 +133,9 @@ impl Abs {
         })
     }
 
-    /// What is left of the two values that a jump compares, on the edge that jumps or on the one
-    /// that goes on; `None` where no run takes that edge. Of a pointer nothing is learnt. Whether
-    /// both are the same register is for the caller to ask first: then nothing is learnt either.
+    /// What remains of the two compared values, on the edge that jumps or on the fall-through edge;
+    /// `None` if no run takes that edge. A pointer isn't narrowed. The caller must first test
+    /// whether both are the same register, which narrows nothing.
     pub(crate) fn refined(
         self,
         bits: Bits,
@@ -155,8 +154,8 @@ impl Abs {
         }
     }
 
-    /// What it is where the lookup by the CALL at this slot is known to have found a cell, or to
-    /// have found none: then 0 stands in place of its answer.
+    /// The value once it is known whether the lookup by the CALL at slot `call` found a cell. If it
+    /// didn't, its result is 0.
     pub(crate) fn with_answer(self, call: u16, found: bool) -> Abs
         ensures { result ≡ lookups.with_answer call found self }
     {
@@ -167,14 +166,14 @@ impl Abs {
         }
     }
 
-    /// What a CALL at this slot leaves in R0, by the number of its helper. It was R1 before.
+    /// The value of R0 after a CALL at `slot` of this helper, if `self` was R1 before.
     pub(crate) fn called(self, helper: i32, slot: u16) -> Abs
         ensures { result ≡ lookups.call_value helper slot self }
     {
         self.given(Prototype::called(helper), slot)
     }
 
-    /// What a helper of this prototype leaves in R0.
+    /// The value of R0 after a call of a helper with this prototype.
     fn given(self, called: Option<Prototype>, slot: u16) -> Abs
         ensures { result ≡ lookups.value_given called slot self }
     {
@@ -188,7 +187,7 @@ impl Abs {
         }
     }
 
-    /// Whether it is known to stand for both by itself.
+    /// Whether `self` is known to be the join of both.
     pub(crate) fn stays(&self, other: &Abs) -> bool
         ensures { result ≡ true → values.join_values self.now other.now ≡ self.now }
     {
@@ -201,7 +200,7 @@ impl Abs {
         }
     }
 
-    /// What stands for both.
+    /// The join.
     pub(crate) fn join(self, other: Abs) -> Abs
         ensures { result ≡ values.join_values self other }
     {

@@ -65,7 +65,7 @@ module _ (p : Program) (s : ℕ) where
   kept Exit is forward h = is
   kept i is forward h = (is, goes_on (next_of s i) h.0)
 
--- ---- its jumps lead on
+-- ---- where its jumps lead
 
 some_insn : (o : Option Insn) → IsSome o → (i : Insn) × (o ≡ Some i)
 some_insn None some = absurd cc

@@ -1,6 +1,6 @@
--- A program that has an order leads onto instructions alone, and closes no cycle. Along its edges
--- the new places rise, but for a JA, which may have the place of what it lands on; and no run of
--- JAs alone comes back to where it was.
+-- A program that has an order leads only onto instructions, and closes no cycle. Along its edges
+-- the new slots increase, except at a JA, which may have the new slot of its target. No path of
+-- only JAs is a cycle.
 use Rattle.std.proofs.Common.{◌≡◌, ℕ, ◌+◌, ◌<◌, ◌≤◌, List, length}
 use Rattle.std.proofs.Common.{Option, Some, None, refl, sym, ◌∙◌, ap, subst, arith, inl, inr}
 use Rattle.std.specs.Prelude.{IsSome, Contains, ◌⊎◌}
@@ -44,7 +44,7 @@ module _ (q : Program) (flow : IsFlow q) where
 
 -- ---- one edge of the old program
 
--- an edge leads from place t to this one
+-- an edge leads from new slot t to that of u
 record Leads (places : Places) (t : ℕ) (i : Insn) (u : ℕ) : Type 0 where
   place : ℕ
   placed : places u ≡ Some place
@@ -104,9 +104,9 @@ module _ (places : Places) (p q : Program) (order : IsOrderOf places p q) (flow 
   leads_on s u i is leads t placed =
       edge s t u i (kept_as s t i is placed) (contains_either s i u leads)
 
-  -- ---- runs of edges
+  -- ---- paths of edges
 
-  -- it stands at this place or behind it
+  -- its new slot is a, or after a
   abbrev StandsFrom : ℕ → ℕ → Type 0
   StandsFrom a s = (b : ℕ) × (places s ≡ Some b) × (a ≤ b)
 
@@ -131,7 +131,7 @@ module _ (places : Places) (p q : Program) (order : IsOrderOf places p q) (flow 
       let l = leads_on y s j at_y leads a there in
       (l.place, l.placed, l.rises (subst IsNoJump insn lacks))
 
-  -- from an instruction that is no JA
+  -- from an instruction that isn't a JA
   strictly : (x a : ℕ) (j : Insn) → at p x ≡ Some j → IsNoJump j → places x ≡ Some a
       → (u : ℕ) → ReachedFrom p x u → (u ≡ x) ⊎ StandsBehind a u
   strictly x a j at_x lacks placed u here = inl refl
@@ -142,7 +142,7 @@ module _ (places : Places) (p q : Program) (order : IsOrderOf places p q) (flow 
             inr (l.place, l.placed, omega (arith, b.2, l.onward))
       ]
 
-  -- from a JA, by what it lands on
+  -- from a JA, by its target
   past : (x y : ℕ) (d : Distance) → at p x ≡ Some (Jump d) → landing x (slots_moved d) ≡ Some y
       → (u : ℕ) → ReachedFrom p x u → (v : ℕ) (j : Insn) → at p u ≡ Some j
       → Contains (successors u j) v → ReachedFrom p y v
@@ -183,7 +183,7 @@ module _ (places : Places) (p q : Program) (order : IsOrderOf places p q) (flow 
       let l = leads_on s t i is back b.0 b.1 in
       no_round t (order.leaves t l.place l.placed) l.place l.placed s i round is back
 
-  -- ---- onto instructions alone
+  -- ---- only onto instructions
 
   stands : (u t : ℕ) → places u ≡ Some t → u < length p
   stands u t placed = let k = order.kept u t placed in at_within p u k.0 k.1

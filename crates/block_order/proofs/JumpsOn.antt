@@ -1,4 +1,4 @@
--- From a place JAs alone lead to another instruction, or through this place to one.
+-- Following JAs from a slot ends at another instruction, or passes through this slot to one.
 use Rattle.std.proofs.Common.{◌≡◌, ℕ, Some, subst}
 use Rattle.bpf_insn.specs.declared.operand.Distance.{Distance}
 use Rattle.bpf_insn.specs.declared.insn.Insn.{Insn}

@@ -1,5 +1,5 @@
--- Two programs in lockstep: whatever a run of the one comes to, a run of the other does, if from
--- related states their steps come to the same. JAs of either may be passed alone.
+-- Two programs in lockstep: whatever happens in a run of one happens in a run of the other, if from
+-- related states their steps have the same outcome. Either may take steps of JAs on its own.
 use Rattle.std.proofs.Common.{◌≡◌, ℕ, ◌+◌, List, [], ◌∷◌, refl, ap, sym, subst, ◌∙◌, inl, inr}
 use Rattle.std.specs.Prelude.{◌⊎◌}
 use Rattle.cells.specs.declared.event.CellEvent.{CellEvent}
@@ -12,7 +12,7 @@ use Rattle.bpf_semantics.specs.Run.{Ends, last, more, asked, Traps, now, later, 
 
 -- ---- outcomes
 
--- both steps come to the same, in related states
+-- both steps have the same outcome, in related states
 abbrev pub Matches : (State → State → Type 0) → Outcome → Outcome → Type 0
 Matches R (Going t) (Going t') = R t t'
 Matches R (Asks c op next) (Asks c' op' next') =
@@ -21,12 +21,12 @@ Matches R (Done n) (Done n') = n ≡ n'
 Matches R Trap Trap = Unit {0}
 Matches R o o' = ⊥
 
--- the one goes on, and the other stays where it is
+-- one continues, and the other stays
 abbrev pub GoesAlone : (State → State → Type 0) → Outcome → State → Type 0
 GoesAlone R (Going t) x = R t x
 GoesAlone R o x = ⊥
 
--- related the other way
+-- the converse relation
 abbrev pub Turned : (State → State → Type 0) → State → State → Type 0
 Turned R t t' = R t' t
 
@@ -62,7 +62,7 @@ module _ (R : State → State → Type 0) where
 
 -- ---- runs
 
--- steps that ask nothing lead from the one state to the other
+-- steps without a counter operation lead from one state to the other
 pub data Passes (p : ShapedProgram) : State → State → Type 0 where
   stays : {s : State} → Passes p s s
   passed : {s t x : State} → step p s ≡ Going t → Passes p t x → Passes p s x
@@ -85,7 +85,7 @@ trap_behind es stays r = r
 trap_behind es (passed e rest) r = let t = trap_behind es rest r in (t.0, later e t.1)
 
 module _ (p q : ShapedProgram) (R : State → State → Type 0) where
-  -- from there the first program's step is the second's, or is made alone
+  -- from there the first program's step is the second's, or is taken on its own
   abbrev pub Keeps : Outcome → State → Type 0
   Keeps o x = GoesAlone R o x ⊎ Matches R o (step q x)
 

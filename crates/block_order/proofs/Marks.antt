@@ -40,7 +40,7 @@ unset zero m = refl
 unset (suc n) zero = refl
 unset (suc n) (suc m) = unset n m
 
--- ---- the places that are reached
+-- ---- the reached slots
 
 pub reached_start : (p : Program) (first : ℕ) (marks : List Bool) → first < length p
     → marks ≡ replicate (length p) false → IsReachedSo p first (slice_set marks first true)
@@ -68,7 +68,7 @@ reached_more p first marks t so (s, i, marked, is, contains, un) = record {
   start = marked_kept marks t first so.start;
 }
 
--- an instruction that is reached is marked
+-- a reached instruction is marked
 pub reached_marked : (p : Program) (first : ℕ) (marks : List Bool) → AreReachedFrom p first marks
     → (m : ℕ) → ReachedFrom p first m → (j : Insn) → at p m ≡ Some j → IsMarked marks m
 reached_marked p first marks reached m from j is = marked m from (at_within p m j is)
@@ -79,7 +79,7 @@ reached_marked p first marks reached m from j is = marked m from (at_within p m 
         reached.closed s i u (marked s before (at_within p s i at_s)) at_s leads
         (rw reached.so.length_is lt)
 
--- a jump back that isn't reached from where it lands closes no cycle
+-- a jump back that isn't reached from its target closes no cycle
 pub no_cycle : (p : Program) (marks : List Bool) (s t : ℕ) (i : Insn) → AreReachedFrom p t marks
     → at p s ≡ Some i → target_of s i ≡ Some t → slice_index_or marks s false ≡ false
     → ¬ ClosesCycle p s

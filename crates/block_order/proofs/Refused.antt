@@ -1,4 +1,4 @@
--- What is wrong with the marked places is a refusal of the bytes, and F7 where nothing is.
+-- A fault of the marked slots is a fault of the bytes, and F7 is one if the marked slots have none.
 use Rattle.std.proofs.Common.{◌≡◌, ℕ, ◌<◌, Bool, List, Some, refl, arith, inl, inr}
 use Rattle.bpf_insn.specs.declared.insn.Insn.{Insn}
 use Rattle.bpf_insn.specs.Program.{Program, at}
@@ -15,7 +15,7 @@ use Rattle.block_order.specs.Refusal.{IsStray, StaysWithin, ClosesCycle, IsStray
 use Rattle.block_order.specs.Refusal.{IsFirstStray, IsOrderFault}
 use Rattle.block_order.proofs.Marks.{reached_marked}
 
--- what leads out of the program is an instruction
+-- an instruction is at a slot with an edge that leads onto no instruction
 stray_at : (p : Program) (s : ℕ) (rule : FlowRule) → IsStray p s rule
     → (i : Insn) × (at p s ≡ Some i)
 stray_at p s BackJump (i, is, jumps, below) = (i, is)
@@ -24,7 +24,7 @@ stray_at p s InsideWide (i, t, is, lands, half) = (i, is)
 stray_at p s FallsOff (i, is, goes, ends) = (i, is)
 stray_at p s rule stray = absurd stray
 
--- bytes that can't be read are refused alike
+-- unreadable bytes have the same fault
 pub unread : (bytes : List ℕ) (e : FlowFault) → IsFlowFault bytes e → IsOfReading e
     → IsOrderFault bytes e
 unread bytes (Rule s Empty) fault kind = fault

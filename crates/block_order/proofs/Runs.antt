@@ -1,5 +1,5 @@
--- A program and its order run in lockstep: each step of the program but a JA is the same step at
--- the instruction's place, and a JA on either side changes slot and count alone.
+-- A program and its order run in lockstep. Each step of the program except a JA is the same step at
+-- the new slot, and a JA on either side changes only slot and count.
 use Rattle.std.proofs.Common.{◌≡◌, ◌↔◌, ℕ, ◌+◌, List, Some, refl, ap, sym, subst, ◌∙◌, inl, inr}
 use Rattle.std.proofs.lemmas.Option.{same_Some}
 use Rattle.attrs.specs.Attributes.{Attributes}
@@ -35,13 +35,13 @@ use Rattle.block_order.proofs.Steps.{atomic_follows, reach_follows, branch_follo
 
 -- ---- one instruction
 
--- a JA goes on at once
+-- a JA continues at its target
 jump_step : (p : ShapedProgram) (s : State) (d : Distance) (t : ℕ)
     → at p.code s.slot ≡ Some (Jump d) → landing s.slot (slots_moved d) ≡ Some t
     → step p s ≡ Going (moved_to s t)
 jump_step p s d t here lands = ap (act_at p.shape s) here ∙ ap (jump_to s) lands
 
--- any other instruction is the same one where it stands
+-- any other instruction is the same at its new slot
 module _ (places : Places) (q : Program) (shape : AppShape) where
   kept_step : (s : State) (u m : ℕ) (i : Insn) → IsNoJump i → IsKeptAs places q s.slot u i
       → Follows places q (act shape s i) (act_at shape (set s u m) (at q u))
@@ -85,7 +85,7 @@ module _ (places : Places) (p q : Program) (order : IsOrderOf places p q) where
       let k = order.kept s u placed in
       subst (λ x. IsKeptAs places q s u x) (same_Some k.0 i (sym k.1 ∙ here)) k.2
 
-  -- the new slot leads to what the program's JA leads to
+  -- the new slot leads to the target of the program's JA
   leads_on : (s u t : ℕ) (d : Distance) → at p s ≡ Some (Jump d)
       → landing s (slots_moved d) ≡ Some t → places s ≡ Some u → GoesOnAt places q u t
   leads_on s u t d here lands placed =
@@ -110,7 +110,7 @@ module _ (places : Places) (p q : Program) (order : IsOrderOf places p q) where
     same_step s u m i here lacks placed =
         rw here (kept_step places q shape s u m i lacks (kept_at s.slot u i here placed))
 
-    -- ---- the order does what the program does
+    -- ---- the order follows the program
 
     led : (s : State) (v u m : ℕ) → LeadsOnto q v u → (k : ℕ) × Passes New (set s v m) (set s u k)
     led s v u m (inl same) =
@@ -131,9 +131,9 @@ module _ (places : Places) (p q : Program) (order : IsOrderOf places p q) where
         subst (λ x. KeepsUp Old New Forth s x) (sym is)
         (set s u k.0, k.1, compared s u k.0 (order.leaves s.slot u placed) placed)
 
-    -- ---- and the program what its order does
+    -- ---- and the program follows its order
 
-    -- a JA of the order is passed alone
+    -- a JA of the order is a step on its own
     alone : (s : State) (n k v u m : ℕ) → IsJump q v u → places n ≡ Some u
         → Keeps New Old Back (step New (set s v m)) (set s n k)
     alone s n k v u m (d, here, lands) placed =
@@ -141,7 +141,7 @@ module _ (places : Places) (p q : Program) (order : IsOrderOf places p q) where
         (sym (jump_step New (set s v m) d u here lands))
         (u, m + 1, refl, (u, placed, inl refl)))
 
-    -- the program passes its JAs from slot n on, to where they end or the order has one
+    -- the program follows its JAs from slot n, to their end or to one that the order has
     leaving : (s : State) {n : ℕ} → LeavesJumps p n → (k u m : ℕ) → places n ≡ Some u
         → KeepsUp New Old Back (set s u m) (set s n k)
     leaving s {n} (other {i} here lacks) k u m placed = (

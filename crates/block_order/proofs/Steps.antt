@@ -1,5 +1,5 @@
--- One step of the old program is one of the new one: from a state that differs in slot and count
--- the same instruction comes to the same, and goes on where the old one does.
+-- One step of the old program is one of the new one. From a state that differs only in slot and
+-- count, the same instruction has the same outcome, and continues as the old one does.
 use Rattle.std.proofs.Common.{◌≡◌, ℕ, ◌+◌, ◌-◌, ℤ, Option, Some, None}
 use Rattle.std.proofs.Common.{Bool, true, false, refl, sym, subst, inl}
 use Rattle.std.specs.Prelude.{◌==◌, if◌then◌else◌}
@@ -36,7 +36,7 @@ use Rattle.block_order.proofs.Lockstep.{Matches}
 abbrev pub set : State → ℕ → ℕ → State
 set s v m = record s { slot = v; count = m }
 
--- what is read doesn't hang on the slot
+-- operands don't depend on the slot
 pub operand_same : (s : State) (v m : ℕ) (bits : Bits) (x : Operand)
     → operand (set s v m) bits x ≡ operand s bits x
 operand_same s v m bits (Imm k) = refl
@@ -63,11 +63,11 @@ result_same shape s v m number = by_helper (helper_of number)
         given_same shape s v m (given_of_number helper s.attributes) (prototype_of helper)
 
 module _ (places : Places) (q : Program) where
-  -- the new state is the old one at a slot that leads to where the old one is
+  -- the new state is the old one, at a slot that leads to the old one's instruction
   abbrev pub Tracks : State → State → Type 0
   Tracks t t' = (v : ℕ) × (m : ℕ) × (t' ≡ set t v m) × GoesOnAt places q v t.slot
 
-  -- the new step comes to the same as the old one
+  -- the new step has the same outcome as the old one
   abbrev pub Follows : Outcome → Outcome → Type 0
   Follows = Matches Tracks
 

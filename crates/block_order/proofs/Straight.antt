@@ -1,4 +1,4 @@
--- What an instruction keeps that is neither a jump nor EXIT, and when two are the same.
+-- Instructions that are neither jumps nor EXIT, and when two instructions are the same.
 use Rattle.std.proofs.Common.{◌≡◌, ℕ, ℤ, Result, Ok, Err, ap}
 use Rattle.bpf_insn.specs.declared.operand.Bits.{Bits}
 use Rattle.bpf_insn.specs.declared.operand.Condition.{Condition}
@@ -24,7 +24,7 @@ pub same_jump : (i j : Insn) (bits : Bits) (condition : Condition) (left : Reg) 
     → IsSameJump i j
 same_jump i j bits condition left right k m is same = rw is (m, same)
 
--- ---- what the decoder answers
+-- ---- the decoder's result
 
 abbrev Answer : Type 0
 Answer = Result (Insn × Width) InsnFault

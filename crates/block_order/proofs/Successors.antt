@@ -1,4 +1,4 @@
--- The places that an instruction leads to, as elements of its successors.
+-- The slots to which an instruction leads, as elements of its successors.
 use Rattle.std.proofs.Common.{◌≡◌, ℕ, ◌<◌, Bool, true, [], ◌∷◌}
 use Rattle.std.proofs.Common.{Option, Some, None, refl, sym, ◌∙◌, subst, arith, inl, inr}
 use Rattle.std.specs.Prelude.{Contains, ◌⊎◌, option_to_list, if◌then◌else◌}
@@ -9,7 +9,7 @@ use Rattle.bpf_insn.specs.declared.insn.Insn.TheVariants.{Jump, Wide}
 use Rattle.bpf_insn.specs.Program.{landing, slots_moved}
 use Rattle.flow_check.specs.Edges.{target_of, goes_on, next_of, next_target, successors}
 
--- ---- what there is, and what there isn't
+-- ---- some and none
 
 pub some_is : {A : Type 0} → (x y : A) → Some x ≡ Some y → x ≡ y
 some_is x y e = cc
@@ -39,7 +39,7 @@ pub later : (t : ℕ) (i : Insn) → t < next_of t i
 later t (Wide dst value) = omega arith
 later t i = omega arith
 
--- a JA leads to its target alone
+-- a JA leads only to its target
 pub landed : (s t u : ℕ) (d : Distance) → landing s (slots_moved d) ≡ Some t
     → (target_of s (Jump d) ≡ Some u) ⊎ (next_target s (Jump d) ≡ Some u) → t ≡ u
 landed s t u d lands (inl to) = some_is t u (sym lands ∙ to)

@@ -1,5 +1,5 @@
--- What it means that one program is another one in order: each of its instructions but JA stands
--- there, at a place of its own, and leads to the same instructions as before.
+-- When one program is another one in order: each instruction except JAs has a slot of its own
+-- there, and leads to the same instructions as before.
 use Rattle.std.specs.Prelude.{◌≡◌, ℕ, ◌+◌, ◌⊎◌, ℤ, List, Option, Some, slice_get}
 use Rattle.bpf_insn.specs.declared.operand.Distance.{Distance}
 use Rattle.bpf_insn.specs.declared.insn.Insn.{Insn}
@@ -9,12 +9,12 @@ use Rattle.flow_check.specs.Edges.{target_of, next_of}
 use Rattle.flow_check.specs.Fault.{IsRead}
 use Rattle.flow_check.specs.Flow.{IsAcceptedAs}
 
--- where the instructions of the old program stand in the new one, by their old slots; none where an
--- instruction was dropped
+-- the new slots of the old program's instructions, by their old slots; none if an instruction was
+-- dropped
 abbrev pub Places : Type 0
 Places = ℕ → Option ℕ
 
--- places that are kept in a list
+-- new slots that are kept in a list
 abbrev pub place_at : List (Option ℕ) → ℕ → Option ℕ
 place_at places s = slice_get places s >>= λ t. t
 
@@ -26,19 +26,19 @@ IsJump q t u = (d : Distance) × (at q t ≡ Some (Jump d)) × (landing t (slots
 abbrev pub LeadsOnto : Program → ℕ → ℕ → Type 0
 LeadsOnto q t u = (t ≡ u) ⊎ IsJump q t u
 
--- slot t of the new program leads to what stood at slot s of the old one
+-- slot t is slot u, or the JA at t leads to it
 abbrev pub GoesOnAt : Places → Program → ℕ → ℕ → Type 0
 GoesOnAt places q t s = (u : ℕ) × (places s ≡ Some u) × LeadsOnto q t u
 
--- ---- one instruction
+-- slot t of the new program leads to the instruction of slot s in the old one
 
--- a conditional jump, and the same one with an offset of its own
+-- j is the same conditional jump, with any offset
 abbrev pub IsSameJump : Insn → Insn → Type 0
 IsSameJump (JumpIf bits condition left right offset) j =
     (moved : ℤ) × (j ≡ JumpIf bits condition left right moved)
 IsSameJump i j = ⊥
 
--- the conditional jump of slot s stands at slot t, and lands on the place of what it landed on
+-- the conditional jump of slot s is at slot t, and lands on the new slot of its target
 pub record IsJumpKept (places : Places) (q : Program) (s t : ℕ) (i : Insn) : Type 0 where
   pub moved : Insn
   pub stands : at q t ≡ Some moved
@@ -49,8 +49,8 @@ pub record IsJumpKept (places : Places) (q : Program) (s t : ℕ) (i : Insn) : T
   pub placed : places target ≡ Some place
   pub lands : target_of t moved ≡ Some place
 
--- the instruction of slot s stands at slot t and leads on as before; of a JA nothing has to stand
--- there but what it leads to
+-- the instruction of slot s is at slot t and continues as before; for a JA, slot t only has to lead
+-- to its target
 abbrev pub IsKeptAs : Places → Program → ℕ → ℕ → Insn → Type 0
 IsKeptAs places q s t (Jump d) =
     (target : ℕ) × (landing s (slots_moved d) ≡ Some target) × GoesOnAt places q t target
@@ -70,19 +70,19 @@ IsStraight (JumpIf bits condition left right offset) = ⊥
 IsStraight Exit = ⊥
 IsStraight i = Unit {0}
 
--- the instruction stands at slot t, and goes on there to what came after slot s
+-- the instruction is at slot t, and continues at the instruction that followed slot s
 abbrev pub IsStraightKept : Places → Program → ℕ → ℕ → Insn → Type 0
 IsStraightKept places q s t i =
     (at q t ≡ Some i) × GoesOnAt places q (next_of t i) (next_of s i)
 
--- ---- jumps alone
+-- ---- runs of JAs
 
--- no JA
+-- not a JA
 abbrev pub IsNoJump : Insn → Type 0
 IsNoJump (Jump d) = ⊥
 IsNoJump i = Unit {0}
 
--- JAs alone lead from the place to another instruction, and not round
+-- following JAs from the slot ends at another instruction, and not in a loop
 pub data LeavesJumps (p : Program) : ℕ → Type 0 where
   other : {s : ℕ} {i : Insn} → at p s ≡ Some i → IsNoJump i → LeavesJumps p s
   jumped : {s t : ℕ} {d : Distance} → at p s ≡ Some (Jump d) → landing s (slots_moved d) ≡ Some t
@@ -90,14 +90,14 @@ pub data LeavesJumps (p : Program) : ℕ → Type 0 where
 
 -- ---- the whole program
 
--- the entry stays the entry, and each instruction that has a place is kept there; so each one that
--- a run may come to has a place. A loop of JAs, of which nothing has to stand there, has none
+-- the entry is still at slot 0, and each instruction that has a new slot is kept there. So each
+-- instruction that a run may reach has a new slot. A loop of JAs, which needs no code, has none
 pub record IsOrderOf (places : Places) (p q : Program) : Type 0 where
   pub start : places 0 ≡ Some 0
   pub kept : (s t : ℕ) → places s ≡ Some t → IsKeptAt places p q s t
   pub leaves : (s t : ℕ) → places s ≡ Some t → LeavesJumps p s
 
--- bytes that the flow check accepts as the same program in order: all edges lead forward, and all
+-- bytes that the flow check accepts, of the same program in order: all edges lead forward, and all
 -- instructions are reached
 pub record HasOrder (p : Program) (ordered : List ℕ) : Type 0 where
   pub new : Program
@@ -105,7 +105,7 @@ pub record HasOrder (p : Program) (ordered : List ℕ) : Type 0 where
   pub places : Places
   pub order : IsOrderOf places p new
 
--- bytes that are read as a program, and the bytes of its order
+-- the bytes of a program, and those of the program in order
 pub record IsOrdered (bytes ordered : List ℕ) : Type 0 where
   pub old : Program
   pub read : IsRead bytes old

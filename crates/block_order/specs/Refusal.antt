@@ -1,5 +1,5 @@
--- Why a program isn't put in order: some run of its edges leads onto no instruction, or comes back
--- to where it was, or its order is too long.
+-- Why a program isn't put in order: a reached edge leads onto no instruction, the edges close a
+-- cycle, or the result is too long.
 use Rattle.std.specs.Prelude.{◌≡◌, ℕ, ◌<◌, ◌≤◌, ◌⊎◌, List, length, Some, None, IsSome}
 use Rattle.bpf_insn.specs.declared.insn.Insn.{Insn}
 use Rattle.bpf_insn.specs.Program.{Program, at}
@@ -13,13 +13,13 @@ use Rattle.flow_check.specs.Edges.{jump_of, target_of, IsOutside, IsInsideWide, 
 use Rattle.flow_check.specs.Fault.{IsFlowFault, IsRead, rule_number}
 use Rattle.block_order.specs.Reach.{ReachedFrom}
 
--- ---- what no order mends
+-- ---- faults of each order
 
 -- it jumps below slot 0
 abbrev pub IsBelow : Program → ℕ → Type 0
 IsBelow p s = (i : Insn) × (at p s ≡ Some i) × IsSome (jump_of i) × (target_of s i ≡ None)
 
--- an edge of the place leads onto no instruction
+-- an edge from the slot leads onto no instruction
 abbrev pub IsStray : Program → ℕ → FlowRule → Type 0
 IsStray p s BackJump = IsBelow p s
 IsStray p s Outside = IsOutside p s
@@ -27,30 +27,30 @@ IsStray p s InsideWide = IsInsideWide p s
 IsStray p s FallsOff = IsFallingOff p s
 IsStray p s rule = ⊥
 
--- the instruction jumps nowhere, or onto an instruction
+-- the instruction doesn't jump, or jumps onto an instruction
 pub record LandsWithin (p : Program) (s : ℕ) : Type 0 where
   pub below : ¬ IsBelow p s
   pub outside : ¬ IsOutside p s
   pub inside : ¬ IsInsideWide p s
 
--- every edge of the place leads onto an instruction
+-- each edge from the slot leads onto an instruction
 abbrev pub StaysWithin : Program → ℕ → Type 0
 StaysWithin p s = (rule : FlowRule) → ¬ IsStray p s rule
 
--- it jumps back to a place from which it is reached again
+-- it jumps back to a slot from which it is reached again
 abbrev pub ClosesCycle : Program → ℕ → Type 0
 ClosesCycle p s =
     (i : Insn) × (t : ℕ) × (at p s ≡ Some i) × (target_of s i ≡ Some t) × (t ≤ s)
     × ReachedFrom p t s
 
--- ---- which fault is the answer
+-- ---- which fault is returned
 
--- of the ways in which a place leads onto no instruction, the one with the lowest number
+-- the rule with the lowest number, among those by which an edge leads onto no instruction
 pub record IsStrayBy (p : Program) (s : ℕ) (rule : FlowRule) : Type 0 where
   pub strays : IsStray p s rule
   pub lowest : (other : FlowRule) → rule_number other < rule_number rule → ¬ IsStray p s other
 
--- the lowest place that is reached and leads onto no instruction
+-- the lowest reached slot with an edge that leads onto no instruction
 pub record IsFirstStray (bytes : List ℕ) (s : ℕ) (rule : FlowRule) : Type 0 where
   pub program : Program
   pub read : IsRead bytes program
@@ -58,7 +58,7 @@ pub record IsFirstStray (bytes : List ℕ) (s : ℕ) (rule : FlowRule) : Type 0 
   pub breaks : IsStrayBy program s rule
   pub before : (t : ℕ) → t < s → ReachedFrom program 0 t → StaysWithin program t
 
--- what is reached leads onto instructions alone, and this is the lowest jump that closes a cycle
+-- all reached edges lead onto instructions, and this is the lowest jump that closes a cycle
 pub record IsFirstCycle (bytes : List ℕ) (s : ℕ) : Type 0 where
   pub program : Program
   pub read : IsRead bytes program
@@ -67,16 +67,16 @@ pub record IsFirstCycle (bytes : List ℕ) (s : ℕ) : Type 0 where
   pub closes : ClosesCycle program s
   pub before : (t : ℕ) → t < s → ReachedFrom program 0 t → ¬ ClosesCycle program t
 
--- what is reached leads onto instructions alone, and closes no cycle
+-- all reached edges lead onto instructions, and close no cycle
 pub record IsOrderable (bytes : List ℕ) : Type 0 where
   pub program : Program
   pub read : IsRead bytes program
   pub within : (t : ℕ) → ReachedFrom program 0 t → StaysWithin program t
   pub acyclic : (t : ℕ) → ReachedFrom program 0 t → ¬ ClosesCycle program t
 
--- when each fault is the answer: what can't be read is refused as the flow check refuses it, and F7
--- comes where the bytes are too long, or where nothing but the length of their order forbids it,
--- which isn't compared here; of want of memory nothing is said
+-- when each fault is returned. Unreadable bytes have the flow check's fault. F7 means that the
+-- bytes are too long, or that only the length of their order may be the reason; that length isn't
+-- compared here. Nothing is claimed if memory runs out
 abbrev pub IsOrderFault : List ℕ → FlowFault → Type 0
 IsOrderFault bytes (Rule s Empty) = IsFlowFault bytes (Rule s Empty)
 IsOrderFault bytes (Rule s TooLong) = (s ≡ 0) × ((32768 < length bytes) ⊎ IsOrderable bytes)

@@ -1,5 +1,5 @@
-//! Why a program has no order: the lowest place that leads onto no instruction, or the lowest jump
-//! that closes a cycle.
+//! Why a program has no order: the lowest slot with an edge that leads onto no instruction, or the
+//! lowest jump that closes a cycle.
 
 ghost use Rattle.std.specs.Prelude.{◌≡◌, ℕ, ◌<◌, ◌≤◌, IfOk, IfSome, IfNone, IsSome, IsTrue};
 ghost use Rattle.std.specs.Prelude.{None, Some, false, length};
@@ -22,8 +22,8 @@ fn is_jump(insn: Insn) -> bool
     matches!(insn, Insn::Jump { .. } | Insn::JumpIf { .. })
 }
 
-/// The rule that the jump breaks in any order: it lands below slot 0, at the end or past it, or
-/// in a second half.
+/// The rule that the jump breaks in any order: it lands below slot 0, at or past the end, or in the
+/// second half of a wide load.
 fn stray_jump(code: &[Option<Insn>], slot: usize, insn: Insn) -> Option<FlowRule>
     requires short { length code.now ≤ 4096 }
     requires at { program.at code.now slot ≡ Some insn }
@@ -43,7 +43,7 @@ fn stray_jump(code: &[Option<Insn>], slot: usize, insn: Insn) -> Option<FlowRule
     }
 }
 
-/// The rule that the place breaks in any order, but for cycles.
+/// The rule that the slot breaks in any order, apart from cycles.
 fn stray(code: &[Option<Insn>], slot: usize, insn: Insn) -> Option<FlowRule>
     requires short { length code.now ≤ 4096 }
     requires at { program.at code.now slot ≡ Some insn }
@@ -59,7 +59,8 @@ fn stray(code: &[Option<Insn>], slot: usize, insn: Insn) -> Option<FlowRule>
     }
 }
 
-/// The lowest place that is reached and leads onto no instruction, and the rule that it breaks.
+/// The lowest reached slot with an edge that leads onto no instruction, and the rule that it
+/// breaks.
 pub fn first_stray(code: &[Option<Insn>], reached: &[bool]) -> Option<(usize, FlowRule)>
     requires short { length code.now ≤ 4096 }
     requires length { length reached.now ≡ length code.now }
@@ -79,7 +80,7 @@ pub fn first_stray(code: &[Option<Insn>], reached: &[bool]) -> Option<(usize, Fl
     None
 }
 
-/// Whether the instruction jumps back to a place from which it is reached again.
+/// Whether the instruction jumps back to a slot from which it is reached again.
 fn closes_cycle(
     alloc: Global,
     code: &[Option<Insn>],

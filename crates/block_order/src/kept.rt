@@ -1,5 +1,5 @@
-//! Whether one program is another one in order: each instruction that has a place is compared with
-//! the one there, and its targets with those of the other.
+//! Whether one program is another one in order. Each instruction that has a new slot is compared
+//! with the instruction there, and its targets with the new targets.
 
 ghost use Rattle.std.specs.Prelude.{◌≡◌, ℕ, ◌<◌, ◌≤◌, Some, IsTrue, length};
 ghost use Rattle.bpf_insn.specs.declared.insn.Insn.{Insn};
@@ -13,7 +13,7 @@ use crate::same::is_same;
 use bpf_insn::{Distance, Insn, MOST_SLOTS};
 use flow_check::{Flow, jump_target};
 
-/// The place of the instruction that began at the slot.
+/// The new slot of the instruction that was at `slot`.
 pub fn place_of(places: &[Option<usize>], slot: usize) -> Option<usize>
     ensures { result ≡ place_at places.now slot }
 {
@@ -36,7 +36,7 @@ fn is_jump(flow: &Flow, slot: usize, target: usize) -> bool
     }
 }
 
-/// Whether the slot of the new program leads to what stood at the old one's.
+/// Whether the new slot leads to the instruction of the old slot.
 fn goes_on_at(flow: &Flow, places: &[Option<usize>], slot: usize, old: usize) -> bool
     ensures { IsTrue result → GoesOnAt (place_at places.now) flow.now slot old }
 {
@@ -46,7 +46,7 @@ fn goes_on_at(flow: &Flow, places: &[Option<usize>], slot: usize, old: usize) ->
     }
 }
 
-/// Whether the JA of the old slot leads on from the new one.
+/// Whether the JA of the old slot leads on from the new slot.
 fn is_passed(
     flow: &Flow,
     places: &[Option<usize>],
@@ -64,7 +64,7 @@ fn is_passed(
     }
 }
 
-/// Whether the instruction stands at the slot.
+/// Whether the instruction is at the slot.
 fn stands_at(flow: &Flow, slot: usize, insn: Insn) -> bool
     ensures { IsTrue result → program.at flow.now slot ≡ Some insn }
 {
@@ -74,7 +74,7 @@ fn stands_at(flow: &Flow, slot: usize, insn: Insn) -> bool
     }
 }
 
-/// Whether this is the conditional jump, but for its offset.
+/// Whether both are the same conditional jump, except for the offset.
 #[tactic(auto, using(crate::proofs::Straight::same_jump))]
 fn is_same_jump(insn: Insn, found: Insn) -> bool
     ensures { IsTrue result → IsSameJump insn found }
@@ -102,7 +102,8 @@ fn is_same_jump(insn: Insn, found: Insn) -> bool
     is_same(found, moved)
 }
 
-/// Whether the conditional jump of the old slot stands at the new one, and lands where it did.
+/// Whether the conditional jump of the old slot is at the new slot, and lands on the same
+/// instruction.
 fn is_jump_kept(flow: &Flow, places: &[Option<usize>], old: usize, slot: usize, insn: Insn) -> bool
     requires old { old < 4096 }
     requires slot { slot < 4096 }
@@ -120,7 +121,7 @@ fn is_jump_kept(flow: &Flow, places: &[Option<usize>], old: usize, slot: usize, 
     is_same_jump(insn, moved) && jump_target(slot, moved) == Some(place)
 }
 
-/// Whether the instruction goes on, and jumps nowhere.
+/// Whether the instruction continues at the next one, and doesn't jump.
 fn is_straight(insn: Insn) -> bool
     ensures { IsTrue result → IsStraight insn }
 {
@@ -130,7 +131,7 @@ fn is_straight(insn: Insn) -> bool
     }
 }
 
-/// Whether an instruction that goes on stands at the new slot, and goes on there as before.
+/// Whether an instruction that doesn't jump is at the new slot, and continues as before.
 fn is_straight_kept(
     flow: &Flow,
     places: &[Option<usize>],
@@ -146,7 +147,7 @@ fn is_straight_kept(
     stands_at(flow, slot, insn) && goes_on_at(flow, places, slot + width, old + width)
 }
 
-/// Whether the instruction of the old slot stands at the new one and leads on as before.
+/// Whether the instruction of the old slot is at the new slot, and continues as before.
 #[tactic(auto, using(crate::proofs::Straight::kept_straight))]
 fn is_kept(flow: &Flow, places: &[Option<usize>], old: usize, slot: usize, insn: Insn) -> bool
     requires { old < 4096 }
@@ -169,7 +170,7 @@ fn is_kept(flow: &Flow, places: &[Option<usize>], old: usize, slot: usize, insn:
     }
 }
 
-/// Whether what begins at the old slot is kept at its place, if it has one.
+/// Whether the instruction of the old slot is kept at its new slot, if it has one.
 fn is_slot_kept(flow: &Flow, places: &[Option<usize>], old: usize, insn: Option<Insn>) -> bool
     requires { old < 4096 }
     ensures { IsTrue result → ((t : ℕ) → place_at places.now old ≡ Some t
@@ -184,15 +185,14 @@ fn is_slot_kept(flow: &Flow, places: &[Option<usize>], old: usize, insn: Option<
     }
 }
 
-/// Whether the entry stays the entry.
+/// Whether the entry is still at slot 0.
 fn keeps_entry(places: &[Option<usize>]) -> bool
     ensures { IsTrue result → place_at places.now 0 ≡ Some 0 }
 {
     place_of(places, 0) == Some(0)
 }
 
-/// Whether the program is the other one in order, with its instructions at these places: one for
-/// each old slot.
+/// Whether the program `flow` is `code` in order. `places` has the new slot of each old slot.
 pub fn is_in_order(code: &[Option<Insn>], flow: &Flow, places: &[Option<usize>]) -> bool
     requires short { length code.now ≤ 4096 }
     requires length { length places.now ≡ length code.now }

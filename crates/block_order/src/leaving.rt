@@ -1,6 +1,5 @@
-//! Loops of JAs. A program in order needs nothing in the place of a JA, and so nothing for a loop
-//! of JAs alone. So whether each run of JAs reaches another instruction is checked in the old
-//! program.
+//! Loops of JAs. A program in order may have nothing in place of a JA, and so nothing in place of a
+//! loop of only JAs. So the old program is checked: each run of JAs must reach another instruction.
 
 ghost use Rattle.std.specs.Prelude.{◌≡◌, ℕ, ◌<◌, ◌≤◌, Some, IfSome, IsTrue, length};
 ghost use Rattle.bpf_insn.specs.declared.operand.Distance.{Distance};
@@ -23,7 +22,7 @@ fn insn_at(code: &[Option<Insn>], slot: usize) -> Option<Insn>
     }
 }
 
-/// Whether the instruction is no JA.
+/// Whether the instruction isn't a JA.
 fn is_no_jump(insn: Insn) -> bool
     ensures { IsTrue result → IsNoJump insn }
 {
@@ -33,7 +32,7 @@ fn is_no_jump(insn: Insn) -> bool
     }
 }
 
-/// Where a JA of the slot lands; none of any other instruction.
+/// The target of a JA at the slot; `None` for any other instruction.
 fn landing_of(slot: usize, insn: Insn) -> Option<usize>
     requires { slot < 4096 }
     ensures { IfSome result (λ t. (d : Distance) × (insn ≡ Insn.Jump d)
@@ -45,7 +44,7 @@ fn landing_of(slot: usize, insn: Insn) -> Option<usize>
     }
 }
 
-/// Whether JAs alone lead from the slot to another instruction.
+/// Whether following JAs from the slot ends at another instruction.
 #[tactic(auto, using(crate::proofs::JumpsOn::by_other, crate::proofs::JumpsOn::by_jump))]
 fn leaves_jumps(code: &[Option<Insn>], slot: usize) -> bool
     requires { length code.now ≤ 4096 }
@@ -67,7 +66,7 @@ fn leaves_jumps(code: &[Option<Insn>], slot: usize) -> bool
     false
 }
 
-/// Whether from each instruction that has a place JAs alone lead to another one.
+/// Whether following JAs from each slot that has a new slot ends at another instruction.
 #[tactic(auto, using(crate::proofs::Places::place_within))]
 pub fn all_leave_jumps(code: &[Option<Insn>], places: &[Option<usize>]) -> bool
     requires { length code.now ≤ 4096 }

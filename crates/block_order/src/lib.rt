@@ -1,5 +1,5 @@
-//! Basic blocks in order: a program whose jumps lead backward, though it has no cycle, is written
-//! with its blocks in an order in which every jump leads forward.
+//! Basic blocks in topological order. A program that has no cycle, but whose jumps lead backward,
+//! is written with its blocks in an order in which every jump leads forward.
 //!
 //! See docs/PROGRAM.md, "Refusals".
 #![tactic(auto)]

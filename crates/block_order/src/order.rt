@@ -1,7 +1,6 @@
-//! Putting a program in order. A program that the flow check accepts is in order already. Of any
-//! other the lines are planned and written; what was written is read again by the flow check, and
-//! compared with the program instruction by instruction. So it doesn't hang on the plan that a
-//! program in order does what the program did.
+//! Putting a program in order. A program that the flow check accepts is in order already. For any
+//! other, the lines are planned and written. Then the flow check reads the result, and each
+//! instruction is compared with the original. So correctness doesn't depend on the plan.
 
 ghost use Rattle.std.specs.Prelude.{◌≡◌, ℕ, ◌<◌, ◌≤◌, IfOk, IfErr, IfSome, IfNone};
 ghost use Rattle.std.specs.Prelude.{IsTrue, List, MatchResult, length};
@@ -63,7 +62,7 @@ fn arranged(
     }
 }
 
-/// The lowest place that is reached and leads onto no instruction, as a fault.
+/// The lowest reached slot with an edge that leads onto no instruction, as a fault.
 fn stray_fault(code: &[Option<Insn>], reached: &[bool]) -> Option<FlowFault>
     requires short { length code.now ≤ 4096 }
     requires reached { AreReachedFrom code.now 0 reached.now }
@@ -74,7 +73,7 @@ fn stray_fault(code: &[Option<Insn>], reached: &[bool]) -> Option<FlowFault>
     Some(FlowFault::Rule { slot, rule })
 }
 
-/// Why no order was found: a cycle, or else that the program is too long once it is in order.
+/// Why no order was found: a cycle, otherwise that the program in order is too long.
 #[tactic(auto, using(crate::proofs::Refused::cycle_first, crate::proofs::Refused::orderable))]
 fn order_fault(
     alloc: Global,
@@ -98,7 +97,7 @@ fn order_fault(
     })
 }
 
-/// The bytes of the program in order, or why there are none.
+/// The bytes of the program in order, or its fault.
 fn in_order(alloc: Global, code: &[Option<Insn>]) -> Result<Vec<u8>, FlowFault>
     requires some { 0 < length code.now }
     requires short { length code.now ≤ 4096 }
@@ -115,7 +114,7 @@ fn in_order(alloc: Global, code: &[Option<Insn>]) -> Result<Vec<u8>, FlowFault>
     }
 }
 
-/// The bytes of a program that isn't in order.
+/// Orders the bytes of a program that isn't in order.
 fn rearranged(alloc: Global, bytes: &[u8]) -> Result<Vec<u8>, FlowFault>
     ensures program { IfOk result (λ v. IsOrdered bytes.now v.items) }
     ensures fault { IfErr result (λ e. IsOrderFault bytes.now e) }
@@ -124,7 +123,7 @@ fn rearranged(alloc: Global, bytes: &[u8]) -> Result<Vec<u8>, FlowFault>
     in_order(alloc, &code)
 }
 
-/// The bytes of a program that is in order.
+/// Copies the bytes of a program that is in order.
 fn copied(alloc: Global, bytes: &[u8], flow: &Flow) -> Result<Vec<u8>, AllocError>
     requires { program_bytes flow.now ≡ bytes.now }
     ensures program { IfOk result (λ v. IsOrdered bytes.now v.items) }
@@ -137,17 +136,18 @@ fn copied(alloc: Global, bytes: &[u8], flow: &Flow) -> Result<Vec<u8>, AllocErro
 
 /// The bytes of the program with its basic blocks in an order in which every jump leads forward.
 ///
-/// The entry comes first. Then comes, of the blocks that are ready (all blocks that lead there are
-/// placed already), the one that was lowest. Slots that aren't reached are dropped, and a JA is
-/// inserted or removed where the order requires it. If the flow check accepts the program, its
-/// bytes stay as they were read.
+/// The entry comes first. Each next block is the lowest ready one; a block is ready if all blocks
+/// that lead to it are placed. Slots that aren't reached are dropped, and a JA is inserted or
+/// removed if the order requires it. If the flow check accepts the program, its bytes are
+/// unchanged.
 ///
-/// F6, F7 and F8 are those of `Flow::check`. F1 to F4 are only about reached slots: the lowest one
-/// that jumps below slot 0, out of the program or into a wide load, or falls off its end; otherwise
-/// F1 of the lowest jump that closes a cycle. F7 also comes if there is no such slot and the
-/// program in order has more than 4096 slots. F9 may come at any time.
-// open: which order is found; that F7 comes of no program that has 4096 slots or fewer once it is
-// in order; the count of instructions, which may be another; whether memory is refused.
+/// F6, F7 and F8 are those of `Flow::check`. F1 to F4 are only about reached slots. They name the
+/// lowest slot that jumps below slot 0, out of the program or into a wide load, or falls off the
+/// end. If there is none, F1 names the lowest jump that closes a cycle. F7 is also returned if
+/// there is no such slot and the program in order has more than 4096 slots. F9 may be returned at
+/// any time.
+// open: which order is found; that F7 isn't returned for a program with at most 4096 slots in
+// order; the count of instructions, which may differ; whether an allocation fails.
 pub fn ordered(alloc: Global, bytes: &[u8]) -> Result<Vec<u8>, FlowFault>
     ensures program { IfOk result (λ v. IsOrdered bytes.now v.items) }
     ensures same { (p : Program) → IsAcceptedAs bytes.now p

@@ -1,6 +1,6 @@
-//! The ordered program as lines, in which a jump names the old slot to which it leads. The order is
-//! searched slot by slot; where an instruction goes on to one that isn't next, a JA is put in
-//! between, and a JA to the next line is left out.
+//! The ordered program as lines, in which a jump names the old slot of its target. The plan is
+//! built slot by slot. If an instruction continues at one that isn't next, a JA is inserted, and a
+//! JA to the next line is left out.
 
 ghost use Rattle.std.specs.Prelude.{◌≡◌, ◌<◌, ◌≤◌, IfOk, OnOk, length};
 
@@ -9,15 +9,15 @@ use bpf_insn::{Distance, Insn, Width};
 use flow_check::{jump_target, next_place};
 use std::alloc::{AllocError, Global};
 
-/// An instruction of the ordered program, and the old slot on which it lands where it jumps.
+/// An instruction of the ordered program, and the old slot that it jumps to, if it jumps.
 #[derive(Clone, Copy)]
 pub struct PlannedLine {
     pub insn: Insn,
     pub target: Option<usize>,
 }
 
-/// The lines so far, by their slots; of each old slot its new one; and the old slot to which the
-/// last line goes on.
+/// The lines so far, by their slots; the new slot of each old slot; and the old slot at which the
+/// last line continues.
 #[derive(Drop)]
 pub struct BlockPlan {
     pub lines: Vec<Option<PlannedLine>>,
@@ -26,7 +26,7 @@ pub struct BlockPlan {
 }
 
 impl BlockPlan {
-    /// No line yet, of a program of so many slots.
+    /// A plan without lines, for a program of `count` slots.
     fn new(alloc: Global, count: usize) -> Result<BlockPlan, AllocError>
         ensures { IfOk result (λ p. length p.places.items ≡ count) }
     {
@@ -38,7 +38,7 @@ impl BlockPlan {
         })
     }
 
-    /// A JA to where the last line goes on, unless the next line stands for that slot.
+    /// Adds a JA to the slot at which the last line continues, unless the next line is that slot.
     fn lead_on(&mut self, next: Option<usize>) -> Result<(), AllocError>
         ensures { OnOk result (length self.new.places.items ≡ length self.old.places.items) }
     {
@@ -53,7 +53,7 @@ impl BlockPlan {
         Ok(())
     }
 
-    /// The line of the slot's instruction; of a JA none, which is put in where it is wanted.
+    /// Adds the line of the slot's instruction. A JA adds none; it is inserted when needed.
     fn place(&mut self, slot: usize, insn: Insn) -> Result<(), AllocError>
         requires short { slot < 4096 }
         requires within { slot < length self.old.places.items }
@@ -75,7 +75,7 @@ impl BlockPlan {
     }
 }
 
-/// The lines of the places that are reached, as far as they can be put in order.
+/// The lines of the reached slots, as far as they can be put in order.
 pub fn planned(
     alloc: Global,
     code: &[Option<Insn>],

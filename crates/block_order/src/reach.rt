@@ -1,5 +1,5 @@
-//! The places that are reached from one: while a place that is marked leads to one that isn't, this
-//! is marked too.
+//! The slots that are reached from one: while a marked slot leads to an unmarked one, that one is
+//! marked.
 
 ghost use Rattle.std.specs.Prelude.{◌≡◌, ◌<◌, ◌≤◌, IfOk, IfSome, IfNone, Some, Contains, length};
 ghost use Rattle.std.specs.Prelude.{ℕ, false, true, replicate, slice_set};
@@ -13,7 +13,7 @@ use bpf_insn::Insn;
 use flow_check::{jump_target, next_place};
 use std::alloc::{AllocError, Global};
 
-/// The place, if there is one within the program that isn't marked.
+/// The slot, if it is within the program and unmarked.
 fn unmarked(marks: &[bool], place: Option<usize>) -> Option<usize>
     ensures some { IfSome result (λ t. (place ≡ Some t) × IsUnmarked marks.now t) }
     ensures none { IfNone result ((t : ℕ) → place ≡ Some t → t < length marks.now
@@ -25,8 +25,7 @@ fn unmarked(marks: &[bool], place: Option<usize>) -> Option<usize>
     }
 }
 
-/// A place that isn't marked and that the instruction of this slot leads to, if one begins there
-/// and the slot is marked.
+/// An unmarked slot to which the instruction of this slot leads, if this slot is marked.
 fn next_of_slot(marks: &[bool], slot: usize, place: Option<Insn>) -> Option<usize>
     requires slot { slot < 4096 }
     requires within { slot < length marks.now }
@@ -47,7 +46,7 @@ fn next_of_slot(marks: &[bool], slot: usize, place: Option<Insn>) -> Option<usiz
     }
 }
 
-/// A place that isn't marked, and that one which is leads to.
+/// An unmarked slot to which a marked one leads.
 fn next_unmarked(marks: &[bool], code: &[Option<Insn>]) -> Option<usize>
     requires short { length code.now ≤ 4096 }
     requires length { length marks.now ≡ length code.now }
@@ -62,7 +61,7 @@ fn next_unmarked(marks: &[bool], code: &[Option<Insn>]) -> Option<usize>
     None
 }
 
-/// A mark for each slot, of which the start's is set.
+/// A mark for each slot; only that of `start` is set.
 fn opening(alloc: Global, count: usize, start: usize) -> Result<Vec<bool>, AllocError>
     requires { start < count }
     ensures { IfOk result (λ v. v.items ≡ slice_set (replicate count false) start true) }
@@ -72,7 +71,7 @@ fn opening(alloc: Global, count: usize, start: usize) -> Result<Vec<bool>, Alloc
     Ok(marks)
 }
 
-/// Marks what is reached from the places that are marked.
+/// Marks all slots that are reached from the marked ones.
 fn mark_reached(marks: &mut [bool], code: &[Option<Insn>], start: usize)
     requires short { length code.now ≤ 4096 }
     requires start { IsReachedSo code.now start marks.old }
@@ -83,7 +82,7 @@ fn mark_reached(marks: &mut [bool], code: &[Option<Insn>], start: usize)
     }
 }
 
-/// A mark for each slot: those are set that some run of edges leads to from the start.
+/// A mark for each slot: it is set if a path of edges leads from `start` to the slot.
 pub fn reached_from(
     alloc: Global,
     code: &[Option<Insn>],

@@ -1,6 +1,6 @@
-//! Which slot is next. A block is ready if each instruction that leads to it has a place. The next
-//! block is the lowest that is ready; within a block it is the next instruction. A block begins at
-//! the entry, at the target of a jump, and after a conditional jump.
+//! The choice of the next slot. A block is ready if each instruction that leads to it is placed.
+//! The next block is the lowest ready one; within a block, the next instruction follows. A block
+//! begins at the entry, at the target of a jump, and after a conditional jump.
 
 ghost use Rattle.std.specs.Prelude.{◌<◌, ◌≤◌, IfSome, length};
 
@@ -14,7 +14,7 @@ fn is_marked(marks: &[bool], slot: usize) -> bool {
     }
 }
 
-/// Sets the mark of the place, if there is one within the program.
+/// Sets the mark of the slot, if it is within the program.
 fn set_mark(marks: &mut [bool], place: Option<usize>, mark: bool) {
     if let Some(place) = place
         && place < marks.len()
@@ -23,7 +23,7 @@ fn set_mark(marks: &mut [bool], place: Option<usize>, mark: bool) {
     }
 }
 
-/// Marks the slots after the entry at which a block begins.
+/// Marks the slots, other than the entry, at which a block begins.
 pub fn mark_heads(heads: &mut [bool], code: &[Option<Insn>], reached: &[bool])
     requires { length code.now ≤ 4096 }
 {
@@ -39,7 +39,7 @@ pub fn mark_heads(heads: &mut [bool], code: &[Option<Insn>], reached: &[bool])
     }
 }
 
-/// Marks the slots to which an instruction leads that is reached and has no place yet.
+/// Marks the successors of each reached instruction that isn't placed yet.
 pub fn mark_entered(
     entered: &mut [bool],
     code: &[Option<Insn>],
@@ -62,7 +62,7 @@ pub fn mark_entered(
     }
 }
 
-/// The slot that is next, if one is ready.
+/// The next slot, if one is ready.
 pub fn next_ready(
     heads: &[bool],
     entered: &[bool],

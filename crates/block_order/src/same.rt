@@ -1,4 +1,4 @@
-//! Whether two instructions are the same: no two have one encoding.
+//! Equality of instructions: different instructions have different encodings.
 
 ghost use Rattle.std.specs.Prelude.{◌≡◌, IsTrue};
 ghost use Rattle.bpf_insn.specs.Spelling.{Spells};
@@ -11,7 +11,7 @@ fn are_same(bytes: &[u8], others: &[u8]) -> bool
     bytes == others
 }
 
-/// Bytes that spell two instructions spell one. It is proved by decoding them.
+/// Law: bytes that spell two instructions spell the same one. The proof decodes them.
 fn spell_one(bytes: &[u8], others: &[u8], insn: Insn, other: Insn)
     requires first { Spells bytes.now 0 insn }
     requires second { Spells others.now 0 other }

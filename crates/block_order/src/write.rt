@@ -1,4 +1,4 @@
-//! The bytes of the lines: each jump gets the offset to the place of the slot that it names.
+//! The bytes of the lines: each jump gets the offset to the new slot of its target.
 
 use crate::kept::place_of;
 use crate::plan::{BlockPlan, PlannedLine};
@@ -28,7 +28,7 @@ fn with_offset(jump: Insn, offset: i16) -> Insn {
     }
 }
 
-/// The instruction of a line at its slot. None where it jumps to a slot that has no place ahead.
+/// The instruction of a line at its slot; `None` if it jumps to a slot that isn't placed ahead.
 fn resolved(line: PlannedLine, slot: usize, places: &[Option<usize>]) -> Option<Insn> {
     let Some(target) = line.target else {
         return Some(line.insn);
@@ -41,7 +41,7 @@ fn resolved(line: PlannedLine, slot: usize, places: &[Option<usize>]) -> Option<
     Some(with_offset(line.insn, offset as i16))
 }
 
-/// The bytes of the lines, if each jump has a place ahead.
+/// The bytes of the lines; `None` if a jump's target isn't placed ahead.
 pub fn written(alloc: Global, plan: &BlockPlan) -> Result<Option<Vec<u8>>, AllocError> {
     let mut bytes = Vec::new(alloc);
     for (slot, place) in plan.lines.iter().enumerate() {

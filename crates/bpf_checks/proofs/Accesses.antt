@@ -1,4 +1,4 @@
--- Loads and stores, by what their address is.
+-- Loads and stores, by the kind of their address.
 use Rattle.std.proofs.Common.{◌≡◌, ℕ, ◌+◌, ℤ, [], ◌∷◌, Some, Bool, true, false, refl, FitsSigned}
 use Rattle.std.specs.Prelude.{◌||◌, ◌&&◌, ◌==◌}
 use Rattle.std.specs.Int.{w16, w32}

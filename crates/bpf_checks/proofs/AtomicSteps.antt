@@ -1,4 +1,4 @@
--- Atomic operations: where no rule fails their address is a cell's.
+-- Atomic operations: if no rule is broken, their address is a cell's.
 use Rattle.std.proofs.Common.{◌≡◌, ℕ, ◌+◌, ◌-◌, ◌*◌, ◌^◌, ◌<◌, ℤ, [], ◌∷◌, Option, Some, None}
 use Rattle.std.proofs.Common.{Bool, true, false, refl, sym, subst, arith, inl, inr}
 use Rattle.std.specs.Prelude.{◌&&◌, ◌||◌, not}
@@ -61,7 +61,7 @@ cell_value size dst offset (MayCell call) u c a k = absurd cc
 
 -- ---- replies
 
--- an operation of an atomic instruction replies by the cell's old value
+-- the reply to an atomic instruction is the cell's old value
 replies : (op : AtomicOp) (r0 v c reply : ℕ) → CanReply c (cell_op op r0 v) reply
     → reply < 2 ^ width c
 replies atomic.Add r0 v c reply fits = fits
@@ -89,7 +89,7 @@ fetched_included given g size c reply wide fits =
 
 -- ---- operands
 
--- R0 is there where it is compared
+-- R0 is set if it is compared
 record Operands (op : AtomicOp) (s : State) (src : Reg) (g : Returns) (v : Abs) : Type 0 where
   number : ℕ
   is : register s src ≡ Some number

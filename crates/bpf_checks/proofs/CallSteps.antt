@@ -1,4 +1,4 @@
--- Calls: where no rule fails the helper is there and gives a result, which R0 stands for.
+-- Calls: if no rule is broken, the helper exists, and the abstract R0 represents its result.
 use Rattle.std.proofs.Common.{◌≡◌, ℕ, ◌+◌, ◌-◌, ◌≤◌, min, ℤ, pos, ◌+ℤ◌, List}
 use Rattle.std.proofs.Common.{Option, Some, None, Bool, true, false, refl, ap, arith}
 use Rattle.std.specs.Prelude.{IsSome, option_map, slice_get, nat_lt, nat_le, ◌==◌, ◌&&◌, ◌||◌}
@@ -132,7 +132,7 @@ text_there given shape e s v w number address n h words is set at length = absur
 
 -- ---- each prototype
 
--- what is asked of the arguments of a helper
+-- the conditions on a helper's arguments
 record Asked (e : AbsState) (prototype : Option Prototype) : Type 0 where
   usable : (list_any (λ r. is_unusable (value_of e r)) (arguments prototype)
       || compares_unset e prototype) ≡ false

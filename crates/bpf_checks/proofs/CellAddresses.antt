@@ -1,4 +1,4 @@
--- The cell whose address a value is: that it is there, how wide it is, and whether it has a quota.
+-- The cell at an address: it exists, it has a width, and it may have a quota.
 use Rattle.std.proofs.Common.{◌≡◌, ◌≢◌, ℕ, zero, suc, ◌+◌, ◌-◌, ◌*◌, ◌/◌, ◌<◌, ◌≤◌}
 use Rattle.std.proofs.Common.{ℤ, pos, negsuc, List, [], ◌∷◌, length, All, Some}
 use Rattle.std.proofs.Common.{Bool, true, false, refl, sym, subst, arith, inl, inr}
@@ -62,7 +62,7 @@ cell_there cell count (negsuc n) lt wide start = absurd cc
 
 -- ---- the cell of a value
 
--- the cell at the address; what is known of its array, and of its quota
+-- the cell at the address, its array, and its quota
 pub record IsAt (shape : AppShape) (origin : Origin) (x : ℕ) : Type 0 where
   pub cell : ℕ
   pub address : x ≡ cell_address cell
@@ -79,7 +79,7 @@ contains : (arrays : List CellArray) (index : ℕ) (a : CellArray) → slice_get
 contains arrays index a e =
     (index, slice_get_within arrays index a e, get_or_from_slice_get arrays index a a e)
 
--- another array with the cell is the same
+-- arrays with a common cell are the same array
 same_array : (shape : AppShape) (a b : CellArray) (cell : ℕ) → IsShape shape
     → Contains shape.arrays a → Contains shape.arrays b → HasCell a cell → HasCell b cell → a ≡ b
 same_array shape a b cell h ca cb has other = elim (h.apart a b ca cb) [

@@ -34,7 +34,7 @@ use Rattle.bpf_checks.proofs.Passes.{true_and, not_false}
 use Rattle.bpf_checks.proofs.Outcomes.{answers, fetch_safe, ask_safe}
 use Rattle.bpf_checks.proofs.CellAddresses.{IsAt, is_at, cell_there}
 
--- ---- an access that is a cell's
+-- ---- an access to a whole cell
 
 pub record WholeCell (shape : AppShape) (origin : Origin) (a : Access) (x : ℕ) : Type 0 where
   pub place : IsAt shape origin x
@@ -64,15 +64,15 @@ whole_cell g a origin x shaped is inside =
       sign = not_true (extends_sign a.how) parts.1;
     }
 
--- what a value is that isn't unusable
+-- the value of a register that isn't unusable
 pub there : (given : Given) (shape : AppShape) (e : AbsState) (s : State) (r : Reg)
     (h : IsStoodFor shape e s) → is_unusable (value_of e r) ≡ false
     → IsThere (answers h) (value_of e r) (register s r)
 there given shape e s r h u = given.registers (answers h) e s (number_of r) h.covers u
 
--- ---- what is lawful
+-- ---- allowed operations
 
--- where no array with the cell has a quota, anything is
+-- each operation is allowed if no array with the cell has a quota
 pub lawful_there : (shape : AppShape) (origin : Origin) (x : ℕ) (op : CellOp)
     (place : IsAt shape origin x) → has_quota shape origin ≡ false → IsLawful shape place.cell op
 lawful_there shape origin x op place none = record {
@@ -106,7 +106,7 @@ load_cell_is kinds.Byte x offset c sign wide at = absurd (grind (arith, wide))
 load_cell_is kinds.Half x offset c sign wide at = absurd (grind (arith, wide))
 load_cell_is kind x offset c sign wide at = absurd cc
 
--- a reply is one of the numbers of the load's width
+-- a reply is a number of the load's width
 reply_included : (given : Given) (g : Returns) (kind : LoadKind) (c reply : ℕ)
     → extends_sign (load_use kind) ≡ false → 8 * load_count kind ≡ width c → reply < 2 ^ width c
     → Includes g (loaded_value kind) reply

@@ -1,4 +1,4 @@
--- Arithmetic leads to a state that is stood for.
+-- Arithmetic leads to a represented state.
 use Rattle.std.proofs.Common.{◌≡◌, ℕ, ℤ, pos, negsuc, Option}
 use Rattle.std.proofs.Common.{Some, false, refl, subst, arith, FitsSigned}
 use Rattle.std.specs.Prelude.{◌||◌}
@@ -97,7 +97,7 @@ mov_safe given shape e s bits dst src f h ok =
     (only_there (word bits) (operand s bits src) b.number b.is)
     (given.copies (answers h) bits (operand_value e bits src) b.number b.included)
 
--- a register that is read alone
+-- the only register that is read
 pub alone_there : (given : Given) (shape : AppShape) (e : AbsState) (s : State) (r : Reg)
     (h : IsStoodFor shape e s) → ((is_unusable (value_of e r) || false) || false) ≡ false
     → IsThere (answers h) (value_of e r) (register s r)

@@ -1,4 +1,4 @@
--- The laws of abs_value that the proofs stand on.
+-- The laws of abs_value that the proofs use.
 use Rattle.abs_value.specs.Laws.{IncludesResults, IncludesCopies, IncludesNegations}
 use Rattle.abs_value.specs.Laws.{IncludesExtensions, IncludesReorderings, IncludesLoaded}
 use Rattle.abs_value.specs.Laws.{IncludesSingle, IncludesUpTo, RegistersAreThere, OperandsAreThere}

@@ -1,4 +1,4 @@
--- Jumps, and the end of a run: the edge that the run takes isn't dropped, and stands for its state.
+-- Jumps, and the end of a run: the edge that the run takes isn't dropped, and represents its state.
 use Rattle.std.proofs.Common.{◌≡◌, ℕ, ◌+◌, ◌≤◌, ℤ, pos, negsuc, ◌≤ℤ◌, List, [], ◌∷◌, ◌++◌}
 use Rattle.std.proofs.Common.{Option, Some, None, Bool, true, false, refl, arith}
 use Rattle.std.specs.Prelude.{not}
@@ -38,7 +38,7 @@ use Rattle.bpf_checks.proofs.Computing.{both_there, operand_usable, alone_there}
 
 -- ---- jumps
 
--- at a later slot what is known stands for the state, too
+-- the abstract state also represents the state at a later slot
 at_later : (given : Given) (shape : AppShape) (e f : AbsState) (s : State) (slot : ℕ)
     (h : IsStoodFor shape e s) → s.slot ≤ slot → Covers (answers h) f s
     → IsStoodFor shape f (moved_to s slot)

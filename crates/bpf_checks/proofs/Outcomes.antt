@@ -1,4 +1,4 @@
--- A step that goes on to one edge, at once or with a counter's reply.
+-- A step that follows one edge, at once or after a counter's reply.
 use Rattle.std.proofs.Common.{◌≡◌, ℕ, ◌+◌, ◌≤◌, [], ◌∷◌, Option, Some, None, false, refl, arith}
 use Rattle.std.specs.Prelude.{◌==◌}
 use Rattle.bpf_insn.specs.declared.reg.Reg.{Reg}
@@ -16,16 +16,16 @@ use Rattle.bpf_checks.specs.Sound.{IsLawful, Leads, IsSafe}
 use Rattle.bpf_checks.specs.Transfer.{edge_to}
 use Rattle.bpf_checks.proofs.Given.{Given}
 
--- the answers with which an entry stands for a state
+-- the results of calls for which an entry represents a state
 abbrev pub answers : {shape : AppShape} {e : AbsState} {s : State} → IsStoodFor shape e s → Returns
 answers {shape = shape} h = record { shape = shape; by = h.by }
 
--- slot and count are no part of what is covered
+-- coverage doesn't depend on slot and count
 pub moved_covers : (g : Returns) (e : AbsState) (s : State) (slot : ℕ) → Covers g e s
     → Covers g e (moved_to s slot)
 moved_covers g e s slot h = record { registers = h.registers; stack = h.stack }
 
--- at a later slot the answers are still before it
+-- the results of calls are also before a later slot
 pub stands_later : (given : Given) (shape : AppShape) (by : ℕ → Option ℕ) (slot : ℕ) (e : AbsState)
     (t : State) → slot ≤ t.slot → AreBefore slot (record { shape = shape; by = by })
     → Covers (record { shape = shape; by = by }) e t
@@ -40,7 +40,7 @@ pub leads : (shape : AppShape) (e : AbsState) (t : State) → IsStoodFor shape e
     → Leads shape (edge_to t.slot e ∷ []) t
 leads shape e t h = record { entry = e; along = (0, omega arith, refl); stands = h }
 
--- the state that is covered after it was moved on
+-- a covered state that moves on to the next slot
 pub leads_on : (given : Given) (shape : AppShape) (e f : AbsState) (s t : State) (k : ℕ)
     (h : IsStoodFor shape e s) → t.slot ≡ s.slot → Covers (answers h) f t
     → Leads shape (edge_to (s.slot + k) f ∷ []) (moved_to t (s.slot + k))
@@ -49,7 +49,7 @@ leads_on given shape e f s t k h same covers =
     (stands_later given shape h.by s.slot f (moved_to t (s.slot + k)) (omega arith) h.before
     (moved_covers (answers h) f t (s.slot + k) covers))
 
--- a register is written that a value stands for
+-- a write to a register, of a number that the value represents
 pub write_safe : (given : Given) (shape : AppShape) (e : AbsState) (s : State) (k : ℕ) (dst : Reg)
     (v : Abs) (w : Option ℕ) (x : ℕ) (h : IsStoodFor shape e s)
     → (number_of dst == 10) ≡ false → w ≡ Some x → Includes (answers h) v x
@@ -59,7 +59,7 @@ write_safe given shape e s k dst v w x h frame is inc =
     (leads_on given shape e (with_value e dst v) s (with_register s (number_of dst) x) k h refl
     (given.writes (answers h) e s dst v x h.covers inc))
 
--- a counter is asked, and its reply goes into a register
+-- a counter operation whose reply goes into a register
 pub fetch_safe : (given : Given) (shape : AppShape) (e : AbsState) (s : State) (cell : ℕ)
     (op : CellOp) (dst : Reg) (v : Abs) (h : IsStoodFor shape e s) → (number_of dst == 10) ≡ false
     → IsLawful shape cell op
@@ -73,7 +73,7 @@ fetch_safe given shape e s cell op dst v h frame lawful inc =
           refl (given.writes (answers h) e s dst v reply h.covers (inc reply fits)),
     )
 
--- or nowhere
+-- the same, with no register
 pub ask_safe : (given : Given) (shape : AppShape) (e : AbsState) (s : State) (cell : ℕ)
     (op : CellOp) (h : IsStoodFor shape e s) → IsLawful shape cell op
     → IsSafe shape (edge_to (s.slot + 1) e ∷ []) (ask s cell op None)

@@ -1,4 +1,4 @@
--- What is known where no rule fails.
+-- What follows if an instruction breaks no rule.
 use Rattle.std.proofs.Common.{◌≡◌, Option, Some, None, Bool, true, false, cond, refl}
 use Rattle.std.specs.Prelude.{◌||◌, ◌&&◌, not}
 use Rattle.bpf_insn.specs.declared.insn.Insn.{Insn}
@@ -81,7 +81,7 @@ pub not_false : (b : Bool) → not b ≡ false → b ≡ true
 not_false true h = refl
 not_false false h = absurd cc
 
--- ---- registers that are read, of which none is unusable
+-- ---- none of the registers that are read is unusable
 
 pub one_usable : (a z : Bool) → ((a || false) || z) ≡ false → (a ≡ false) × (z ≡ false)
 one_usable true z h = absurd cc

@@ -1,4 +1,4 @@
--- From a state in which all ends are in order an instruction leads to one.
+-- If all ends in a state are in order, they are in order after an instruction.
 use Rattle.std.proofs.Common.{ℕ, pos, negsuc, Option, Some, None, true, false, arith}
 use Rattle.std.specs.Prelude.{IfSome, option_map, slice_get}
 use Rattle.bpf_insn.specs.declared.operand.LoadKind.{LoadKind}
@@ -32,7 +32,7 @@ use Rattle.bpf_checks.specs.Memory.{stack_place}
 use Rattle.bpf_checks.specs.Transfer.{loaded_at, stored_at, fetched_value}
 use Rattle.bpf_checks.specs.Transfer.{with_fetched, after, jumping, going_on}
 
--- the laws of abs_value that this stands on
+-- the laws of abs_value that these proofs use
 pub record Ranges : Type 0 where
   pub alu : ResultsInOrder
   pub copied : CopiesInOrder

@@ -1,4 +1,4 @@
--- Loads and stores of context and stack lead to a state that is stood for.
+-- Loads from and stores to the context and the stack lead to a represented state.
 use Rattle.std.proofs.Common.{◌≡◌, ℕ, suc, ◌+◌, ◌-◌, ◌<◌, ◌≤◌}
 use Rattle.std.proofs.Common.{ℤ, pos, negsuc, [], ◌∷◌, Option, Some, None}
 use Rattle.std.proofs.Common.{Bool, true, false, refl, sym, ap, subst, ◌∙◌, arith, FitsSigned}
@@ -36,7 +36,7 @@ use Rattle.bpf_checks.proofs.ContextReads.{reads}
 use Rattle.bpf_checks.proofs.Given.{Given}
 use Rattle.bpf_checks.proofs.Outcomes.{answers, leads_on, write_safe}
 
--- ---- below the counters is none
+-- ---- no cell is below the counters
 
 no_cell_at : (address n : ℕ) → address < cell_start → cell_at address n ≡ None
 no_cell_at address n low =
@@ -50,7 +50,7 @@ no_load_cell load.Word base offset low = no_cell_at (address_of base offset) 4 l
 no_load_cell load.Double base offset low = no_cell_at (address_of base offset) 8 low
 no_load_cell kind base offset low = refl
 
--- ---- where an access lies
+-- ---- the region of an access
 
 in_context : (lo hi x n : ℕ) (offset : ℤ) → FitsSigned w16 offset
     → lies_in context_size lo hi offset n ≡ true → context_start + lo ≤ x → x ≤ context_start + hi
@@ -59,7 +59,7 @@ in_context : (lo hi x n : ℕ) (offset : ℤ) → FitsSigned w16 offset
 in_context lo hi x n (pos m) f h p q = grind (arith, ints)
 in_context lo hi x n (negsuc m) f h p q = grind (arith, ints)
 
--- n bytes from a place of the stack on, moved by an offset, lie from this place on
+-- the offset of n bytes from a place of the stack, moved by an offset
 record Lies (place : ℕ) (offset : ℤ) (n : ℕ) : Type 0 where
   at : ℕ
   is : pos place +ℤ offset ≡ pos at
@@ -135,7 +135,7 @@ stack_load_safe given shape e s kind dst offset place x h w f frame inside unset
 
 -- ---- stores
 
--- a store leaves the run where it is
+-- a store leaves the slot of the run unchanged
 slot_of : (inside : Bool) (s t : State) (stack : ℕ → Option ℕ)
     → (if inside then Some (record s { stack = stack }) else None) ≡ Some t → t.slot ≡ s.slot
 slot_of true s t stack h =

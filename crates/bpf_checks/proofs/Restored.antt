@@ -1,4 +1,4 @@
--- The edge of a conditional jump is taken back: what it compares has its values again.
+-- An edge of a conditional jump is undone by restoring the compared values.
 use Rattle.std.proofs.Common.{◌≡◌, ◌≢◌, ℕ, List, Option, Some, None}
 use Rattle.std.proofs.Common.{Bool, true, false, refl, sym, ap, ◌∙◌, get_or, set, inl, inr}
 use Rattle.std.specs.Prelude.{option_map, ◌&&◌, if◌then◌else◌}
@@ -21,7 +21,7 @@ use Rattle.abs_value.specs.Lookups.{with_both, refined_state, after_null_check}
 use Rattle.abs_value.specs.Lookups.{compares_with_zero, is_found, is_register}
 use Rattle.bpf_checks.specs.Rules.{is_lookup}
 
--- ---- a list of which two elements were set
+-- ---- a list in which two elements were set
 
 set_apart : (xs : List Abs) (i j : ℕ) (v w : Abs) → i ≢ j
     → set (set (set (set xs i v) j w) i (get_or xs i Unusable)) j (get_or xs j Unusable) ≡ xs
@@ -45,12 +45,12 @@ set_again xs i j v w = elim (cases_eq i j) [
   | inr apart ↦ set_apart xs i j v w apart
 ]
 
--- ---- what is known
+-- ---- the abstract state
 
 again : AbsState → Bits → Reg → Operand → AbsState → AbsState
 again e bits left right f = with_both f left right (value_of e left, operand_value e bits right)
 
--- nothing was learnt
+-- nothing was narrowed
 from_itself : (e : AbsState) (bits : Bits) (left : Reg) (right : Operand)
     → again e bits left right e ≡ e
 unfolding again
@@ -62,7 +62,7 @@ from_itself e bits left (Register r) =
     (set-get_or e.registers (number_of left) Unusable)
     ∙ set-get_or e.registers (number_of r) Unusable)
 
--- two values were learnt
+-- two values were narrowed
 from_both : (e : AbsState) (bits : Bits) (left : Reg) (right : Operand) (p : Abs × Abs)
     → again e bits left right (with_both e left right p) ≡ e
 unfolding again

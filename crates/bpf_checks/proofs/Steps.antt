@@ -1,4 +1,4 @@
--- Where no rule fails, a step is safe, whatever the instruction is.
+-- If no rule is broken, the step of each instruction is safe.
 use Rattle.std.proofs.Common.{None, refl, FitsSigned}
 use Rattle.std.specs.Int.{w32}
 use Rattle.bpf_insn.specs.declared.operand.Operand.{Operand}
@@ -69,7 +69,7 @@ pub steps_safe : Given → EveryStepIsSafe
 steps_safe given shape e s i fits f forward w h ok =
     step_safe given shape e s i fits f forward w h (passes shape e i ok)
 
--- ---- joins, and the start
+-- ---- joins, and the start of a run
 
 pub first_stands : CoversFirst → FirstStands
 first_stands law shape e f s h =

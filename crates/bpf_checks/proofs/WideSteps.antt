@@ -1,4 +1,4 @@
--- Wide loads: where no rule fails the array and the cell that they name are there.
+-- Wide loads: if no rule is broken, the array and the cell that they name exist.
 use Rattle.std.proofs.Common.{◌≡◌, ℕ, ◌+◌, ◌/◌, ◌%◌, ◌<◌, ◌≤◌, pos, negsuc}
 use Rattle.std.proofs.Common.{Option, Some, None, false, refl, arith, inl, inr}
 use Rattle.std.specs.Prelude.{IsSome, is_none, option_map, slice_get, nat_lt, ◌==◌, ◌&&◌}
@@ -30,7 +30,7 @@ use Rattle.bpf_checks.proofs.Passes.{Passes, true_and}
 use Rattle.bpf_checks.proofs.Outcomes.{answers, write_safe}
 use Rattle.bpf_checks.proofs.CellAddresses.{array_is}
 
--- what is loaded, and that the value stands for it
+-- the loaded number, which the value represents
 record Loads (g : Returns) (v : Option Abs) (o : Option ℕ) : Type 0 where
   number : ℕ
   is : o ≡ Some number

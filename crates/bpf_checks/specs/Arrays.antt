@@ -19,7 +19,7 @@ use Rattle.abs_value.specs.Numbers.{single}
 
 -- ---- wide loads
 
--- the cell so many bytes behind the array's first; each has 8 bytes of addresses
+-- the cell n bytes after the array's first cell; each cell has 8 bytes of addresses
 abbrev pub cell_behind : CellArray → ℕ → Option ℕ
 cell_behind a n =
     if (n % 8 == 0) && nat_lt (n / 8) a.length then Some (a.base + n / 8) else None
@@ -27,7 +27,7 @@ cell_behind a n =
 abbrev pub fixed_cell : ℕ → Abs
 fixed_cell cell = Cell (Fixed cell)
 
--- what a wide load gives; none where the shape has no such array, or the array no such cell
+-- the value of a wide load; none if the shape has no such array, or the array no such cell
 abbrev pub wide_abs : AppShape → WideValue → Option Abs
 wide_abs shape (wide.Number n) = Some (Num (single n))
 wide_abs shape (wide.Map (pos i)) = slice_get shape.arrays i >>= λ a. Some (Map i)
@@ -45,7 +45,7 @@ abbrev pub array_bits : Option CellArray → ℕ
 array_bits None = 0
 array_bits (Some a) = width_bits a.width
 
--- how many bits the cell has that an address is of
+-- the number of bits of a cell, by the origin of its address
 abbrev pub origin_bits : AppShape → Origin → ℕ
 origin_bits shape (Found call) = array_bits (slice_get shape.arrays call.array)
 origin_bits shape (Fixed cell) = width cell
@@ -57,7 +57,7 @@ abbrev pub array_quota : Option CellArray → Bool
 array_quota None = false
 array_quota (Some a) = is_some a.quota
 
--- whether it is a cell of an array that has a quota
+-- the cell belongs to an array that has a quota
 abbrev pub has_quota : AppShape → Origin → Bool
 has_quota shape (Found call) = array_quota (slice_get shape.arrays call.array)
 has_quota shape (Fixed cell) = list_any (has_quota_cell cell) shape.arrays

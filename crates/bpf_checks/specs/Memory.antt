@@ -1,4 +1,4 @@
--- Where the bytes of an access lie.
+-- The region of the bytes of an access, and what is allowed there.
 use Rattle.std.specs.Prelude.{ℕ, ◌+◌, ◌*◌, ℤ, pos, negsuc, ◌+ℤ◌, unsigned_abs, int_le, min}
 use Rattle.std.specs.Prelude.{Option, Some, None, Bool, true, false, ◌&&◌, not, ◌==◌, if◌then◌else◌}
 use Rattle.bpf_insn.specs.declared.insn.Insn.{Insn}
@@ -17,7 +17,7 @@ use Rattle.bpf_checks.specs.declared.access.Access.{Access}
 use Rattle.bpf_checks.specs.Arrays.{origin_bits, has_quota}
 use Rattle.bpf_checks.specs.Reads.{access}
 
--- a test of an instruction's access, and of the value whose address it takes
+-- a test of an instruction's access, and of the value of its base register
 abbrev pub test_access : AbsState → (Access → Abs → Bool) → Option Access → Bool
 test_access e test None = false
 test_access e test (Some a) = test a (value_of e a.base)
@@ -27,7 +27,7 @@ accesses test e i = test_access e test (access i)
 
 -- ---- bounds
 
--- n bytes from each place on, moved by an offset, lie in a region of this size
+-- n bytes from each place, moved by an offset, are in a region of this size
 abbrev pub lies_in : ℕ → ℕ → ℕ → ℤ → ℕ → Bool
 lies_in size lo hi offset n =
     int_le (pos 0) (pos lo +ℤ offset) && int_le (pos (hi + n) +ℤ offset) (pos size)
@@ -40,19 +40,19 @@ abbrev pub extends_sign : Use → Bool
 extends_sign Extends = true
 extends_sign how = false
 
--- the whole of a cell, at its own address and in its own width; none is sign-extended
+-- a whole cell, at its own address and with its own width, not sign-extended
 abbrev pub is_whole_cell : AppShape → Access → Origin → Bool
 is_whole_cell shape a origin =
     is_zero a.offset && (8 * a.count == origin_bits shape origin) && not (extends_sign a.how)
 
--- a byte may lie outside the region, or the access isn't the cell's
+-- a byte may be outside the region, or the access isn't to a whole cell
 abbrev pub is_outside : AppShape → Access → Abs → Bool
 is_outside shape a (Ctx from) = not (lies_in context_size from.lo from.hi a.offset a.count)
 is_outside shape a (Stk place) = not (lies_in stack_size place place a.offset a.count)
 is_outside shape a (Cell origin) = not (is_whole_cell shape a origin)
 is_outside shape a v = false
 
--- ---- what is accessed
+-- ---- the value that is used as an address
 
 abbrev pub changes : Use → Bool
 changes Stores = true
@@ -63,7 +63,7 @@ abbrev pub changes_context : Access → Abs → Bool
 changes_context a (Ctx from) = changes a.how
 changes_context a v = false
 
--- an address that may be none
+-- the value may not be an address
 abbrev pub is_no_address : Access → Abs → Bool
 is_no_address a (Num n) = true
 is_no_address a (Map index) = true
@@ -84,24 +84,24 @@ reaches_quota shape a v = false
 
 -- ---- the stack
 
--- where n bytes lie in the stack, counted from its start
+-- the offset of n bytes in the stack, from its start
 abbrev pub stack_place : Abs → ℤ → ℕ → Option ℕ
 stack_place (Stk place) offset n =
     if lies_in stack_size place place offset n then Some (unsigned_abs (pos place +ℤ offset))
     else None
 stack_place v offset n = None
 
--- they are a whole slot, which can keep a value
+-- the bytes are a whole slot, which can keep a value
 abbrev pub is_slot : Option ℕ → ℕ → Bool
 is_slot None n = false
 is_slot (Some place) n = is_whole_slot place n
 
--- of n bytes from an address on, one lies in the stack and isn't set
+-- any of n bytes from an address is in the stack and unset
 abbrev pub meets_unset : AbsState → Abs → ℤ → ℕ → Bool
 meets_unset e (Stk place) offset n = has_unset e.stack (pos place +ℤ offset) n
 meets_unset e v offset n = false
 
--- the bytes of a text: as many as a single length says, and at most as the stack has
+-- the bytes of a text: as many as a single length says, and at most those of the stack
 abbrev pub text_unset : AbsState → Abs → Abs → Bool
 text_unset e address (Num n) =
     if is_single n then meets_unset e address (pos 0) (min (least n) stack_size) else false

@@ -1,5 +1,5 @@
--- What an instruction reads, writes and accesses (RFC 9669, "Arithmetic and Jump Instructions" and
--- "Load and Store Instructions").
+-- The registers that an instruction reads and writes, and the memory that it accesses (RFC 9669,
+-- "Arithmetic and Jump Instructions" and "Load and Store Instructions").
 use Rattle.std.specs.Prelude.{ℕ, ℤ, List, [], ◌∷◌, Option, Some, None}
 use Rattle.bpf_insn.specs.declared.reg.Reg.{Reg}
 use Rattle.bpf_insn.specs.declared.reg.Reg.TheVariants.{R0, R1, R2, R3}
@@ -26,7 +26,7 @@ use Rattle.bpf_checks.specs.declared.access.Access.{Access}
 
 -- ---- registers
 
--- the registers that a helper takes
+-- the argument registers of a helper
 abbrev pub arguments : Option Prototype → List Reg
 arguments None = []
 arguments (Some OfMap) = R1 ∷ R2 ∷ []
@@ -59,7 +59,7 @@ reads (Store size dst src offset) = dst ∷ src ∷ []
 reads (Atomic op size dst src offset) = dst ∷ src ∷ compared_register op
 reads (Wide dst value) = []
 
--- the register that it writes: of an atomic operation the one that takes the old value
+-- the register that it writes: for an atomic operation, the one that gets the old value
 abbrev pub writes : Insn → Option Reg
 writes (Alu bits op dst src) = Some dst
 writes (Mov bits dst src) = Some dst
@@ -93,7 +93,7 @@ store_access size dst offset = access_by Stores dst offset (byte_count size)
 abbrev pub atomic_access : AtomicSize → Reg → ℤ → Access
 atomic_access size dst offset = access_by Exchanges dst offset (atomic_count size)
 
--- the memory that an instruction accesses by an address
+-- the memory that an instruction accesses through an address
 abbrev pub access : Insn → Option Access
 access (Load kind dst src offset) = Some (load_access kind src offset)
 access (StoreImm size dst offset imm) = Some (store_access size dst offset)

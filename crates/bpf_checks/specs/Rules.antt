@@ -1,4 +1,4 @@
--- The rules: each is a test of an instruction, of what is known at its place, and of the shape.
+-- The rules: each is a test of an instruction, the abstract state before it, and the shape.
 use Rattle.std.specs.Prelude.{◌+◌, ◌∷◌, Option, Some, None, is_none, Bool, true, false}
 use Rattle.std.specs.Prelude.{◌&&◌, ◌||◌, not, nat_le, ◌==◌, if◌then◌else◌}
 use Rattle.std.specs.List.{list_any}
@@ -35,13 +35,13 @@ use Rattle.bpf_checks.specs.Memory.{accesses, is_outside, changes_context, is_no
 use Rattle.bpf_checks.specs.Memory.{exchanges_stack, reaches_quota, stack_place, is_slot}
 use Rattle.bpf_checks.specs.Memory.{meets_unset, text_unset}
 
--- ---- V1: what is read may be unset
+-- ---- V1: a register or byte that is read may be unset
 
 abbrev pub compares_unset : AbsState → Option Prototype → Bool
 compares_unset e (Some OfText) = text_unset e (value_of e R2) (value_of e R3)
 compares_unset e helper = false
 
--- a byte of the stack, by a load or by a text that is compared
+-- a byte of the stack that is loaded, or that is in a compared text
 abbrev pub reads_unset : AbsState → Insn → Bool
 reads_unset e (Load kind dst src offset) = meets_unset e (value_of e src) offset (load_count kind)
 reads_unset e (Call helper) = compares_unset e (called_prototype helper)
@@ -72,7 +72,7 @@ is_arithmetic (Neg bits dst) = true
 is_arithmetic (End order size dst) = true
 is_arithmetic i = false
 
--- an address in context or stack
+-- an address in the context or the stack
 abbrev pub has_place : Abs → Bool
 has_place (Ctx from) = true
 has_place (Stk place) = true
@@ -84,7 +84,7 @@ moves_address Bits64 Add a b = has_place a && is_number b
 moves_address Bits64 Sub a b = has_place a && is_number b
 moves_address bits op a b = false
 
--- the arithmetic that a pointer may be in
+-- the allowed arithmetic with a pointer
 abbrev pub keeps_address : AbsState → Insn → Bool
 keeps_address e (Alu bits op dst src) =
     moves_address bits op (value_of e dst) (operand_value e bits src)
@@ -103,7 +103,7 @@ moves_outside e i = false
 
 -- ---- V5: a pointer is compared
 
--- what a lookup gave, or the address of a cell
+-- the result of a lookup, or the address of a cell
 abbrev pub may_be_null : Abs → Bool
 may_be_null (MayCell call) = true
 may_be_null (Cell origin) = true
@@ -119,7 +119,7 @@ abbrev pub is_lookup : Abs → Bool
 is_lookup (MayCell call) = true
 is_lookup v = false
 
--- a jump whose edges tell what a lookup gave
+-- a jump that compares a lookup's result with 0
 abbrev pub is_lookup_check : AbsState → Insn → Bool
 is_lookup_check e (JumpIf bits condition left right offset) =
     compares_with_zero bits condition right && is_lookup (value_of e left)
@@ -141,7 +141,7 @@ exchanges_in_stack e i = accesses exchanges_stack e i
 
 -- ---- V7: a pointer is stored
 
--- other than to a whole slot of the stack
+-- except to a whole slot of the stack
 abbrev pub stores_pointer : AbsState → Insn → Bool
 stores_pointer e (Store size dst src offset) =
     is_pointer (value_of e src)
@@ -150,7 +150,7 @@ stores_pointer e (Atomic op size dst src offset) =
     list_any (λ r. is_pointer (value_of e r)) (src ∷ compared_register op)
 stores_pointer e i = false
 
--- ---- V10: a helper that isn't there, or arguments that it doesn't take
+-- ---- V10: a helper that doesn't exist, or arguments that it doesn't accept
 
 abbrev pub is_map : Abs → Bool
 is_map (Map index) = true
@@ -178,7 +178,7 @@ abbrev pub names_no_array : AppShape → Insn → Bool
 names_no_array shape (Wide dst value) = is_none (wide_abs shape value)
 names_no_array shape i = false
 
--- ---- V13: the run may end with a number above the releases, or with no number
+-- ---- V13: the run may end with a number above the releases, or R0 isn't a number
 
 abbrev pub is_choice : AppShape → Abs → Bool
 is_choice shape (Num n) = is_at_most n shape.releases
@@ -188,7 +188,7 @@ abbrev pub wrong_result : AppShape → AbsState → Insn → Bool
 wrong_result shape e Exit = not (is_choice shape (value_of e R0))
 wrong_result shape e i = false
 
--- ---- V14: a cell with a quota is touched by anything but a load or a fetch-add of 1
+-- ---- V14: a cell with a quota is accessed, except by a load or a fetch-add of 1
 
 abbrev pub is_one : Abs → Bool
 is_one (Num n) = is_only n 1
@@ -202,9 +202,9 @@ leaves_quota e i = false
 abbrev pub breaks_quota : AppShape → AbsState → Insn → Bool
 breaks_quota shape e i = accesses (reaches_quota shape) e i && not (leaves_quota e i)
 
--- ---- the rule with the lowest number that fails
+-- ---- the first rule that an instruction breaks
 
--- the lowest of V1 to V14 that an instruction breaks, each a test by its own name
+-- the rule of V1 to V14 with the lowest number, each tested by its own definition
 unfoldable pub first_rule : AppShape → AbsState → Insn → Option VerifierRule
 first_rule shape e i =
     if reads_unusable e i then Some rule.Unusable

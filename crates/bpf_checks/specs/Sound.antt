@@ -1,5 +1,5 @@
--- What one step comes to where no rule fails: it is no trap, leads along an edge whose entry stands
--- for the state that it makes, and asks of counters only what the shape allows.
+-- One step at an instruction that breaks no rule. It is no trap, it follows an edge whose entry
+-- represents the new state, and the shape allows its counter operation.
 use Rattle.std.specs.Prelude.{◌≡◌, ℕ, ◌≤◌, List, Contains, None, IsSome, IfSome}
 use Rattle.attrs.specs.Attributes.{Attributes}
 use Rattle.bpf_insn.specs.declared.insn.Insn.{Insn}
@@ -20,15 +20,15 @@ use Rattle.abs_value.specs.Order.{IsStateInOrder}
 use Rattle.bpf_checks.specs.Rules.{first_rule}
 use Rattle.bpf_checks.specs.Transfer.{Edge, edge_to, edges, jumping, going_on}
 
--- ---- what is asked of a counter
+-- ---- operations on counters
 
--- what may be done to a cell of an array with a quota
+-- an allowed operation on a cell of an array with a quota
 abbrev pub KeepsQuota : CellOp → Type 0
 KeepsQuota Load = Unit {0}
 KeepsQuota (Add n) = n ≡ 1
 KeepsQuota op = ⊥
 
--- the cell is one of an array of the shape, and where that has a quota, the operation keeps it
+-- the cell belongs to an array of the shape, and the operation keeps the array's quota, if any
 pub record IsLawful (shape : AppShape) (cell : ℕ) (op : CellOp) : Type 0 where
   pub array : CellArray
   pub there : Contains shape.arrays array
@@ -36,15 +36,15 @@ pub record IsLawful (shape : AppShape) (cell : ℕ) (op : CellOp) : Type 0 where
   pub quota : (a : CellArray) → Contains shape.arrays a → HasCell a cell → IsSome a.quota
       → KeepsQuota op
 
--- ---- where a step leads
+-- ---- the edge of a step
 
--- along one of these edges, with an entry that stands for the state
+-- along one of these edges, with an entry that represents the state
 pub record Leads (shape : AppShape) (edges : List Edge) (t : State) : Type 0 where
   pub entry : AbsState
   pub along : Contains edges (edge_to t.slot entry)
   pub stands : IsStoodFor shape entry t
 
--- with each reply that fits the cell, too
+-- also for each reply that fits the cell
 abbrev pub IsSafe : AppShape → List Edge → Outcome → Type 0
 IsSafe shape edges (Going t) = Leads shape edges t
 IsSafe shape edges (Asks cell op next) =
@@ -55,14 +55,14 @@ IsSafe shape edges Trap = ⊥
 
 -- ---- laws
 
--- from a state that is stood for, where no rule fails
+-- a step from a represented state, at an instruction that breaks no rule
 abbrev pub EveryStepIsSafe : Type 0
 EveryStepIsSafe =
     (shape : AppShape) (e : AbsState) (s : State) (i : Insn)
     → IsShape shape → IsEncodable i → JumpsForward i → HasWords s → IsStoodFor shape e s
     → first_rule shape e i ≡ None → IsSafe shape (edges shape s.slot e i) (act shape s i)
 
--- a join stands for all that either side stands for
+-- a join represents all that either side represents
 abbrev pub FirstStands : Type 0
 FirstStands =
     (shape : AppShape) (e f : AbsState) (s : State)
@@ -76,7 +76,7 @@ SecondStands =
 abbrev pub OpeningStands : Type 0
 OpeningStands = (shape : AppShape) (a : Attributes) → IsStoodFor shape opening_state (opening a)
 
--- ends that are in order stay so
+-- ends that are in order stay in order
 abbrev pub JumpingInOrder : Type 0
 JumpingInOrder =
     (e : AbsState) (i : Insn) → IsStateInOrder e → IfSome (jumping e i) IsStateInOrder

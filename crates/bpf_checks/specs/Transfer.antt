@@ -1,4 +1,4 @@
--- What an instruction makes of what is known at its place, on each edge that it leads along.
+-- Transfer functions: the abstract state on each edge from an instruction.
 use Rattle.std.specs.Prelude.{◌≡◌, ℕ, ◌*◌, ◌-◌, ◌^◌, List, [], ◌∷◌, ◌++◌, Option, Some, None}
 use Rattle.std.specs.Prelude.{true, false}
 use Rattle.bpf_insn.specs.declared.operand.AtomicSize.{AtomicSize}
@@ -29,17 +29,17 @@ use Rattle.bpf_checks.specs.Memory.{stack_place}
 
 -- ---- memory
 
--- what a load gives: of the stack what it knows, and elsewhere any number of its width
+-- the value of a load: from the stack what is known of the slot, otherwise any number of its width
 abbrev pub loaded_at : AbsState → Option ℕ → LoadKind → Abs
 loaded_at e None kind = loaded_value kind
 loaded_at e (Some place) kind = loaded_from e.stack place kind
 
--- a store is kept in the stack alone
+-- only a store to the stack changes the abstract state
 abbrev pub stored_at : AbsState → Option ℕ → ℕ → Abs → AbsState
 stored_at e None n v = e
 stored_at e (Some place) n v = with_stored e place n v
 
--- any number of a cell
+-- any number of the cell's width
 abbrev pub fetched_value : AtomicSize → Abs
 fetched_value size = Num (up_to (2 ^ (8 * atomic_count size) - 1))
 
@@ -49,7 +49,7 @@ with_fetched e (Some r) v = with_value e r v
 
 -- ---- edges
 
--- after an instruction at slot s that goes on to the next one alone
+-- after an instruction at slot s whose only successor is the next one
 abbrev pub after : AppShape → ℕ → AbsState → Insn → AbsState
 after shape s e (Alu bits op dst src) =
     with_value e dst (alu_value bits op (value_of e dst) (operand_value e bits src))
@@ -74,28 +74,28 @@ after shape s e (Atomic op size dst src offset) =
 after shape s e (Wide dst value) = with_value e dst (or_unusable (wide_abs shape value))
 after shape s e i = e
 
--- on the edge that jumps; none where no run takes it
+-- on the edge that jumps; none if no run takes it
 abbrev pub jumping : AbsState → Insn → Option AbsState
 jumping e (JumpIf bits condition left right offset) =
     refined_state e bits condition left right true
 jumping e i = Some e
 
--- on the edge that goes on
+-- on the fall-through edge
 abbrev pub going_on : AppShape → ℕ → AbsState → Insn → Option AbsState
 going_on shape s e (JumpIf bits condition left right offset) =
     refined_state e bits condition left right false
 going_on shape s e i = Some (after shape s e i)
 
--- what is known on the edge that jumps, with the two values again that were compared
+-- the state on the edge that jumps, with the two compared values restored
 abbrev pub restored : Compared → AbsState → AbsState
 restored Nothing f = f
 restored (Values left right first second) f = with_both f left right (first, second)
 
--- the edge that jumps is taken back
+-- restoring undoes the edge that jumps
 abbrev pub Restores : AbsState → Insn → Compared → Type 0
 Restores e i compared = (f : AbsState) → jumping e i ≡ Some f → restored compared f ≡ e
 
--- an edge to the place of a slot, with what is known on it
+-- an edge to a slot, with the abstract state on it
 pub record Edge : Type 0 where
   pub target : ℕ
   pub entry : AbsState
@@ -113,6 +113,6 @@ jump_edge s e i = edge (target_of s i) (jumping e i)
 abbrev pub next_edge : AppShape → ℕ → AbsState → Insn → List Edge
 next_edge shape s e i = edge (next_target s i) (going_on shape s e i)
 
--- the edges that aren't dropped, that which jumps first
+-- the edges that aren't dropped, first the one that jumps
 unfoldable pub edges : AppShape → ℕ → AbsState → Insn → List Edge
 edges shape s e i = jump_edge s e i ++ next_edge shape s e i

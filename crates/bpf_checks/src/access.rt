@@ -1,4 +1,4 @@
-//! The memory that an instruction accesses: what it does there, and from which address on.
+//! The memory that an instruction accesses: how, and at which address.
 
 ghost use Rattle.std.specs.Prelude.{◌≡◌, ◌≤◌};
 ghost use Rattle.bpf_checks.specs.Reads as reads;
@@ -6,20 +6,20 @@ ghost use Rattle.bpf_checks.specs.Reads as reads;
 use bpf_insn::{AtomicSize, LoadKind, Reg, Size};
 use bpf_semantics::{atomic_count, byte_count, load_count};
 
-/// What is done to memory.
+/// How memory is accessed.
 #[derive(Clone, Copy, Debug, PartialEq, Eq)]
 pub enum Use {
-    /// A load that fills with zeroes.
+    /// A zero-extending load.
     Loads,
-    /// A load that extends the sign.
+    /// A sign-extending load.
     Extends,
     /// A store.
     Stores,
-    /// One atomic operation.
+    /// An atomic operation.
     Exchanges,
 }
 
-/// An access of so many bytes from an address on: that in the register `base`, plus the offset.
+/// An access of `count` bytes, from the address in the register `base` plus the offset.
 #[derive(Clone, Copy, Debug, PartialEq, Eq)]
 pub struct Access {
     pub how: Use,

@@ -1,5 +1,5 @@
 //! Arithmetic (RFC 9669, "Arithmetic Instructions" and "Byte Swap Instructions"): the rules that it
-//! may break, and what it leaves.
+//! may break.
 
 ghost use Rattle.std.specs.Prelude.{◌≡◌};
 ghost use Rattle.cells.specs.Arrays.{AppShape};
@@ -15,7 +15,7 @@ fn has_place(value: Abs) -> bool
     matches!(value, Abs::Ctx(_) | Abs::Stk { .. })
 }
 
-/// Whether it is a 64-bit ADD or SUB of a number to an address in context or stack.
+/// Whether it is a 64-bit ADD or SUB of a number to an address in the context or the stack.
 fn moves_address(bits: Bits, op: AluOp, a: Abs, b: Abs) -> bool
     ensures { result ≡ rules.moves_address bits op a b }
 {
@@ -25,7 +25,7 @@ fn moves_address(bits: Bits, op: AluOp, a: Abs, b: Abs) -> bool
     }
 }
 
-/// The first rule that an operation of two operands breaks.
+/// The first rule that an operation with two operands breaks.
 #[tactic(auto, unfolding(crate::specs::Rules::first_rule))]
 pub fn alu_rule(e: &AbsState, bits: Bits, op: AluOp, dst: Reg, src: Operand) -> Option<VerifierRule>
     ensures { (shape : AppShape)
@@ -65,7 +65,7 @@ pub fn mov_rule(e: &AbsState, bits: Bits, dst: Reg, src: Operand) -> Option<Veri
     }
 }
 
-/// The first rule that an operation of a number breaks: NEG, MOVSX and END.
+/// The first rule that an operation with one operand breaks: NEG, MOVSX and END.
 #[tactic(auto, unfolding(crate::specs::Rules::first_rule))]
 pub fn unary_rule(e: &AbsState, dst: Reg, src: Reg) -> Option<VerifierRule>
     ensures extended { (shape : AppShape) (extension : Extension)

@@ -1,5 +1,5 @@
-//! The arrays of a program's shape: which of them an instruction or an address names, how wide
-//! their cells are, and whether they have a quota.
+//! The arrays of a program's shape: which of them an instruction or an address names, the width of
+//! their cells, and whether they have a quota.
 
 ghost use Rattle.std.specs.Prelude.{◌≡◌, ◌+◌, ◌≤◌};
 ghost use Rattle.std.specs.List.{list_any};
@@ -9,7 +9,7 @@ use abs_value::{Abs, Number, Origin};
 use bpf_insn::WideValue;
 use cells::{CellArray, CellNo, CellWidth, Shape};
 
-/// The cell so many bytes behind the array's first, if it is one of the array's.
+/// The cell at a byte offset from the array's first cell, if it belongs to the array.
 fn cell_behind(array: &CellArray, offset: u32) -> Option<u16>
     requires { array.now.base + array.now.length ≤ 8192 }
     ensures { result ≡ arrays.cell_behind array.now offset }
@@ -21,7 +21,7 @@ fn cell_behind(array: &CellArray, offset: u32) -> Option<u16>
     }
 }
 
-/// What a wide load gives; `None` where the shape has no such array, or the array no such cell.
+/// The value of a wide load; `None` if the shape has no such array, or the array no such cell.
 pub fn wide(shape: &Shape, value: WideValue) -> Option<Abs>
     ensures { result ≡ arrays.wide_abs shape.now value }
 {
@@ -50,7 +50,7 @@ fn width_bits(width: CellWidth) -> u16
     }
 }
 
-/// How many bits the cell has whose address it is.
+/// The number of bits of a cell, by the origin of its address.
 pub fn origin_bits(shape: &Shape, origin: Origin) -> u16
     ensures { result ≡ arrays.origin_bits shape.now origin }
 {
@@ -63,14 +63,14 @@ pub fn origin_bits(shape: &Shape, origin: Origin) -> u16
     }
 }
 
-/// Whether the cell is one of the array's, and the array has a quota.
+/// Whether the cell belongs to the array, and the array has a quota.
 fn has_quota_cell(array: &CellArray, cell: u16) -> bool
     ensures { result ≡ arrays.has_quota_cell cell array.now }
 {
     array.quota.is_some() && array.base <= cell && cell - array.base < array.length
 }
 
-/// Whether the cell is one of an array that has a quota.
+/// Whether the cell belongs to an array that has a quota.
 fn have_quota_cell(among: &[CellArray], cell: u16) -> bool
     ensures { result ≡ list_any (arrays.has_quota_cell cell) among.now }
 {
@@ -84,7 +84,7 @@ fn have_quota_cell(among: &[CellArray], cell: u16) -> bool
     false
 }
 
-/// Whether it is the address of a cell of an array that has a quota.
+/// Whether it is the address of a cell in an array that has a quota.
 pub fn has_quota(shape: &Shape, origin: Origin) -> bool
     ensures { result ≡ arrays.has_quota shape.now origin }
 {

@@ -1,5 +1,5 @@
-//! Atomic operations (RFC 9669, "Atomic Operations"): the rules that they may break, and what they
-//! leave.
+//! Atomic operations (RFC 9669, "Atomic Operations"): the rules that they may break, and the state
+//! after them.
 
 ghost use Rattle.std.specs.Prelude.{◌≡◌, ◌∷◌, ℤ, true};
 ghost use Rattle.std.specs.List.{list_any};
@@ -18,7 +18,7 @@ use bpf_insn::{AtomicOp, AtomicSize, Insn, Reg};
 use bpf_semantics::fetched;
 use cells::Shape;
 
-/// Whether R10 would take the old value.
+/// Whether R10 would get the old value.
 fn fetches_frame(op: AtomicOp, src: Reg) -> bool
     ensures { result ≡ rules.is_frame (counters.fetched op src) }
 {
@@ -28,7 +28,7 @@ fn fetches_frame(op: AtomicOp, src: Reg) -> bool
     }
 }
 
-/// Whether it compares with R0.
+/// Whether the operation compares with R0.
 fn compares(op: AtomicOp) -> bool
     ensures { result ≡ list_any (λ r. true) (reads.compared_register op) }
 {
@@ -44,7 +44,7 @@ fn is_one(value: Abs) -> bool
     }
 }
 
-/// Whether a quota allows it: a fetch-add of 1.
+/// Whether a quota allows the operation: a fetch-add of 1.
 fn takes(e: &AbsState, op: AtomicOp, src: Reg) -> bool
     ensures { (size : AtomicSize) (dst : Reg) (offset : ℤ)
         → rules.leaves_quota e.now (Insn.Atomic op size dst src offset) ≡ result }
@@ -52,7 +52,7 @@ fn takes(e: &AbsState, op: AtomicOp, src: Reg) -> bool
     op == AtomicOp::FetchAdd && is_one(e.value(src))
 }
 
-/// Whether a register that it reads may be unset.
+/// Whether a register that the operation reads may be unset.
 fn reads_unusable(e: &AbsState, op: AtomicOp, dst: Reg, src: Reg) -> bool
     ensures { result ≡ list_any (λ r. is_unusable (value_of e.now r))
         (dst ∷ src ∷ reads.compared_register op) }
@@ -105,8 +105,8 @@ pub fn atomic_rule(
     }
 }
 
-/// What an atomic operation leaves: any number of the cell in the register that takes the old
-/// value.
+/// The state after an atomic operation: the register that gets the old value may have any number of
+/// the cell's width.
 pub fn exchange_in(e: &mut AbsState, op: AtomicOp, size: AtomicSize, src: Reg)
     ensures { let r = counters.fetched op src in
         e.new ≡ transfer.with_fetched e.old r (transfer.fetched_value size) }

@@ -19,7 +19,7 @@ use cells::Shape;
 /// The most bytes of a text that attr_is compares.
 const MAX_TEXT: u64 = 64;
 
-/// Whether a register of the arguments may be unset.
+/// Whether an argument register may be unset.
 fn reads_unusable(e: &AbsState, called: Option<Prototype>) -> bool
     ensures { result ≡ list_any (λ r. is_unusable (value_of e.now r)) (reads.arguments called) }
 {
@@ -37,7 +37,7 @@ fn reads_unusable(e: &AbsState, called: Option<Prototype>) -> bool
     }
 }
 
-/// Whether a byte of a text that is compared may be unset.
+/// Whether a byte of the text that the helper compares may be unset.
 fn compares_unset(e: &AbsState, called: Option<Prototype>) -> bool
     ensures { result ≡ rules.compares_unset e.now called }
 {
@@ -66,7 +66,7 @@ fn is_map(value: Abs) -> bool
     matches!(value, Abs::Map { .. })
 }
 
-/// Whether a helper takes its arguments.
+/// Whether the helper accepts its arguments.
 fn takes(e: &AbsState, called: Option<Prototype>) -> bool
     ensures { result ≡ rules.takes e.now called }
 {

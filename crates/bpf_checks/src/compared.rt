@@ -1,6 +1,6 @@
-//! The two values that a conditional jump compares, as they were before its edges are taken. So one
-//! entry takes both edges in turn: it becomes what is known on the edge that jumps, gets the two
-//! values again, and becomes what is known on the edge that goes on.
+//! The two values that a conditional jump compares, as they are before its edges. So one state
+//! serves both edges: it is narrowed to the edge that jumps, the two values are restored, and it is
+//! narrowed to the fall-through edge.
 
 ghost use Rattle.std.specs.Prelude.{◌≡◌, false};
 ghost use Rattle.bpf_checks.specs.Rules as rules;
@@ -9,12 +9,12 @@ ghost use Rattle.bpf_checks.specs.Transfer as transfer;
 use abs_value::{Abs, AbsState};
 use bpf_insn::{Insn, Operand, Reg};
 
-/// What an instruction compares.
+/// The comparison of an instruction.
 #[derive(Clone, Copy, Debug)]
 pub enum Compared {
-    /// It is no conditional jump.
+    /// The instruction isn't a conditional jump.
     Nothing,
-    /// Two operands, with what is known of each.
+    /// Two operands, with their abstract values.
     Values {
         left: Reg,
         right: Operand,
@@ -24,9 +24,9 @@ pub enum Compared {
 }
 
 impl Compared {
-    /// What an instruction compares. Unless it checks a lookup's answer, nothing else changes on
-    /// the edge that jumps.
-    // open: what it gives at a lookup's check, of which no edge is taken back.
+    /// The comparison of an instruction. Unless the instruction checks a lookup's result, the edge
+    /// that jumps changes only these values.
+    // open: its result for a check of a lookup's result, after which no edge is restored.
     pub fn of(e: &AbsState, insn: &Insn) -> Compared
         ensures { rules.is_lookup_check e.now insn.now ≡ false
             → transfer.Restores e.now insn.now result }
@@ -47,7 +47,7 @@ impl Compared {
         }
     }
 
-    /// Gives the values back.
+    /// Restores the two values.
     pub fn restore(self, e: &mut AbsState)
         ensures { e.new ≡ transfer.restored self e.old }
     {

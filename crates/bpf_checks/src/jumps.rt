@@ -8,7 +8,7 @@ use crate::refusal::VerifierRule;
 use abs_value::{Abs, AbsState, compares_with_zero};
 use bpf_insn::{Bits, Condition, Insn, Operand, Reg};
 
-/// Whether it is what a lookup gave, or the address of a cell.
+/// Whether it is the result of a lookup, or the address of a cell.
 fn may_be_null(value: Abs) -> bool
     ensures { result ≡ rules.may_be_null value }
 {
@@ -40,8 +40,8 @@ pub fn jump_rule(
     }
 }
 
-/// Whether it is a jump whose edges check a lookup's answer. Then each copy of the answer changes
-/// on the edge that jumps, and that edge takes a copy of what is known.
+/// Whether it is a jump that compares a lookup's result with 0. Then each copy of the result
+/// changes on the edge that jumps, and that edge needs a copy of the state.
 pub fn is_lookup_check(e: &AbsState, insn: &Insn) -> bool
     ensures { result ≡ rules.is_lookup_check e.now insn.now }
 {

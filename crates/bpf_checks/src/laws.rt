@@ -1,6 +1,5 @@
-//! What the rules are worth: where none fails, a step of the machine is no trap, and leads along an
-//! edge to a state that is stood for again. The functions have no work to do; a proof calls them
-//! for their clauses.
+//! Laws about the rules. At an instruction that breaks none, a step of the machine is no trap, and
+//! follows an edge whose abstract state represents the new state.
 
 ghost use Rattle.bpf_checks.specs.Sound as sound;
 
@@ -10,9 +9,9 @@ use abs_value::{
     values_stay_in_order,
 };
 
-/// A step from a state that is stood for, at an instruction that breaks no rule. It is no trap; an
-/// edge that isn't dropped stands for the state that it leads to; its operation on a counter is
-/// lawful; and a choice is 0 or one of the releases.
+/// Law: a step from a represented state, at an instruction that breaks no rule, is safe. It is no
+/// trap, and it follows an edge that isn't dropped, whose abstract state represents the new state.
+/// Its operation on a counter is allowed by the shape, and a choice is 0 or one of the releases.
 pub fn steps_are_safe()
     ensures { sound.EveryStepIsSafe }
 {
@@ -26,7 +25,7 @@ pub fn steps_are_safe()
     bytes_are_there();
 }
 
-/// A join stands for all states that either side stands for, and the opening state is stood for at
+/// Law: a join represents all states that either side represents, and the opening state represents
 /// the start of a run.
 pub fn states_are_stood_for()
     ensures first { sound.FirstStands }
@@ -37,7 +36,7 @@ pub fn states_are_stood_for()
     registers_cover();
 }
 
-/// From a state in which all ends are in order each edge leads to one.
+/// Law: if all ends in a state are in order, they are in order on each edge from it.
 pub fn edges_stay_in_order()
     ensures jumping { sound.JumpingInOrder }
     ensures going_on { sound.GoingOnInOrder }

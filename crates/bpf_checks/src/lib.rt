@@ -1,30 +1,32 @@
 //! The rules of the verifier: what one instruction reads, writes and accesses, which rule it
-//! breaks, and what it makes of what is known at its place.
+//! breaks, and how it changes the abstract state.
 //!
 //! See docs/DECISIONS.md, "The verifier"; docs/DECISIONS.md, "Helpers".
 #![tactic(auto)]
 
-// The method. The verifier goes over a program with what is known at each place, an `AbsState`.
-// This crate is what it does at one place, and knows nothing of programs.
+// The method. The verifier visits each slot of a program with the abstract state before it, an
+// `AbsState`. This crate handles one slot, and knows nothing of programs.
 //
-// First the rules are asked, from V1 up, each a test of the instruction, of what is known and of
-// the shape. They are said over three lists of an instruction: the registers that it reads
-// (operands, addresses, a helper's arguments, R0 at EXIT and by compare-and-exchange), the register
-// that it writes (of an atomic operation the one that takes the old value), and the memory that it
-// accesses, from the address in a register on. A class of instructions can break some of the rules
-// alone. So the code asks those, class by class, and is proved to answer what the whole list would.
+// First the rules are checked, from V1 up; each is a test of the instruction, the abstract state
+// and the shape. Their definitions use three facts about an instruction. The first is the registers
+// that it reads: operands, addresses, a helper's arguments, R0 at EXIT and for
+// compare-and-exchange. The second is the register that it writes, which for an atomic operation is
+// the one that gets the old value. The third is the memory that it accesses, from the address in a
+// register. A class of instructions can break only some of the rules. So the code checks only
+// these, class by class, and is proved to give the result of the whole list.
 //
-// Then the instruction is done to what is known, in place. One that goes on to the next place alone
-// changes a register, the stack, or nothing (`step_in`). A conditional jump has two edges, and each
-// teaches something of what is compared (`jump_in`, `go_on_in`). One entry takes both edges in
-// turn: `Compared` gives the two values back in between. Only where a lookup's answer is compared
-// with 0 does an edge change more, each copy of the answer; then the edge that jumps takes a copy.
+// Then the instruction is applied to the abstract state, in place. An instruction whose only
+// successor is the next one changes a register, the stack, or nothing (`step_in`). A conditional
+// jump has two edges, and each narrows the compared values (`jump_in`, `go_on_in`). One state
+// serves both edges, and `Compared` restores the two values in between. Only a comparison of a
+// lookup's result with 0 changes more on an edge: each copy of the result. Then the edge that jumps
+// uses a copy of the state.
 //
-// What this is worth is said by `laws.rt`: from a state of the machine that is stood for, at an
-// instruction that breaks no rule, a step is no trap and leads along an edge that isn't dropped to
-// a state that is stood for again, whatever a counter replies; what it asks of a counter is lawful,
-// and a choice is 0 or one of the releases. So a crate above that joins edges has no more to show
-// than that a join keeps what is stood for.
+// `laws.rt` says why this is sound. Take a state of the machine that the abstract state represents,
+// at an instruction that breaks no rule. Then a step is no trap, and follows an edge that isn't
+// dropped to a state that the edge's abstract state represents, whatever a counter replies. Its
+// operation on a counter is allowed by the shape, and a choice is 0 or one of the releases. So a
+// crate above that joins edges only has to show that a join keeps what it represents.
 
 mod access;
 mod arithmetic;

@@ -1,5 +1,5 @@
 //! Loads (RFC 9669, "Load and Store Instructions"), and wide loads ("64-bit Immediate
-//! Instructions"): the rules that they may break, and what they leave.
+//! Instructions"): the rules that they may break, and the values that they give.
 
 ghost use Rattle.std.specs.Prelude.{◌≡◌};
 ghost use Rattle.bpf_semantics.specs.Reads as counts;
@@ -43,7 +43,7 @@ pub fn load_rule(
     }
 }
 
-/// What a load gives.
+/// The value of a load.
 pub fn load(e: &AbsState, kind: LoadKind, address: Abs, offset: i16) -> Abs
     ensures { let place = memory.stack_place address offset (counts.load_count kind) in
         result ≡ loaded_at e.now place kind }

@@ -1,4 +1,4 @@
-//! Where the bytes of an access lie: context, stack or a cell, and what may be done there.
+//! The region of an access (context, stack or a cell), and what is allowed there.
 
 ghost use Rattle.std.specs.Prelude.{◌≡◌, ◌≤◌, ◌+◌};
 ghost use Rattle.std.specs.Prelude.{IfSome};
@@ -11,7 +11,7 @@ use abs_value::{Abs, AbsState, Origin, Places};
 use bpf_semantics::{CONTEXT_SIZE, STACK_SIZE};
 use cells::Shape;
 
-/// Whether so many bytes from each of the places on, moved by the offset, lie in a region.
+/// Whether `count` bytes from each of the places, moved by the offset, are in the region.
 fn lies_in(size: u16, from: Places, offset: i16, count: u16) -> bool
     requires { count ≤ 512 }
     ensures { result ≡ memory.lies_in size from.lo from.hi offset count }
@@ -32,7 +32,7 @@ fn lies_in_stack(place: u16, offset: i16, count: u16) -> bool
     lies_in(STACK_SIZE, places, offset, count)
 }
 
-/// Whether it is the whole of a cell, at its own address and in its own width.
+/// Whether the access is to a whole cell, at its own address and with its own width.
 fn is_whole_cell(shape: &Shape, access: Access, origin: Origin) -> bool
     requires { access.count ≤ 8 }
     ensures { result ≡ memory.is_whole_cell shape.now access origin }
@@ -42,7 +42,7 @@ fn is_whole_cell(shape: &Shape, access: Access, origin: Origin) -> bool
         && access.how != Use::Extends
 }
 
-/// Whether a byte may lie outside the region, or the access isn't the cell's.
+/// Whether a byte may be outside the region, or the access isn't to a whole cell.
 pub fn is_outside(shape: &Shape, access: Access, address: Abs) -> bool
     requires { access.count ≤ 8 }
     ensures { result ≡ memory.is_outside shape.now access address }
@@ -88,7 +88,7 @@ pub fn reaches_quota(shape: &Shape, access: Access, address: Abs) -> bool
     }
 }
 
-/// The place in the stack where so many bytes lie; `None` where they don't all lie there.
+/// The place in the stack of `count` bytes; `None` if they aren't all in the stack.
 pub fn stack_place(address: Abs, offset: i16, count: u16) -> Option<u16>
     requires { count ≤ 512 }
     ensures place { result ≡ memory.stack_place address offset count }
@@ -102,7 +102,7 @@ pub fn stack_place(address: Abs, offset: i16, count: u16) -> Option<u16>
     }
 }
 
-/// Whether they are a whole slot of the stack.
+/// Whether the bytes are a whole slot of the stack.
 pub fn is_slot(place: Option<u16>, count: u16) -> bool
     ensures { result ≡ memory.is_slot place count }
 {
@@ -112,7 +112,7 @@ pub fn is_slot(place: Option<u16>, count: u16) -> bool
     }
 }
 
-/// Whether of so many bytes from an address on one lies in the stack and isn't set.
+/// Whether any of `count` bytes from an address is in the stack and unset.
 pub fn meets_unset(e: &AbsState, address: Abs, offset: i16, count: u16) -> bool
     ensures { result ≡ memory.meets_unset e.now address offset count }
 {
@@ -122,8 +122,7 @@ pub fn meets_unset(e: &AbsState, address: Abs, offset: i16, count: u16) -> bool
     }
 }
 
-/// Whether of a text that begins at an address, with as many bytes as a single length says, a byte
-/// lies in the stack and isn't set.
+/// Whether the text at `address`, of the single length `length`, has an unset byte in the stack.
 pub fn text_unset(e: &AbsState, address: Abs, length: Abs) -> bool
     ensures { result ≡ memory.text_unset e.now address length }
 {

@@ -1,4 +1,4 @@
-//! Why a program is refused: the rules with the codes that are printed, and the refusal itself.
+//! Why a program is refused: the rules with their printed codes, and the refusal itself.
 
 ghost use Rattle.std.specs.Prelude.{◌≡◌, Some};
 ghost use Rattle.bpf_checks.specs.Texts.{verifier_rule_text, verifier_refusal_text};
@@ -8,44 +8,44 @@ use std::alloc::AllocError;
 use std::error::Error;
 use std::fmt;
 
-/// A rule that an instruction breaks; of several the first is answered.
+/// A rule that an instruction breaks; the first, if it breaks several.
 #[derive(Clone, Copy, Debug, PartialEq, Eq)]
 pub enum VerifierRule {
-    /// It reads a register that may be unset or that holds different kinds on different paths, or a
-    /// byte of the stack that may be unset.
+    /// The instruction reads a register that may be unset or holds different kinds on different
+    /// paths, or a byte of the stack that may be unset.
     Unusable,
-    /// It writes R10, which holds the stack's top.
+    /// It writes R10, the top of the stack.
     WritesFrame,
-    /// It computes with a pointer, other than by a 64-bit move, or by a 64-bit add or sub of a
-    /// number to an address in context or stack.
+    /// It computes with a pointer. Allowed are a 64-bit MOV, and a 64-bit ADD or SUB of a number to
+    /// an address in the context or the stack.
     PointerArithmetic,
-    /// It moves an address in context or stack, which may then lie outside the region, or moves it
-    /// by a range where only a single number may.
+    /// It moves an address in the context or the stack so that it may be outside the region, or by
+    /// a range if only a single number may move it.
     OffsetRange,
-    /// It compares a pointer, other than what a lookup gave with 0.
+    /// It compares a pointer, except a lookup's result with 0.
     PointerCompare,
-    /// Its bytes may lie outside the context, or outside the stack, or aren't a whole cell.
+    /// The accessed bytes may be outside the context or the stack, or aren't a whole cell.
     Access,
-    /// It stores a pointer, other than to a whole slot of the stack.
+    /// It stores a pointer, except to a whole slot of the stack.
     StoresPointer,
     /// It writes the context.
     WritesContext,
-    /// It accesses memory through a number, a map, or a lookup's answer that may be 0.
+    /// It accesses memory through a number, a map, or a lookup's result that may be 0.
     NotAddress,
-    /// It calls a helper that isn't there, or with arguments that the helper doesn't take.
+    /// It calls a helper that doesn't exist, or with arguments that the helper doesn't accept.
     Helper,
     /// It names an array or a cell that the shape doesn't have.
     MapIndex,
     /// It is an atomic operation on the stack.
     Kind,
-    /// It ends the run, and R0 may be above the number of releases or is no number.
+    /// It ends the run, and R0 may be above the number of releases, or isn't a number.
     Result,
-    /// It touches a cell that has a quota by anything but a load or a fetch-add of 1.
+    /// It accesses a cell that has a quota, except by a load or a fetch-add of 1.
     QuotaCell,
 }
 
 impl VerifierRule {
-    /// The number and the name, as they are printed.
+    /// The code and the name, as printed.
     pub fn name(self) -> &'static str
         ensures { result.now ≡ verifier_rule_text self }
     {
@@ -71,9 +71,9 @@ impl VerifierRule {
 /// Why `verify` refuses a program.
 #[derive(Clone, Copy, Debug, Drop, PartialEq, Eq)]
 pub enum Refusal {
-    /// The first slot at which a rule fails, and the first rule that fails there.
+    /// The first slot at which an instruction breaks a rule, and the first rule that it breaks.
     Rule { slot: usize, rule: VerifierRule },
-    /// An allocation was refused.
+    /// An allocation failed.
     Memory,
 }
 

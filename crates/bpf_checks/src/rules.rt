@@ -15,7 +15,7 @@ use abs_value::AbsState;
 use bpf_insn::Insn;
 use cells::Shape;
 
-/// The first rule that an instruction breaks, by what is known at its place.
+/// The first rule that an instruction breaks, given the abstract state before it.
 pub fn first_rule(shape: &Shape, e: &AbsState, insn: &Insn) -> Option<VerifierRule>
     ensures { result ≡ rules.first_rule shape.now e.now insn.now }
 {

@@ -1,5 +1,5 @@
-//! Stores (RFC 9669, "Load and Store Instructions"): the rules that they may break, and what they
-//! leave.
+//! Stores (RFC 9669, "Load and Store Instructions"): the rules that they may break, and the state
+//! after them.
 
 ghost use Rattle.std.specs.Prelude.{◌≡◌, ℤ};
 ghost use Rattle.bpf_semantics.specs.Reads as counts;
@@ -80,7 +80,7 @@ pub fn store_rule(
     }
 }
 
-/// What a store leaves.
+/// The state after a store.
 pub fn store_in(e: &mut AbsState, size: Size, address: Abs, offset: i16, value: Abs)
     ensures { let n = counts.byte_count size in
         e.new ≡ stored_at e.old (memory.stack_place address offset n) n value }

@@ -1,5 +1,4 @@
-//! The effect of an instruction on what is known at its place. The current entry is changed in
-//! place.
+//! The transfer functions: how an instruction changes the abstract state, in place.
 
 ghost use Rattle.std.specs.Prelude.{◌≡◌};
 ghost use Rattle.abs_value.specs.Lookups.{IsEdge};
@@ -13,7 +12,7 @@ use abs_value::{Abs, AbsState, Number};
 use bpf_insn::{Bits, Insn};
 use cells::Shape;
 
-/// What an instruction leaves that goes on to the next one alone.
+/// The state after an instruction whose only successor is the next one.
 pub fn step_in(e: &mut AbsState, shape: &Shape, slot: u16, insn: &Insn)
     ensures { e.new ≡ transfer.after shape.now slot e.old insn.now }
 {
@@ -58,8 +57,7 @@ pub fn step_in(e: &mut AbsState, shape: &Shape, slot: u16, insn: &Insn)
     }
 }
 
-/// What is known on the edge that jumps. `false` where no run takes it, and then nothing is
-/// changed.
+/// The state on the edge that jumps. Returns `false` if no run takes it, and then changes nothing.
 pub fn jump_in(e: &mut AbsState, insn: &Insn) -> bool
     ensures { IsEdge result (transfer.jumping e.old insn.now) e.old e.new }
 {
@@ -75,8 +73,8 @@ pub fn jump_in(e: &mut AbsState, insn: &Insn) -> bool
     }
 }
 
-/// What is known on the edge that goes on. `false` where no run takes it, and then nothing is
-/// changed.
+/// The state on the fall-through edge. Returns `false` if no run takes it, and then changes
+/// nothing.
 pub fn go_on_in(e: &mut AbsState, shape: &Shape, slot: u16, insn: &Insn) -> bool
     ensures { IsEdge result (transfer.going_on shape.now slot e.old insn.now) e.old e.new }
 {

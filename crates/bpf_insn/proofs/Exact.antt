@@ -39,7 +39,7 @@ no_second (insn.Jump (Short k)) wide = refl
 no_second (insn.Jump (Long k)) wide = refl
 no_second i wide = refl
 
--- the second half of a wide load stands in the next slot
+-- the second half of a wide load is in the next slot
 second_here : (b : List ℕ) (s : ℕ) (i : Insn) → Wide ≡ form_of i → Spells b s i → (g : Fields)
     × HasFields b (s + 1) g × (second_of i ≡ Some g) × IsSecondHalf (fields_of i).src g
 second_here b s (insn.Wide dst value) wide p =
@@ -49,7 +49,7 @@ second_here b s (insn.Jump (Short k)) wide p = absurd (cc)
 second_here b s (insn.Jump (Long k)) wide p = absurd (cc)
 second_here b s i wide p = absurd (cc)
 
--- ---- a rule that is kept is no fault
+-- ---- a rule that is kept isn't a fault
 
 kept_by : (b : List ℕ) (s : ℕ) (form other : Form) (f g : Fields) (e : InsnFault) → HasFields b s f
     → IsOfRow form f → Keeps (row_of form) f e → HasFields b s g → opcode_of other ≡ g.opcode
@@ -159,7 +159,7 @@ exclusive b s form f has row i e p = by e
         (subst (λ (x : Fields). IsSecondHalf (fields_of i).src x) second g.3))
     by e h = kept b s (form_of i) (fields_of i) own here room e (omega arith) (keeps_rules i e) h
 
--- ---- the one instruction
+-- ---- the only instruction
 
 pub the_one : (b : List ℕ) (s : ℕ) (form : Form) (f : Fields) (i : Insn)
     → HasFields b s f → IsOfRow form f → form ≢ Wide → IsTheInsn form f None i
@@ -192,7 +192,7 @@ the_wide b s f g i has next row the = record {
       });
 }
 
--- ---- where eight bytes aren't there, or no row has the opcode
+-- ---- eight bytes don't exist, or no row has the opcode
 
 pub no_row_exclusive : (b : List ℕ) (s : ℕ) (f : Fields)
     → HasFields b s f → ((form : Form) → opcode_of form ≢ f.opcode) → SpellsOrHasFault b s
@@ -214,7 +214,7 @@ no_row_least b s f has none = record { has = (f, has, none); lowest = below }
     below Offset low h = absurd (omega arith)
     below SecondHalf low h = absurd (omega arith)
 
--- ---- the answer of a row of one slot
+-- ---- the result for a one-slot row
 
 pub row_insn : (b : List ℕ) (s : ℕ) (form : Form) (f : Fields) (r : Result Insn InsnFault)
     → HasFields b s f → IsOfRow form f → form ≢ Wide → IfOk r (λ i. IsTheInsn form f None i)

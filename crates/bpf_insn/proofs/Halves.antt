@@ -1,4 +1,4 @@
--- The halves of an instruction in the bytes: eight bytes hold one row of fields.
+-- The halves of an instruction in the bytes: eight bytes have exactly one value for each field.
 use Rattle.std.proofs.Common.{◌≡◌, ℕ, ◌+◌, ◌*◌, ◌/◌, ◌%◌, ◌^◌, ◌<◌, ◌≤◌, ℤ, List, ◌++◌}
 use Rattle.std.proofs.Common.{length, get_or, take, drop, Option, Some, None, refl, sym, ap}
 use Rattle.std.proofs.Common.{subst, ◌∙◌, arith, to_z, of_z, FitsSigned, length-drop, length-take}

@@ -1,4 +1,4 @@
--- An opcode of arithmetic has one row, and each offset that a row allows is of an operation.
+-- An arithmetic opcode has one row, and each offset that a row allows belongs to an operation.
 use Rattle.std.proofs.Common.{◌≡◌, ◌≢◌, ℕ, ◌+◌, ◌*◌, ◌/◌, ◌%◌, ◌<◌}
 use Rattle.std.proofs.Common.{ℤ, pos, false, inl, inr, Some, refl, sym, ap, ◌∙◌, arith}
 use Rattle.std.proofs.lemmas.Option.{same_Some}
@@ -95,7 +95,7 @@ only_alu opcode Bits32 c s class bit number only form e = absurd (grind (arith, 
 
 -- ---- the operation of a row
 
--- each offset that the row of a code allows is of an operation
+-- each offset that the row of a code allows belongs to an operation
 op_of : (c : AluCode) (z : ℤ) → (uses_offset (alu_offset c) ≡ false → z ≡ pos 0)
     → AllowsOffset (alu_offset c) z → (op : AluOp) × IsAluOp c z op
 op_of code.Add z unused h = (alu.Add, (refl, sym (unused refl)))

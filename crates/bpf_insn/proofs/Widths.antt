@@ -1,4 +1,4 @@
--- What an operation gives of two numbers of a width is a number of that width.
+-- An operation on two numbers of a width gives a number of that width.
 use Rattle.std.proofs.Common.{ℕ, zero, suc, ◌+◌, ◌-◌, ◌*◌, ◌/◌, ◌%◌, ◌^◌, ◌<◌}
 use Rattle.std.proofs.Common.{ℤ, pos, negsuc, neg_ℤ, FitsSigned}
 use Rattle.std.proofs.Common.{Bool, true, false, ◌==◌, unsigned_abs, arith, sym, subst, div-le_self}
@@ -25,7 +25,7 @@ half_lt w32 = omega arith
 half_lt w64 = omega arith
 half_lt w128 = omega arith
 
--- a shift that copies the sign
+-- a sign-extending shift
 shifted_lt : (w : Width) (z : ℤ) (k : ℕ) → cast_unsigned w z < 2 ^ bits w
     → cast_unsigned w (int_shr z k) < 2 ^ bits w
 shifted_lt w (pos n) k h = let part = shr_le n k in omega (arith, part, h)
@@ -35,7 +35,7 @@ negated_lt : (w : Width) (n : ℕ) → cast_unsigned w (neg_ℤ (pos n)) < 2 ^ b
 negated_lt w zero = pow_pos (bits w)
 negated_lt w (suc n) = let some = pow_pos (bits w) in omega (arith, some)
 
--- of two negative numbers the quotient is at most the dividend without its sign
+-- the quotient of two negative numbers is at most the dividend's absolute value
 quotient_lt : (w : Width) (x y : ℤ) → FitsSigned w x → cast_unsigned w (int_div x y) < 2 ^ bits w
 quotient_lt w (pos n) (pos m) h =
     let part = div-le_self n m in let half = half_lt w in omega (arith, part, half, h.sfits)
@@ -53,7 +53,7 @@ remainder_lt w (negsuc n) y h = negated_lt w (suc n % unsigned_abs y)
 
 -- ---- the operations
 
--- where the divisor is 0, and where it isn't
+-- if the divisor is 0, and if it isn't
 either_lt : (none : Bool) (n m k : ℕ) → n < k → m < k → (if none then n else m) < k
 either_lt true n m k h g = h
 either_lt false n m k h g = g

@@ -1,4 +1,4 @@
--- The rules that the fields of a half keep, one a fault, and how faults are printed.
+-- The rules for the fields of a half, one for each fault, and the texts of faults.
 use Rattle.std.specs.Prelude.{◌≡◌, ℕ, ◌≤◌, ◌⊎◌, ℤ, pos, List, Bool, true, false, codes}
 use Rattle.bpf_insn.specs.declared.operand.AtomicOp.{AtomicOp}
 use Rattle.bpf_insn.specs.declared.operand.EndSize.{EndSize}
@@ -24,20 +24,20 @@ abbrev pub AllowsDst : Bool → ℕ → Type 0
 AllowsDst true n = n ≤ 10
 AllowsDst false n = Unit {0}
 
--- a register, or one of the few numbers that CALL and a wide load have there
+-- a register, or one of the few numbers that are allowed for CALL and a wide load
 abbrev pub AllowsSrc : SrcField → ℕ → Type 0
 AllowsSrc src.Unused n = Unit {0}
 AllowsSrc src.Register n = n ≤ 10
 AllowsSrc src.Callee n = n ≡ 0
 AllowsSrc src.WideSource n = (source : WideSource) × (source_code source ≡ n)
 
--- of END the bits that it keeps, of an atomic row the code of an operation
+-- for END the number of bits that it keeps, for an atomic row the code of an operation
 abbrev pub AllowsImm : ImmField → ℤ → Type 0
 AllowsImm imm.EndBits z = (size : EndSize) × (pos (end_bits size) ≡ z)
 AllowsImm imm.AtomicCode z = (op : AtomicOp) × (pos (atomic_code op) ≡ z)
 AllowsImm i z = Unit {0}
 
--- 0 of DIV and MOD, 1 of the signed operations; 0 of MOV, or the bits that a MOVSX of the class
+-- 0 for DIV and MOD, 1 for the signed operations; 0 for MOV, or the bits that a MOVSX of the class
 -- extends
 abbrev pub AllowsOffset : OffsetField → ℤ → Type 0
 AllowsOffset offset.Sign z = (z ≡ pos 0) ⊎ (z ≡ pos 1)
@@ -66,7 +66,7 @@ pub record LeavesUnused (r : Row) (f : Fields) : Type 0 where
 
 -- ---- the rules
 
--- the rule of one half that a fault says is broken; the others are about where the halves stand
+-- the rule for one half whose violation is this fault; the other faults don't concern one half
 abbrev pub Keeps : Row → Fields → InsnFault → Type 0
 Keeps r f Register = AllowsDst r.uses_dst f.dst × AllowsSrc r.src f.src
 Keeps r f UnusedField = LeavesUnused r f
@@ -74,7 +74,7 @@ Keeps r f Imm = AllowsImm r.imm f.imm
 Keeps r f Offset = AllowsOffset r.offset f.offset
 Keeps r f fault = Unit {0}
 
--- a second half: four zeroes, and after a map's index also next_imm 0
+-- a second half: four zeroes, and for a map's index also next_imm 0
 pub record IsSecondHalf (source : ℕ) (f : Fields) : Type 0 where
   pub opcode : f.opcode ≡ 0
   pub dst : f.dst ≡ 0
@@ -82,7 +82,7 @@ pub record IsSecondHalf (source : ℕ) (f : Fields) : Type 0 where
   pub offset : f.offset ≡ pos 0
   pub map : source ≡ 5 → f.imm ≡ pos 0
 
--- ---- how a fault is printed: its number and its name
+-- ---- the number and the text of a fault
 
 abbrev pub fault_number : InsnFault → ℕ
 fault_number Truncated = 1

@@ -1,4 +1,4 @@
--- What the parts of the decoder hand to one another: the halves of an instruction, and the rule
+-- What the parts of the decoder pass to one another: the halves of an instruction, and the rule
 -- that they break.
 use Rattle.std.specs.Prelude.{◌≡◌, ℕ, ◌<◌, List, Option}
 use Rattle.bpf_insn.specs.declared.insn.Insn.{Insn}
@@ -13,7 +13,7 @@ use Rattle.bpf_insn.specs.Faults.{Keeps, fault_number}
 use Rattle.bpf_insn.specs.Spelling.{form_of, fields_of, second_of, IsEncodable, IsFields}
 use Rattle.bpf_insn.specs.Spelling.{source_of, src_field, imm_field, Spells, HasFault}
 
--- an instruction of this row and these halves
+-- an instruction with this row and these halves
 pub record HasHalves (form : Form) (first : Fields) (second : Option Fields) (i : Insn) :
     Type 0 where
   pub fits : IsEncodable i
@@ -21,13 +21,13 @@ pub record HasHalves (form : Form) (first : Fields) (second : Option Fields) (i 
   pub first_is : fields_of i ≡ first
   pub second_is : second_of i ≡ second
 
--- the fields are of this row, and of no other
+-- the fields belong to this row, and to no other
 pub record IsOfRow (form : Form) (f : Fields) : Type 0 where
   pub fits : IsFields f
   pub opcode : opcode_of form ≡ f.opcode
   pub only : (other : Form) → opcode_of other ≡ f.opcode → form ≡ other
 
--- and its registers and unused fields are in order
+-- also, its registers and unused fields are valid
 pub record IsInOrder (form : Form) (f : Fields) : Type 0 where
   pub fits : IsFields f
   pub opcode : opcode_of form ≡ f.opcode
@@ -40,13 +40,13 @@ pub record IsOperand (source : Source) (f : Fields) (o : Operand) : Type 0 where
   pub src_is : src_field o ≡ f.src
   pub imm_is : imm_field o ≡ f.imm
 
--- of the rules that the fields of a row break, the one with the lowest number
+-- the rule with the lowest number, among those that the fields of a row break
 pub record IsRowFault (form : Form) (f : Fields) (e : InsnFault) : Type 0 where
   pub breaks : ¬ Keeps (row_of form) f e
   pub lowest : (other : InsnFault) → fault_number other < fault_number e
       → Keeps (row_of form) f other
 
--- the one instruction of this row and these halves
+-- the only instruction with this row and these halves
 pub record IsTheInsn (form : Form) (first : Fields) (second : Option Fields) (i : Insn) :
     Type 0 where
   pub has : HasHalves form first second i
@@ -57,7 +57,7 @@ abbrev pub SpellsOrHasFault : List ℕ → ℕ → Type 0
 SpellsOrHasFault bytes slot =
     (i : Insn) (e : InsnFault) → Spells bytes slot i → ¬ HasFault bytes slot e
 
--- the one instruction that the bytes from this slot on spell
+-- the only instruction that the bytes from this slot spell
 pub record IsOnlySpelling (bytes : List ℕ) (slot : ℕ) (i : Insn) : Type 0 where
   pub spells : Spells bytes slot i
   pub only : (j : Insn) → Spells bytes slot j → i ≡ j

@@ -1,5 +1,6 @@
-//! What the arithmetic instructions compute (RFC 9669, "Arithmetic Instructions" and "Byte Swap
-//! Instructions"): one function a definition. A result of 32 bits is computed on `u32` and widened.
+//! The results of arithmetic instructions (RFC 9669, "Arithmetic Instructions" and "Byte Swap
+//! Instructions"): one function for each definition. A 32-bit result is computed on `u32` and
+//! zero-extended.
 
 ghost use Rattle.std.specs.Prelude.{◌≡◌};
 ghost use Rattle.std.specs.Int.{w32, w64};
@@ -59,7 +60,7 @@ impl AluOp {
         }
     }
 
-    /// The operation of two registers, or of their low halves.
+    /// The operation on two registers, or on their low halves.
     #[inline]
     pub fn apply(self, bits: Bits, x: u64, y: u64) -> u64
         ensures { result ≡ formula.alu_result bits self x y }
@@ -135,7 +136,7 @@ impl EndSize {
     }
 }
 
-/// What an operation gives of two numbers of a width is a number of that width.
+/// Law: an operation on two numbers of a width gives a number of that width.
 pub fn results_fit()
     ensures { FitsWidth }
 {}

@@ -1,6 +1,6 @@
-//! Putting an instruction together from the fields of its halves. The registers and the unused
-//! fields are judged by the row alone; then each class of instructions reads its parts, and a
-//! number that names no part is its fault.
+//! Building an instruction from the fields of its halves. The row decides whether registers and
+//! unused fields are valid. Then each class of instructions reads its parts; a number that encodes
+//! no part is a fault.
 
 ghost use Rattle.std.specs.Prelude.{◌≢◌, IfOk, IfErr, IfSome, IfNone, None};
 ghost use Rattle.bpf_insn.specs.Halves.{IsOfRow, IsInOrder, IsRowFault, IsTheInsn};
@@ -15,7 +15,7 @@ use crate::form::Form;
 use crate::insn::Insn;
 pub use wide::wide_in;
 
-/// The instruction of a row of one slot, whose registers and unused fields are in order.
+/// The instruction of a one-slot row with valid registers and unused fields.
 #[inline(always)]
 fn parts_in(form: Form, fields: Fields) -> Result<Insn, InsnFault>
     requires one_slot { form ≢ Form.Wide }
@@ -43,7 +43,7 @@ fn parts_in(form: Form, fields: Fields) -> Result<Insn, InsnFault>
     }
 }
 
-/// The fault of a row's registers or unused fields, if there is one.
+/// The fault of the registers or unused fields, if there is one.
 #[inline(always)]
 pub fn common_fault(form: Form, fields: Fields) -> Option<InsnFault>
     requires { IsOfRow form fields }
@@ -60,7 +60,7 @@ pub fn common_fault(form: Form, fields: Fields) -> Option<InsnFault>
     }
 }
 
-/// The instruction of a row of one slot, or the least fault of its fields.
+/// The instruction of a one-slot row, or the least fault of its fields.
 #[inline(always)]
 pub fn insn_in(form: Form, fields: Fields) -> Result<Insn, InsnFault>
     requires one_slot { form ≢ Form.Wide }

@@ -8,7 +8,7 @@ use crate::operand::{Bits, Condition};
 use crate::words::low_word;
 
 impl Condition {
-    /// Whether the condition holds of two registers, or of their low halves.
+    /// Whether the condition holds for two registers, or for their low halves.
     #[inline]
     pub fn holds(self, bits: Bits, x: u64, y: u64) -> bool
         ensures { result ≡ formula.holds bits self x y }

@@ -1,6 +1,5 @@
-//! Reading the instruction that bytes spell: the fields of its first half are split, their row is
-//! looked up by the opcode, and where the row finds no fault the instruction is put together. A
-//! wide load reads its second half too.
+//! The decoder. It splits the first half into fields, looks up the row by the opcode, and builds
+//! the instruction if the row has no fault. For a wide load it also reads the second half.
 
 ghost use Rattle.std.specs.Prelude.{◌≡◌, ◌<◌, ◌≤◌, ◌+◌, ◌*◌, length, IfSome, IfNone, IfOk, IfErr};
 ghost use Rattle.bpf_insn.specs.declared.insn.Insn.{Insn};
@@ -16,7 +15,7 @@ use crate::insn::{Insn, Width};
 use crate::layout::split_fields;
 use crate::opcode::form_at;
 
-/// The fields of the half in this slot, if its eight bytes are there.
+/// The fields of the half in this slot, if all its eight bytes exist.
 fn half_at(bytes: &[u8], slot: usize) -> Option<Fields>
     ensures some { IfSome result (λ f. HasFields bytes.now slot f) }
     ensures room { IfSome result (λ f. 8 * slot + 8 ≤ length bytes.now) }
@@ -28,7 +27,7 @@ fn half_at(bytes: &[u8], slot: usize) -> Option<Fields>
     Some(split_fields(&bytes[8 * slot..8 * slot + 8]))
 }
 
-/// A wide load, whose first half stands in this slot.
+/// The wide load whose first half is in this slot.
 fn wide_at(bytes: &[u8], slot: usize, first: Fields) -> Result<Insn, InsnFault>
     requires room { 8 * slot + 8 ≤ length bytes.now }
     requires first { HasFields bytes.now slot first }
@@ -48,7 +47,7 @@ fn wide_at(bytes: &[u8], slot: usize, first: Fields) -> Result<Insn, InsnFault>
     Ok(wide_in(first, second))
 }
 
-/// The instruction of a row, whose first half stands in this slot.
+/// The instruction of a row whose first half is in this slot.
 #[inline(always)]
 fn row_at(bytes: &[u8], slot: usize, form: Form, first: Fields) -> Result<Insn, InsnFault>
     requires room { 8 * slot + 8 ≤ length bytes.now }
@@ -64,7 +63,7 @@ fn row_at(bytes: &[u8], slot: usize, form: Form, first: Fields) -> Result<Insn, 
     }
 }
 
-/// The instruction that the bytes from this slot on spell.
+/// The instruction that the bytes from this slot spell.
 #[inline(always)]
 fn insn_at(bytes: &[u8], slot: usize) -> Result<Insn, InsnFault>
     ensures insn { IfOk result (λ i. IsOnlySpelling bytes.now slot i) }
@@ -80,9 +79,9 @@ fn insn_at(bytes: &[u8], slot: usize) -> Result<Insn, InsnFault>
     }
 }
 
-/// The instruction that the bytes from this slot on spell, and how many slots it takes; or the
-/// least fault of the bytes (RFC 9669, "Instruction Encoding"). Any slot may be asked: past the
-/// end the bytes are truncated.
+/// The instruction that the bytes from `slot` spell, and its number of slots; or the least fault of
+/// the bytes (RFC 9669, "Instruction Encoding"). Any slot is allowed: past the end the bytes are
+/// truncated.
 #[inline(always)]
 pub fn decode_at(bytes: &[u8], slot: usize) -> Result<(Insn, Width), InsnFault>
     ensures spelled { IfOk result (λ d. Spells bytes.now slot d.0 × (d.1 ≡ width_of d.0)) }

@@ -1,5 +1,5 @@
-//! Quotients and remainders (RFC 9669, "Arithmetic Instructions"): a divisor of 0 gives 0, and
-//! leaves the dividend as the remainder. The signed ones round toward 0.
+//! Quotients and remainders (RFC 9669, "Arithmetic Instructions"). Division by 0 gives 0, and its
+//! remainder is the dividend. Signed division rounds toward 0.
 
 ghost use Rattle.std.specs.Prelude.{◌≡◌};
 ghost use Rattle.std.specs.Int.{w32, w64};
@@ -13,14 +13,14 @@ pub fn quotient(x: u64, y: u64) -> u64
     if y == 0 { 0 } else { x / y }
 }
 
-/// DIV of 32 bits.
+/// 32-bit DIV.
 pub fn quotient32(a: u32, b: u32) -> u32
     ensures { result ≡ arithmetic w32 Div a b }
 {
     if b == 0 { 0 } else { a / b }
 }
 
-/// SDIV: the least number by -1 wraps to itself.
+/// SDIV: the least number divided by -1 wraps to itself.
 pub fn signed_quotient(x: u64, y: u64) -> u64
     ensures { result ≡ arithmetic w64 Sdiv x y }
 {
@@ -33,7 +33,7 @@ pub fn signed_quotient(x: u64, y: u64) -> u64
     }
 }
 
-/// SDIV of 32 bits.
+/// 32-bit SDIV.
 pub fn signed_quotient32(a: u32, b: u32) -> u32
     ensures { result ≡ arithmetic w32 Sdiv a b }
 {
@@ -53,7 +53,7 @@ pub fn remainder(x: u64, y: u64) -> u64
     if y == 0 { x } else { x % y }
 }
 
-/// MOD of 32 bits.
+/// 32-bit MOD.
 pub fn remainder32(a: u32, b: u32) -> u32
     ensures { result ≡ arithmetic w32 Mod a b }
 {
@@ -73,7 +73,7 @@ pub fn signed_remainder(x: u64, y: u64) -> u64
     }
 }
 
-/// SMOD of 32 bits.
+/// 32-bit SMOD.
 pub fn signed_remainder32(a: u32, b: u32) -> u32
     ensures { result ≡ arithmetic w32 Smod a b }
 {

@@ -1,5 +1,5 @@
-//! Writing an instruction: its row gives the opcode, its parts give the other fields, and the
-//! halves stand one after the other.
+//! The encoder: the row gives the opcode, the instruction's parts give the other fields, and the
+//! second half follows the first.
 
 ghost use Rattle.std.specs.Prelude.{◌≡◌, ℕ, ◌≤◌, length, take, slice_index, IfSome};
 ghost use Rattle.bpf_insn.specs.Spelling.{fields_of, second_of, encoding, HasWideNumber};
@@ -23,7 +23,7 @@ fn fields_in(insn: Insn) -> Fields
     }
 }
 
-/// The fields of its second half, if it has one.
+/// The fields of an instruction's second half, if it has one.
 fn second_in(insn: Insn) -> Option<Fields>
     ensures is { result ≡ second_of insn }
     ensures fits { IfSome result (λ f. IsFields f) }
@@ -41,7 +41,7 @@ fn second_in(insn: Insn) -> Option<Fields>
     }
 }
 
-/// The bytes of an instruction's halves, and how many they are.
+/// The bytes of an instruction's halves, and their number.
 fn halves_in(insn: Insn) -> ([u8; 16], usize)
     ensures fits { IsEncodable insn }
     ensures length { result.1 ≡ length (encoding insn) }
@@ -59,8 +59,8 @@ fn halves_in(insn: Insn) -> ([u8; 16], usize)
     }
 }
 
-/// The bytes of an instruction, and how many they are: 8, or 16 of a wide load. The bytes after
-/// them are 0. What `encode` writes `decode_at` reads back.
+/// The bytes of an instruction, and their number: 8, or 16 for a wide load. The bytes after them
+/// are 0. `decode_at` reads back what `encode` writes.
 pub fn encode(insn: &Insn) -> ([u8; 16], usize)
     ensures length { result.1 ≡ length (encoding insn.now) }
     ensures bytes { take result.1 result.0 ≡ encoding insn.now }

@@ -1,5 +1,5 @@
-//! The rules of a row's fields that don't read a part of the instruction: which registers and which
-//! other numbers in src the row allows, and that a field that it doesn't use is 0.
+//! The rules for a row's fields that don't depend on the instruction's parts. They say which
+//! registers and other numbers the row allows in src, and that unused fields are 0.
 
 ghost use Rattle.std.specs.Prelude.{◌≡◌, ◌↔◌, IsTrue};
 ghost use Rattle.bpf_insn.specs.Faults.{Keeps, AllowsDst, AllowsSrc, LeavesUnused, IsSecondHalf};
@@ -51,14 +51,14 @@ impl Row {
         !self.uses_dst || fields.dst <= 10
     }
 
-    /// No register is above 10, and in src CALL and a wide load have what they can.
+    /// Whether no register is above 10, and src of CALL or of a wide load has an allowed number.
     pub fn allows_registers(self, fields: Fields) -> bool
         ensures { IsTrue result ↔ Keeps self fields InsnFault.Register }
     {
         self.allows_dst(fields) && self.src.allows(fields)
     }
 
-    /// No field that the row doesn't use is set.
+    /// Whether all fields that the row doesn't use are 0.
     pub fn leaves_unused(self, fields: Fields) -> bool
         ensures { IsTrue result ↔ LeavesUnused self fields }
     {
@@ -70,7 +70,7 @@ impl Row {
     }
 }
 
-/// Whether these are the fields of a second half, after a first half with this src.
+/// Whether these are valid fields of a second half, after a first half with this src.
 pub fn is_second_half(source: u8, fields: Fields) -> bool
     ensures { IsTrue result ↔ IsSecondHalf source fields }
 {

@@ -5,7 +5,7 @@ ghost use Rattle.bpf_insn.specs.Faults.{fault_text};
 
 use std::fmt;
 
-/// The fields of an instruction's eight bytes, or of the second half of a wide one.
+/// The fields of an instruction's eight bytes, or of the second half of a wide instruction.
 #[derive(Clone, Copy, Debug, PartialEq, Eq)]
 pub struct Fields {
     pub opcode: u8,
@@ -15,22 +15,22 @@ pub struct Fields {
     pub imm: i32,
 }
 
-/// Why bytes spell no instruction; of several the least is answered.
+/// Why bytes spell no instruction; if there are several faults, the least is returned.
 #[derive(Clone, Copy, Debug, PartialEq, Eq)]
 pub enum InsnFault {
-    /// I1: a half isn't there in full.
+    /// I1: a half is incomplete.
     Truncated,
     /// I2: no row has the opcode.
     Opcode,
-    /// I3: a register above 10, or src of CALL or of a wide load holds what it can't.
+    /// I3: a register above 10, or src of CALL or of a wide load has a number that isn't allowed.
     Register,
     /// I4: a field that the row doesn't use isn't 0.
     UnusedField,
-    /// I5: an imm that END or the atomic operations don't have.
+    /// I5: an imm that isn't allowed for END or an atomic operation.
     Imm,
-    /// I6: an offset that MOV and MOVSX don't have, or DIV and MOD.
+    /// I6: an offset that isn't allowed for MOV, MOVSX, DIV or MOD.
     Offset,
-    /// I7: the second half's first four bytes aren't 0, or its imm isn't where a map is loaded.
+    /// I7: the second half's first four bytes aren't 0, or its imm isn't 0 in a load of a map.
     SecondHalf,
 }
 

@@ -1,9 +1,9 @@
-//! The table of opcodes. Each row has one opcode, and says of each field of the instruction whether
-//! the row uses it and what it may hold; the decoder and the encoder both read it.
+//! The table of opcodes. Each row has one opcode, and says for each field whether the row uses it
+//! and which numbers it allows. The decoder and the encoder both read it.
 
 use crate::operand::{AtomicSize, Bits, ByteOrder, Condition, LoadKind, Size};
 
-// The eight bytes of an instruction (RFC 9669, "Basic Instruction Encoding"), least byte first:
+// The eight bytes of an instruction (RFC 9669, "Basic Instruction Encoding"), little-endian:
 //
 //     byte    0        1          2 3      4 5 6 7
 //          +--------+----+----+--------+------------+
@@ -16,9 +16,9 @@ use crate::operand::{AtomicSize, Bits, ByteOrder, Condition, LoadKind, Size};
 //     arithmetic and jumps   code code code code  s  class class class      s: 0 is K, 1 is X
 //     loads and stores       mode mode mode size size class class class
 //
-// A wide instruction has a second half of eight bytes: four zeroes, and next_imm where imm stands.
+// A wide instruction has a second half of eight bytes: four zeroes, and next_imm in place of imm.
 
-/// Where the second operand comes from: K is imm, X is the register src.
+/// The source of the second operand: K is imm, X is the register src.
 #[derive(Clone, Copy, Debug, PartialEq, Eq)]
 pub enum Source {
     K,
@@ -26,7 +26,7 @@ pub enum Source {
 }
 
 /// The code of an arithmetic row, the high half of its opcode. SDIV has the code of DIV, and SMOD
-/// that of MOD, told apart by the offset.
+/// that of MOD; the offset distinguishes them.
 #[derive(Clone, Copy, Debug, PartialEq, Eq)]
 pub enum AluCode {
     Add,
@@ -42,8 +42,8 @@ pub enum AluCode {
     Arsh,
 }
 
-/// A row of the table of opcodes. `Mov` with X has the opcode of MOVSX too, told apart by the
-/// offset.
+/// A row of the table of opcodes. `Mov` with X also has the opcode of MOVSX; the offset
+/// distinguishes them.
 #[derive(Clone, Copy, Debug, PartialEq, Eq)]
 pub enum Form {
     Alu(Bits, AluCode, Source),
@@ -62,7 +62,7 @@ pub enum Form {
     Wide,
 }
 
-/// What src of a wide load says that it loads: a number, a map by its index, or a cell of a map.
+/// The meaning of src in a wide load: a number, a map by its index, or a cell of a map.
 #[derive(Clone, Copy, Debug, PartialEq, Eq)]
 pub enum WideSource {
     Number,
@@ -77,9 +77,9 @@ pub enum SrcField {
     Unused,
     /// A register: 0 to 10.
     Register,
-    /// What CALL calls: 0, a helper by its number.
+    /// The kind of a CALL: 0, a helper by its number.
     Callee,
-    /// What a wide load loads: 0, 5 or 6.
+    /// The kind of a wide load: 0, 5 or 6.
     WideSource,
 }
 
@@ -90,9 +90,9 @@ pub enum OffsetField {
     Unused,
     /// Any number.
     Any,
-    /// 0 of DIV and MOD, 1 of SDIV and SMOD.
+    /// 0 for DIV and MOD, 1 for SDIV and SMOD.
     Sign,
-    /// 0 of MOV, or the bits that MOVSX extends: 8 or 16, in 64 bits also 32.
+    /// 0 for MOV, or the bits that MOVSX extends: 8 or 16, and for 64 bits also 32.
     Extension(Bits),
 }
 
@@ -103,7 +103,7 @@ pub enum ImmField {
     Unused,
     /// Any number.
     Any,
-    /// The bits that END keeps: 16, 32 or 64.
+    /// The number of bits that END keeps: 16, 32 or 64.
     EndBits,
     /// The code of an atomic operation.
     AtomicCode,

@@ -1,4 +1,4 @@
-//! An instruction, by its form: what the bytes of RFC 9669's encoding say, once they are read.
+//! An instruction by its form: RFC 9669's encoding, decoded.
 
 use crate::operand::{
     AluOp, AtomicOp, AtomicSize, Bits, ByteOrder, Condition, Distance, EndSize, Extension,
@@ -23,7 +23,7 @@ pub enum Insn {
         dst: Reg,
         src: Operand,
     },
-    /// `dst = src`, of which the low part is sign-extended.
+    /// `dst = src`, with the low part of `src` sign-extended.
     MovSx {
         extension: Extension,
         dst: Reg,
@@ -34,17 +34,17 @@ pub enum Insn {
         bits: Bits,
         dst: Reg,
     },
-    /// The low bytes of `dst`, in another order.
+    /// The low bytes of `dst`, in the given order.
     End {
         order: ByteOrder,
         size: EndSize,
         dst: Reg,
     },
-    /// JA: a jump that is always taken.
+    /// JA: an unconditional jump.
     Jump {
         distance: Distance,
     },
-    /// A jump that is taken where the condition holds of `left` and `right`.
+    /// A jump that is taken if the condition holds for `left` and `right`.
     JumpIf {
         bits: Bits,
         condition: Condition,
@@ -87,14 +87,14 @@ pub enum Insn {
         src: Reg,
         offset: i16,
     },
-    /// A load of a 64-bit value that two slots hold.
+    /// A load of a 64-bit value, in two slots.
     Wide {
         dst: Reg,
         value: WideValue,
     },
 }
 
-/// How many slots of eight bytes an instruction takes.
+/// The number of slots of eight bytes that an instruction takes.
 #[derive(Clone, Copy, Debug, PartialEq, Eq)]
 pub enum Width {
     One,

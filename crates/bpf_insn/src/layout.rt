@@ -1,12 +1,12 @@
-//! Eight bytes and their fields, both ways: opcode, dst in the low four bits of the second byte and
-//! src in the high ones, offset and imm, least byte first.
+//! Eight bytes and their fields, both ways: opcode, dst and src, offset and imm, all little-endian.
+//! dst is in the low four bits of the second byte, and src in the high ones.
 
 ghost use Rattle.std.specs.Prelude.{◌≡◌, ◌<◌, length};
 ghost use Rattle.bpf_insn.specs.Spelling.{bytes_of, IsFields};
 
 use crate::fields::Fields;
 
-/// The fields that eight bytes hold.
+/// The fields of eight bytes.
 pub fn split_fields(bytes: &[u8]) -> Fields
     requires { length bytes.now ≡ 8 }
     ensures bytes { bytes.now ≡ bytes_of result }
@@ -21,7 +21,7 @@ pub fn split_fields(bytes: &[u8]) -> Fields
     }
 }
 
-/// The bytes that hold these fields.
+/// The bytes with these fields.
 pub fn join_fields(fields: Fields) -> [u8; 8]
     requires dst { fields.dst < 16 }
     requires src { fields.src < 16 }

@@ -1,5 +1,5 @@
-//! The parts of an instruction that imm, offset or src names by a number: each number is looked up,
-//! and no part has another.
+//! The parts of an instruction that imm, offset or src encodes as a number. Different parts have
+//! different numbers.
 
 ghost use Rattle.std.specs.Prelude.{◌≡◌, pos, IfSome, Some};
 ghost use Rattle.bpf_insn.specs.declared.operand.AluOp.{AluOp};
@@ -13,7 +13,7 @@ use crate::fields::Fields;
 use crate::form::{AluCode, WideSource};
 use crate::operand::{AluOp, AtomicOp, Bits, EndSize, Extension};
 
-/// The operation of a code: of DIV and MOD by the offset.
+/// The operation of a code; for DIV and MOD the offset decides.
 pub fn alu_op_in(code: AluCode, fields: Fields) -> Option<AluOp>
     ensures some { IfSome result (λ op. IsAluOp code fields.offset op) }
     ensures only { (op : AluOp) → IsAluOp code fields.offset op → result ≡ Some op }
@@ -36,7 +36,7 @@ pub fn alu_op_in(code: AluCode, fields: Fields) -> Option<AluOp>
     }
 }
 
-/// How many low bits END keeps: imm.
+/// The number of low bits that END keeps, from imm.
 pub fn end_size_in(fields: Fields) -> Option<EndSize>
     ensures some { IfSome result (λ size. pos (end_bits size) ≡ fields.imm) }
     ensures only { (size : EndSize) → pos (end_bits size) ≡ fields.imm → result ≡ Some size }
@@ -49,7 +49,7 @@ pub fn end_size_in(fields: Fields) -> Option<EndSize>
     }
 }
 
-/// The operation of an atomic instruction: imm.
+/// The operation of an atomic instruction, from imm.
 pub fn atomic_op_in(fields: Fields) -> Option<AtomicOp>
     ensures some { IfSome result (λ op. pos (atomic_code op) ≡ fields.imm) }
     ensures only { (op : AtomicOp) → pos (atomic_code op) ≡ fields.imm → result ≡ Some op }
@@ -69,7 +69,7 @@ pub fn atomic_op_in(fields: Fields) -> Option<AtomicOp>
     }
 }
 
-/// What a MOVSX of the class extends: offset.
+/// The part that a MOVSX of the class extends, from offset.
 pub fn extension_in(bits: Bits, fields: Fields) -> Option<Extension>
     ensures some { IfSome result (λ e. IsExtension bits fields.offset e) }
     ensures only { (e : Extension) → IsExtension bits fields.offset e → result ≡ Some e }
@@ -84,7 +84,7 @@ pub fn extension_in(bits: Bits, fields: Fields) -> Option<Extension>
     }
 }
 
-/// What a wide load loads: src.
+/// The kind of a wide load, from src.
 pub fn wide_source_in(fields: Fields) -> Option<WideSource>
     ensures some { IfSome result (λ source. source_code source ≡ fields.src) }
     ensures only { (source : WideSource) → source_code source ≡ fields.src → result ≡ Some source }

@@ -1,4 +1,4 @@
-//! The numbers that stand for the parts of an instruction in its fields.
+//! The numbers that encode the parts of an instruction in its fields.
 
 ghost use Rattle.std.specs.Prelude.{◌≡◌, ◌≤◌, ◌<◌, pos};
 ghost use Rattle.bpf_insn.specs.Table.{number_of, code_of, offset_of};
@@ -12,7 +12,7 @@ use crate::operand::{AluOp, AtomicOp, Bits, EndSize, Extension, Operand, WideVal
 use crate::reg::Reg;
 
 impl Reg {
-    /// Its number, as it stands in dst or src.
+    /// Its number in dst or src.
     pub(crate) fn number(self) -> u8
         ensures number { result ≡ number_of self }
         ensures in_range { result ≤ 10 }
@@ -32,7 +32,7 @@ impl Operand {
         }
     }
 
-    /// What stands in src.
+    /// Its number in src.
     pub(crate) fn src(self) -> u8
         ensures src { result ≡ src_field self }
         ensures in_range { result ≤ 10 }
@@ -43,7 +43,7 @@ impl Operand {
         }
     }
 
-    /// What stands in imm.
+    /// Its number in imm.
     pub(crate) fn imm(self) -> i32
         ensures { result ≡ imm_field self }
     {
@@ -55,7 +55,7 @@ impl Operand {
 }
 
 impl AluOp {
-    /// Its code; a signed operation has that of the unsigned one.
+    /// Its code; a signed operation has the code of the unsigned one.
     pub(crate) fn code(self) -> AluCode
         ensures { result ≡ code_of self }
     {
@@ -74,7 +74,7 @@ impl AluOp {
         }
     }
 
-    /// What stands in offset: 1 of a signed operation.
+    /// Its number in offset: 1 for a signed operation.
     pub(crate) fn offset(self) -> i16
         ensures { result ≡ pos (offset_of self) }
     {
@@ -86,7 +86,7 @@ impl AluOp {
 }
 
 impl EndSize {
-    /// How many bits END keeps.
+    /// The number of bits that END keeps.
     pub(crate) fn bits(self) -> i32
         ensures { result ≡ pos (end_bits self) }
     {
@@ -109,7 +109,7 @@ impl Extension {
         }
     }
 
-    /// How many low bits it extends.
+    /// The number of low bits that it extends.
     pub(crate) fn bits(self) -> i16
         ensures { result ≡ pos (extension_bits self) }
     {
@@ -122,7 +122,7 @@ impl Extension {
 }
 
 impl AtomicOp {
-    /// What stands in imm.
+    /// Its number in imm.
     pub(crate) fn code(self) -> i32
         ensures { result ≡ pos (atomic_code self) }
     {
@@ -142,7 +142,7 @@ impl AtomicOp {
 }
 
 impl WideValue {
-    /// What stands in src.
+    /// Its number in src.
     pub(crate) fn source(self) -> u8
         ensures source { result ≡ source_code (wide_source self) }
         ensures in_range { result ≤ 10 }
@@ -154,7 +154,7 @@ impl WideValue {
         }
     }
 
-    /// What stands in imm: of a number its low half.
+    /// Its imm: for a number, the low half.
     pub(crate) fn imm(self) -> i32
         ensures { result ≡ wide_imm self }
     {
@@ -165,7 +165,7 @@ impl WideValue {
         }
     }
 
-    /// What stands in the second half's imm: of a number its high half.
+    /// The second half's imm: for a number, the high half.
     pub(crate) fn next_imm(self) -> i32
         ensures { result ≡ next_imm self }
     {

@@ -1,5 +1,5 @@
-//! The rows by their opcodes: an opcode is divided into its class, its code and its source, and
-//! each part is looked up by itself (RFC 9669, "Instruction Encoding").
+//! The rows by their opcodes. An opcode is split into class, code and source, and each part is
+//! looked up separately (RFC 9669, "Instruction Encoding").
 
 ghost use Rattle.std.specs.Prelude.{◌≡◌, ◌≢◌, ◌⊎◌, ◌/◌, ◌%◌, IfSome};
 ghost use Rattle.bpf_insn.specs.declared.operand.Condition.{Condition};
@@ -13,7 +13,7 @@ ghost use Rattle.bpf_insn.specs.Table.{load_code, source_bit, alu_class, jump_cl
 use crate::form::{AluCode, Form, Source};
 use crate::operand::{AtomicSize, Bits, ByteOrder, Condition, LoadKind, Size};
 
-/// The code of two operands that has this number.
+/// The code of an operation with two operands, by its number.
 fn alu_code_at(number: u8) -> Option<AluCode>
     ensures some { IfSome result (λ code. code_number code ≡ number) }
     ensures only { (c : AluCode) → code_number c ≡ number → result ≡ Some c }
@@ -34,7 +34,7 @@ fn alu_code_at(number: u8) -> Option<AluCode>
     }
 }
 
-/// The condition that has this code.
+/// The condition with this code.
 fn condition_at(code: u8) -> Option<Condition>
     ensures some { IfSome result (λ condition. condition_code condition ≡ code) }
     ensures only { (c : Condition) → condition_code c ≡ code → result ≡ Some c }
@@ -55,7 +55,7 @@ fn condition_at(code: u8) -> Option<Condition>
     }
 }
 
-/// The size that has this code.
+/// The size with this code.
 fn size_at(code: u8) -> Option<Size>
     ensures some { IfSome result (λ size. size_code size ≡ code) }
     ensures only { (size : Size) → size_code size ≡ code → result ≡ Some size }
@@ -69,7 +69,7 @@ fn size_at(code: u8) -> Option<Size>
     }
 }
 
-/// The load that has this mode and size.
+/// The load with this mode and size.
 fn load_at(code: u8) -> Option<LoadKind>
     ensures some { IfSome result (λ kind. load_code kind ≡ code) }
     ensures only { (kind : LoadKind) → load_code kind ≡ code → result ≡ Some kind }
@@ -86,7 +86,7 @@ fn load_at(code: u8) -> Option<LoadKind>
     }
 }
 
-/// The source that an opcode of arithmetic or of a jump has.
+/// The source in an opcode of arithmetic or of a jump.
 fn source_at(opcode: u8) -> Source
     ensures { source_bit result ≡ opcode / 8 % 2 }
 {
@@ -111,7 +111,7 @@ fn arithmetic_at(opcode: u8, bits: Bits, source: Source) -> Option<Form>
     }
 }
 
-/// The rows of those classes that have one operand.
+/// The rows of the classes ALU64 and ALU with one operand.
 fn unary_at(opcode: u8) -> Option<Form>
     requires code { (c : AluCode) → code_number c ≢ opcode / 16 }
     requires mov { opcode / 16 ≢ 0xb }

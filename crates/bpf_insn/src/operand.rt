@@ -2,7 +2,7 @@
 
 use crate::reg::Reg;
 
-/// Whether an instruction works on whole registers (classes ALU64 and JMP) or on their low halves
+/// The width of an instruction: whole registers (classes ALU64 and JMP) or their low halves
 /// (classes ALU and JMP32).
 #[derive(Clone, Copy, Debug, PartialEq, Eq)]
 pub enum Bits {
@@ -10,8 +10,8 @@ pub enum Bits {
     Bits32,
 }
 
-/// An arithmetic operation of two operands (RFC 9669, "Arithmetic Instructions"): `Sdiv` and `Smod`
-/// divide signed numbers.
+/// An arithmetic operation with two operands (RFC 9669, "Arithmetic Instructions"); `Sdiv` and
+/// `Smod` are signed.
 #[derive(Clone, Copy, Debug, PartialEq, Eq)]
 pub enum AluOp {
     Add,
@@ -29,7 +29,7 @@ pub enum AluOp {
     Arsh,
 }
 
-/// The part of a register that MOVSX sign-extends, and to how many bits.
+/// The part of a register that MOVSX sign-extends, and the width to which it extends.
 #[derive(Clone, Copy, Debug, PartialEq, Eq)]
 pub enum Extension {
     Byte64,
@@ -39,8 +39,8 @@ pub enum Extension {
     Half32,
 }
 
-/// The order of bytes that END makes (RFC 9669, "Byte Swap Instructions"): little-endian and
-/// big-endian from the machine's own order, which is little-endian, or always the other one.
+/// The byte order of END (RFC 9669, "Byte Swap Instructions"): from the machine's own order, which
+/// is little-endian, to little-endian or big-endian, or always reversed.
 #[derive(Clone, Copy, Debug, PartialEq, Eq)]
 pub enum ByteOrder {
     Little,
@@ -48,7 +48,7 @@ pub enum ByteOrder {
     Swap,
 }
 
-/// How many low bytes END keeps: 2, 4 or 8.
+/// The number of low bytes that END keeps: 2, 4 or 8.
 #[derive(Clone, Copy, Debug, PartialEq, Eq)]
 pub enum EndSize {
     Half,
@@ -56,8 +56,8 @@ pub enum EndSize {
     Double,
 }
 
-/// The condition of a jump (RFC 9669, "Jump Instructions"): those with `S` compare signed numbers,
-/// and `Set` asks for a common bit.
+/// The condition of a jump (RFC 9669, "Jump Instructions"). Conditions with `S` compare signed
+/// numbers, and `Set` tests for a common bit.
 #[derive(Clone, Copy, Debug, PartialEq, Eq)]
 pub enum Condition {
     Eq,
@@ -73,14 +73,15 @@ pub enum Condition {
     Sle,
 }
 
-/// How many slots JA moves from the instruction after it: by its offset, or by its imm.
+/// The number of slots that JA moves from the instruction after it, from its offset or from its
+/// imm.
 #[derive(Clone, Copy, Debug, PartialEq, Eq)]
 pub enum Distance {
     Short(i16),
     Long(i32),
 }
 
-/// How many bytes an access has: 1, 2, 4 or 8.
+/// The number of bytes of an access: 1, 2, 4 or 8.
 #[derive(Clone, Copy, Debug, PartialEq, Eq)]
 pub enum Size {
     Byte,
@@ -89,7 +90,7 @@ pub enum Size {
     Double,
 }
 
-/// What a load reads, and how it fills 64 bits: by zeroes (mode MEM) or by the sign (MEMSX).
+/// The size of a load, and its extension to 64 bits: by zeroes (mode MEM) or by the sign (MEMSX).
 #[derive(Clone, Copy, Debug, PartialEq, Eq)]
 pub enum LoadKind {
     Byte,
@@ -101,15 +102,15 @@ pub enum LoadKind {
     SignedWord,
 }
 
-/// How many bytes an atomic operation works on: 4 or 8.
+/// The number of bytes of an atomic operation: 4 or 8.
 #[derive(Clone, Copy, Debug, PartialEq, Eq)]
 pub enum AtomicSize {
     Word,
     Double,
 }
 
-/// An atomic operation (RFC 9669, "Atomic Operations"): those with `Fetch`, the exchange and the
-/// compare-and-exchange also give the old value.
+/// An atomic operation (RFC 9669, "Atomic Operations"). The operations with `Fetch`, the exchange
+/// and the compare-and-exchange also return the old value.
 #[derive(Clone, Copy, Debug, PartialEq, Eq)]
 pub enum AtomicOp {
     Add,
@@ -124,16 +125,16 @@ pub enum AtomicOp {
     CompareExchange,
 }
 
-/// The second operand of arithmetic and of a jump: K, an imm, or X, a register.
+/// The second operand of arithmetic or of a jump: K, an imm, or X, a register.
 #[derive(Clone, Copy, Debug, PartialEq, Eq)]
 pub enum Operand {
     Imm(i32),
     Register(Reg),
 }
 
-/// What a wide load puts in its register (RFC 9669, "64-bit Immediate Instructions"): a number
-/// (source 0), a map by its index (source 5), or the address of a map's first value plus an offset
-/// (source 6), here the first cell of an array of counters.
+/// The value of a wide load (RFC 9669, "64-bit Immediate Instructions"). It is a number (source 0),
+/// a map by its index (source 5), or the address of a map's first value plus an offset (source 6).
+/// The first value is here the first cell of an array of counters.
 #[derive(Clone, Copy, Debug, PartialEq, Eq)]
 pub enum WideValue {
     Number(u64),

@@ -1,5 +1,5 @@
-//! What an instruction's first half holds: its form, which gives the opcode, and the other fields,
-//! each 0 where its row doesn't use it.
+//! The fields of an instruction's first half: its form, which gives the opcode, and the other
+//! fields, which are 0 if the row doesn't use them.
 
 ghost use Rattle.std.specs.Prelude.{◌≡◌, ◌≤◌};
 ghost use Rattle.bpf_insn.specs.Spelling.{form_of, fields_of};

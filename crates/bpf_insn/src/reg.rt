@@ -4,8 +4,8 @@ ghost use Rattle.std.specs.Prelude.{◌≡◌, ◌<◌, ◌≤◌};
 ghost use Rattle.bpf_insn.specs.declared.reg.Reg.{Reg};
 ghost use Rattle.bpf_insn.specs.Table.{number_of};
 
-/// A register, R0 to R10: R0 is the result, R1 to R5 are arguments, R6 to R9 are kept over calls,
-/// and R10 is the read-only top of the stack.
+/// A register, R0 to R10. R0 is the result, R1 to R5 are arguments, calls preserve R6 to R9, and
+/// R10 is the read-only top of the stack.
 #[derive(Clone, Copy, Debug, PartialEq, Eq)]
 pub enum Reg {
     R0,

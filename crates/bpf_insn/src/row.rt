@@ -1,5 +1,5 @@
-//! The rows themselves: of each form the opcode, and what it allows in each field. The decoder
-//! finds the faults of bytes by them, and the encoder writes their opcodes.
+//! The rows: the opcode of each form, and what it allows in each field. The decoder finds faults by
+//! them, and the encoder writes their opcodes.
 
 ghost use Rattle.std.specs.Prelude.{◌≡◌};
 ghost use Rattle.bpf_insn.specs.Table.{code_number, condition_code, size_code, load_code};
@@ -31,7 +31,7 @@ impl AluCode {
         }
     }
 
-    /// Of DIV and MOD the offset tells the signed operation.
+    /// For DIV and MOD, the offset marks the signed operation.
     fn offset(self) -> Offset
         ensures { result ≡ alu_offset self }
     {
@@ -164,7 +164,7 @@ impl Source {
         }
     }
 
-    /// Of MOV: with X the offset tells it from MOVSX.
+    /// For MOV with X, the offset distinguishes MOVSX.
     fn move_offset(self, bits: Bits) -> Offset
         ensures { result ≡ move_offset bits self }
     {
@@ -201,7 +201,7 @@ impl Form {
         }
     }
 
-    /// Its row of the table: whether it uses dst, and what it allows in src, offset and imm.
+    /// The row of the form: whether it uses dst, and what it allows in src, offset and imm.
     #[inline(always)]
     pub fn row(self) -> Row
         ensures { result ≡ row_of self }

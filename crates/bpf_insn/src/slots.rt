@@ -1,5 +1,6 @@
-//! Slots of eight bytes: how many an instruction takes, and where a jump lands (RFC 9669, "Jump
-//! Instructions"). A slot's number is a plain `usize`; a jump counts from the slot after its own.
+//! Slots of eight bytes: the number that an instruction takes, and the target of a jump (RFC 9669,
+//! "Jump Instructions"). A slot's number is a plain `usize`; a jump counts from the slot after its
+//! own.
 
 ghost use Rattle.std.specs.Prelude.{◌≡◌, ◌<◌, ◌≤◌};
 ghost use Rattle.bpf_insn.specs.Program.{landing, slots_moved};
@@ -8,11 +9,11 @@ ghost use Rattle.bpf_insn.specs.Spelling.{width_of, slots_of};
 use crate::insn::{Insn, Width};
 use crate::operand::Distance;
 
-/// The most slots of a program.
+/// The greatest number of slots of a program.
 pub const MOST_SLOTS: usize = 4096;
 
 impl Distance {
-    /// The slots that it moves, from the instruction after the jump.
+    /// The number of slots that it moves, from the instruction after the jump.
     #[inline]
     pub fn slots(self) -> i32
         ensures { result ≡ slots_moved self }
@@ -23,7 +24,7 @@ impl Distance {
         }
     }
 
-    /// The slot that a jump at this slot lands on; none below slot 0.
+    /// The slot that a jump at this slot lands on; `None` below slot 0.
     #[inline]
     pub fn target(self, slot: usize) -> Option<usize>
         requires { slot < 4096 }
@@ -39,7 +40,7 @@ impl Distance {
 }
 
 impl Insn {
-    /// One slot, or two of a wide load.
+    /// One slot, or two for a wide load.
     #[inline]
     pub fn width(&self) -> Width
         ensures { result ≡ width_of self.now }

@@ -1,4 +1,4 @@
-//! Words: the low bits of a number, alone or sign-extended, and an imm as an operand.
+//! Words: the low bits of a number, plain or sign-extended, and an imm as an operand.
 
 ghost use Rattle.std.specs.Prelude.{◌≡◌, ◌%◌, ◌^◌};
 ghost use Rattle.std.specs.Int.{w8, w16, w32, w64};
@@ -56,7 +56,7 @@ pub fn extend_word(x: u32) -> u64
 }
 
 impl Bits {
-    /// What the class takes of a register: all of it, or its low half.
+    /// The register, or its low half, by the class.
     #[inline]
     pub fn word(self, x: u64) -> u64
         ensures { result ≡ words.word self x }
@@ -67,7 +67,7 @@ impl Bits {
         }
     }
 
-    /// An imm as an operand of the class: sign-extended to 64 bits, or its own 32 bits.
+    /// An imm as an operand of the class: sign-extended to 64 bits, or as 32 bits.
     #[inline]
     pub fn immediate(self, imm: i32) -> u64
         ensures { result ≡ words.immediate self imm }

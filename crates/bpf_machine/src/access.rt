@@ -1,5 +1,6 @@
-//! Loads and stores (RFC 9669, "Load and Store Instructions"): what each form leads to. Below the
-//! addresses of the counters lie context and stack, and from there on counters alone.
+//! Loads and stores (RFC 9669, "Load and Store Instructions"): the next state for each form. The
+//! context and the stack are below the addresses of the counters; from there on there are only
+//! counters.
 
 ghost use Rattle.std.specs.Prelude.{◌≡◌, IsSome, Some};
 ghost use Rattle.attrs.specs.Attributes.{Attributes};
@@ -77,7 +78,7 @@ pub fn store_register(words: &Words, size: Size, dst: Reg, src: Reg, offset: i16
     store(address, size, words.register(src))
 }
 
-/// What a wide load gives.
+/// The value of a wide load.
 #[inline]
 pub fn wide_number(shape: &Shape, value: WideValue) -> u64
     requires { IsSome (wide_value shape.now value) }

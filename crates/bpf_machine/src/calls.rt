@@ -1,4 +1,4 @@
-//! Calls of helpers: R0 is the result, from R1 to R3 and what the run has beside its words.
+//! Calls of helpers. R0 is the result, computed from R1 to R3, the shape and the attributes.
 
 ghost use Rattle.std.specs.Prelude.{◌≡◌, ◌<◌, ◌-◌, IsSome};
 ghost use Rattle.std.specs.Prelude.{Some};
@@ -15,7 +15,7 @@ use bpf_semantics::helpers::{ATTR_IS, ATTR_LEN, LOOKUP};
 use bpf_semantics::{MAP_START, cell_address};
 use cells::Shape;
 
-/// `lookup`: the address of the array's counter at a key, or 0 where the array has no such key.
+/// `lookup`: the address of the array's counter at a key, or 0 if the array has no such key.
 #[inline]
 fn lookup(shape: &Shape, map: u64, key: u64) -> u64
     requires { IsSome (array_of shape.now map) }

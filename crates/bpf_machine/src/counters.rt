@@ -24,7 +24,7 @@ pub fn cell_number(address: u64) -> u16
     ((address - CELL_START) / 8) as u16
 }
 
-/// The low bytes of a number, as many as an access has.
+/// The low bytes of a number, as many as `size` says.
 #[inline]
 pub fn low_number(size: Size, value: u64) -> u64
     ensures { result ≡ cut (byte_count size) value }
@@ -37,7 +37,7 @@ pub fn low_number(size: Size, value: u64) -> u64
     }
 }
 
-/// An operand of an atomic operation.
+/// An operand of an atomic operation, truncated to its size.
 #[inline]
 fn narrow(size: AtomicSize, value: u64) -> u64
     ensures { result ≡ cut (atomic_count size) value }

@@ -1,4 +1,4 @@
-//! The memory of a run: reads of the context and the stack, and writes of the stack. An access of
+//! The memory of a run: reads of the context and the stack, and writes to the stack. An access of
 //! 1, 2, 4 or 8 bytes is one load or store of that width.
 
 ghost use Rattle.std.specs.Prelude.{◌≡◌, ◌+◌, ◌≤◌, ◌<◌, ◌-◌, length, take, drop, IsTrue};
@@ -50,7 +50,7 @@ fn read_double(bytes: &[u8], place: usize) -> u64
     ])
 }
 
-/// What a load reads at a place of a region.
+/// The value of a load at an offset in a region.
 #[inline]
 fn read(bytes: &[u8], place: usize, kind: LoadKind) -> u64
     requires { place + load_count kind ≤ length bytes.now }
@@ -67,7 +67,7 @@ fn read(bytes: &[u8], place: usize, kind: LoadKind) -> u64
     }
 }
 
-/// What a load reads at an address. The stack lies above the context.
+/// The value of a load at an address. The stack is above the context.
 #[inline]
 pub fn load(words: &Words, kind: LoadKind, address: u64) -> u64
     requires { IsReadable address (load_count kind) }
@@ -80,7 +80,7 @@ pub fn load(words: &Words, kind: LoadKind, address: u64) -> u64
     }
 }
 
-/// The place in the stack of an address in it.
+/// The offset in the stack of an address in it.
 #[inline]
 pub fn stack_place(address: u64, size: Size) -> usize
     requires { IsTrue (is_in_stack address (byte_count size)) }
@@ -90,7 +90,7 @@ pub fn stack_place(address: u64, size: Size) -> usize
     (address - STACK_START) as usize
 }
 
-/// This many bytes of the stack at an address in it; with a count of 0 any address will do.
+/// `count` bytes of the stack from `address`; if `count` is 0, any address is allowed.
 #[inline]
 pub fn stack_bytes(words: &Words, address: u64, count: u64) -> &[u8]
     requires few { count ≤ 64 }
@@ -104,7 +104,7 @@ pub fn stack_bytes(words: &Words, address: u64, count: u64) -> &[u8]
     &words.stack[place..place + count as usize]
 }
 
-/// Writes the low bytes of a number at a place, the least first.
+/// Writes the low bytes of a number at an offset, lowest byte first.
 #[inline]
 pub fn write(stack: &mut [u8; 512], place: usize, size: Size, value: u64)
     requires { place + byte_count size ≤ 512 }

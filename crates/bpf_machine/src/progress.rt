@@ -1,13 +1,12 @@
 //! The result of a step.
 
-/// The choice that a program ends with: 0 for no update, or a release by its number from 1 on, at
-/// most 64.
+/// The choice that a program ends with: 0 for no update, or the number of a release, from 1 to 64.
 pub type Choice = u8;
 
-/// What a step came to.
+/// The result of a step.
 #[derive(Clone, Copy, Debug, PartialEq, Eq)]
 pub enum Progress {
-    /// The run goes on.
+    /// The run continues.
     Going,
     /// The run has ended with this choice.
     Done(Choice),

@@ -1,4 +1,4 @@
--- A step that goes on counts one instruction, and keeps the attributes.
+-- A step that continues counts one instruction, and keeps the attributes.
 use Rattle.std.proofs.Common.{◌≡◌, ℕ, ◌+◌, ◌-◌, ℤ, Option, Some, None, Bool, true, false, refl, ap}
 use Rattle.std.specs.Prelude.{◌==◌, if◌then◌else◌}
 use Rattle.cells.specs.Arrays.{AppShape}

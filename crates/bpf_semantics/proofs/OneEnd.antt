@@ -1,4 +1,4 @@
--- A run has one end on given replies, and a run that ends does not trap: a step has one outcome.
+-- A run has one end on given replies, and a run that ends doesn't trap: a step has one outcome.
 use Rattle.std.proofs.Common.{◌≡◌, ℕ, List, [], ◌∷◌, refl, ap, sym, ◌∙◌, subst}
 use Rattle.cells.specs.declared.event.CellOp.{CellOp}
 use Rattle.cells.specs.declared.event.CellEvent.{CellEvent}

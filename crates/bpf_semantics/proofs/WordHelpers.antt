@@ -1,4 +1,4 @@
--- What helpers and wide loads give is a word.
+-- The results of helpers and wide loads are words.
 use Rattle.std.proofs.Common.{◌≡◌, ℕ, zero, suc, ◌+◌, ◌-◌, ◌^◌, ◌<◌, ◌≤◌, ℤ, pos, negsuc}
 use Rattle.std.proofs.Common.{List, [], ◌∷◌, length, All, FitsSigned}
 use Rattle.std.proofs.Common.{Option, Some, None, Bool, true, false, refl, arith}
@@ -30,11 +30,11 @@ use Rattle.bpf_semantics.specs.Calls.{wide_value, array_of, lookup, compared}
 use Rattle.bpf_semantics.specs.Calls.{result_by, known_result, helper_result}
 use Rattle.bpf_semantics.proofs.WordResults.{IsWord}
 
--- a word, where there is a number
+-- a word, if there is a number
 abbrev pub Words : Option ℕ → Type 0
 Words o = IfSome o IsWord
 
--- ---- numbers that may not be there
+-- ---- optional numbers
 
 pub set_word : (o : Option ℕ) → ((v : ℕ) → o ≡ Some v → IsWord v) → Words o
 set_word None h = tt
@@ -121,7 +121,7 @@ length_within : (o : Option (List ℕ)) → IfSome o (λ text. length text ≤ 1
 length_within None h = omega arith
 length_within (Some text) h = h
 
--- ---- what a helper gives of a number
+-- ---- the result of a helper for a number
 
 pub given_within : (a : Attributes) (helper : Helper) (n : ℕ) → AreShort a.texts
     → given_of_number helper a n ≤ most_given (prototype_of helper)

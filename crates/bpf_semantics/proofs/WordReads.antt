@@ -1,4 +1,4 @@
--- What is read of context and stack has as many bytes as were asked for.
+-- A read of n bytes from the context or the stack gives a number of n bytes.
 use Rattle.std.proofs.Common.{◌≡◌, ℕ, zero, suc, ◌+◌, ◌-◌, ◌*◌, ◌^◌, ◌<◌}
 use Rattle.std.proofs.Common.{List, [], ◌∷◌, ◌++◌, take, drop, replicate, All}
 use Rattle.std.proofs.Common.{Option, Some, None, Bool, true, false, refl, arith}

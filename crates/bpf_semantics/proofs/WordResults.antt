@@ -1,4 +1,4 @@
--- What is computed of words is a word.
+-- Results that are computed from words are words.
 use Rattle.std.proofs.Common.{ℕ, ◌%◌, ◌^◌, ◌<◌, ℤ, pos, negsuc, FitsSigned, arith}
 use Rattle.std.specs.Int.{w32, swap_bytes}
 use mir.Val.{bits}

@@ -1,5 +1,5 @@
-//! Accesses (RFC 9669, "Load and Store Instructions"): how many bytes each has, and what an atomic
-//! operation does to a counter.
+//! Accesses (RFC 9669, "Load and Store Instructions"): their sizes, and the operations of atomic
+//! instructions on counters.
 
 ghost use Rattle.std.specs.Prelude.{◌≡◌, ◌≤◌};
 ghost use Rattle.bpf_semantics.specs.Counters as counters;
@@ -8,7 +8,7 @@ ghost use Rattle.bpf_semantics.specs.Reads as reads;
 use bpf_insn::{AtomicOp, AtomicSize, LoadKind, Reg, Size};
 use cells::CellOp;
 
-/// How many bytes a load reads.
+/// The number of bytes that a load reads.
 #[inline]
 pub fn load_count(kind: LoadKind) -> u16
     ensures count { result ≡ reads.load_count kind }
@@ -23,7 +23,7 @@ pub fn load_count(kind: LoadKind) -> u16
     }
 }
 
-/// How many bytes a store writes.
+/// The number of bytes that a store writes.
 #[inline]
 pub fn byte_count(size: Size) -> u16
     ensures count { result ≡ reads.byte_count size }
@@ -38,7 +38,7 @@ pub fn byte_count(size: Size) -> u16
     }
 }
 
-/// How many bytes an atomic operation works on.
+/// The number of bytes of an atomic operation.
 #[inline]
 pub fn atomic_count(size: AtomicSize) -> u16
     ensures count { result ≡ counters.atomic_count size }
@@ -51,7 +51,7 @@ pub fn atomic_count(size: AtomicSize) -> u16
     }
 }
 
-/// The operation on a counter; compare-and-exchange compares with R0, the others with nothing.
+/// The operation on a counter; only compare-and-exchange compares, with R0.
 #[inline]
 pub fn cell_op(op: AtomicOp, r0: u64, value: u64) -> CellOp
     ensures { result ≡ counters.cell_op op r0 value }
@@ -66,7 +66,7 @@ pub fn cell_op(op: AtomicOp, r0: u64, value: u64) -> CellOp
     }
 }
 
-/// The register that takes the old value, if one does: src of fetch and exchange, R0 of
+/// The register that gets the old value, if any: src for fetch and exchange, R0 for
 /// compare-and-exchange.
 #[inline]
 pub fn fetched(op: AtomicOp, src: Reg) -> Option<Reg>

@@ -1,11 +1,11 @@
-//! The helpers that a program may call (RFC 9669, "Helper Functions"), a row each: the number by
-//! which CALL names it, what it takes from R1 on, and the greatest number that it gives.
+//! The helpers that a program may call (RFC 9669, "Helper Functions"). Each has a row: its number
+//! in CALL, its arguments from R1 on, and the greatest number that it returns.
 
 ghost use Rattle.std.specs.Prelude.{◌≡◌, Some};
 ghost use Rattle.attrs.specs.Attributes.{Attributes, AreShort};
 ghost use Rattle.bpf_semantics.specs.Helpers as helpers;
 
-/// The address of an array's counter at a key, or 0 where the array has no such key.
+/// The address of an array's counter at a key, or 0 if the array has no such key.
 pub const LOOKUP: i32 = 1;
 /// Whether an attribute is a text on the stack.
 pub const ATTR_IS: i32 = 2;
@@ -27,20 +27,20 @@ pub enum Helper {
     Bucket,
 }
 
-/// What a helper takes from R1 on, and what it gives.
+/// The arguments of a helper, from R1 on, and its result.
 #[derive(Clone, Copy)]
 pub enum Prototype {
-    /// A map and a key. It gives the address of the map's counter at the key, or 0.
+    /// A map and a key. It returns the address of the map's counter at the key, or 0.
     OfMap,
-    /// An attribute's number, and the address and the length of a text on the stack. It gives 0 or
-    /// 1.
+    /// An attribute's number, and the address and the length of a text on the stack. It returns 0
+    /// or 1.
     OfText,
-    /// A number. It gives one of at most `most`.
+    /// A number. It returns at most `most`.
     OfNumber { most: u64 },
 }
 
 impl Helper {
-    /// The helper of a number, if there is one.
+    /// The helper with this number, if there is one.
     #[inline]
     pub fn of(number: i32) -> Option<Helper>
         ensures { result ≡ helpers.helper_of number }
@@ -58,7 +58,7 @@ impl Helper {
         }
     }
 
-    /// What it takes, and what it gives.
+    /// The helper's prototype.
     #[inline]
     pub fn prototype(self) -> Prototype
         ensures { result ≡ helpers.prototype_of self }
@@ -73,7 +73,7 @@ impl Helper {
 }
 
 impl Prototype {
-    /// That of the helper which a CALL names, if there is one.
+    /// The prototype of the helper that a CALL names, if there is one.
     #[inline]
     pub fn called(number: i32) -> Option<Prototype>
         ensures { result ≡ helpers.called_prototype number }
@@ -85,7 +85,7 @@ impl Prototype {
     }
 }
 
-/// Each constant is the number of its helper.
+/// Law: each constant is the number of its helper.
 pub fn helper_numbers()
     ensures lookup { helpers.helper_of LOOKUP ≡ Some Helper.Lookup }
     ensures attr_is { helpers.helper_of ATTR_IS ≡ Some Helper.AttrIs }
@@ -93,8 +93,8 @@ pub fn helper_numbers()
     ensures bucket { helpers.helper_of BUCKET ≡ Some Helper.Bucket }
 {}
 
-/// What a helper gives of a number is no more than its prototype says, of texts of at most 1024
-/// bytes.
+/// Law: a helper that takes a number returns at most what its prototype says, if texts have at most
+/// 1024 bytes.
 pub fn numbers_are_within()
     ensures { (a : Attributes) → AreShort a.texts → helpers.AllKeepMost a }
 {}

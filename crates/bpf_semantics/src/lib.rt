@@ -1,7 +1,7 @@
-//! What the machine means (RFC 9669): the memory of a run, its state, one step, and a whole run.
-//! The definitions are in `specs/`; the crates above cite them. The laws about all runs have no
-//! code to run. The machine's numbers are also here, once, for code: its regions, its helpers, and
-//! what each access has and does.
+//! The semantics of the machine (RFC 9669): the memory of a run, its state, one step, and a whole
+//! run. The definitions are in `specs/`; the crates above cite them. The laws about all runs have
+//! no code. The machine's numbers are also here for code: its regions, its helpers, and the size
+//! and effect of each access.
 //!
 //! See docs/DECISIONS.md, "The machine".
 #![tactic(auto)]

@@ -1,5 +1,5 @@
-//! What a run can reach by an address, as numbers for code: the regions, the counters, and the
-//! numbers that stand for maps.
+//! The addresses that a run can use, as numbers for code: the regions, the counters, and the
+//! numbers that represent maps.
 
 ghost use Rattle.std.specs.Prelude.{◌≡◌, ◌<◌, ◌^◌};
 ghost use Rattle.bpf_semantics.specs.Memory as memory;
@@ -8,14 +8,14 @@ use cells::CellNo;
 
 /// The address of the first byte of the context.
 pub const CONTEXT_START: u64 = 0x1000_0000;
-/// How many bytes the context has.
+/// The size of the context in bytes.
 pub const CONTEXT_SIZE: u16 = 64;
 
 /// The address of the first byte of the stack.
 pub const STACK_START: u64 = 0x1FFF_FE00;
 /// The address after the last byte of the stack.
 pub const STACK_TOP: u64 = 0x2000_0000;
-/// How many bytes the stack has.
+/// The size of the stack in bytes.
 pub const STACK_SIZE: u16 = 512;
 
 /// The address of counter 0.
@@ -24,7 +24,7 @@ pub const CELL_START: u64 = 0x3000_0000;
 /// The number of map 0.
 pub const MAP_START: u64 = 0x4000_0000;
 
-/// Each constant is the number that the definitions give it.
+/// Law: each constant is the number of its definition.
 pub fn region_numbers()
     ensures context { CONTEXT_START ≡ memory.context_start }
     ensures context_size { CONTEXT_SIZE ≡ memory.context_size }
@@ -36,7 +36,7 @@ pub fn region_numbers()
     ensures maps { MAP_START ≡ memory.map_start }
 {}
 
-/// A base and an offset, modulo 2^64.
+/// A base plus an offset, modulo 2^64.
 #[inline]
 pub fn add_offset(base: u64, offset: i16) -> u64
     ensures { result ≡ memory.address_of base offset }
@@ -44,7 +44,7 @@ pub fn add_offset(base: u64, offset: i16) -> u64
     base.wrapping_add((offset as i64).cast_unsigned())
 }
 
-/// A base and an offset of a wide load, which has 32 bits, modulo 2^64.
+/// A base plus the 32-bit offset of a wide load, modulo 2^64.
 #[inline]
 pub fn add_long_offset(base: u64, offset: i32) -> u64
     ensures { result ≡ memory.address_of base offset }
@@ -53,7 +53,7 @@ pub fn add_long_offset(base: u64, offset: i32) -> u64
 }
 
 /// The address of a counter.
-// open: what it is of numbers from 2^32 on, which no call may ask.
+// open: its result for numbers from 2^32 on, which no call may pass.
 #[inline]
 pub fn cell_address(cell: u64) -> u64
     requires { cell < 2 ^ 32 }

@@ -1,4 +1,4 @@
-//! Words stay words: no step of a run makes a number that a register or a byte can't hold.
+//! Words stay words: no step of a run makes a number that doesn't fit its register or byte.
 
 ghost use Rattle.attrs.specs.Attributes.{Attributes};
 ghost use Rattle.bpf_semantics.specs.Laws.{OpensWithWords, KeepsWords};
@@ -7,10 +7,10 @@ ghost use Rattle.bpf_semantics.specs.State.{State};
 
 use bpf_insn::results_fit;
 
-/// A run opens with registers below 2^64 and no byte of the stack set. Each step of a program whose
-/// numbers fit their fields keeps set registers below 2^64 and set bytes below 256, for each reply
-/// that fits its counter, and a run's choice is below 2^64.
-// open: what comes of a program whose arrays aren't those of a `Shape`.
+/// Law: a run begins with registers below 2^64 and no byte of the stack set. For a program whose
+/// numbers fit their fields, each step keeps set registers below 2^64 and set bytes below 256, for
+/// each reply that fits its counter. A run's choice is below 2^64.
+// open: the result for a program whose arrays aren't those of a `Shape`.
 pub fn words_stay()
     ensures opens { (a : Attributes) → OpensWithWords a }
     ensures keeps { (p : ShapedProgram) (s : State) → KeepsWords p s }

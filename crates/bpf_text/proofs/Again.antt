@@ -1,4 +1,4 @@
--- The arguments of a listing's line are read again as they were written.
+-- The arguments in a listing's line are read back as they were written.
 use Rattle.std.proofs.Common.{◌≡◌, ℕ, suc, ◌<◌, ◌^◌, ℤ, pos, negsuc, FitsSigned, w16, w32, Option}
 use Rattle.std.proofs.Common.{Some, None, true, nat_lt, nat_le, if◌then◌else◌, refl, ap, arith}
 use Rattle.std.proofs.lemmas.Int.{to_z_pos}
@@ -52,7 +52,7 @@ pub long_again : (k : ℤ) → FitsSigned w32 k → long_of (signed_figure k) �
 long_again (pos n) h = plus_number 31 n h.sfits
 long_again (negsuc n) h = minus_number 31 n h.sfits
 
--- ---- arguments of the kinds that their instruction wants
+-- ---- arguments of the kinds that their instruction requires
 
 -- an argument of this kind, whose numbers fit their fields
 abbrev pub Fits : OperandKind → arguments.Argument → Type 0
@@ -102,7 +102,7 @@ all_fit (insn.Wide dst (wide.Cell i k)) p =
     record { first = tt; second = p.first.imm; third = p.second.imm }
 all_fit i p = record { first = tt; second = tt; third = tt }
 
--- ---- their numbers are short
+-- ---- the numbers are short
 
 short_31 : (k : ℤ) → FitsSigned w32 k → IsShort k
 short_31 (pos n) h = let e : n < 2 ^ 31 = h.sfits in omega (arith, e)

@@ -1,4 +1,4 @@
--- The tokens of each argument of a listing, and what they say when they are read again.
+-- The tokens of each argument in a listing, and what is read from them.
 use Rattle.std.proofs.Common.{◌≡◌, ℕ, suc, ◌<◌, ◌^◌, ℤ, pos, negsuc, List, [], ◌∷◌, ◌++◌}
 use Rattle.std.proofs.Common.{Option, Some, None, false, option_map, refl, ap, ◌∙◌, append_assoc}
 use Rattle.std.specs.Fmt.{signed_decimal}
@@ -19,7 +19,7 @@ use Rattle.bpf_text.proofs.Named.{register_is_named}
 use Rattle.bpf_text.proofs.Lexing.{front, figure, word_token, open_token, close_token}
 use Rattle.bpf_text.proofs.Lexing.{decimal_token, minus_token, plus_token}
 
--- ---- what is read of each argument
+-- ---- what is read from each argument
 
 abbrev pub imm_figure : ℤ → Figure
 imm_figure (pos n) = figure Absent n

@@ -1,4 +1,4 @@
--- A listing assembles to the bytes that it was written of.
+-- A listing assembles to the bytes that it lists.
 use Rattle.std.proofs.Common.{◌≡◌, ℕ, zero, suc, ◌+◌, ◌-◌, ◌*◌, ◌<◌, ◌≤◌, ◌^◌, ℤ, pos, negsuc}
 use Rattle.std.proofs.Common.{List, [], ◌∷◌, ◌++◌, length, map, Option, Some, None, Result}
 use Rattle.std.proofs.Common.{Ok, option_map, Bool, true, false, ◌&&◌, ◌==◌, nat_le, slice_index}
@@ -246,7 +246,7 @@ assembly_again bytes text h short =
     ap (assembly_of tables) h.3 ∙ ap (assembly_of_lines tables) (lines_again is h.1)
     ∙ lines_assemble is (omega (arith, len, short)) ∙ ap Ok (sym h.2)
 
--- the text that lists bytes stands for them
+-- the listing of bytes assembles to them
 pub listing_assembles : (bytes text : List ℕ) → Lists bytes text → length bytes ≤ 8 * 4096
     → Assembles text (Ok bytes)
 listing_assembles bytes text h short = by_tables text (Ok bytes) (assembly_again bytes text h short)

@@ -1,4 +1,4 @@
--- A distance that lies in its field, and the sign of what is read.
+-- Distances that fit their fields, and the signs of numbers that are read.
 use Rattle.std.proofs.Common.{◌≡◌, ℕ, ◌<◌, ◌^◌, ℤ, pos, negsuc, FitsSigned, w16, w32}
 use Rattle.std.proofs.Common.{Option, Some, None, true, false, refl, arith}
 use Rattle.bpf_insn.specs.declared.insn.Insn.{Insn}

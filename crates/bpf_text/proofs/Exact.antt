@@ -1,4 +1,4 @@
--- The reader's vocabulary is exact, and there is no other.
+-- The assembler's vocabulary is exact, and there is no other exact one.
 use Rattle.std.proofs.Common.{◌≡◌, ℕ, List, [], ◌∷◌, Option, Some, None, IfSome}
 use Rattle.std.proofs.Common.{Result, Ok, Err, IfOk, IfErr, inl, inr}
 use Rattle.std.proofs.Common.{Bool, true, false, cond, refl, sym, ap, ◌∙◌, subst}
@@ -24,7 +24,7 @@ use Rattle.bpf_text.specs.Words.{word_of}
 use Rattle.bpf_text.proofs.Named.{is_named, register_is_named}
 use Rattle.bpf_text.proofs.Statements.{Has, insn_found, insn_again}
 
--- ---- what a search finds passes its test
+-- ---- the result of a search passes its test
 
 by_test : {A : Type 0} (p : A → Bool) (x : A) (rest : Option A) (b : Bool)
     → p x ≡ b → IfSome rest (λ y. p y ≡ true) → IfSome (cond b (Some x) rest) (λ y. p y ≡ true)
@@ -63,7 +63,7 @@ tables_exact = record {
   insns = λ m a i. (λ e. some_if (Has m a) (insn_of m a) i e (insn_found m a), again m a i);
 }
 
--- ---- two that are exact are the same
+-- ---- two exact vocabularies are the same
 
 same_option : {A : Type 0} (o p : Option A) → ((x : A) → o ≡ Some x → p ≡ Some x)
     → ((x : A) → p ≡ Some x → o ≡ Some x) → o ≡ p
@@ -101,7 +101,7 @@ pub one_assembly : (text : List ℕ) (a b : Result (List ℕ) AsmFault)
 one_assembly text a b h k =
     sym h.2 ∙ ap (λ (v : Vocabulary). assembly_of v text) (same_vocabulary h.0 k.0 h.1 k.1) ∙ k.2
 
--- ---- verdicts by the reader's vocabulary
+-- ---- verdicts by the assembler's vocabulary
 
 pub by_tables : (text : List ℕ) (verdict : Result (List ℕ) AsmFault)
     → assembly_of tables text ≡ verdict → Assembles text verdict

@@ -1,5 +1,5 @@
--- Each mnemonic and each register is found by its text: a computation a word. The last line of a
--- list takes each that is left in turn.
+-- Each mnemonic and each register is found by its text: one computation for each text. The last
+-- line of a list takes the remaining cases in turn.
 use Rattle.std.proofs.Common.{◌≡◌, ℕ, List, [], ◌∷◌, length, Some}
 use Rattle.std.proofs.Common.{Bool, true, false, ◌&&◌, nat_le, refl}
 use Rattle.std.specs.List.{list_all}

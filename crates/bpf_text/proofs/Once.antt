@@ -1,4 +1,4 @@
--- Bytes have one verdict: two readings of them go alike, instruction by instruction.
+-- Bytes have one verdict: two readings of them agree, instruction by instruction.
 use Rattle.std.proofs.Common.{◌≡◌, ℕ, ◌+◌, ◌*◌, ◌<◌, ◌≤◌, List, [], ◌∷◌, ◌++◌, length, take, drop}
 use Rattle.std.proofs.Common.{Option, Some, None, Result, Ok, Err, refl, sym, ap, ◌∙◌}
 use Rattle.std.proofs.Common.{subst, append_assoc, length-append, length-drop, arith}
@@ -41,14 +41,14 @@ decodes_once bytes slot r only fault_only = record {
   either = λ i e p q. ok_or_err (sym (only i p) ∙ fault_only e q);
 }
 
--- ---- a reading from a slot on
+-- ---- a reading from a slot
 
 record Reads (bytes : List ℕ) (slot : ℕ) (is : List Insn) : Type 0 where
   encodable : AllByRecursion IsEncodable is
   rest : List ℕ
   bytes_are : drop (8 * slot) bytes ≡ encodings is ++ rest
 
--- it stops where the bytes end, or with the fault of its slot
+-- it stops at the end of the bytes, or with the fault of its slot
 Stops : List ℕ → ℕ → Option InsnFault → Type 0
 Stops bytes slot None = length bytes ≤ 8 * slot
 Stops bytes slot (Some e) = (8 * slot < length bytes) × IsLeastFault bytes slot e
@@ -154,7 +154,7 @@ module _ (bytes : List ℕ) (once : (k : ℕ) → 8 * k < length bytes → Decod
 
 -- ---- both verdicts as readings from slot 0
 
--- what is read, and where it stops
+-- what is read, and where the reading stops
 abbrev reading_of : Result (List ℕ) ListFault → List Insn → Option InsnFault → Type 0
 reading_of (Ok text) is o = (o ≡ None) × (text ≡ listing_of is)
 reading_of (Err (list_fault.Insn slot e)) is o = (o ≡ Some e) × (slot ≡ length (layout is))

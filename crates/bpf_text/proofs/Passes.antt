@@ -1,4 +1,4 @@
--- The two passes over a text: one line more, and both together.
+-- The two passes over a text: one more line, and both passes together.
 use Rattle.std.proofs.Common.{◌≡◌, ℕ, ◌+◌, List, [], ◌∷◌, ◌++◌, length, map, Option}
 use Rattle.std.proofs.Common.{Result, Ok, Err, IfOk, IfErr, inl, inr, sym, ap, ◌∙◌, append_assoc}
 use Rattle.std.specs.Str.Lines.{lines}
@@ -15,7 +15,7 @@ use Rattle.bpf_text.specs.Reading.{IsByteFault, IsTableFault, IsWholeReading}
 use Rattle.bpf_text.specs.Tables.{tables}
 use Rattle.bpf_text.specs.Tokens.{Name}
 
--- these lines have been read, and these are left
+-- the lines before `rest` have been read
 pub record HasReadUpTo (text rest : List ℕ) (r : code.Reading) : Type 0 where
   pub before : List Line
   pub has_read : HasRead before r

@@ -1,4 +1,4 @@
--- One line more: its fault, its label and its instruction.
+-- One more line: its fault, its label and its instruction.
 use Rattle.std.proofs.Common.{◌≡◌, ℕ, ◌+◌, ◌≤◌, List, [], ◌∷◌, ◌++◌, length, map, Option}
 use Rattle.std.proofs.Common.{Some, None, is_some, Ok, Err, Bool, true, false, if◌then◌else◌}
 use Rattle.std.proofs.Common.{refl, sym, ap, ◌∙◌, subst, append_assoc, length-append, arith}
@@ -18,7 +18,7 @@ use Rattle.bpf_text.specs.Assembly.{slots_of_body, slots_of_word, slots_in, is_l
 use Rattle.bpf_text.specs.Assembly.{label_slot, has_slot, has_label, too_long}
 use Rattle.bpf_text.specs.Assembly.{fault_of_body, PlacedStatement, placed, placed_body}
 
--- ---- one line more at the end
+-- ---- one more line at the end
 
 pub slots_more : (ls : List Line) (l : Line)
     → slots_in (ls ++ (l ∷ [])) ≡ slots_in ls + slots_of_body l.body
@@ -43,7 +43,7 @@ or_step false s x y z e = e
 abbrev slot_if : Bool → ℕ → Option ℕ
 slot_if b s = if b then Some s else None
 
--- the slot of a name among these lines, or at the one behind them
+-- the slot of a label among these lines, or on the line after them
 label_append : (s : ℕ) (ls : List Line) (l : Line) (q : List ℕ) → label_slot s (ls ++ (l ∷ [])) q
     ≡ or_slot (label_slot s ls q) (slot_if (is_label q l.label) (s + slots_in ls))
 unfolding or_slot

@@ -1,4 +1,4 @@
--- The tokens of arguments that an instruction wants are read as these arguments again.
+-- The tokens of arguments that an instruction requires are read back as these arguments.
 use Rattle.std.proofs.Common.{◌≡◌, ℤ, pos, negsuc, FitsSigned, w16, w32, [], ◌∷◌, ◌++◌}
 use Rattle.std.proofs.Common.{Option, Some, None, Result, Ok, option_map, refl, ap, ◌∙◌}
 use Rattle.bpf_insn.specs.declared.operand.Distance.TheVariants.{Short, Long}
@@ -26,7 +26,7 @@ use Rattle.bpf_text.proofs.Named.{register_is_named}
 use Rattle.bpf_text.proofs.Arguments.{tokens_of_argument, item_of_argument, item_again}
 use Rattle.bpf_text.proofs.Again.{AllFit, Fits, FitsIf, imm_again, long_again, short_again}
 
--- ---- they are read again
+-- ---- they are read back
 
 imm_read : (k : ℤ) → FitsSigned w32 k
     → item_as tables kind.Imm (item_of_argument (argument.Imm k)) ≡ Ok (Argument (argument.Imm k))

@@ -1,4 +1,4 @@
--- Reading bytes slot by slot: what has been listed so far, and one instruction more.
+-- Reading bytes slot by slot: what has been listed so far, and one more instruction.
 use Rattle.std.proofs.Common.{◌≡◌, ℕ, ◌+◌, ◌*◌, ◌<◌, ◌≤◌, List, [], ◌∷◌, ◌++◌}
 use Rattle.std.proofs.Common.{length, take, drop, refl, sym, ap, ◌∙◌, subst}
 use Rattle.std.proofs.Common.{append_assoc, length-append, length-drop, arith}
@@ -11,7 +11,7 @@ use Rattle.bpf_insn.specs.Spelling.{IsEncodable, Spells, encoding, width_of, slo
 use Rattle.bpf_insn.specs.Program.{encodings, layout, slots}
 use Rattle.bpf_text.specs.Listing.{Lists, IsNextLine, listing_of, line_of}
 
--- ---- one instruction more at the end
+-- ---- one more instruction at the end
 
 pub all_more : (P : Insn → Type 0) (is : List Insn) (i : Insn) → AllByRecursion P is → P i
     → AllByRecursion P (is ++ (i ∷ []))

@@ -1,4 +1,4 @@
--- The line of an instruction is read as that instruction, with no label.
+-- The line of an instruction is read back as that instruction, with no label.
 use Rattle.std.proofs.Common.{◌≡◌, ℕ, List, [], ◌∷◌, ◌++◌, Option, Some, None}
 use Rattle.std.proofs.Common.{Ok, false, option_map, codes, refl, sym, ap, ◌∙◌, append_assoc}
 use Rattle.std.proofs.lemmas.List.{append-nil}
@@ -52,7 +52,7 @@ bare_is i =
 pub line_ends : (i : Insn) → line_of i ≡ line_text i ++ (10 ∷ [])
 line_ends i = ap (λ (t : List ℕ). t ++ (10 ∷ [])) (bare_is i)
 
--- ---- its numbers are short
+-- ---- the numbers are short
 
 pub record AreShort (a : UpToThree arguments.Argument) : Type 0 where
   pub first : HasShortOption a.first
@@ -126,7 +126,7 @@ line_tokens m a short =
     word_token (word_of m) (arguments_text a) (is_named m).is_text ends
     ∙ ap (front (Word (word_of m))) (arguments_tokens a short)
 
--- ---- what the tokens say
+-- ---- what is read from the tokens
 
 no_colon : (w : Name) (a : arguments.Argument) (rest : Tokens)
     → split_label (Word w ∷ (tokens_of_argument a ++ rest)) ≡ (
@@ -157,7 +157,7 @@ body_again : (w : Name) (ts : Tokens) (m : Mnemonic) (items : Items) (a : UpToTh
     → body_of tables (Word w ∷ ts) ≡ Ok (Some (record { mnemonic = m; arguments = a }))
 body_again w ts m items a named some is = simp (named, some, is) refl
 
--- the instruction alone
+-- only the instruction, without a label
 abbrev pub as_line : Insn → Line
 as_line i = record { label = None; body = Ok (Some (stated i)) }
 

@@ -1,4 +1,4 @@
--- Each line that states an instruction is read as it, and no other line is.
+-- Each line that states an instruction is read as this instruction, and no other line is.
 use Rattle.std.proofs.Common.{◌≡◌, ℕ, ◌+◌, ℤ, pos, ◌-ℤ◌, FitsSigned, w16, w32, ◌∷◌}
 use Rattle.std.proofs.Common.{Option, Some, None, option_map, Ok}
 use Rattle.std.proofs.Common.{Bool, true, false, ◌&&◌, not, if◌then◌else◌, refl, sym, ap, ◌∙◌}

@@ -1,5 +1,5 @@
--- The way back from a word and its arguments is exact: what it finds has them, and it finds each
--- instruction. A list of all that are left takes each in turn.
+-- The inverse of a mnemonic and its arguments is exact: it finds only instructions that have them,
+-- and finds each instruction. The last line of a list takes the remaining cases in turn.
 use Rattle.std.proofs.Common.{◌≡◌, ℤ, Option, Some, None, IfSome, is_some}
 use Rattle.std.proofs.Common.{Bool, true, false, refl, sym, ap, ◌∙◌}
 use Rattle.bpf_insn.specs.declared.reg.Reg.{Reg}

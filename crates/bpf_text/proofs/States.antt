@@ -1,4 +1,4 @@
--- A line is read as an instruction only where it states it.
+-- A line is read as an instruction only if it states this instruction.
 use Rattle.std.proofs.Common.{◌≡◌, ℕ, ◌+◌, ℤ, pos, ◌-ℤ◌, ◌∷◌, [], Option, Some, None, option_map}
 use Rattle.std.proofs.Common.{Ok, Bool, true, false, not, if◌then◌else◌, refl, sym, ap, ◌∙◌, subst}
 use Rattle.std.specs.Prelude.{ok_or}

@@ -1,4 +1,4 @@
--- What a row of steps answers where none of them fails.
+-- The result of a sequence of steps if none of them fails.
 use Rattle.std.proofs.Common.{◌≡◌, Option, Some, None, option_map, Ok, Err}
 use Rattle.std.proofs.Common.{Bool, true, false, ◌||◌, if◌then◌else◌, refl, ap}
 use Rattle.std.specs.Prelude.{ok_or}

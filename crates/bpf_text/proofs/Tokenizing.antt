@@ -1,4 +1,4 @@
--- The pieces of a line one by one, and numbers that 64 bits hold.
+-- The pieces of a line one by one, and numbers that fit 64 bits.
 use Rattle.std.proofs.Common.{◌≡◌, ℕ, suc, ◌+◌, ◌<◌, ◌^◌, List, [], ◌∷◌, ◌++◌}
 use Rattle.std.proofs.Common.{take, drop, map, Option, Some, None, Bool, true}
 use Rattle.std.proofs.Common.{false, ◌||◌, not, ◌==◌, option_map, refl, sym, ap, ◌∙◌, subst, arith}
@@ -11,7 +11,7 @@ use Rattle.bpf_text.specs.Tokens.{Name, is_blank, is_mark, word_goes_on}
 use Rattle.bpf_text.specs.Tokens.{onto_piece, pieces, piece_len, token_of}
 use Rattle.bpf_text.specs.Tokens.{tokens_in, tokens_of}
 
--- a letter, a digit or _ is no mark, no blank and no semicolon
+-- a letter, a digit or _ is not a mark, a blank or a semicolon
 pub name_plain : (d : ℕ) → is_word_byte d ≡ true
     → (◌==◌ d 59 ≡ false) × (is_blank d ≡ false) × (is_mark d ≡ false)
 name_plain d h = (grind arith, grind arith, grind arith)
@@ -54,7 +54,7 @@ run_step c d rest semicolon blank mark true e next =
     subst P (sym (run_goes_on d rest e))
     (pieces_onto c (d ∷ rest) semicolon blank (simp (mark, e) refl) ∙ ap (onto_piece c) (next e))
 
--- the run of letters, digits and _ behind a character that is no mark
+-- the run of letters, digits and _ after a character that isn't a mark
 piece_run : (c : ℕ) (rest : List ℕ)
     → (c == 59) ≡ false → is_blank c ≡ false → is_mark c ≡ false → Run c rest
 piece_run c [] semicolon blank mark = pieces_alone c [] semicolon blank (simp mark refl)
@@ -78,7 +78,7 @@ piece_by_mark c rest false semicolon blank mark =
     let len : piece_len c rest ≡ suc k = simp mark more in
     subst P (sym len) (piece_run c rest semicolon blank mark)
 
--- the piece at the front, and those behind it
+-- the piece at the front, and those after it
 pub pieces_first : (c : ℕ) (rest : List ℕ) → (c == 59) ≡ false → is_blank c ≡ false
     → pieces (c ∷ rest) ≡ take (piece_len c rest) (c ∷ rest)
     ∷ pieces (drop (piece_len c rest) (c ∷ rest))
@@ -110,7 +110,7 @@ onto_option xs ys t (Some ts) e = ap Some
     (sym (ap (λ (zs : List (AsmToken NameBytes)). map token_named zs ++ ts) e
     ∙ tokens_onto xs t ts))
 
--- a line whose tokens so far are xs, and one token more
+-- one more token of a line whose tokens so far are xs
 pub token_more : (line rest p after : List ℕ) (xs ys : List (AsmToken NameBytes))
     (t : AsmToken NameBytes)
     → tokens_of line ≡ option_map (λ ts. map token_named xs ++ ts) (tokens_of rest)

@@ -1,4 +1,4 @@
--- The word of each instruction and its arguments, in their order: one line a form.
+-- The mnemonic of each instruction, and its arguments, in order: one line for each form.
 use Rattle.std.specs.Prelude.{ℤ}
 use Rattle.bpf_insn.specs.declared.reg.Reg.{Reg}
 use Rattle.bpf_insn.specs.declared.operand.Distance.TheVariants.{Short, Long}
@@ -40,7 +40,7 @@ abbrev pub operand_argument : operands.Operand → Argument
 operand_argument (operand.Imm k) = Imm k
 operand_argument (operand.Register r) = Register r
 
--- what a jump compares, and how far it goes
+-- the two operands that a jump compares, and its distance
 abbrev pub jump_arguments : Reg → operands.Operand → ℤ → UpToThree Argument
 jump_arguments left right k =
     three (Register left) (operand_argument right) (Distance (Short k))
@@ -51,7 +51,7 @@ wide_arguments dst (wide.Number n) = two (Register dst) (Number n)
 wide_arguments dst (wide.Map i) = two (Register dst) (Imm i)
 wide_arguments dst (wide.Cell i k) = three (Register dst) (Imm i) (Imm k)
 
--- dst comes first, also where it is the address that is stored to; a distance comes last
+-- dst comes first, also if it is the address of a store; a distance comes last
 abbrev pub arguments_of : Insn → UpToThree Argument
 arguments_of (insn.Alu bits op dst s) = two (Register dst) (operand_argument s)
 arguments_of (insn.Mov bits dst s) = two (Register dst) (operand_argument s)

@@ -1,4 +1,4 @@
--- The bytes that a text stands for, or its first fault: lines one by one, then jumps to labels.
+-- The bytes of a text, or its first fault: the lines one by one, then the jumps to labels.
 use Rattle.std.specs.Prelude.{◌≡◌, ℕ, ◌+◌, ◌*◌, ◌≤◌, ◌⊎◌, ◌^◌, ℤ, pos, neg_ℤ, ◌-ℤ◌, int_le, int_lt}
 use Rattle.std.specs.Prelude.{List, [], ◌∷◌, ◌++◌, length, Option, Some, None, is_some, ok_or}
 use Rattle.std.specs.Prelude.{Result, Ok, Err, Bool, true, false, nat_lt, ◌&&◌, if◌then◌else◌}
@@ -26,9 +26,9 @@ use Rattle.bpf_text.specs.Vocabulary.{Vocabulary, IsExact}
 abbrev pub BytesOrFault : Type 0
 BytesOrFault = Result (List ℕ) AsmFault
 
--- ---- the slots of lines, and where each label stands
+-- ---- the slots of lines and labels
 
--- a word says how many slots its instruction takes
+-- the mnemonic decides how many slots the instruction takes
 abbrev pub slots_of_word : Mnemonic → ℕ
 slots_of_word LoadNumber = 2
 slots_of_word LoadMap = 2
@@ -47,13 +47,13 @@ abbrev pub is_label : Name → Option Name → Bool
 is_label name None = false
 is_label name (Some label) = bytes_eq label name
 
--- the slot of the first line with this label; the lines begin at slot s
+-- the slot of the first line with this label; the first of the lines is at slot s
 abbrev pub label_slot : ℕ → List Line → Name → Option ℕ
 label_slot s [] name = None
 label_slot s (l ∷ ls) name =
     if is_label name l.label then Some s else label_slot (s + slots_of_body l.body) ls name
 
--- where a label stands
+-- the slot of a label
 abbrev pub SlotOf : Type 0
 SlotOf = Name → Option ℕ
 
@@ -70,7 +70,7 @@ has_label ls label = has_slot (label_slot 0 ls) label
 abbrev pub too_long : ℕ → Option AsmFaultKind
 too_long slots = if nat_lt 4096 slots then Some kind.TooLong else None
 
--- what the line says, s slots being before it; twice: an earlier line has its label
+-- the fault of a line that begins at slot s; twice: an earlier line has its label
 abbrev pub fault_of_body : ℕ → Bool → Body → Option AsmFaultKind
 fault_of_body s twice (Err kind.Range) = if twice then Some kind.Label else Some kind.Range
 fault_of_body s twice (Err e) = Some e
@@ -88,7 +88,7 @@ abbrev pub fault_or : ℕ → Option AsmFaultKind → Option AsmFault → Option
 fault_or n None later = later
 fault_or n (Some e) later = Some (at_line n e)
 
--- of the lines that follow these
+-- the first fault in the lines that follow `before`
 abbrev pub first_fault : List Line → List Line → Option AsmFault
 first_fault before [] = None
 first_fault before (l ∷ rest) =
@@ -104,12 +104,12 @@ abbrev pub placed_body : ℕ → ℕ → Body → List PlacedStatement
 placed_body n s (Ok (Some d)) = record { line = n; slot = s; statement = d } ∷ []
 placed_body n s body = []
 
--- the statements of lines that begin at line n and slot s
+-- the statements of lines, the first of which has number n and slot s
 abbrev pub placed : ℕ → ℕ → List Line → List PlacedStatement
 placed n s [] = []
 placed n s (l ∷ ls) = placed_body n s l.body ++ placed (n + 1) (s + slots_of_body l.body) ls
 
--- a number that a signed field of k + 1 bits holds
+-- a signed field of k + 1 bits holds the number
 abbrev pub in_field : ℕ → ℤ → Bool
 in_field k z = int_le (neg_ℤ (pos (2 ^ k))) z && int_lt z (pos (2 ^ k))
 
@@ -119,7 +119,7 @@ short_distance z = if in_field 15 z then Some (Distance (Short z)) else None
 abbrev pub long_distance : ℤ → Option Argument
 long_distance z = if in_field 31 z then Some (Distance (Long z)) else None
 
--- slots are counted from the instruction after the jump
+-- the distance counts from the instruction after the jump
 abbrev pub slots_to : SlotOf → ℕ → Name → OrAsmFault ℤ
 slots_to slot_of s name = ok_or (slot_of name) kind.Label >>? λ t. Ok (pos t -ℤ pos (s + 1))
 
@@ -141,7 +141,7 @@ arguments_at slot_of s g =
     let c = argument_if slot_of s g.third in
     in_turn a b c
 
--- the instruction with this word and these arguments: there is one, since they are of its kinds
+-- the instruction with this mnemonic and these arguments; there is one, since they have its kinds
 abbrev pub insn_at : Vocabulary → SlotOf → PlacedStatement → OrAsmFault Insn
 insn_at v slot_of p =
     arguments_at slot_of p.slot p.statement.arguments >>? λ a.
@@ -155,7 +155,7 @@ abbrev pub bytes_onto : ℕ → OrAsmFault Insn → BytesOrFault → BytesOrFaul
 bytes_onto n (Err e) later = Err (at_line n e)
 bytes_onto n (Ok i) later = onto_bytes (encoding i) later
 
--- the encodings of the statements, or the first that can't jump where it should
+-- the encodings of the statements, or the fault of the first jump that has no target
 abbrev pub bytes_of_placed : Vocabulary → SlotOf → List PlacedStatement → BytesOrFault
 bytes_of_placed v slot_of [] = Ok []
 bytes_of_placed v slot_of (p ∷ ps) =
@@ -171,15 +171,15 @@ abbrev pub assembly_of_lines : Vocabulary → List Line → BytesOrFault
 assembly_of_lines v ls =
     unless_fault (first_fault [] ls) (bytes_of_placed v (label_slot 0 ls) (placed 1 0 ls))
 
--- the bytes that the text stands for, or its fault
+-- the bytes of the text, or its fault
 unfoldable pub assembly_of : Vocabulary → List ℕ → BytesOrFault
 assembly_of v text = assembly_of_lines v (lines_in v text)
 
--- the same, with words that stand for what is written so; there is one such vocabulary
+-- the same, with an exact vocabulary; there is only one
 abbrev pub Assembles : List ℕ → BytesOrFault → Type 0
 Assembles text verdict = (v : Vocabulary) × IsExact v × (assembly_of v text ≡ verdict)
 
--- the text's fault, or a growth that was refused
+-- the text's fault, or an allocation failed
 abbrev pub IsAsmFault : List ℕ → AsmFault → Type 0
 IsAsmFault text e = (e ≡ Memory) ⊎ Assembles text (Err e)
 

@@ -1,4 +1,4 @@
--- The texts of faults, as they are printed: a code, a name, and where it is.
+-- The texts of faults, as they are printed: a code, a name, and a place.
 use Rattle.std.specs.Prelude.{ℕ, List, ◌++◌, codes}
 use Rattle.std.specs.Fmt.{decimal}
 use Rattle.bpf_insn.specs.Faults.{fault_text}
@@ -9,7 +9,7 @@ use Rattle.bpf_text.specs.declared.fault.AsmFault.TheVariants.{At, Memory}
 use Rattle.bpf_text.specs.declared.fault.ListFault.{ListFault}
 use Rattle.bpf_text.specs.declared.fault.ListFault.TheVariants as list_fault
 
--- ---- a text that has no bytes
+-- ---- a text that doesn't assemble
 
 abbrev pub kind_text : AsmFaultKind → List ℕ
 kind_text kind.Token = codes "A1 Token"
@@ -23,7 +23,7 @@ abbrev pub asm_fault_text : AsmFault → List ℕ
 asm_fault_text (At line e) = kind_text e ++ codes " at line " ++ decimal line
 asm_fault_text Memory = codes "A7 Memory"
 
--- ---- bytes that have no text
+-- ---- bytes that have no listing
 
 abbrev pub list_fault_text : ListFault → List ℕ
 list_fault_text (list_fault.Insn slot e) = fault_text e ++ codes " at slot " ++ decimal slot

@@ -1,4 +1,4 @@
--- The operands as they are written behind an instruction's word: up to three, with commas between.
+-- The operands as written after a mnemonic: up to three, separated by commas.
 use Rattle.std.specs.Prelude.{List, [], ◌∷◌, Option, Some, None}
 use Rattle.bpf_insn.specs.Program.{◌>>=◌}
 use Rattle.bpf_text.specs.declared.token.Sign.TheVariants.{Plus}
@@ -18,7 +18,7 @@ no_offset = record { sign = Plus; magnitude = Some 0 }
 abbrev pub Tokens : Type 0
 Tokens = List (AsmToken names.Name)
 
--- the operand at the front, and the tokens behind it
+-- the operand at the front, and the tokens after it
 abbrev pub item_at_front : Tokens → Option (Item names.Name × Tokens)
 item_at_front (token.Word w ∷ rest) = Some (Name w, rest)
 item_at_front (token.Number n ∷ rest) = Some (Number n, rest)
@@ -27,7 +27,7 @@ item_at_front (token.Open ∷ token.Word w ∷ token.Number n ∷ token.Close �
     Some (Memory w n, rest)
 item_at_front tokens = None
 
--- the operand behind a comma, or none at the end
+-- the operand after a comma, or none at the end
 abbrev pub item_after_comma : Tokens → Option (Option (Item names.Name) × Tokens)
 item_after_comma [] = Some (None, [])
 item_after_comma (token.Comma ∷ rest) = item_at_front rest >>= λ p. Some (Some p.0, p.1)
@@ -40,7 +40,7 @@ abbrev pub at_end : Items → Tokens → Option Items
 at_end items [] = Some items
 at_end items (t ∷ rest) = None
 
--- all operands; None where these tokens are no operands
+-- all operands; None if these tokens aren't operands
 abbrev pub items_of : Tokens → Option Items
 items_of [] = Some none
 items_of (t ∷ rest) =

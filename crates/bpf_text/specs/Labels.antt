@@ -1,4 +1,4 @@
--- What the map of labels has at a name.
+-- The map of labels, and its entry for a name.
 use Rattle.std.specs.Prelude.{◌≡◌, ℕ, List, Option, Some, None, if◌then◌else◌}
 use Rattle.std.specs.Borrow.{Bor}
 use Rattle.std.specs.BTreeMap.{BTreeMap, get_by}
@@ -13,7 +13,7 @@ Labels = BTreeMap (Bor (List ℕ)) ℕ
 abbrev pub slot_at : Labels → Name → Option ℕ
 slot_at m name = get_by (λ k. slice_cmp nat_cmp name k.now) m
 
--- what is found once a label stands at a slot
+-- the entries once a label at slot s is added
 abbrev pub labels_after : (Name → Option ℕ) → Option Name → ℕ → Name → Option ℕ
 labels_after slot_of None s q = slot_of q
 labels_after slot_of (Some name) s q = if bytes_eq name q then Some s else slot_of q

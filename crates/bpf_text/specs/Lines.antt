@@ -1,4 +1,4 @@
--- What a line says: an optional label, and an optional statement or the fault in its place.
+-- The content of a line: an optional label, and an optional statement or a fault instead.
 use Rattle.std.specs.Prelude.{List, [], ◌∷◌, ℕ, map, Option, Some, None, ok_or, Ok, Err}
 use Rattle.std.specs.Str.Lines.{lines}
 use Rattle.bpf_text.specs.declared.fault.AsmFaultKind.TheVariants as fault
@@ -21,7 +21,7 @@ Line = the_line.Line Name
 abbrev pub Body : Type 0
 Body = OrAsmFault (Option AsmStatement)
 
--- an instruction's word, and its operands
+-- the statement of a mnemonic and its operands
 abbrev pub body_of : Vocabulary → Tokens → Body
 body_of v [] = Ok None
 body_of v (Word w ∷ rest) =
@@ -31,7 +31,7 @@ body_of v (Word w ∷ rest) =
     Ok (Some (record { mnemonic = m; arguments = a }))
 body_of v tokens = Err fault.Mnemonic
 
--- a word before a colon at the front is a label; and the tokens behind it
+-- a word before a colon at the front is a label; and the tokens after it
 abbrev pub split_label : Tokens → Option Name × Tokens
 split_label (Word w ∷ Colon ∷ rest) = (Some w, rest)
 split_label tokens = (None, tokens)
@@ -47,6 +47,6 @@ line_if_tokens v (Some tokens) = line_of_tokens v tokens
 unfoldable pub read_line : Vocabulary → List ℕ → Line
 read_line v line = line_if_tokens v (tokens_of line)
 
--- the lines of a text, which LF or CR LF ends
+-- the lines of a text, each ended by LF or CR LF
 abbrev pub lines_in : Vocabulary → List ℕ → List Line
 lines_in v text = map (read_line v) (lines text)

@@ -1,4 +1,4 @@
--- The text that a listing gives: a line an instruction, and which bytes have a listing.
+-- The text of a listing, one line for each instruction, and which bytes have a listing.
 use Rattle.std.specs.Prelude.{◌≡◌, ℕ, ◌+◌, ◌*◌, ◌<◌, ℤ, pos, negsuc, suc, List, [], ◌∷◌, ◌++◌}
 use Rattle.std.specs.Prelude.{length, take, Option, Some, None, Result, Ok, Err, codes}
 use Rattle.std.specs.List.{AllByRecursion}
@@ -33,7 +33,7 @@ register_text R8 = codes "r8"
 register_text R9 = codes "r9"
 register_text R10 = codes "r10"
 
--- an offset or a distance has its sign, + before 0 too
+-- an offset or a distance has its sign, also + before 0
 abbrev pub with_sign : ℤ → List ℕ
 with_sign (pos n) = codes "+" ++ decimal n
 with_sign (negsuc n) = codes "-" ++ decimal (suc n)
@@ -45,12 +45,12 @@ argument_text (Number n) = decimal n
 argument_text (Memory r k) = codes "[" ++ register_text r ++ with_sign k ++ codes "]"
 argument_text (Distance distance) = with_sign (slots_moved distance)
 
--- an argument, if it is there, behind what divides it from the word or the one before
+-- the divider and the argument, if there is one
 abbrev pub text_behind : List ℕ → Option Argument → List ℕ
 text_behind divider None = []
 text_behind divider (Some a) = divider ++ argument_text a
 
--- the line of an instruction without the line feed that ends it
+-- the line of an instruction, without the line feed that ends it
 abbrev pub bare_line : Insn → List ℕ
 bare_line i =
     word_of (mnemonic_of i)
@@ -73,18 +73,18 @@ Lists bytes text =
     (is : List Insn) × AllByRecursion IsEncodable is × (bytes ≡ encodings is)
     × (text ≡ listing_of is)
 
--- instructions fill the slots before this one, and what is there is none
+-- instructions fill the slots before this one, and none begins at it
 abbrev pub IsFirstFault : List ℕ → ℕ → InsnFault → Type 0
 IsFirstFault bytes slot e =
     (is : List Insn) × AllByRecursion IsEncodable is × (slot ≡ length (layout is))
     × (take (8 * slot) bytes ≡ encodings is) × (8 * slot < length bytes) × IsLeastFault bytes slot e
 
--- no claim is made of a growth that was refused
+-- nothing is claimed if an allocation failed
 abbrev pub IsListFault : List ℕ → ListFault → Type 0
 IsListFault bytes (list_fault.Insn slot e) = IsFirstFault bytes slot e
 IsListFault bytes list_fault.Memory = Unit {0}
 
--- the verdict on bytes: their listing, or where they have none
+-- the verdict on bytes: their listing, or the first fault
 abbrev pub IsListing : List ℕ → Result (List ℕ) ListFault → Type 0
 IsListing bytes (Ok text) = Lists bytes text
 IsListing bytes (Err (list_fault.Insn slot e)) = IsFirstFault bytes slot e
@@ -100,7 +100,7 @@ HasOneListing bytes =
 abbrev pub Appends : String Global → String Global → List ℕ → Type 0
 Appends before after text = string_bytes after ≡ string_bytes before ++ text
 
--- an instruction begins at this slot, the next slot is behind it, and the text grows by its line
+-- an instruction is at this slot, `next` is the slot after it, and the text grows by its line
 abbrev pub IsNextLine : List ℕ → ℕ → List ℕ → List ℕ → ℕ → Type 0
 IsNextLine bytes slot before after next =
     (i : Insn) × Spells bytes slot i × (next ≡ slot + slots_of (width_of i))

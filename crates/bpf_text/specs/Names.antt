@@ -1,4 +1,4 @@
--- What the reader's values stand for: their names are the bytes that they point to.
+-- The values of the assembler as those of the definitions: a name is the bytes that it points to.
 use Rattle.std.specs.Prelude.{ℕ, List, map, Option, Some, None, option_map}
 use Rattle.std.specs.Prelude.{Ok, Err, Bool, true, false}
 use Rattle.std.specs.Borrow.{Bor}
@@ -35,7 +35,7 @@ token_named token.Close = token.Close
 abbrev pub tokens_named : List (AsmToken NameBytes) → Tokens
 tokens_named tokens = map token_named tokens
 
--- all tokens, where the whole line was read
+-- all tokens, if the whole line was read
 abbrev pub tokens_if : Bool → List (AsmToken NameBytes) → Option Tokens
 tokens_if true tokens = Some (tokens_named tokens)
 tokens_if false tokens = None

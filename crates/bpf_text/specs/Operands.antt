@@ -1,5 +1,5 @@
--- An operand as the kind that its instruction wants: A3 where it is of another kind, and A5 where
--- its number doesn't fit its field.
+-- Operands read as the kinds that their instruction requires: A3 if the kind is wrong, and A5 if a
+-- number doesn't fit its field.
 use Rattle.std.specs.Prelude.{Option, Some, None, option_map, Ok, Err}
 use Rattle.std.specs.Prelude.{Bool, true, false, not, ◌||◌, if◌then◌else◌}
 use Rattle.bpf_insn.specs.declared.reg.Reg.{Reg}
@@ -35,7 +35,7 @@ abbrev pub has_plus : Sign → Bool
 has_plus Plus = true
 has_plus s = false
 
--- + or - stands before the number
+-- + or - precedes the number
 abbrev pub has_sign : Sign → Bool
 has_sign Absent = false
 has_sign s = true
@@ -44,7 +44,7 @@ abbrev pub register_given : Option Reg → GivenOrFault
 register_given None = Err fault.Operand
 register_given (Some r) = Ok (Argument (argument.Register r))
 
--- numbers of 32 and 64 bits have no +
+-- 32-bit and 64-bit numbers have no +
 abbrev pub imm_given : Figure → GivenOrFault
 imm_given f = if_of_kind (not (has_plus f.sign)) (option_map argument.Imm (imm_of f))
 
@@ -79,7 +79,7 @@ item_as v k i = Err fault.Operand
 
 -- ---- all operands
 
--- an operand stands where one is wanted, and nowhere else
+-- an operand is present exactly if the kind requires one
 abbrev pub item_if : Vocabulary → Option OperandKind → Option (Item Name)
     → OrAsmFault (Option (Given Name))
 item_if v None None = Ok None
@@ -90,7 +90,7 @@ abbrev pub is_other_kind : {A : Type 0} → OrAsmFault A → Bool
 is_other_kind (Err fault.Operand) = true
 is_other_kind r = false
 
--- A3 of any operand comes before A5 of another
+-- A3 for any operand precedes A5 for another
 abbrev pub all_given : (a b c : OrAsmFault (Option (Given Name)))
     → OrAsmFault (UpToThree (Given Name))
 all_given a b c =

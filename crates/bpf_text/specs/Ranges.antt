@@ -1,4 +1,4 @@
--- The numbers that fit each field, and what the field then holds.
+-- The numbers that fit each field, and the value that the field then has.
 use Rattle.std.specs.Prelude.{ℕ, ◌-◌, ◌%◌, ◌^◌, ℤ, pos, neg_ℤ}
 use Rattle.std.specs.Prelude.{Option, Some, None, nat_le, nat_lt, if◌then◌else◌}
 use Rattle.std.specs.Int.{w32, cast_signed}
@@ -19,7 +19,7 @@ wide_from Absent n = Some n
 wide_from Minus n = if nat_le n (2 ^ 63) then Some ((2 ^ 64 - n) % 2 ^ 64) else None
 wide_from Plus n = None
 
--- with its sign, at most the number of a signed field of k + 1 bits
+-- with its sign, in the range of a signed field of k + 1 bits
 abbrev pub signed_from : ℕ → Sign → ℕ → Option ℤ
 signed_from k Absent n = None
 signed_from k Minus n = if nat_le n (2 ^ k) then Some (neg_ℤ (pos n)) else None

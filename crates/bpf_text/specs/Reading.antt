@@ -1,4 +1,4 @@
--- What the reader has read after each line, and the faults of its two passes.
+-- The state of the assembler after each line, and the faults of its two passes.
 use Rattle.std.specs.Prelude.{◌≡◌, ℕ, ◌+◌, ◌≤◌, ◌⊎◌, List, [], ◌∷◌, ◌++◌}
 use Rattle.std.specs.Prelude.{length, map, Some, None, Err}
 use Rattle.std.specs.Vec.{vec_items}
@@ -26,21 +26,21 @@ pub record HasRead (ls : List Line) (r : reader.Reading) : Type 0 where
   pub labels : (q : Name) → slot_at r.labels q ≡ label_slot 0 ls q
   pub placed_are : map placed_named (vec_items r.placed) ≡ placed 1 0 ls
 
--- one line more has been read, in which is no fault
+-- one more line has been read, without a fault
 abbrev pub ReadsOn : reader.Reading → reader.Reading → Line → Type 0
 ReadsOn before after l =
     (ls : List Line) → HasRead ls before →
     (line_fault ls l ≡ None) × HasRead (ls ++ (l ∷ [])) after
 
--- the fault of one line more; none is named where a growth was refused
+-- the fault of one more line; no claim if an allocation failed
 abbrev pub IsLineFault : reader.Reading → Line → AsmFault → Type 0
 IsLineFault before l Memory = Unit {0}
 IsLineFault before l (At n e) =
     (n ≡ before.lines + 1) × ((ls : List Line) → HasRead ls before → line_fault ls l ≡ Some e)
 
--- ---- both passes, by the reader's own tables; or a growth that was refused
+-- ---- both passes, with the assembler's own tables; or an allocation failed
 
--- all lines have been read, and none has a fault
+-- all lines have been read, without a fault
 abbrev pub IsWholeReading : List ℕ → reader.Reading → Type 0
 IsWholeReading text r =
     (first_fault [] (lines_in tables text) ≡ None) × HasRead (lines_in tables text) r

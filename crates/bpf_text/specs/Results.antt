@@ -1,4 +1,4 @@
--- Steps that may fail, one after the other.
+-- Steps that may fail, in sequence.
 use Rattle.std.specs.Prelude.{Option, Result, Ok, Err}
 use Rattle.bpf_text.specs.declared.fault.AsmFaultKind.{AsmFaultKind}
 use Rattle.bpf_text.specs.declared.three.UpToThree.{UpToThree}
@@ -15,6 +15,6 @@ abbrev pub map_ok : {A B : Type 0} → (A → B) → OrAsmFault A → OrAsmFault
 map_ok f (Ok x) = Ok (f x)
 map_ok f (Err e) = Err e
 
--- of three that may be absent, the first fault or all
+-- three optional values, or the first fault
 abbrev pub in_turn : {A : Type 0} → (a b c : OrAsmFault (Option A)) → OrAsmFault (UpToThree A)
 in_turn a b c = a >>? λ x. b >>? λ y. c >>? λ z. Ok (record { first = x; second = y; third = z })

@@ -1,4 +1,4 @@
--- The signature of each instruction: which operands stand behind its word.
+-- The signature of each instruction: the operands after its mnemonic.
 use Rattle.std.specs.Prelude.{◌≡◌, ◌↔◌, Option, Some, None, Bool, true, false, ◌&&◌, IsTrue}
 use Rattle.bpf_insn.specs.declared.insn.Insn.{Insn}
 use Rattle.bpf_insn.specs.declared.operand.Distance.TheVariants.{Short, Long}
@@ -13,7 +13,7 @@ use Rattle.bpf_text.specs.declared.signature.OperandKind.TheVariants.{Memory, Sh
 use Rattle.bpf_text.specs.Arguments.{mnemonic_of, arguments_of}
 use Rattle.bpf_text.specs.Three.{none, one, two, three}
 
--- the kinds of operands that each word wants
+-- the kinds of operands that each mnemonic requires
 abbrev pub kinds_of : Mnemonic → UpToThree OperandKind
 kinds_of (word.Alu bits op) = two Register Source
 kinds_of (word.Mov bits) = two Register Source
@@ -54,7 +54,7 @@ abbrev pub are_of : UpToThree OperandKind → UpToThree Argument → Bool
 are_of k a =
     is_of_if k.first a.first && (is_of_if k.second a.second && is_of_if k.third a.third)
 
--- arguments of a word's kinds are those of an instruction with that word, and no others are
+-- arguments have a mnemonic's kinds exactly if they are those of an instruction with it
 abbrev pub KindsAgree : Type 0
 KindsAgree =
     (m : Mnemonic) (a : UpToThree Argument) →

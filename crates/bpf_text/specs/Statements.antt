@@ -1,5 +1,5 @@
--- How the reader goes back from a word and its arguments to the instruction: by their number.
--- What it finds is right, and it finds each instruction (proofs/Statements).
+-- How the assembler finds the instruction of a mnemonic and its arguments: by their number. The
+-- result is right, and each instruction is found (proofs/Statements).
 use Rattle.std.specs.Prelude.{ℤ, Option, Some, None}
 use Rattle.bpf_insn.specs.declared.reg.Reg.{Reg}
 use Rattle.bpf_insn.specs.declared.operand.Operand as operands

@@ -1,5 +1,5 @@
--- What a line states, with no word of how it is read: its word is the word of the instruction's
--- mnemonic, and its operands are the instruction's arguments.
+-- What a line states, independent of how it is read: its word is the instruction's mnemonic, and
+-- its operands are the instruction's arguments.
 use Rattle.std.specs.Prelude.{◌≡◌, ℕ, ◌+◌, ℤ, pos, ◌-ℤ◌, ◌∷◌, Option, Some, None, Ok}
 use Rattle.bpf_insn.specs.declared.insn.Insn.{Insn}
 use Rattle.bpf_insn.specs.declared.operand.Distance.TheVariants.{Short, Long}
@@ -21,7 +21,7 @@ use Rattle.bpf_text.specs.Tokens.{Name}
 use Rattle.bpf_text.specs.Vocabulary.{Vocabulary}
 use Rattle.bpf_text.specs.Words.{word_of}
 
--- a distance leads from the instruction behind slot s to the label
+-- z is the distance from the instruction after slot s to the label
 abbrev pub IsDistanceTo : SlotOf → ℕ → Name → ℤ → Type 0
 IsDistanceTo slot_of s w z = (t : ℕ) × (slot_of w ≡ Some t) × (z ≡ pos t -ℤ pos (s + 1))
 
@@ -57,7 +57,7 @@ IsReadAs v slot_of s tokens i =
     (b : AsmStatement) × (body_of v tokens ≡ Ok (Some b))
     × (insn_at v slot_of (record { line = 0; slot = s; statement = b }) ≡ Ok i)
 
--- a line is read as an instruction just where it states it, and its numbers fit their fields
+-- a line is read as an instruction exactly if it states it, and its numbers fit their fields
 pub record ReadsAsStated (v : Vocabulary) : Type 0 where
   pub only :
       (slot_of : SlotOf) (s : ℕ) (tokens : Tokens) (i : Insn) →

@@ -1,4 +1,4 @@
--- The reader's own vocabulary: what is first in its tables, which has this text.
+-- The assembler's own vocabulary: the first entry of its tables with this text.
 use Rattle.std.specs.Prelude.{Option}
 use Rattle.std.specs.Str.{bytes_eq}
 use Rattle.std.specs.List.{find}

@@ -1,4 +1,4 @@
--- Up to three of a kind, in their order.
+-- Up to three values, in order.
 use Rattle.std.specs.Prelude.{Some, None, option_map}
 use Rattle.bpf_text.specs.declared.three.UpToThree.{UpToThree}
 

@@ -32,7 +32,7 @@ is_mark c = ((c == 44) || (c == 58)) || ((c == 91) || (c == 93))
 
 -- ---- the pieces of a line
 
--- a letter, a digit or _ goes on with the piece before it
+-- a letter, a digit or _ continues the piece before it
 abbrev pub word_goes_on : List ℕ → Bool
 word_goes_on [] = false
 word_goes_on (c ∷ rest) = is_word_byte c
@@ -50,11 +50,11 @@ pieces (c ∷ rest) =
     else if is_mark c || not (word_goes_on rest) then (c ∷ []) ∷ pieces rest
     else onto_piece c (pieces rest)
 
--- how long the piece is that begins with c, which is no blank
+-- the length of the piece that begins with c, which isn't a blank
 abbrev pub piece_len : ℕ → List ℕ → ℕ
 piece_len c rest = if is_mark c then 1 else 1 + prefix_len is_word_byte rest
 
--- ---- the token that a piece is
+-- ---- the token of a piece
 
 abbrev pub is_numeral : ℕ → List ℕ → Bool
 is_numeral radix digits =
@@ -87,6 +87,6 @@ abbrev pub tokens_in : List (List ℕ) → Option (List (AsmToken Name))
 tokens_in [] = Some []
 tokens_in (p ∷ ps) = token_of p >>= λ t. tokens_in ps >>= λ ts. Some (t ∷ ts)
 
--- the tokens of a line; None where one of its pieces is none
+-- the tokens of a line; None if one of its pieces isn't a token
 abbrev pub tokens_of : List ℕ → Option (List (AsmToken Name))
 tokens_of line = tokens_in (pieces line)

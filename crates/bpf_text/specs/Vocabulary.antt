@@ -1,5 +1,5 @@
--- What words stand for: the way back from the text of words and registers, and from a word with its
--- arguments to the instruction.
+-- A vocabulary: from texts to mnemonics and registers, and from a mnemonic with its arguments to
+-- the instruction.
 use Rattle.std.specs.Prelude.{◌≡◌, ◌↔◌, Option, Some}
 use Rattle.bpf_insn.specs.declared.reg.Reg.{Reg}
 use Rattle.bpf_insn.specs.declared.insn.Insn.{Insn}
@@ -16,7 +16,8 @@ pub record Vocabulary : Type 0 where
   pub register_named : Name → Option Reg
   pub insn_of : Mnemonic → UpToThree Argument → Option Insn
 
--- what is written so is found, and nothing else
+-- each lookup is the exact inverse, of the text of mnemonics and registers, and of an instruction's
+-- parts
 pub record IsExact (v : Vocabulary) : Type 0 where
   pub mnemonics : (w : Name) (m : Mnemonic) → (v.mnemonic_named w ≡ Some m) ↔ (w ≡ word_of m)
   pub registers : (w : Name) (r : Reg) → (v.register_named w ≡ Some r) ↔ (w ≡ register_text r)

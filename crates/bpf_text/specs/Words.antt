@@ -1,4 +1,4 @@
--- The words of instructions: a stem for the operation and a suffix for its width or size.
+-- Mnemonics: a stem for the operation and a suffix for its width or size.
 use Rattle.std.specs.Prelude.{ℕ, List, ◌++◌, codes}
 use Rattle.bpf_insn.specs.declared.operand.AluOp.{AluOp}
 use Rattle.bpf_insn.specs.declared.operand.AluOp.TheVariants as alu
@@ -54,7 +54,7 @@ condition_stem jump.Le = codes "jle"
 condition_stem jump.Slt = codes "jslt"
 condition_stem jump.Sle = codes "jsle"
 
--- those that fetch begin with f
+-- the mnemonics of fetching operations begin with f
 abbrev pub atomic_stem : AtomicOp → List ℕ
 atomic_stem atomic.Add = codes "aadd"
 atomic_stem atomic.Or = codes "aor"
@@ -72,7 +72,7 @@ order_stem order.Little = codes "le"
 order_stem order.Big = codes "be"
 order_stem order.Swap = codes "swap"
 
--- a load that extends the sign has an s
+-- a sign-extending load has an s
 abbrev pub load_stem : LoadKind → List ℕ
 load_stem load.Byte = codes "ldx"
 load_stem load.Half = codes "ldx"
@@ -106,7 +106,7 @@ end_suffix end.Half = codes "16"
 end_suffix end.Word = codes "32"
 end_suffix end.Double = codes "64"
 
--- the bits that are extended, and w where the result is a low half
+-- the number of bits that are extended, and w if the result is 32 bits
 abbrev pub extension_suffix : Extension → List ℕ
 extension_suffix extend.Byte64 = codes "8"
 extension_suffix extend.Half64 = codes "16"
@@ -150,6 +150,6 @@ suffix_of (Store size) = size_suffix size
 suffix_of (Atomic op size) = atomic_suffix size
 suffix_of m = codes ""
 
--- the word of an instruction
+-- the mnemonic of an instruction
 abbrev pub word_of : Mnemonic → List ℕ
 word_of m = stem_of m ++ suffix_of m

@@ -1,4 +1,4 @@
-//! The arguments after an instruction's word: registers, numbers, memory and distances, by form.
+//! The arguments after an instruction's mnemonic: registers, numbers, memory and distances.
 
 ghost use Rattle.std.specs.Prelude.{◌≡◌};
 ghost use Rattle.bpf_text.specs.Three.{three};
@@ -28,7 +28,7 @@ pub enum Argument {
     Distance(Distance),
 }
 
-/// The word of an instruction, as its parts.
+/// The mnemonic of an instruction, by its parts.
 pub fn mnemonic_of(insn: Insn) -> Mnemonic
     ensures { result ≡ mnemonic_of insn }
 {
@@ -79,7 +79,7 @@ fn operand_argument(operand: Operand) -> Argument
     }
 }
 
-// What a jump compares, and how far it goes.
+// The two operands that a jump compares, and its distance.
 fn jump_arguments(left: Reg, right: Operand, offset: i16) -> UpToThree<Argument>
     ensures { result ≡ jump_arguments left right offset }
 {
@@ -104,8 +104,8 @@ fn wide_arguments(dst: Reg, value: WideValue) -> UpToThree<Argument>
     }
 }
 
-/// The arguments of an instruction: `dst` first, also where it is the address that is stored to,
-/// and a distance last.
+/// The arguments of an instruction: `dst` first, also if it is the address of a store, and a
+/// distance last.
 pub fn arguments_of(insn: Insn) -> UpToThree<Argument>
     ensures { result ≡ arguments_of insn }
 {

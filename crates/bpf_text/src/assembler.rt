@@ -1,5 +1,6 @@
-//! From a text to its bytes: the first pass reads each line and notes where labels and
-//! instructions stand, and the second gives each jump its distance and writes the encodings.
+//! The assembler, from a text to its bytes. The first pass reads each line, and notes the slots of
+//! labels and instructions. The second pass computes the distance of each jump, and writes the
+//! encodings.
 
 ghost use Rattle.std.specs.Prelude.{◌≡◌, ◌++◌, option_map, IfOk, IfErr, Ok, OnOk};
 ghost use Rattle.bpf_insn.specs.Spelling.{encoding};
@@ -48,7 +49,7 @@ fn short_distance(z: i32) -> Option<Argument>
     }
 }
 
-// How far it is from a slot to a label.
+// The distance from the instruction after `slot` to a label.
 fn slots_to<'a>(labels: &Labels<'a>, slot: u16, name: &'a [u8]) -> Result<i32, AsmFaultKind>
     ensures { result ≡ slots_to (slot_at labels.now) slot name.now }
 {
@@ -89,7 +90,7 @@ fn argument_if<'a>(
     }
 }
 
-// The arguments, with the distance to each label in its place.
+// The arguments, with each label replaced by its distance.
 fn arguments_at<'a>(
     labels: &Labels<'a>,
     slot: u16,
@@ -117,7 +118,7 @@ fn insn_at<'a>(
     insn_of(placed.statement.mnemonic, arguments).ok_or(AsmFaultKind::Operand)
 }
 
-// One encoding more.
+// Appends one encoding.
 fn push_encoding(out: &mut Vec<u8>, insn: &Insn) -> Result<(), AllocError>
     ensures { OnOk result (out.new.items ≡ out.old.items ++ encoding insn.now) }
 {
@@ -126,7 +127,7 @@ fn push_encoding(out: &mut Vec<u8>, insn: &Insn) -> Result<(), AllocError>
     Ok(())
 }
 
-// The encodings of the instructions, one after the other.
+// The encodings of the instructions, in order.
 fn write_bytes<'a>(alloc: Global, reading: &Reading<'a>) -> Result<Vec<u8>, AsmFault>
     ensures bytes { IfOk result (λ v. bytes_read reading.now ≡ Ok v.items) }
     ensures fault { IfErr result (IsByteFault reading.now) }
@@ -166,7 +167,7 @@ fn read_text<'a>(alloc: Global, text: &'a [u8]) -> Result<Reading<'a>, AsmFault>
     Ok(reading)
 }
 
-// By the reader's own tables.
+// Assembles with the assembler's own tables.
 #[tactic(auto, unfolding(crate::specs::Assembly::assembly_of))]
 fn assembled(alloc: Global, text: &[u8]) -> Result<Vec<u8>, AsmFault>
     ensures bytes { IfOk result (λ v. assembly_of tables text.now ≡ Ok v.items) }
@@ -176,15 +177,16 @@ fn assembled(alloc: Global, text: &[u8]) -> Result<Vec<u8>, AsmFault>
     write_bytes(alloc, &reading)
 }
 
-/// The bytes that a text stands for, 8 bytes a slot: a line has an optional label `name:` and an
-/// optional instruction, in the words of the listing. LF or CR LF ends a line, spaces and tabs
-/// separate tokens, and `;` begins a comment. A jump goes to a label or a distance with its sign;
-/// an imm is -2147483648 to 4294967295, the number of `lddw` -2^63 to 2^64 - 1.
+/// The bytes of a text. A line has an optional label `name:` and an optional instruction, in the
+/// syntax of the listing. LF or CR LF ends a line, spaces and tabs separate tokens, and `;` begins
+/// a comment. A jump goes to a label, or by a distance with its sign. An imm is -2147483648 to
+/// 4294967295, and the number of `lddw` is -2^63 to 2^64 - 1.
 ///
-/// Refused with the first line that has a fault of its own (the lowest if it has several: `Token`,
-/// `Mnemonic`, `Operand`, `Label` for one that occurs twice, `Range`, `TooLong` past slot 4096),
-/// otherwise with the first jump to an unknown label; or with `Memory` if a growth was refused.
-// open: whether memory is refused (A7).
+/// Returns the first line that has a fault of its own, with its lowest fault: `Token`, `Mnemonic`,
+/// `Operand`, `Label`, `Range` or `TooLong`. `Label` here means a duplicate label, and `TooLong` an
+/// instruction past slot 4096. If there is no such line, returns the first jump to an unknown
+/// label. Returns `Memory` if an allocation fails.
+// open: whether an allocation fails (A7).
 pub fn assemble(alloc: Global, text: &str) -> Result<Vec<u8>, AsmFault>
     ensures bytes { IfOk result (λ v. Assembles text.now (Ok v.items)) }
     ensures fault { IfErr result (IsAsmFault text.now) }

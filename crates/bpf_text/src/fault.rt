@@ -1,4 +1,4 @@
-//! Why a text has no bytes, and bytes no text.
+//! Why a text doesn't assemble, and why bytes have no listing.
 
 ghost use Rattle.std.specs.Prelude.{◌≡◌, Some};
 ghost use Rattle.bpf_text.specs.declared.fault.ListFault.{ListFault};
@@ -12,9 +12,9 @@ use std::fmt;
 /// Why bytes have no listing.
 #[derive(Clone, Copy, Debug, PartialEq, Eq)]
 pub enum ListFault {
-    /// At this slot begins no instruction.
+    /// No instruction begins at this slot.
     Insn { slot: usize, fault: InsnFault },
-    /// A growth of the text was refused.
+    /// An allocation of the text failed.
     Memory,
 }
 
@@ -39,16 +39,16 @@ impl From<AllocError> for ListFault {
     }
 }
 
-/// Why a text has no bytes.
+/// Why a text doesn't assemble.
 #[derive(Clone, Copy, Debug, PartialEq, Eq)]
 pub enum AsmFaultKind {
-    /// A1: a character or a number that is no token.
+    /// A1: a character or a number that isn't a token.
     Token,
-    /// A2: an unknown instruction word.
+    /// A2: an unknown mnemonic.
     Mnemonic,
     /// A3: a wrong number or kind of operands.
     Operand,
-    /// A4: a label that stands nowhere, or twice.
+    /// A4: an undefined label, or a duplicate one.
     Label,
     /// A5: a number outside its field.
     Range,
@@ -56,13 +56,13 @@ pub enum AsmFaultKind {
     TooLong,
 }
 
-/// The first fault of a text, or the refusal of memory (A7).
+/// The first fault of a text, or that an allocation failed (A7).
 #[derive(Clone, Copy, Debug, PartialEq, Eq)]
 pub enum AsmFault {
-    /// The fault of a line, from 1. `Range` speaks of a number that is written: a label can't be
-    /// too far for a jump, since distances between slots lie within 4095.
+    /// The fault of a line, counted from 1. `Range` is always about a number in the text: a label
+    /// can't be too far for a jump, since distances between slots are at most 4095.
     At { line: usize, kind: AsmFaultKind },
-    /// A7: a growth was refused.
+    /// A7: an allocation failed.
     Memory,
 }
 

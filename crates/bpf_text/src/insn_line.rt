@@ -8,8 +8,8 @@ use crate::lister::push_line;
 use bpf_insn::Insn;
 use std::alloc::{AllocError, Global};
 
-/// The line of an instruction as a listing has it, ended by LF.
-// open: whether memory is refused.
+/// The listing's line of an instruction, ended by LF.
+// open: whether an allocation fails.
 pub fn line_of(alloc: Global, insn: Insn) -> Result<String, AllocError>
     ensures { IfOk result (λ text. string_bytes text ≡ specs.line_of insn) }
 {

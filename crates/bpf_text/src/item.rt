@@ -1,4 +1,4 @@
-//! The operands behind an instruction's word: words, numbers and memory, with commas between.
+//! The operands after a mnemonic: names, numbers and memory, separated by commas.
 
 ghost use Rattle.std.specs.Prelude.{◌≡◌, ◌∷◌, option_map};
 ghost use Rattle.bpf_text.specs.declared.token.AsmToken.TheVariants.{Open};
@@ -14,22 +14,22 @@ ghost use Rattle.bpf_text.specs.Names.{
 use crate::three::{UpToThree, none};
 use crate::token::{AsmToken, Figure, Sign};
 
-/// One operand as it is written.
+/// One operand, as written.
 #[derive(Drop)]
 pub enum Item<N> {
     /// A register or a label.
     Name(N),
     Number(Figure),
-    /// A name in brackets, with an offset; +0 where none is written.
+    /// A name in brackets, with an offset; +0 if none is written.
     Memory(N, Figure),
 }
 
-/// The operands, in their order.
+/// The operands, in order.
 pub type Items<'a> = UpToThree<Item<&'a [u8]>>;
 
 type Tokens<'t, 'a> = &'t [AsmToken<&'a [u8]>];
 
-// What stands behind the bracket that opens.
+// The rest of a memory operand, after `[`.
 fn memory_behind<'a, 't>(tokens: Tokens<'t, 'a>) -> Option<(Item<&'a [u8]>, Tokens<'t, 'a>)>
     ensures { option_map front_named result ≡ item_at_front (Open ∷ tokens_named tokens.now) }
 {
@@ -86,7 +86,7 @@ fn at_end<'a>(items: Items<'a>, rest: &[AsmToken<&'a [u8]>]) -> Option<Items<'a>
     }
 }
 
-/// The operands that tokens spell, or `None` where they spell none.
+/// The operands that tokens spell, or `None` if they spell none.
 pub fn items_of<'a>(tokens: &[AsmToken<&'a [u8]>]) -> Option<Items<'a>>
     ensures { items_if_named result ≡ items_of (tokens_named tokens.now) }
 {

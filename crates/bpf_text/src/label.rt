@@ -1,4 +1,4 @@
-//! Where labels stand.
+//! Labels and their slots.
 
 ghost use Rattle.std.specs.Prelude.{◌≡◌, Some, OnOk};
 ghost use Rattle.bpf_text.specs.Labels.{slot_at, AddsLabel};
@@ -16,7 +16,7 @@ pub fn label_slot<'a>(labels: &Labels<'a>, name: &'a [u8]) -> Option<u16>
     labels.get(&name).copied()
 }
 
-/// One label more.
+/// Adds a label.
 pub fn add_label<'a>(labels: &mut Labels<'a>, name: &'a [u8], slot: u16) -> Result<(), AllocError>
     ensures { OnOk result (AddsLabel labels.old labels.new (Some name.now) slot) }
 {

@@ -1,5 +1,4 @@
-//! Laws of the definitions: the tables agree, and no text and no bytes have two verdicts. They are
-//! called by nothing.
+//! Laws about the definitions: the tables agree, and neither a text nor bytes have two verdicts.
 
 ghost use Rattle.std.specs.Prelude.{ℕ, List};
 ghost use Rattle.bpf_text.specs.Assembly.{HasOneAssembly};
@@ -11,29 +10,29 @@ ghost use Rattle.bpf_text.specs.Vocabulary.{Vocabulary, IsExact};
 
 use bpf_insn::decode_at;
 
-/// A law: the kinds of a word's operands agree with the arguments of its instructions. So operands
-/// that are read as their kinds are always those of an instruction.
+/// Law: the operand kinds of a mnemonic agree with the arguments of its instructions. So operands
+/// that are read by these kinds are always those of an instruction.
 pub fn kinds_agree()
     ensures { KindsAgree }
 {}
 
-/// A law: a line is read as an instruction just where its word is the word of the instruction's
-/// mnemonic, its operands are the instruction's arguments, and their numbers fit their fields.
+/// Law: a line is read as an instruction exactly if its word is the instruction's mnemonic, its
+/// operands are the instruction's arguments, and their numbers fit their fields.
 pub fn reads_as_stated()
     ensures { (v : Vocabulary) → IsExact v → ReadsAsStated v }
 {}
 
-/// A law: a text stands for one list of bytes, or has one fault.
+/// Law: a text assembles to one list of bytes, or has one fault.
 pub fn one_assembly()
     ensures { (text : List ℕ) → HasOneAssembly text }
 {}
 
-/// A law: with a comment at the end of each of its lines a listing stands for the same bytes.
+/// Law: a listing with a comment at the end of each line assembles to the same bytes.
 pub fn remarks_are_skipped()
     ensures { (lines : List RemarkedInsn) → RemarksAreSkipped lines }
 {}
 
-/// A law: bytes have one listing, or one first fault. It is proved by decoding at each slot.
+/// Law: bytes have one listing, or one first fault. The proof decodes at each slot.
 pub fn one_listing(bytes: &[u8])
     ensures { HasOneListing bytes.now }
 {

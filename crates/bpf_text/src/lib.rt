@@ -1,7 +1,7 @@
-//! The text of BPF instructions: `assemble` reads it into bytes, and `listing` writes it from
-//! bytes. Both use one word and one signature for each instruction: `mnemonic` has the words,
-//! `argument` the arguments after them, which the listing writes, and `signature` the kinds of
-//! operands from which the assembler reads them.
+//! The assembly text of BPF instructions: `assemble` reads it into bytes, and `listing` writes it
+//! from bytes. Both use one mnemonic and one signature for each instruction. `mnemonic` has the
+//! mnemonics, `argument` the arguments that the listing writes, and `signature` the kinds of
+//! operands that the assembler reads.
 //!
 //! See docs/PROGRAM.md, "Assembly text"; docs/DECISIONS.md, "The assembly text".
 #![tactic(auto)]

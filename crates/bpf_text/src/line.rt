@@ -1,4 +1,4 @@
-//! What a line says: an optional label, and an optional instruction or the fault in its place.
+//! The content of a line: an optional label, and an optional instruction or a fault instead.
 
 ghost use Rattle.std.specs.Prelude.{◌≡◌, ◌==◌, ◌∷◌, ◌<◌, ◌≤◌, length, IfOk};
 ghost use Rattle.std.specs.Str.Lines.{lines, strip_carriage_return};
@@ -24,7 +24,7 @@ use crate::token::{AsmToken, read_tokens};
 use crate::vocabulary::mnemonic_named;
 use std::alloc::AllocError;
 
-/// An instruction as a line states it: its word, and arguments in which a label may stand for a
+/// An instruction as a line states it: its mnemonic, and arguments in which a label may replace a
 /// distance.
 #[derive(Drop)]
 pub struct AsmStatement<N> {
@@ -32,7 +32,7 @@ pub struct AsmStatement<N> {
     pub arguments: UpToThree<Given<N>>,
 }
 
-/// What a line says: a label, and a statement, nothing or a fault.
+/// The content of a line: a label, and a statement, nothing or a fault.
 #[derive(Drop)]
 pub struct Line<N> {
     pub label: Option<N>,
@@ -41,7 +41,7 @@ pub struct Line<N> {
 
 type Body<'a> = Result<Option<AsmStatement<&'a [u8]>>, AsmFaultKind>;
 
-// An instruction's word, and the tokens behind it.
+// The statement of a word and the tokens after it.
 fn statement_of<'a>(word: &'a [u8], rest: &[AsmToken<&'a [u8]>]) -> Body<'a>
     ensures { body_named result ≡ body_of tables (Word word.now ∷ tokens_named rest.now) }
 {
@@ -68,7 +68,7 @@ fn body_of<'a>(tokens: &[AsmToken<&'a [u8]>]) -> Body<'a>
     }
 }
 
-// The label at the front, and the tokens behind it.
+// The label at the front, and the tokens after it.
 fn split_label<'a, 't>(
     tokens: &'t [AsmToken<&'a [u8]>],
 ) -> (Option<&'a [u8]>, &'t [AsmToken<&'a [u8]>])
@@ -90,7 +90,7 @@ fn line_of_tokens<'a>(tokens: &[AsmToken<&'a [u8]>]) -> Line<&'a [u8]>
     }
 }
 
-/// Reads a line, with room for its tokens.
+/// Reads a line. `tokens` is a buffer for its tokens.
 #[tactic(auto, unfolding(crate::specs::Lines::read_line))]
 pub fn read_line<'a>(
     tokens: &mut Vec<AsmToken<&'a [u8]>>,
@@ -129,7 +129,7 @@ fn line_length(text: &[u8]) -> usize
     n
 }
 
-/// The first line of a text, and the text behind it.
+/// The first line of a text, and the text after it.
 pub fn split_line(text: &[u8]) -> (&[u8], &[u8])
     requires { 0 < length text.now }
     ensures lines { lines text.now ≡ result.0.now ∷ lines result.1.now }

@@ -1,4 +1,4 @@
-//! The listing: a line an instruction, from the bytes' first slot to their end.
+//! The listing: one line for each instruction, from the bytes' first slot to their end.
 
 ghost use Rattle.std.specs.Prelude.{◌≡◌, ◌*◌, ◌<◌, length, OnOk, IfOk, IfErr};
 ghost use Rattle.std.specs.String.{string_bytes};
@@ -84,7 +84,7 @@ fn push_argument(out: &mut String, argument: Argument) -> Result<(), AllocError>
     }
 }
 
-/// Writes an argument, if there is one, behind what divides it from what stands before it.
+/// Writes the divider and the argument, if there is one.
 fn push_behind(
     out: &mut String,
     divider: &str,
@@ -99,7 +99,7 @@ fn push_behind(
     Ok(())
 }
 
-/// Writes the word of a mnemonic.
+/// Writes a mnemonic.
 fn push_word(out: &mut String, mnemonic: Mnemonic) -> Result<(), AllocError>
     ensures { OnOk result (Appends out.old out.new (word_of mnemonic)) }
 {
@@ -107,8 +107,8 @@ fn push_word(out: &mut String, mnemonic: Mnemonic) -> Result<(), AllocError>
     out.push_str(mnemonic.suffix())
 }
 
-/// Writes the line of an instruction without the LF that ends it.
-// open: whether memory is refused.
+/// Writes the line of an instruction, without the LF that ends it.
+// open: whether an allocation fails.
 pub fn push_bare_line(out: &mut String, insn: Insn) -> Result<(), AllocError>
     ensures { OnOk result (Appends out.old out.new (bare_line insn)) }
 {
@@ -119,7 +119,7 @@ pub fn push_bare_line(out: &mut String, insn: Insn) -> Result<(), AllocError>
     push_behind(out, ", ", arguments.third)
 }
 
-/// Writes the line of an instruction.
+/// Writes the line of an instruction, ended by LF.
 pub fn push_line(out: &mut String, insn: Insn) -> Result<(), AllocError>
     ensures { OnOk result (Appends out.old out.new (line_of insn)) }
 {
@@ -127,7 +127,7 @@ pub fn push_line(out: &mut String, insn: Insn) -> Result<(), AllocError>
     out.push_str("\n")
 }
 
-// Writes the line of the instruction that begins at a slot, and answers the slot after it.
+// Writes the line of the instruction at `slot`, and returns the slot after it.
 fn push_next(out: &mut String, bytes: &[u8], slot: usize) -> Result<usize, ListFault>
     requires { 8 * slot < length bytes.now }
     ensures is { IfOk result
@@ -146,14 +146,14 @@ fn push_next(out: &mut String, bytes: &[u8], slot: usize) -> Result<usize, ListF
     }
 }
 
-/// The listing of bytes: one line an instruction, ended by LF. Numbers are decimal and signed, but
-/// that of `lddw` unsigned; offsets and distances always have a sign.
+/// The listing of bytes: one line for each instruction, ended by LF. Numbers are decimal and
+/// signed, except that of `lddw`, which is unsigned. Offsets and distances always have a sign.
 ///
-/// The text of at most 4096 slots assembles to the same bytes.
+/// The listing of at most 4096 slots assembles to the same bytes.
 ///
-/// Refused with the first slot where no instruction begins and its fault, or with `Memory` where a
-/// growth of the text was refused.
-// open: whether memory is refused.
+/// Returns the first slot at which no instruction begins, with its fault, or `Memory` if an
+/// allocation fails.
+// open: whether an allocation fails.
 pub fn listing(alloc: Global, bytes: &[u8]) -> Result<String, ListFault>
     ensures text { IfOk result (λ text. Lists bytes.now (string_bytes text)) }
     ensures assembles { IfOk result (λ text. AssemblesAgain bytes.now (string_bytes text)) }

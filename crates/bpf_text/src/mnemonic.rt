@@ -1,5 +1,5 @@
-//! The words of instructions. A word is a stem, which names the operation, and a suffix, which
-//! names its width or size: `add` and `32`, `ldx` and `dw`.
+//! Mnemonics. A mnemonic is a stem, which names the operation, and a suffix, which names its width
+//! or size: `add` and `32`, `ldx` and `dw`.
 
 ghost use Rattle.std.specs.Prelude.{◌≡◌};
 ghost use Rattle.bpf_text.specs.Words.{
@@ -22,7 +22,7 @@ use bpf_insn::{
     AluOp, AtomicOp, AtomicSize, Bits, ByteOrder, Condition, EndSize, Extension, LoadKind, Size,
 };
 
-/// What an instruction's first word says: the form of RFC 9669's encoding, less its operands.
+/// The parts of a mnemonic: the form of RFC 9669's encoding, without its operands.
 #[derive(Clone, Copy)]
 pub enum Mnemonic {
     Alu(Bits, AluOp),
@@ -181,7 +181,7 @@ fn bits_suffix(bits: Bits) -> &'static str
 }
 
 impl Mnemonic {
-    /// The first part of the word.
+    /// The first part of the mnemonic.
     pub fn stem(self) -> &'static str
         ensures { result.now ≡ stem_of self }
     {
@@ -206,7 +206,7 @@ impl Mnemonic {
         }
     }
 
-    /// The rest of the word.
+    /// The rest of the mnemonic.
     pub fn suffix(self) -> &'static str
         ensures { result.now ≡ suffix_of self }
     {

@@ -1,5 +1,5 @@
-//! An operand as the kind that its instruction wants: A3 where it is of another kind, and A5 where
-//! its number doesn't fit its field.
+//! Operands read as the kinds that their instruction requires: A3 if the kind is wrong, and A5 if a
+//! number doesn't fit its field.
 
 ghost use Rattle.std.specs.Prelude.{◌≡◌, option_map, Option, Result};
 ghost use Rattle.bpf_text.specs.Results.{map_ok};
@@ -37,13 +37,13 @@ use crate::token::{Figure, Sign};
 use crate::vocabulary::register_named;
 use bpf_insn::Distance;
 
-/// What an operand stands for: an argument, or a label in place of a distance.
+/// The meaning of an operand: an argument, or a label in place of a distance.
 #[derive(Clone, Copy)]
 pub enum Given<N> {
     Argument(Argument),
-    /// The label of a jump whose distance has 16 bits.
+    /// The label of a jump with a 16-bit distance.
     ShortTo(N),
-    /// The label of a jump whose distance has 32 bits.
+    /// The label of a jump with a 32-bit distance.
     LongTo(N),
 }
 
@@ -144,7 +144,7 @@ fn item_as<'a>(kind: OperandKind, item: Item<&'a [u8]>) -> GivenOrFault<'a>
     }
 }
 
-// An operand stands where one is wanted, and nowhere else.
+// An operand is present exactly if the kind requires one.
 fn item_if<'a>(
     kind: Option<OperandKind>,
     item: Option<Item<&'a [u8]>>,
@@ -167,7 +167,7 @@ fn is_other_kind(given: Result<Option<Given<&[u8]>>, AsmFaultKind>) -> bool
     }
 }
 
-/// The operands as their kinds: A3 of any comes before A5 of another.
+/// Reads the operands as these kinds: A3 for any operand precedes A5 for another.
 pub fn items_as<'a>(
     kinds: UpToThree<OperandKind>,
     items: Items<'a>,

@@ -1,11 +1,11 @@
-//! Whether a number fits the field that it is for, and what the field then holds.
+//! Whether a number fits its field, and the value that the field then has.
 
 ghost use Rattle.std.specs.Prelude.{◌≡◌};
 ghost use Rattle.bpf_text.specs.Ranges.{imm_of, wide_of, short_of, long_of};
 
 use crate::token::{Figure, Sign};
 
-/// A number of 32 bits, signed or not, as an imm: -2147483648 to 4294967295, modulo 2 to the 32.
+/// A 32-bit number, signed or not, as an imm: -2147483648 to 4294967295, modulo 2 to the 32.
 pub fn imm_of(figure: Figure) -> Option<i32>
     ensures { result ≡ imm_of figure }
 {
@@ -17,7 +17,7 @@ pub fn imm_of(figure: Figure) -> Option<i32>
     }
 }
 
-/// A number of 64 bits, signed or not: -2^63 to 2^64 - 1, modulo 2 to the 64.
+/// A 64-bit number, signed or not: -2^63 to 2^64 - 1, modulo 2 to the 64.
 pub fn wide_of(figure: Figure) -> Option<u64>
     ensures { result ≡ wide_of figure }
 {
@@ -29,7 +29,7 @@ pub fn wide_of(figure: Figure) -> Option<u64>
     }
 }
 
-/// An offset or a distance of 16 bits, with its sign.
+/// A 16-bit offset or distance, with its sign.
 pub fn short_of(figure: Figure) -> Option<i16>
     ensures { result ≡ short_of figure }
 {
@@ -41,7 +41,7 @@ pub fn short_of(figure: Figure) -> Option<i16>
     }
 }
 
-/// A distance of 32 bits, with its sign.
+/// A 32-bit distance, with its sign.
 pub fn long_of(figure: Figure) -> Option<i32>
     ensures { result ≡ long_of figure }
 {

@@ -1,4 +1,4 @@
-//! The first pass over a text: each line's own fault, and where labels and instructions stand.
+//! The first pass over a text: each line's own fault, and the slots of labels and instructions.
 
 ghost use Rattle.std.specs.Prelude.{
   ◌≡◌,
@@ -33,7 +33,7 @@ use crate::mnemonic::Mnemonic;
 use bpf_insn::MOST_SLOTS;
 use std::alloc::AllocError;
 
-/// A statement with its line, from 1, and its slot.
+/// A statement with its line, counted from 1, and its slot.
 #[derive(Drop)]
 pub struct PlacedStatement<N> {
     pub line: usize,
@@ -41,7 +41,7 @@ pub struct PlacedStatement<N> {
     pub statement: AsmStatement<N>,
 }
 
-/// What the first pass has read.
+/// The result of the first pass so far.
 #[derive(Drop)]
 pub struct Reading<'a> {
     pub lines: usize,
@@ -60,7 +60,7 @@ fn slots_of_word(mnemonic: Mnemonic) -> u16
     }
 }
 
-// Whether the label stands on an earlier line.
+// Whether an earlier line has the label.
 fn is_taken<'a>(labels: &Labels<'a>, label: Option<&'a [u8]>) -> bool
     ensures { result ≡ has_slot (slot_at labels.now) (name_of label.entry) }
 {
@@ -110,7 +110,7 @@ fn note_label<'a>(
     }
 }
 
-// Notes the instruction of a line, if it has one, and answers its slots.
+// Notes the instruction of a line, if it has one, and returns the number of its slots.
 fn place<'a>(
     placed: &mut Vec<PlacedStatement<&'a [u8]>>,
     line: usize,
@@ -135,7 +135,7 @@ fn place<'a>(
     }
 }
 
-/// Reads one line more: its own fault, or its label and its instruction in their places.
+/// Reads one more line: notes its label and its instruction, or returns its own fault.
 pub fn add_line<'a>(reading: &mut Reading<'a>, line: Line<&'a [u8]>) -> Result<(), AsmFault>
     requires small { reading.old.slots ≤ 4096 }
     requires room { reading.old.lines + 1 < 2 ^ 64 }

@@ -1,4 +1,4 @@
-//! The signature of each instruction: which operands follow its word.
+//! The signature of each instruction: the operands after its mnemonic.
 
 ghost use Rattle.std.specs.Prelude.{◌≡◌};
 ghost use Rattle.bpf_text.specs.Signatures.{kinds_of};
@@ -6,25 +6,25 @@ ghost use Rattle.bpf_text.specs.Signatures.{kinds_of};
 use crate::mnemonic::Mnemonic;
 use crate::three::{UpToThree, none, one, three, two};
 
-/// What an operand is.
+/// The kind of an operand.
 #[derive(Clone, Copy)]
 pub enum OperandKind {
     Register,
     /// A register or an imm.
     Source,
-    /// A number of 32 bits.
+    /// A 32-bit number.
     Imm,
-    /// A number of 64 bits.
+    /// A 64-bit number.
     Number,
-    /// A register in brackets, with an offset of 16 bits.
+    /// A register in brackets, with a 16-bit offset.
     Memory,
-    /// A label, or a distance of 16 bits.
+    /// A label, or a 16-bit distance.
     ShortWay,
-    /// A label, or a distance of 32 bits.
+    /// A label, or a 32-bit distance.
     LongWay,
 }
 
-/// The kinds of the operands behind a word.
+/// The kinds of the operands after a mnemonic.
 pub fn kinds_of(mnemonic: Mnemonic) -> UpToThree<OperandKind>
     ensures { result ≡ kinds_of mnemonic }
 {

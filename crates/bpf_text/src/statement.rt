@@ -1,4 +1,5 @@
-//! The instruction of a word and its arguments: the way back from `mnemonic_of` and `arguments_of`.
+//! The instruction of a mnemonic and its arguments: the inverse of `mnemonic_of` and
+//! `arguments_of`.
 
 ghost use Rattle.std.specs.Prelude.{◌≡◌};
 ghost use Rattle.bpf_text.specs.Statements.{
@@ -55,7 +56,7 @@ fn insn_of_one(mnemonic: Mnemonic, argument: Argument) -> Option<Insn>
     }
 }
 
-// Arithmetic, and what is loaded into a register.
+// Arithmetic, and instructions that load a register.
 fn load_of(mnemonic: Mnemonic, dst: Reg, argument: Argument) -> Option<Insn>
     ensures { result ≡ load_of mnemonic dst argument }
 {
@@ -95,7 +96,7 @@ fn load_of(mnemonic: Mnemonic, dst: Reg, argument: Argument) -> Option<Insn>
     }
 }
 
-// What is stored at an address.
+// Instructions that store to an address.
 fn store_of(mnemonic: Mnemonic, dst: Reg, offset: i16, argument: Argument) -> Option<Insn>
     ensures { result ≡ store_of mnemonic dst offset argument }
 {

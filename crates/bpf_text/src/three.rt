@@ -1,9 +1,9 @@
-//! Up to three of a kind, in their order: the operands or arguments after an instruction's word.
+//! Up to three values, in order: the operands or arguments after a mnemonic.
 
 ghost use Rattle.std.specs.Prelude.{◌≡◌};
 ghost use Rattle.bpf_text.specs.Three.{none, one, two, three};
 
-/// The first, the second and the third, as far as they are there.
+/// The first, second and third value, as far as there are any.
 #[derive(Clone, Copy)]
 pub struct UpToThree<T> {
     pub first: Option<T>,

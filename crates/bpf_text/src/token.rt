@@ -1,5 +1,5 @@
-//! The tokens of a line: words, numbers with their sign, and the marks `,` `:` `[` `]`. Blanks
-//! stand between tokens, and a comment goes from `;` to the line's end.
+//! The tokens of a line: words, numbers with their sign, and the marks `,` `:` `[` `]`. Spaces and
+//! tabs separate tokens, and a comment goes from `;` to the line's end.
 
 ghost use Rattle.std.specs.Prelude.{
   ◌≡◌,
@@ -39,7 +39,7 @@ ghost use Rattle.bpf_text.specs.Tokens.{
 use lexing::{digit_value, is_letter, is_word_byte, magnitude};
 use std::alloc::AllocError;
 
-/// The sign that stands before a number.
+/// The sign before a number.
 #[derive(Clone, Copy)]
 pub enum Sign {
     Absent,
@@ -47,14 +47,14 @@ pub enum Sign {
     Plus,
 }
 
-/// A number as it is written. Its magnitude is `None` where 64 bits don't hold it.
+/// A number as written. Its magnitude is `None` if it exceeds 64 bits.
 #[derive(Clone, Copy)]
 pub struct Figure {
     pub sign: Sign,
     pub magnitude: Option<u64>,
 }
 
-/// One token of a line, with names of type `N`: here bytes of the text, in definitions lists.
+/// One token of a line, with names of type `N`: bytes of the text in code, lists in definitions.
 #[derive(Clone, Copy)]
 pub enum AsmToken<N> {
     Word(N),
@@ -149,7 +149,7 @@ fn token_of<'a>(piece: &'a [u8]) -> Option<AsmToken<&'a [u8]>>
     }
 }
 
-// How many letters, digits and underscores stand at the front.
+// The number of letters, digits and underscores at the front.
 fn name_length(s: &[u8]) -> usize
     ensures is { result ≡ prefix_len is_word_byte s.now }
     ensures within { result ≤ length s.now }
@@ -161,7 +161,7 @@ fn name_length(s: &[u8]) -> usize
     n
 }
 
-// How long the piece at the front is.
+// The length of the piece at the front.
 fn piece_length(first: u8, rest: &[u8]) -> usize
     ensures is { result ≡ piece_len first rest.now }
     ensures within { result ≤ length rest.now + 1 }
@@ -173,7 +173,7 @@ fn piece_length(first: u8, rest: &[u8]) -> usize
     }
 }
 
-/// Reads the tokens of a line, in place of what was there, and answers whether all of it is tokens.
+/// Replaces `tokens` by the tokens of a line, and returns whether the whole line is tokens.
 pub fn read_tokens<'a>(
     tokens: &mut Vec<AsmToken<&'a [u8]>>,
     line: &'a [u8],

@@ -1,4 +1,4 @@
-//! Words by their text: the mnemonics and the registers, each in one table.
+//! Mnemonics and registers by their text, each in one table.
 
 ghost use Rattle.std.specs.Prelude.{◌≡◌};
 ghost use Rattle.std.specs.Str.{bytes_eq};
@@ -156,7 +156,7 @@ fn find_mnemonic(table: &[Mnemonic], word: &[u8]) -> Option<Mnemonic>
     table.iter().copied().find(|m| is_word(word, *m))
 }
 
-/// The mnemonic of a word.
+/// The mnemonic with this text.
 #[tactic(auto, unfolding(crate::specs::Tables::mnemonic_named))]
 pub fn mnemonic_named(word: &[u8]) -> Option<Mnemonic>
     ensures { result ≡ mnemonic_named word.now }
@@ -176,7 +176,7 @@ fn find_register(table: &[Reg], word: &[u8]) -> Option<Reg>
     table.iter().copied().find(|r| is_name_of(word, *r))
 }
 
-/// The register of a word.
+/// The register with this text.
 #[tactic(auto, unfolding(crate::specs::Tables::register_named))]
 pub fn register_named(word: &[u8]) -> Option<Reg>
     ensures { result ≡ register_named word.now }

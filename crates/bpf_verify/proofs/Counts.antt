@@ -1,11 +1,11 @@
--- Counts of the numbers that pass a test.
+-- Counts of numbers that pass a test.
 use Rattle.std.proofs.Common.{◌≡◌, ◌≢◌, ℕ, zero, suc, ◌+◌, ◌<◌, ◌≤◌}
 use Rattle.std.proofs.Common.{Bool, true, false, refl, arith, inl, inr}
 use Rattle.std.specs.Prelude.{if◌then◌else◌}
 use Rattle.std.proofs.lemmas.Bool.{cases_lt}
 use Rattle.bpf_verify.specs.Count.{count}
 
--- what passes both tests passes the second
+-- if f implies g, no more numbers pass f than g
 pub count_within : (f g : ℕ → Bool) (n : ℕ) → ((m : ℕ) → m < n → f m ≡ true → g m ≡ true)
     → count f n ≤ count g n
 unfolding count
@@ -29,7 +29,7 @@ count_same f g (suc n) h =
     let last : f n ≡ g n = h n (omega arith) in
     rw (rest, last) refl
 
--- one number more passes
+-- one more number passes
 pub count_more : (f g : ℕ → Bool) (m n : ℕ) → m < n → f m ≡ false → g m ≡ true
     → ((k : ℕ) → k ≢ m → g k ≡ f k) → count g n ≡ count f n + 1
 unfolding count

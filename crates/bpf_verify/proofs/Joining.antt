@@ -1,4 +1,4 @@
--- What waits for a place, joined edge by edge, is the join over the list of its edges.
+-- Joining the edges to a slot one by one gives the join over the list of its edges.
 use Rattle.std.proofs.Common.{◌≡◌, ◌≢◌, ℕ, suc, ◌≤◌, List, [], ◌∷◌, ◌++◌, length, Option, Some}
 use Rattle.std.proofs.Common.{None, Bool, true, false, refl, sym, ap, subst, ◌∙◌, arith, inl, inr}
 use Rattle.std.specs.Prelude.{◌⊎◌, IsSome, is_some, ◌==◌, max, if◌then◌else◌}
@@ -21,7 +21,7 @@ use Rattle.bpf_verify.proofs.Places.{after_two}
 
 -- ---- joining one edge after the other is joining the list
 
--- a place's entry once these edges are joined into it, those of them that lead there
+-- a slot's entry once those of these edges that lead there are joined into it
 abbrev pub with_edges : ℕ → List Edge → Option AbsState → Option AbsState
 with_edges m [] found = found
 with_edges m (d ∷ ds) found =
@@ -57,7 +57,7 @@ with_edges-append m [] ys o = refl
 with_edges-append m (x ∷ xs) ys o =
     with_edges-append m xs ys (if x.target == m then Some (joined_with o x.entry) else o)
 
--- ---- a slot that is no place brings nothing
+-- ---- a slot without an instruction adds no edges
 
 pub no_place : (p : ShapedProgram) (k m : ℕ) → at p.code k ≡ None
     → incoming p (suc k) m ≡ incoming p k m
@@ -70,7 +70,7 @@ no_place p k m none = nothing (join_all (incoming p k k)) (at p.code k) none
     nothing (Some x) None e = append-nil (incoming p k m)
     nothing (Some x) (Some i) e = absurd (none-some i (sym e))
 
--- what comes to a place after an instruction, from it and before
+-- the edges to a slot after an instruction, from it and from before
 pub past : (p : ShapedProgram) (k m : ℕ) (i : Insn) → IsForward p.code → at p.code k ≡ Some i
     → incoming p (next_of k i) m ≡ incoming p (suc k) m
 past p k m i flow is = elim (after_two k i) [
@@ -132,7 +132,7 @@ waits_cases (Some t) (Some f) old new h m some = elim (cases_Bool (t == m)) [
 waits_cases (Some t) None old new h m some = inr (ap (λ w. is_some (waits_at w m)) h ∙ some)
 waits_cases None o old new h m some = inr (ap (λ w. is_some (waits_at w m)) h ∙ some)
 
--- the most that waited at once, before and after
+-- the greatest number that waited at once, before and after
 pub record IsMost (old new : Waiting) : Type 0 where
   pub grows : old.most ≤ new.most
   pub within : held new ≤ new.most

@@ -1,4 +1,4 @@
--- Elements of lists, and the indices that places have.
+-- Elements of lists, and the indices of slots.
 use Rattle.std.proofs.Common.{◌≡◌, ◌≢◌, ℕ, zero, suc, ◌+◌, ◌<◌, List, [], ◌∷◌, ◌++◌, length}
 use Rattle.std.proofs.Common.{Option, Some, None, refl, sym, ap, ◌∙◌, arith, inl, inr}
 use Rattle.std.specs.Prelude.{◌⊎◌, slice_index_or, slice_get, slice_set}
@@ -21,7 +21,7 @@ get-before [] x j lt = absurd (omega (arith, lt))
 get-before (y ∷ xs) x zero lt = refl
 get-before (y ∷ xs) x (suc j) lt = get-before xs x j (omega (arith, lt))
 
--- an element of the longer list is one of the shorter, or the last
+-- an element of the longer list is in the shorter one, or is the last
 pub get-cases : {X : Type 0} (xs : List X) (x : X) (j : ℕ) (y : X)
     → slice_get (xs ++ x ∷ []) j ≡ Some y
     → (slice_get xs j ≡ Some y) ⊎ ((j ≡ length xs) × (y ≡ x))
@@ -61,7 +61,7 @@ get-set_other (y ∷ xs) zero (suc j) x ne = refl
 get-set_other (y ∷ xs) (suc i) zero x ne = refl
 get-set_other (y ∷ xs) (suc i) (suc j) x ne = get-set_other xs i j x (λ e. ne (ap suc e))
 
--- ---- the index of a place
+-- ---- the index of a slot
 
 pub index-set_same : (ps : List (Option ℕ)) (m : ℕ) (v : Option ℕ) → m < length ps
     → index_at (slice_set ps m v) m ≡ v

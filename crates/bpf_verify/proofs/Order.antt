@@ -1,4 +1,4 @@
--- Of all that is known where an instruction begins the ends are in order: so each entry is made.
+-- Each entry is made so that the ends of all its values are in order.
 use Rattle.std.proofs.Common.{◌≡◌, ℕ, zero, suc, List, [], ◌∷◌, ◌++◌}
 use Rattle.std.proofs.Common.{Option, Some, None, IfSome, Bool, true, false, subst}
 use Rattle.std.specs.Prelude.{if◌then◌else◌, ◌==◌}

@@ -1,4 +1,4 @@
--- A pool stays one where an entry is put into it, or given up.
+-- A pool stays valid when an entry is added or freed.
 use Rattle.std.proofs.Common.{◌≡◌, ◌≢◌, ℕ, zero, suc, ◌+◌, ◌<◌, ◌≤◌}
 use Rattle.std.proofs.Common.{List, [], ◌∷◌, ◌++◌, length, replicate}
 use Rattle.std.proofs.Common.{Option, Some, None, true, false, refl, sym, ap, ◌∙◌, arith, inl, inr}
@@ -15,7 +15,7 @@ use Rattle.bpf_verify.proofs.Lists.{get-end, get-cases, length-append-one, get-w
 use Rattle.bpf_verify.proofs.Lists.{get-longer, index-set_same, index-set_other, index_within}
 use Rattle.bpf_verify.proofs.Counts.{count_more, count_same, count_none, count_length}
 
--- ---- what waits
+-- ---- the waiting entries
 
 pub waits_is : (es : List AbsState) (ps : List (Option ℕ)) (m : ℕ)
     → waits_at (waiting es ps) m ≡ entry_in es (index_at ps m)
@@ -31,7 +31,7 @@ some_waits es size (Some i) len h = is-there es i (let lt = h i refl in omega (a
     is-there (x ∷ xs) zero lt = refl
     is-there (x ∷ xs) (suc j) lt = is-there xs j (omega (arith, lt))
 
--- as many entries wait as places have an index
+-- the number of waiting entries is the number of slots that have an index
 held_is : (es : List AbsState) (ps : List (Option ℕ)) (free : List ℕ) → IsPool (length es) ps free
     → held (waiting es ps) ≡ count (λ m. is_some (index_at ps m)) (length ps)
 held_is es ps free h =
@@ -45,7 +45,7 @@ pub held_within : (es : List AbsState) (ps : List (Option ℕ)) (free : List ℕ
     → IsPool (length es) ps free → held (waiting es ps) + length free ≡ length es
 held_within es ps free h = let e = held_is es ps free h in omega (arith, e, h.all)
 
--- where none waits, the place has no index
+-- a slot for which no entry waits has no index
 pub none_index : (es : List AbsState) (ps : List (Option ℕ)) (m : ℕ)
     → ((i : ℕ) → index_at ps m ≡ Some i → i < length es) → waits_at (waiting es ps) m ≡ None
     → index_at ps m ≡ None
@@ -87,7 +87,7 @@ more_indices ps m i lt none =
     (ap is_some (index-set_same ps m (Some i) lt))
     (λ n ne. ap is_some (index-set_other ps m n (Some i) ne))
 
--- two places with one index: each is the one that was written, or another
+-- two slots with one index: each is the one that was written, or another
 one_place : (ps : List (Option ℕ)) (m i n k j : ℕ) → ((q : ℕ) → index_at ps q ≢ Some i)
     → ((index_at ps n ≡ Some j) → (index_at ps k ≡ Some j) → n ≡ k)
     → ((n ≡ m) × (i ≡ j)) ⊎ ((n ≢ m) × (index_at ps n ≡ Some j))
@@ -125,7 +125,7 @@ taken size ps free m i lt none h = record {
   short = rw length-set h.short;
 }
 
--- the place has no index yet, and no index is free
+-- the slot has no index yet, and no index is free
 pub below_places : (size : ℕ) (ps : List (Option ℕ)) (m : ℕ)
     → m < length ps → index_at ps m ≡ None → IsPool size ps [] → size < length ps
 below_places size ps m lt none h =
@@ -133,7 +133,7 @@ below_places size ps m lt none h =
     let le = count_length (λ n. is_some (index_at (slice_set ps m (Some 0)) n)) (length ps) in
     omega (arith, more, le, h.all)
 
--- none was free, and the pool grew
+-- no index was free, and the pool grew
 pub grown : (size : ℕ) (ps : List (Option ℕ)) (m : ℕ) → m < length ps → index_at ps m ≡ None
     → IsPool size ps [] → IsPool (size + 1) (slice_set ps m (Some size)) []
 grown size ps m lt none h = record {
@@ -154,7 +154,7 @@ grown size ps m lt none h = record {
   short = rw length-set h.short;
 }
 
--- an index is given up
+-- an index is freed
 pub given_up : (size : ℕ) (ps : List (Option ℕ)) (free : List ℕ) (m i : ℕ)
     → index_at ps m ≡ Some i → IsPool size ps free
     → IsPool size (slice_set ps m None) (free ++ i ∷ [])

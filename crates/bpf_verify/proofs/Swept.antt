@@ -1,4 +1,4 @@
--- One sweep over the places computes their entries.
+-- One sweep over the slots computes their entries.
 use Rattle.std.proofs.Common.{◌≡◌, ◌≢◌, ℕ, zero, suc, ◌+◌, ◌-◌, ◌<◌, ◌≤◌}
 use Rattle.std.proofs.Common.{List, ◌++◌, length, Option, Some, None}
 use Rattle.std.proofs.Common.{Bool, true, false, refl, sym, ap, subst, ◌∙◌, arith, inl, inr}
@@ -53,7 +53,7 @@ ahead_most : (p : Program) (k n : ℕ) → k < n → ahead p k ≤ most_ahead p 
 unfolding most_ahead
 ahead_most p k n lt = let l = most_after p (suc k) n lt in omega (arith, l)
 
--- ---- the most that are kept
+-- ---- the greatest number kept
 
 taken : (a b : Bool) (n m : ℕ) → a ≡ true → b ≡ true → (if a && b then n else m) ≡ n
 taken a b n m is is_too = rw (is, is_too) refl
@@ -75,7 +75,7 @@ none_here : (p : ShapedProgram) (k : ℕ) → is_some (entry_of p k) ≡ false
 unfolding greatest_kept
 none_here p k none = left_out (is_some (entry_of p k)) (is_some (at p.code k)) _ _ none
 
--- over second halves
+-- across second halves of wide loads
 kept_over : (p : ShapedProgram) (k d : ℕ)
     → ((m : ℕ) → k < m → m < d + suc k → is_some (at p.code m) ≡ false)
     → greatest_kept p (d + suc k) ≡ greatest_kept p (suc k)
@@ -88,11 +88,11 @@ kept_over p k (suc d) none =
     rw e (passed (is_some (entry_of p (d + suc k))) (is_some (at p.code (d + suc k))) _ _ here
     ∙ before)
 
--- ---- one place
+-- ---- one slot
 
 module _ (p : ShapedProgram) (k : ℕ) (i : Insn) (flow : IsForward p.code)
     (is : at p.code k ≡ Some i) where
-  -- a place after an instruction is the next one, or behind it
+  -- an instruction's slot after k is the next one, or later
   next_within : (m : ℕ) → k < m → IsSome (at p.code m) → next_of k i ≤ m
   next_within m lt some = elim (cases_lt m (next_of k i)) [
     | inl below ↦
@@ -111,7 +111,7 @@ module _ (p : ShapedProgram) (k : ℕ) (i : Insn) (flow : IsForward p.code)
     ]
   ]
 
-  -- what is known once the place is judged, or passed over
+  -- what holds once the slot is judged, or skipped
   pub record Leaves (here : Option AbsState) (w w1 w2 : Waiting) : Type 0 where
     pub target : Option ℕ
     pub jump : Option AbsState
@@ -172,7 +172,7 @@ module _ (p : ShapedProgram) (k : ℕ) (i : Insn) (flow : IsForward p.code)
               target = jumps_after p.code k (suc k) m (omega arith) a.target;
             }
 
-    -- as many wait as are counted
+    -- the number of waiting entries is the count
     held_is : IsSome (entry_of p k) → kept p k ≡ 1 + held w2
     held_is some =
         let len : length w2.entries ≡ length p.code =

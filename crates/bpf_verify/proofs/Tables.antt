@@ -1,4 +1,4 @@
--- A program with a table is accepted: what comes to a place knows at least what the table says.
+-- A program with a table is accepted: each entry knows at least the table's facts.
 use Rattle.std.proofs.Common.{◌≡◌, ℕ, zero, suc, ◌/◌, ◌%◌, ◌<◌, ◌≤◌, List, [], ◌∷◌, ◌++◌}
 use Rattle.std.proofs.Common.{Option, Some, None, Bool, true, false, refl, sym}
 use Rattle.std.proofs.Common.{ap, subst, ◌∙◌, arith, inl, inr, length, map}
@@ -61,7 +61,7 @@ may_itself a = rw (lookup_itself a) refl
 cell_itself : (a : Origin) → join_values (Cell a) (Cell a) ≡ Cell a
 cell_itself a = rw (origin_itself a) refl
 
--- what is the same on both sides stays
+-- the join of equal values is the same value
 same_join : (d a b : Abs) → join_values d d ≡ d → d ≡ a → d ≡ b → d ≡ join_values a b
 same_join d a b itself h g = sym itself ∙ ap (λ (v : Abs). join_values v d) h ∙ ap (join_values a) g
 
@@ -73,7 +73,7 @@ moved_in : (a : Interval) (p : KnownBits)
 unfolding tidy
 moved_in a p = (omega arith, omega arith)
 
--- in a result the ends of an interval stay, or move in
+-- a result keeps the ends of its interval, or moves them in
 tidied_lies : (from to : ℕ) (a : Interval) (p : KnownBits) → LiesIn from to a.lo a.hi
     → LiesIn from to (tidied a p).range.lo (tidied a p).range.hi
 unfolding tidied
@@ -173,7 +173,7 @@ stacks_join a b place lt h g =
     rw (slot_at-join a b i within)
     (is_bit (bit_at (mask_of (join_slots (slot_at a i) (slot_at b i))) k) bit)
 
--- ---- what is known of both is known of their join
+-- ---- a join knows what both sides know
 
 knows_join : (d : Known) (e f : AbsState) → Knows d e → Knows d f → Knows d (join_states e f)
 knows_join d e f h g = record {
@@ -196,7 +196,7 @@ knows_all d e [] all is = absurd cc
 knows_all d e (f ∷ fs) all is =
     let same : joined f fs ≡ e = cc in subst (Knows d) same (knows_joined d f fs all.0 all.1)
 
--- ---- what comes to each place
+-- ---- the entries of each slot
 
 all_append : {A : Type 0} (P : A → Type 0) (xs ys : List A)
     → AllByRecursion P xs → AllByRecursion P ys → AllByRecursion P (xs ++ ys)

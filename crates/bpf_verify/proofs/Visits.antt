@@ -1,4 +1,4 @@
--- One place is judged: what is known before and after.
+-- One slot is judged: what holds before and after.
 use Rattle.std.proofs.Common.{◌≡◌, ℕ, zero, suc, ◌<◌, ◌≤◌, List, [], ◌++◌}
 use Rattle.std.proofs.Common.{length, get_or, replicate, Option, Some, None}
 use Rattle.std.proofs.Common.{Bool, true, false, refl, sym, ap, subst, ◌∙◌, arith, inl, inr}
@@ -29,7 +29,7 @@ first_ahead : (p : Program) (k : ℕ) (t : Option ℕ) (rest : List ℕ) (u : �
 first_ahead p k None rest u a e = absurd (none-some u e)
 first_ahead p k (Some v) rest u a e = subst (IsAhead p k) (same_Some v u e) a.0
 
--- where the jump of a place leads
+-- the target of a slot's jump
 pub target_ahead : (p : Program) (k : ℕ) (i : Insn)
     → IsForward p → at p k ≡ Some i → (u : ℕ) → target_of k i ≡ Some u → IsAhead p k u
 target_ahead p k i flow is u e = first_ahead p k (target_of k i)
@@ -57,7 +57,7 @@ within_length p k i n flow is len = each (target_of k i) refl
         let a = target_ahead p k i flow is u e in
         let lt = at_within p u a.1 in omega (arith, lt, len)
 
--- what a place's own entry is once it is reached
+-- the entry of a slot when it is reached
 pub arrives : (p : ShapedProgram) (k : ℕ) (fell here : Option AbsState) (w w1 : Waiting)
     → k < length p.code → IsSwept p k fell w → here ≡ arrived (waits_at w k) fell
     → IsChanged w w1 k None → w1.most ≡ w.most → held w1 ≤ w1.most → HasArrived p k here w1
@@ -74,11 +74,11 @@ arrives p k fell here w w1 within h is gave same held = record {
 module _ (p : ShapedProgram) (k : ℕ) (i : Insn) (flow : IsForward p.code)
     (is : at p.code k ≡ Some i) (here : Option AbsState) (w : Waiting)
     (a : HasArrived p k here w) where
-  -- without an entry it isn't judged
+  -- a slot without an entry isn't judged
   pub none_fine : here ≡ None → IsFine p k
   none_fine none e j entry there = absurd (none-some e (sym none ∙ a.entry ∙ entry))
 
-  -- no entry comes to it
+  -- the slot has no entry
   pub passed_over : here ≡ None → IsSwept p (next_of k i) here w
   passed_over none =
       let no : entry_of p k ≡ None = sym a.entry ∙ none in
@@ -200,7 +200,7 @@ pub fine_all : (p : ShapedProgram) → ((s : ℕ) → s < length p.code → IsFi
     → IsFine p s
 fine_all p each s e i is what = each s (at_within p.code s (ap is_some what)) e i is what
 
--- of a walk that comes to the end
+-- for a walk that reaches the end
 pub end_accepted : (p : ShapedProgram) (k : ℕ) (here : Option AbsState) (w : Waiting)
     → length p.code ≤ k → IsSwept p k here w → (s : ℕ) → IsFine p s
 end_accepted p k here w le h =

@@ -1,4 +1,4 @@
--- What waits at each place after a change of the pool, and the most that waited at once.
+-- The entries that wait after a change of the pool, and the greatest number that waited at once.
 use Rattle.std.proofs.Common.{◌≡◌, ◌≢◌, ℕ, zero, suc, ◌+◌, ◌<◌, ◌≤◌, List, [], ◌∷◌, ◌++◌}
 use Rattle.std.proofs.Common.{length, replicate, Option, Some, None, refl, sym, ap, ◌∙◌, arith}
 use Rattle.std.specs.Prelude.{map, max, slice_set}
@@ -9,9 +9,9 @@ use Rattle.bpf_verify.proofs.Lists.{get-end, get-before, get-set_same}
 use Rattle.bpf_verify.proofs.Lists.{get-set_other, index-set_same, index-set_other}
 use Rattle.bpf_verify.proofs.Pools.{below_places, held_within, waits_is}
 
--- ---- what waits then
+-- ---- the waiting entries
 
--- of the other places, none has the index that is written
+-- no other slot has the index that is written
 pub changed_in : (es : List AbsState) (ps : List (Option ℕ)) (m i : ℕ) (e : AbsState)
     → m < length ps → i < length es → ((n : ℕ) → n ≢ m → index_at ps n ≢ Some i)
     → IsChanged (waiting es ps) (waiting (slice_set es i e) (slice_set ps m (Some i))) m (Some e)
@@ -59,7 +59,7 @@ changed_none es ps m lt = record {
       ∙ ap (entry_in es) (index-set_other ps m n None ne) ∙ sym (waits_is es ps n);
 }
 
--- an entry changes in its place
+-- an entry is replaced
 pub changed_entry : (es : List AbsState) (ps : List (Option ℕ)) (m i : ℕ) (e : AbsState)
     → i < length es → index_at ps m ≡ Some i → ((n : ℕ) → index_at ps n ≡ Some i → n ≡ m)
     → IsChanged (waiting es ps) (waiting (slice_set es i e) ps) m (Some e)
@@ -75,7 +75,7 @@ changed_entry es ps m i e below is once = record {
     other None ne = refl
     other (Some j) ne = get-set_other es i j e (λ same. ne (ap Some same))
 
--- ---- the most that waited at once
+-- ---- the greatest number that waited at once
 
 pub all_within : (size : ℕ) (ps : List (Option ℕ)) (m : ℕ)
     → m < length ps → index_at ps m ≡ None → IsPool size ps [] → size < 4096

@@ -1,4 +1,4 @@
--- The entry of each place, and which programs are accepted.
+-- The entry of each slot, and which programs are accepted.
 use Rattle.std.specs.Prelude.{◌≡◌, ℕ, zero, suc, ◌<◌, List, [], ◌∷◌, ◌++◌, Option, Some, None}
 use Rattle.std.specs.Prelude.{◌==◌, if◌then◌else◌}
 use Rattle.bpf_insn.specs.declared.insn.Insn.{Insn}
@@ -14,9 +14,9 @@ use Rattle.bpf_checks.specs.declared.refusal.Refusal.TheVariants as refusal
 use Rattle.bpf_checks.specs.Rules.{first_rule}
 use Rattle.bpf_checks.specs.Transfer.{Edge, edges}
 
--- ---- the entry of a place: the join over its incoming edges, in the order of their slots
+-- ---- the entry of a slot: the join over its incoming edges, in the order of their slots
 
--- the entries on the edges that lead to a place
+-- the entries on the edges that lead to slot m
 abbrev pub to_place : ℕ → List Edge → List AbsState
 to_place m [] = []
 to_place m (d ∷ ds) = if d.target == m then d.entry ∷ to_place m ds else to_place m ds
@@ -25,39 +25,39 @@ abbrev pub joined : AbsState → List AbsState → AbsState
 joined e [] = e
 joined e (f ∷ fs) = joined (join_states e f) fs
 
--- none where nothing comes
+-- none if there are no edges
 abbrev pub join_all : List AbsState → Option AbsState
 join_all [] = None
 join_all (e ∷ es) = Some (joined e es)
 
--- the edges of a place that aren't dropped; a place without an entry has none
+-- the edges from a slot that aren't dropped; a slot without an entry has none
 abbrev pub edges_of : AppShape → ℕ → Option AbsState → Option Insn → List Edge
 edges_of shape s (Some e) (Some i) = edges shape s e i
 edges_of shape s e i = []
 
--- the entries on the edges that lead to place m from places before k; a run starts at place 0
+-- the entries on the edges to slot m from slots before k; a run starts at slot 0
 unfoldable pub incoming : ShapedProgram → ℕ → ℕ → List AbsState
 incoming p zero m = if m == 0 then opening_state ∷ [] else []
 incoming p (suc k) m =
     incoming p k m ++ to_place m (edges_of p.shape k (join_all (incoming p k k)) (at p.code k))
 
--- a place's entry: the join over all edges that lead to it
+-- a slot's entry: the join over all edges that lead to it
 abbrev pub entry_of : ShapedProgram → ℕ → Option AbsState
 entry_of p s = join_all (incoming p s s)
 
 -- ---- accepted and refused
 
--- no rule fails at the place; without an entry it isn't judged
+-- the slot breaks no rule; without an entry it isn't judged
 abbrev pub IsFine : ShapedProgram → ℕ → Type 0
 IsFine p s =
     (e : AbsState) (i : Insn) → entry_of p s ≡ Some e → at p.code s ≡ Some i
     → first_rule p.shape e i ≡ None
 
--- no rule fails at any place
+-- no slot breaks a rule
 abbrev pub IsAccepted : Program → AppShape → Type 0
 IsAccepted code shape = (s : ℕ) → IsFine (shaped code shape) s
 
--- the place has an entry by which this rule fails, and none before it
+-- the slot has an entry, for which this is the first rule that it breaks
 pub record Fails (p : ShapedProgram) (s : ℕ) (rule : VerifierRule) : Type 0 where
   pub entry : AbsState
   pub insn : Insn
@@ -65,25 +65,25 @@ pub record Fails (p : ShapedProgram) (s : ℕ) (rule : VerifierRule) : Type 0 wh
   pub insn_is : at p.code s ≡ Some insn
   pub rule_is : first_rule p.shape entry insn ≡ Some rule
 
--- the first place that fails, and its first rule
+-- the first slot that breaks a rule, and its first rule
 pub record IsRefusedAt (p : ShapedProgram) (s : ℕ) (rule : VerifierRule) : Type 0 where
   pub before : (k : ℕ) → k < s → IsFine p k
   pub fails : Fails p s rule
 
--- a refusal by a rule is of the first place that fails, by its first rule; memory may be refused at
--- any time
+-- a refusal by a rule names the first slot that breaks one, and its first rule; an allocation may
+-- fail at any time
 abbrev pub IsRefusal : Program → AppShape → Refusal → Type 0
 IsRefusal code shape (refusal.Rule s rule) = IsRefusedAt (shaped code shape) s rule
 IsRefusal code shape refusal.Memory = Unit {0}
 
--- a rule, and it fails at this place
+-- a rule, broken at this slot
 abbrev pub FailsAt : ℕ → Refusal → Type 0
 FailsAt k (refusal.Rule s rule) = s ≡ k
 FailsAt k refusal.Memory = ⊥
 
 -- ---- no program has two verdicts
 
--- it is accepted, or refused at one place by one rule
+-- it is accepted, or refused at one slot by one rule
 pub record ProgramHasOneVerdict (code : Program) (shape : AppShape) : Type 0 where
   pub either : (s : ℕ) (rule : VerifierRule) → IsAccepted code shape
       → ¬ IsRefusedAt (shaped code shape) s rule
@@ -92,6 +92,6 @@ pub record ProgramHasOneVerdict (code : Program) (shape : AppShape) : Type 0 whe
 
 -- ---- ends are in order
 
--- of all that is known where an instruction begins the ends are in order
+-- the ends of all values in each entry are in order
 abbrev pub HasEndsInOrder : ShapedProgram → Type 0
 HasEndsInOrder p = (s : ℕ) (e : AbsState) → entry_of p s ≡ Some e → IsStateInOrder e

@@ -1,4 +1,4 @@
--- What is promised of the runs of a program that is accepted.
+-- The promise about the runs of an accepted program.
 use Rattle.std.specs.Prelude.{◌≡◌, ℕ, ◌+◌, ◌<◌, ◌≤◌, List, All, length, Some, IsSome}
 use Rattle.bpf_insn.specs.Program.{at}
 use Rattle.bpf_semantics.specs.State.{State, HasWords}
@@ -15,8 +15,8 @@ use Rattle.abs_value.specs.Covers.{IsStoodFor}
 use Rattle.bpf_checks.specs.Sound.{IsLawful}
 use Rattle.bpf_verify.specs.Accepted.{entry_of}
 
--- the state stands at a place, and the place's entry stands for it, given some answers of the calls
--- before; its numbers are words
+-- the entry of the state's slot represents the state, for some results of the calls before; its
+-- numbers are words
 pub record IsCovered (p : ShapedProgram) (s : State) : Type 0 where
   pub entry : AbsState
   pub entry_is : entry_of p s.slot ≡ Some entry
@@ -24,8 +24,9 @@ pub record IsCovered (p : ShapedProgram) (s : State) : Type 0 where
   pub words : HasWords s
   pub place : IsSome (at p.code s.slot)
 
--- a step is no trap, and leads ahead to a covered state, or ends with 0 or one of the releases; of
--- a counter it asks what the shape allows, and leads there for each reply that fits
+-- a step is no trap, and leads forward to a covered state, or ends with 0 or one of the releases.
+-- Its counter operation is allowed by the shape, and each fitting reply leads forward to a covered
+-- state
 abbrev pub IsSafeOutcome : ShapedProgram → State → Outcome → Type 0
 IsSafeOutcome p s (Going t) = (s.slot < t.slot) × IsCovered p t
 IsSafeOutcome p s (Asks cell op next) =
@@ -35,8 +36,8 @@ IsSafeOutcome p s (Asks cell op next) =
 IsSafeOutcome p s (Done n) = n ≤ p.shape.releases
 IsSafeOutcome p s Trap = ⊥
 
--- from the state on nothing traps, whatever fitting replies counters give: the run ends, with 0 or
--- a release, after at most as many instructions in all as the program has slots
+-- no run from the state traps, whatever fitting replies counters give. It ends, with 0 or a
+-- release, and its count of instructions is at most the number of the program's slots
 pub data EndsWell (p : ShapedProgram) : State → Type 0 where
   ends : {s : State} {choice : ℕ} → step p s ≡ Done choice → choice ≤ p.shape.releases
       → s.count + 1 ≤ length p.code → EndsWell p s
@@ -44,15 +45,15 @@ pub data EndsWell (p : ShapedProgram) : State → Type 0 where
   asks : {s : State} {cell : ℕ} {op : CellOp} {next : ℕ → State} → step p s ≡ Asks cell op next
       → ((reply : ℕ) → CanReply cell op reply → EndsWell p (next reply)) → EndsWell p s
 
--- from a state that is covered a step is safe, and the whole run ends
+-- a step from a covered state is safe, and the whole run ends
 abbrev pub StepsAreSafe : ShapedProgram → Type 0
 StepsAreSafe p = (s : State) → IsCovered p s → IsSafeOutcome p s (step p s)
 
 abbrev pub RunsEndWell : ShapedProgram → Type 0
 RunsEndWell p = (s : State) → IsCovered p s → s.count ≤ s.slot → EndsWell p s
 
--- each event is on a cell of the shape's arrays, and on one of an array with a quota it is a load
--- or an add of 1; and its reply fits
+-- each event is on a cell of the shape's arrays, and its reply fits. On a cell with a quota it is a
+-- load or an addition of 1
 abbrev pub AreLawful : AppShape → List CellEvent → Type 0
 AreLawful shape events = All (λ e. IsLawful shape e.cell e.op) events
 

@@ -1,4 +1,4 @@
--- The entry at hand, and what the entries are before a place is judged.
+-- The current entry, and the entries before a slot is judged.
 use Rattle.std.specs.Prelude.{ℕ, Option, Some, None, if◌then◌else◌}
 use Rattle.abs_value.specs.declared.state.AbsState.{AbsState}
 use Rattle.bpf_insn.specs.Program.{Program}
@@ -8,18 +8,18 @@ use Rattle.bpf_semantics.specs.Program.{shaped}
 use Rattle.bpf_verify.specs.Sweep.{arrived, IsSwept, HasArrived}
 use Rattle.bpf_verify.specs.declared.entries.Entries.{Entries}
 
--- none where no run goes on to the place
+-- the current entry, if it is live
 abbrev pub at_hand : Entries → Option AbsState
 at_hand e = if e.is_live then Some e.here else None
 
--- before place k is judged
+-- before slot k is judged
 abbrev pub AreSwept : Program → AppShape → ℕ → Entries → Type 0
 AreSwept code shape k e = IsSwept (shaped code shape) k (at_hand e) e.waiting
 
--- at place k
+-- at slot k
 abbrev pub HaveArrived : Program → AppShape → ℕ → Entries → Type 0
 HaveArrived code shape k e = HasArrived (shaped code shape) k (at_hand e) e.waiting
 
--- what falls through, joined after what waits for the place
+-- what waits for the slot, joined with what falls through
 abbrev pub arriving : Entries → ℕ → Option AbsState
 arriving e k = arrived (waits_at e.waiting k) (at_hand e)

@@ -1,4 +1,4 @@
--- How many entries are kept at once, and how many targets lie ahead.
+-- The number of entries that are kept at once, and the number of targets ahead.
 use Rattle.std.specs.Prelude.{◌≡◌, ℕ, zero, suc, ◌+◌, max, length, nat_lt, ◌==◌, if◌then◌else◌}
 use Rattle.std.specs.Prelude.{List, [], ◌++◌, Option, Some, None, is_some}
 use Rattle.std.specs.Prelude.{Bool, false, ◌&&◌, ◌||◌, Result, Ok, Err}
@@ -19,21 +19,21 @@ abbrev pub is_at : ℕ → Option ℕ → Bool
 is_at m None = false
 is_at m (Some t) = t == m
 
--- JA or a jump at a place before k leads to m
+-- JA or a jump at a slot before k leads to m
 unfoldable pub jumps_to : Program → ℕ → ℕ → Bool
 jumps_to p zero m = false
 jumps_to p (suc k) m = jumps_to p k m || is_at m (at p k >>= target_of k)
 
--- how many targets of the jumps at places up to s lie after s
+-- the number of targets after s, of the jumps at slots up to s
 abbrev pub ahead : Program → ℕ → ℕ
 ahead p s = count (λ m. nat_lt s m && jumps_to p (suc s) m) (length p)
 
--- the most that lie ahead of one of the slots below n
+-- the greatest number ahead of one of the slots below n
 unfoldable pub most_ahead : Program → ℕ → ℕ
 most_ahead p zero = 0
 most_ahead p (suc n) = max (most_ahead p n) (ahead p n)
 
--- the most targets of jumps that lie ahead of one place
+-- the greatest number of jump targets ahead of one slot
 abbrev pub greatest_ahead : Program → ℕ
 greatest_ahead p = most_ahead p (length p)
 
@@ -43,29 +43,30 @@ abbrev pub jump_edges : ℕ → Option AbsState → Option Insn → List Edge
 jump_edges s (Some e) (Some i) = jump_edge s e i
 jump_edges s e i = []
 
--- what waits for place m once the jump at s is judged: what comes from before, and its own edge
+-- the entry that waits for slot m once the jump at s is judged: from earlier edges, and from its
+-- own
 abbrev pub awaited : ShapedProgram → ℕ → ℕ → Option AbsState
 awaited p s m =
     join_all (incoming p s m ++ to_place m (jump_edges s (entry_of p s) (at p.code s)))
 
--- while place s is judged: its own entry, and one for each place after it that one waits for
+-- while slot s is judged: its own entry, and one for each later slot that an entry waits for
 abbrev pub kept : ShapedProgram → ℕ → ℕ
 kept p s = 1 + count (λ m. nat_lt s m && is_some (awaited p s m)) (length p.code)
 
--- the most that were kept at once while the places before k were judged, of those that have an
--- entry; one is at hand from the start
+-- the greatest number kept at once while the slots before k were judged, among those with an entry;
+-- the first entry exists from the start
 unfoldable pub greatest_kept : ShapedProgram → ℕ → ℕ
 greatest_kept p zero = 1
 greatest_kept p (suc k) =
     if is_some (entry_of p k) && is_some (at p.code k) then max (greatest_kept p k) (kept p k)
     else greatest_kept p k
 
--- of the places that were judged without a fault; of want of memory nothing is said
+-- over the slots that were judged without a fault; no claim if memory ran out
 abbrev pub IsPeakBefore : ShapedProgram → Refusal → ℕ → Type 0
 IsPeakBefore p (refusal.Rule s rule) n = n ≡ greatest_kept p s
 IsPeakBefore p refusal.Memory n = Unit {0}
 
--- the count is the most entries that were kept at once, over the places that were judged
+-- the count is the greatest number of entries kept at once, over the slots that were judged
 abbrev pub IsPeak : {A : Type 0} → ShapedProgram → Result A Refusal → ℕ → Type 0
 IsPeak p (Ok v) n = n ≡ greatest_kept p (length p.code)
 IsPeak p (Err r) n = IsPeakBefore p r n

@@ -1,4 +1,4 @@
--- What the sweep keeps: the entry at hand, and those that wait for places ahead.
+-- The invariant of the sweep: the current entry, and those that wait for slots ahead.
 use Rattle.std.specs.Prelude.{◌≡◌, ℕ, ◌+◌, ◌<◌, ◌≤◌, length, Option, Some, None, IsSome, true}
 use Rattle.std.specs.Prelude.{if◌then◌else◌, max, ◌⊎◌}
 use Rattle.bpf_insn.specs.declared.insn.Insn.{Insn}
@@ -13,19 +13,19 @@ use Rattle.bpf_verify.specs.Pool.{Waiting, waits_at, held, joined_with, IsChange
 use Rattle.bpf_verify.specs.Accepted.{join_all, incoming, entry_of, IsFine}
 use Rattle.bpf_verify.specs.Kept.{jumps_to, most_ahead, greatest_kept}
 
--- what is at hand where a place is reached: what waited, and then what falls through
+-- the entry when a slot is reached: what waited, joined with what falls through
 abbrev pub arrived : Option AbsState → Option AbsState → Option AbsState
 arrived None here = here
 arrived (Some w) None = Some w
 arrived (Some w) (Some h) = Some (join_states w h)
 
--- an entry waits for a place ahead alone, which a jump from before k leads to
+-- an entry waits only for a slot ahead, to which a jump from before k leads
 pub record IsAwaited (p : Program) (k m : ℕ) : Type 0 where
   pub ahead : k ≤ m
   pub place : IsSome (at p m)
   pub target : jumps_to p k m ≡ true
 
--- before place k is judged
+-- before slot k is judged
 pub record IsSwept (p : ShapedProgram) (k : ℕ) (here : Option AbsState) (w : Waiting) : Type 0 where
   pub place : (k ≡ length p.code) ⊎ IsSome (at p.code k)
   pub len : length w.entries ≡ length p.code
@@ -36,7 +36,7 @@ pub record IsSwept (p : ShapedProgram) (k : ℕ) (here : Option AbsState) (w : W
   pub exact : w.most + 1 ≡ greatest_kept p k
   pub most : w.most ≤ most_ahead p.code k
 
--- at place k: its entry is at hand, and what waited for it is given up
+-- at slot k: its entry is the current one, and the one that waited is freed
 pub record HasArrived (p : ShapedProgram) (k : ℕ) (here : Option AbsState) (w : Waiting)
     : Type 0 where
   pub fell : Option AbsState
@@ -47,13 +47,14 @@ pub record HasArrived (p : ShapedProgram) (k : ℕ) (here : Option AbsState) (w 
   pub most : w.most ≡ waited.most
   pub room : held w ≤ w.most
 
--- an edge to a target is added to what waits; none where it is dropped, or where there is no jump
+-- the edge to a target is joined into what waits; unchanged if the edge is dropped or there is no
+-- jump
 abbrev pub IsAdded : Option ℕ → Option AbsState → Waiting → Waiting → Type 0
 IsAdded (Some t) (Some f) old new =
     IsChanged old new t (Some (joined_with (waits_at old t) f))
     × (new.most ≡ max old.most (held new))
 IsAdded target edge old new = old ≡ new
 
--- what goes on from a place
+-- the entry that falls through
 abbrev pub falling : AppShape → ℕ → AbsState → Insn → Option AbsState
 falling shape s e i = if goes_on i then going_on shape s e i else None

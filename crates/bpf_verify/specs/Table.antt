@@ -1,5 +1,5 @@
--- A table of what is known at each place, found by whatever means: where no rule fails under it,
--- and each edge leads within it, the program is accepted. What the sweep finds may be narrower.
+-- A table of facts about each slot, from any source. If under it no slot breaks a rule, and each
+-- edge preserves it, the program is accepted. The sweep's entries may be narrower.
 use Rattle.std.specs.Prelude.{◌≡◌, ℕ, ◌<◌, ◌≤◌, List, length, Some, None, Bool, true}
 use Rattle.std.specs.List.{AllByRecursion}
 use Rattle.bpf_insn.specs.declared.insn.Insn.{Insn}
@@ -15,23 +15,23 @@ use Rattle.abs_value.specs.States.{register_at, value_at, opening_state}
 use Rattle.bpf_checks.specs.Rules.{first_rule}
 use Rattle.bpf_checks.specs.Transfer.{Edge, edges}
 
--- what a table says of a place: a value for each register, and which bytes of the stack are set
+-- the facts about a slot: a value for each register, and which bytes of the stack are set
 pub record Known : Type 0 where
   pub registers : List Abs
   pub set : ℕ → Bool
 
--- the second range lies in the first, and its ends are in order
+-- the second range is within the first, and its ends are in order
 abbrev pub LiesIn : ℕ → ℕ → ℕ → ℕ → Type 0
 LiesIn from to lo hi = (from ≤ lo) × (lo ≤ hi) × (hi ≤ to)
 
--- the first value stands for all that the second stands for
+-- the first value represents all that the second represents
 abbrev pub IsWider : Abs → Abs → Type 0
 IsWider Unusable a = Unit {0}
 IsWider (Num c) (Num a) = LiesIn (least c) (most c) (least a) (most a)
 IsWider (Ctx c) (Ctx a) = LiesIn c.lo c.hi a.lo a.hi
 IsWider c a = c ≡ a
 
--- the entry knows at least as much
+-- the entry knows at least the facts
 pub record Knows (known : Known) (e : AbsState) : Type 0 where
   pub long : length e.registers ≡ 11
   pub wide : length e.stack ≡ 64
@@ -39,7 +39,7 @@ pub record Knows (known : Known) (e : AbsState) : Type 0 where
   pub bytes : (place : ℕ) → place < stack_size → known.set place ≡ true
       → is_set e.stack place ≡ true
 
--- no rule fails under the table, whatever more is known; and each edge leads within it
+-- under the table no slot breaks a rule, whatever else is known, and each edge preserves it
 pub record IsTable (p : Program) (shape : AppShape) (table : ℕ → Known) : Type 0 where
   pub start : Knows (table 0) opening_state
   pub passes : (s : ℕ) (e : AbsState) (i : Insn) → at p s ≡ Some i → Knows (table s) e

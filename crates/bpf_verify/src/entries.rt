@@ -1,5 +1,5 @@
 //! The entries that the sweep holds: the current one, which is changed in place from instruction to
-//! instruction, and those that wait for the targets of jumps ahead.
+//! instruction, and those that wait for the targets of jumps.
 
 ghost use Rattle.std.specs.Prelude.{◌≡◌, ◌+◌, ◌-◌, ◌<◌, ◌≤◌};
 ghost use Rattle.std.specs.Prelude.{length, replicate, IfOk, OnOk, OnErr};
@@ -19,7 +19,7 @@ use cells::Shape;
 use flow_check::{jump_target, next_place};
 use std::alloc::{AllocError, Global};
 
-/// The current entry, if a run continues to the place, and those that wait.
+/// The current entry, which counts only if `is_live`, and those that wait.
 #[derive(Drop)]
 pub struct Entries {
     pub here: AbsState,
@@ -28,7 +28,7 @@ pub struct Entries {
 }
 
 impl Entries {
-    /// The entry where a run starts, before the first of so many slots.
+    /// The entry at the start of a run, before the first of `count` slots.
     pub fn opening(alloc: Global, count: usize) -> Result<Entries, AllocError>
         requires { count ≤ 4096 }
         ensures here { IfOk result (λ e. at_hand e ≡ Some opening_state) }
@@ -50,7 +50,7 @@ impl Entries {
         self.waiting.most() + 1
     }
 
-    /// Joins what waits for the place with what falls through.
+    /// Joins the entry that waits for the slot with the one that falls through.
     fn join_waiting(&mut self, slot: usize)
         ensures here { at_hand self.new ≡ arriving self.old slot }
         ensures waiting { self.new.waiting ≡ self.old.waiting }
@@ -67,7 +67,7 @@ impl Entries {
         }
     }
 
-    /// Makes the entry of the place the current one, and frees the one that waited for it.
+    /// Makes the slot's entry the current one, and frees the one that waited for it.
     pub fn arrive(&mut self, slot: usize) -> Result<(), AllocError>
         ensures here { OnOk result (at_hand self.new ≡ arriving self.old slot) }
         ensures waiting { OnOk result (IsChanged self.old.waiting self.new.waiting slot None) }
@@ -78,7 +78,7 @@ impl Entries {
         self.waiting.give_up(slot)
     }
 
-    /// Adds the edge by which the instruction jumps to what waits for its target.
+    /// Joins the state on the instruction's jump edge into the entry that waits for its target.
     pub fn jump(&mut self, slot: usize, insn: &Insn) -> Result<(), AllocError>
         requires slot { slot < 4096 }
         requires target { IfSome (target_of slot insn.now)
@@ -103,9 +103,9 @@ impl Entries {
         Ok(())
     }
 
-    /// As the other jumps, for one that checks a lookup's answer. Each copy of that answer changes,
-    /// so the edge gets an entry of its own, for which no other instruction should have to have
-    /// room.
+    /// Like `jump`, for a comparison of a lookup's result with 0. Each copy of that result changes,
+    /// so the edge needs a copy of the state. That copy is on the stack frame of this function, not
+    /// of its callers.
     #[inline(never)]
     fn jump_at_check(&mut self, target: usize, insn: &Insn) -> Result<(), AllocError>
         requires { target < length self.old.waiting.entries }
@@ -122,8 +122,7 @@ impl Entries {
         Ok(())
     }
 
-    /// Changes the current entry to that of the place after the instruction, if a run continues
-    /// there.
+    /// Changes the current entry to that after the instruction, if a run may fall through.
     pub fn go_on(&mut self, shape: &Shape, slot: usize, insn: &Insn)
         requires { slot < 4096 }
         ensures here { at_hand self.new ≡ falling shape.now slot self.old.here insn.now }

@@ -1,29 +1,29 @@
-//! The verifier: it decides which programs may run. `verify` accepts a program, or refuses it with
-//! a slot and a rule, and an accepted program never does what the machine doesn't define.
+//! The verifier decides which programs may run. `verify` accepts a program, or refuses it with a
+//! slot and a rule. An accepted program never does what the machine leaves undefined.
 //!
 //! See docs/DECISIONS.md, "The verifier"; docs/PROGRAM.md, "Refusals".
 #![tactic(auto)]
 
-// How it judges. All jumps go forward, so one sweep upwards over the slots sees each instruction
-// after everything that leads to it. At each place it has an entry: what is known of registers and
-// stack when a run comes there. The first place has the entry where a run starts, and a place that
-// no edge reaches has none and isn't judged. The instruction is held against the rules, and then
-// makes of its entry one for each edge that it leads along; an edge that no run takes is dropped.
-// What one instruction does is told in `bpf_checks`, and what is known of values in `abs_value`.
+// The method. All jumps go forward, so one sweep upwards over the slots visits each instruction
+// after everything that leads to it. Each program point has an *entry*: the abstract state of
+// registers and stack before its instruction. The first slot has the entry of the start of a run. A
+// slot that no edge reaches has no entry and isn't judged. The instruction is checked against the
+// rules, and then its entry yields one for each of its edges; an edge that no run takes is dropped.
+// `bpf_checks` has the rules and the edges of one instruction, and `abs_value` the abstract values.
 //
-// What the sweep keeps. The entry at hand is changed in place from instruction to instruction.
-// Where one jumps, the entry of that edge waits for its target: it is joined into the entry that
-// waits there already, or else copied into a pool. When the target is reached, what waits is joined
-// with what falls through, and its room in the pool is free again. So straight code copies no
-// entry, and the memory is bounded by the targets that lie ahead; `verify_counted` says how many
-// entries were kept at once.
+// What is kept. The current entry is changed in place from instruction to instruction. At a jump,
+// the entry of that edge waits for its target. If an entry waits there already, the new one is
+// joined into it; otherwise it is copied into a pool. At the target, the waiting entry is joined
+// with the one that falls through, and is freed. So straight-line code copies no entry, and the
+// memory is bounded by the number of targets ahead; `verify_counted` reports how many entries were
+// kept at once.
 //
-// Why that is enough. The entry of a place is defined as the join over its incoming edges in the
-// order of their slots, and the sweep is proved to judge by exactly this entry: the edge that falls
-// through comes last in that order. An entry stands for every state in which a run can come to its
-// place: the first one for every opening state, and each step leads along an edge from a state that
-// is stood for to one that is. So at no place that a run reaches is a rule broken, and the rules
-// rule out every trap.
+// Why this is sound. The entry of a slot is defined as the join over its incoming edges, in the
+// order of their slots. The sweep is proved to judge by exactly this entry: the edge that falls
+// through is the last in that order. An entry represents every state that a run may have at its
+// slot. The first entry represents every opening state, and each step follows an edge from a
+// represented state to a represented state. So no slot that a run reaches breaks a rule, and the
+// rules exclude every trap.
 
 mod entries;
 mod law;

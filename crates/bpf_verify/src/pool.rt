@@ -1,6 +1,6 @@
-//! The entries that wait for places ahead: a pool of entries, and a table that has for each place
-//! the index of its entry. An entry that is given up leaves its room to the next one, so the pool
-//! grows only where as many entries wait as never before.
+//! The entries that wait for slots ahead: a pool of entries, and a table with the index of each
+//! slot's entry. A freed entry is reused, so the pool grows only when more entries wait than ever
+//! before.
 
 ghost use Rattle.std.specs.Prelude.{◌≡◌, ◌<◌, ◌≤◌, length, replicate, max};
 ghost use Rattle.std.specs.Prelude.{IfOk, OnOk, OnErr, Some, None, option_copied};
@@ -10,7 +10,7 @@ use abs_value::AbsState;
 use std::alloc::{AllocError, Global};
 use std::marker::Model;
 
-/// Entries by the places that they wait for.
+/// Entries by the slots that they wait for.
 #[derive(Drop)]
 pub struct Pool {
     entries: Vec<AbsState>,
@@ -30,7 +30,7 @@ impl Model for Pool {
 }
 
 impl Pool {
-    /// A pool without entries, for so many places.
+    /// A pool without entries, for `count` slots.
     pub fn new(alloc: Global, count: usize) -> Result<Pool, AllocError>
         requires { count ≤ 4096 }
         ensures { IfOk result (λ w. (w.entries ≡ replicate count None) × (w.most ≡ 0)) }
@@ -51,7 +51,7 @@ impl Pool {
         self.entries.len()
     }
 
-    /// The entry that waits for the place.
+    /// The entry that waits for the slot.
     pub fn at(&self, place: usize) -> Option<&AbsState>
         ensures { option_copied result ≡ waits_at self.now place }
     {
@@ -61,7 +61,7 @@ impl Pool {
         }
     }
 
-    /// Lets an entry wait for a place for which none does.
+    /// Makes an entry wait for a slot that has none.
     #[inline(never)]
     fn put(&mut self, place: usize, entry: &AbsState) -> Result<(), AllocError>
         requires within { place < length self.old.entries }
@@ -84,7 +84,7 @@ impl Pool {
         Ok(())
     }
 
-    /// Joins an entry into that which waits for the place; where none does, a copy of it waits.
+    /// Joins an entry into the one that waits for the slot; if there is none, a copy of it waits.
     pub fn add(&mut self, place: usize, entry: &AbsState) -> Result<(), AllocError>
         requires { place < length self.old.entries }
         ensures changed { OnOk result (IsChanged self.old self.new place
@@ -101,7 +101,7 @@ impl Pool {
         }
     }
 
-    /// Gives up the entry that waits for the place, if one does.
+    /// Frees the entry that waits for the slot, if there is one.
     pub fn give_up(&mut self, place: usize) -> Result<(), AllocError>
         ensures changed { OnOk result (IsChanged self.old self.new place None) }
         ensures most { self.new.most ≡ self.old.most }

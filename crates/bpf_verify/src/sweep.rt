@@ -1,6 +1,6 @@
-//! The sweep over the slots, upwards: it judges each place by its entry, and carries the entry on
-//! along the edges of its instruction. Each place is judged once, and memory is taken for the
-//! targets that lie ahead alone.
+//! The sweep over the slots, upwards: it judges each slot by its entry, and propagates the entry
+//! along the edges of its instruction. Each slot is judged once, and memory is allocated only for
+//! targets ahead.
 
 ghost use Rattle.std.specs.Prelude.{◌≡◌, ◌<◌, ◌≤◌, ◌+◌, OnOk, IfErr, OnErr, Some};
 ghost use Rattle.bpf_insn.specs.Program.{at};
@@ -17,7 +17,7 @@ use cells::Shape;
 use flow_check::Flow;
 use std::alloc::AllocError;
 
-/// Judges the instruction at the slot by the current entry; without one, nothing is judged.
+/// Judges the instruction at the slot by the current entry; if there is none, nothing is judged.
 pub fn judge(
     entries: &Entries,
     flow: &Flow,
@@ -43,7 +43,7 @@ pub fn judge(
     }
 }
 
-/// Carries the current entry along the edges of the instruction, at which no rule fails.
+/// Propagates the current entry along the edges of the instruction, which breaks no rule.
 pub fn carry_on(
     entries: &mut Entries,
     flow: &Flow,
@@ -67,7 +67,7 @@ pub fn carry_on(
     Ok(())
 }
 
-// One place: its entry is made, it is judged, and the entry carried on.
+// Visits one slot: computes its entry, judges it, and propagates the entry.
 fn visit(
     entries: &mut Entries,
     flow: &Flow,
@@ -90,7 +90,7 @@ fn visit(
     Ok(())
 }
 
-/// Judges all places, from the first to the last or to one at which a rule fails.
+/// Judges all slots, from the first to the last or to one that breaks a rule.
 pub fn sweep(entries: &mut Entries, flow: &Flow, shape: &Shape) -> Result<(), Refusal>
     requires { AreSwept flow.now shape.now 0 entries.old }
     ensures accepted { OnOk result (IsAccepted flow.now shape.now) }

@@ -1,4 +1,4 @@
-//! What shows that a program is accepted, for those who make programs.
+//! How a generator of programs proves that a program is accepted.
 
 ghost use Rattle.std.specs.Prelude.{ℕ};
 ghost use Rattle.bpf_insn.specs.Program.{Program};
@@ -6,8 +6,8 @@ ghost use Rattle.cells.specs.Arrays.{AppShape};
 ghost use Rattle.bpf_verify.specs.Accepted.{IsAccepted};
 ghost use Rattle.bpf_verify.specs.Table.{Known, IsTable};
 
-/// A law: a program is accepted where some table holds at its start, no rule fails under it at any
-/// place whatever more is known there, and each edge leads within it.
+/// Law: a program is accepted if it has a table. The table holds at its start, each edge preserves
+/// it, and under it no slot breaks a rule, whatever else is known.
 pub fn table_is_enough()
     ensures { (p : Program) (shape : AppShape) (table : ℕ → Known) → IsTable p shape table
         → IsAccepted p shape }

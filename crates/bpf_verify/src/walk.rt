@@ -1,5 +1,5 @@
-//! A walk over the places of a program, for callers that report what is known at each. It goes as
-//! the sweep does, and its caller drives it: arrive, look at the entry, judge, carry on.
+//! A walk over the slots of a program, for callers that report each entry. It proceeds as the sweep
+//! does, and its caller drives it: arrive, read the entry, judge, carry on.
 
 ghost use Rattle.std.specs.Prelude.{◌≡◌, ◌<◌, length, option_copied, IfOk, IfErr, OnOk, Some};
 ghost use Rattle.bpf_insn.specs.Program.{Program, at};
@@ -18,7 +18,7 @@ use cells::Shape;
 use flow_check::Flow;
 use std::alloc::{AllocError, Global};
 
-/// The entries of a program's places, one after the other, upwards. It holds what `verify` holds:
+/// The entries of a program's slots, one after the other, upwards. It holds what `verify` holds:
 /// the current entry, which is changed in place, and those that wait for targets ahead.
 #[derive(Drop)]
 pub struct Walk {
@@ -26,8 +26,8 @@ pub struct Walk {
 }
 
 impl Walk {
-    /// A walk before the first place, under any shape.
-    // open: whether memory is refused.
+    /// A walk before the first slot, under any shape.
+    // open: whether an allocation fails.
     pub fn start(alloc: Global, flow: &Flow) -> Result<Walk, AllocError>
         ensures { IfOk result (λ w. (shape : AppShape) → IsWalkBefore flow.now shape 0 w) }
     {
@@ -38,9 +38,9 @@ impl Walk {
         Ok(Walk { entries })
     }
 
-    /// Arrives at the next place, which is that of the slot. After a refusal of memory, here or by
-    /// `carry_on`, the walk is of no use.
-    // open: whether memory is refused.
+    /// Arrives at the next slot, which is `slot`. If an allocation fails, here or in `carry_on`,
+    /// the walk is unusable.
+    // open: whether an allocation fails.
     pub fn arrive(&mut self, slot: usize) -> Result<(), AllocError>
         ensures { OnOk result ((code : Program) (shape : AppShape) → slot < length code
             → IsWalkBefore code shape slot self.old → IsWalkAt code shape slot self.new) }
@@ -49,7 +49,7 @@ impl Walk {
         Ok(())
     }
 
-    /// What is known at the place, before its instruction; none where no edge leads to it.
+    /// The entry before the instruction; `None` if no edge leads to it.
     pub fn entry(&self) -> Option<&AbsState>
         ensures { option_copied result ≡ entry_here self.now }
     {
@@ -60,7 +60,7 @@ impl Walk {
         }
     }
 
-    /// Judges the place as `verify` does: a refusal is the program's.
+    /// Judges the slot as `verify` does: a refusal here is the program's.
     pub fn judge(&self, flow: &Flow, shape: &Shape, slot: usize, insn: &Insn) -> Result<(), Refusal>
         requires place { at flow.now slot ≡ Some insn.now }
         requires here { IsWalkAt flow.now shape.now slot self.now }
@@ -71,8 +71,8 @@ impl Walk {
         sweep::judge(&self.entries, flow, shape, slot, insn)
     }
 
-    /// Goes on from a place at which no rule fails, along the edges of its instruction.
-    // open: whether memory is refused.
+    /// Continues from a slot that breaks no rule, along the edges of its instruction.
+    // open: whether an allocation fails.
     pub fn carry_on(
         &mut self,
         flow: &Flow,
@@ -90,7 +90,7 @@ impl Walk {
     }
 }
 
-/// A law: a walk that reaches the end has found that the program is accepted.
+/// Law: if a walk reaches the end, the program is accepted.
 pub fn end_is_accepted()
     ensures { (code : Program) (shape : AppShape) → EndIsAccepted code shape }
 {}

@@ -1,4 +1,4 @@
--- The sweep upwards marks a place exactly if it is reached.
+-- The upward sweep marks a slot exactly if it is reached.
 use Rattle.std.proofs.Common.{◌≡◌, ℕ, zero, suc, ◌+◌, ◌<◌, ◌≤◌, Bool, true, false}
 use Rattle.std.proofs.Common.{List, length, get_or, Option, Some, None, refl}
 use Rattle.std.proofs.Common.{sym, ap, subst, ◌∙◌, arith, inl, inr, below_more}
@@ -13,7 +13,7 @@ use Rattle.flow_check.specs.Edges.{target_of, next_target, successors, Reached, 
 use Rattle.flow_check.specs.Flow.{LeadsAhead}
 use Rattle.flow_check.specs.Sweep.{IsMarked, IsMarkedTo, marked}
 
--- ---- one place
+-- ---- one slot
 
 pub marked_kept : (marks : List Bool) (o : Option ℕ) (m : ℕ) → IsMarked marks m
     → IsMarked (marked marks o) m

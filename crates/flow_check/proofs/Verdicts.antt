@@ -16,7 +16,7 @@ use Rattle.flow_check.proofs.Layouts.{length_program_bytes}
 
 -- ---- the kinds of a fault
 
--- a fault by what it is found by; each kind excludes the others
+-- a fault by the kind of its cause; each kind excludes the others
 data Found (bytes : List ℕ) : ℕ → FlowRule → Type 0 where
   nothing : bytes ≡ [] → Found bytes 0 Empty
   long : 32768 < length bytes → Found bytes 0 TooLong
@@ -32,7 +32,7 @@ found bytes s (NoInsn e) h = unread s e h
 found bytes s Unreached h = unreached s h
 found bytes s rule h = edge s rule h
 
--- ---- what is accepted
+-- ---- accepted bytes
 
 pub accepted_read : (bytes : List ℕ) (p : Program) → IsAcceptedAs bytes p → IsRead bytes p
 accepted_read bytes p a =
@@ -113,7 +113,7 @@ module _ (bytes : List ℕ) (one : HasOneReading bytes) where
       → IsFirstEdgeFault bytes s rule → IsFirstUnreached bytes t → ⊥
   edge_unreached s t rule a b = b.edges s rule (edge_in b.program b.read s rule a).1.breaks
 
-  -- what is no fault of the length
+  -- the length of the bytes isn't a fault
   abbrev IsInside : Type 0
   IsInside = (0 < length bytes) × (length bytes ≤ 32768)
 

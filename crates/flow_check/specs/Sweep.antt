@@ -1,5 +1,5 @@
--- One upward sweep marks the places that are reached: what its marks say once it has passed the
--- places before k.
+-- One upward sweep marks the slots that are reached; its invariant once it has passed the slots
+-- before k.
 use Rattle.std.specs.Prelude.{◌≡◌, ℕ, ◌<◌, ◌⊎◌, Bool, true, false, List, length, Option, Some, None}
 use Rattle.std.specs.Prelude.{IsTrue, Contains, slice_index_or, slice_set}
 use Rattle.bpf_insn.specs.declared.insn.Insn.{Insn}
@@ -21,11 +21,11 @@ pub record IsMarkedTo (p : Program) (k : ℕ) (marks : List Bool) : Type 0 where
       → Contains (successors s i) t → IsMarked marks t
   pub reached : (s : ℕ) → s < k → KeepsReach p s
 
--- no place is marked but those that were, and these
+-- only these slots, and those that were marked, are marked
 abbrev pub MarksOnly : List Bool → List Bool → List ℕ → Type 0
 MarksOnly old new places = (m : ℕ) → IsMarked new m → IsMarked old m ⊎ Contains places m
 
--- the lowest place that isn't reached, if there is one
+-- the lowest slot whose instruction isn't reached, if there is one
 abbrev pub IsLowestUnreached : Program → Option ℕ → Type 0
 IsLowestUnreached p None = (k : ℕ) → KeepsReach p k
 IsLowestUnreached p (Some s) = (¬ KeepsReach p s) × ((k : ℕ) → k < s → KeepsReach p k)

@@ -1,7 +1,6 @@
-//! The places that an instruction leads to, and the rules F1 to F4 of one place. A jump counts
-//! slots from the instruction after it (RFC 9669, "Jump Instructions"). Of a place that breaks
-//! several rules the lowest is answered: a conditional jump at the last place breaks F1 or F2
-//! before F4.
+//! The successors of an instruction, and the rules F1 to F4 for one slot. A jump counts slots from
+//! the instruction after it (RFC 9669, "Jump Instructions"). If a slot breaks several rules, the
+//! lowest is returned: a conditional jump at the last slot breaks F1 or F2 before F4.
 
 ghost use Rattle.std.specs.Prelude.{◌≡◌, ℕ, ◌<◌, ◌≤◌, IfSome, IfNone, length};
 ghost use Rattle.std.specs.Prelude.{Some};
@@ -15,7 +14,7 @@ use crate::fault::FlowRule;
 use crate::slots::{insn_behind, is_half, is_wide_at, slot_count};
 use bpf_insn::{Distance, Insn};
 
-/// How far the instruction jumps, if it is a jump.
+/// The distance of the instruction's jump, if it is a jump.
 fn distance_of(insn: Insn) -> Option<Distance>
     ensures { result ≡ jump_of insn }
 {
@@ -26,7 +25,7 @@ fn distance_of(insn: Insn) -> Option<Distance>
     }
 }
 
-/// The slot that the instruction jumps to, if it is a jump and no slot below 0 is named.
+/// The slot that the instruction jumps to; `None` if it isn't a jump, or jumps below slot 0.
 // open: slots from 4096 on, which no program has.
 pub fn jump_target(slot: usize, insn: Insn) -> Option<usize>
     requires { slot < 4096 }
@@ -35,7 +34,7 @@ pub fn jump_target(slot: usize, insn: Insn) -> Option<usize>
     distance_of(insn)?.target(slot)
 }
 
-/// The slot of the next instruction, where this one may go on to it.
+/// The slot of the next instruction, if this one may continue there.
 // open: slots from 4096 on, which no program has.
 pub fn next_place(slot: usize, insn: Insn) -> Option<usize>
     requires { slot < 4096 }
@@ -47,7 +46,7 @@ pub fn next_place(slot: usize, insn: Insn) -> Option<usize>
     }
 }
 
-/// The lowest rule of the jump that is broken.
+/// The lowest rule that the jump breaks.
 fn jump_fault(code: &[Insn], slot: usize, insn: Insn) -> Option<FlowRule>
     requires short { length (laid code.now) ≤ 4096 }
     requires at { program.at (laid code.now) slot ≡ Some insn }
@@ -72,7 +71,7 @@ fn jump_fault(code: &[Insn], slot: usize, insn: Insn) -> Option<FlowRule>
     None
 }
 
-/// The lowest of the rules F1 to F4 that the place breaks.
+/// The lowest of the rules F1 to F4 that the slot breaks.
 pub fn edge_fault(code: &[Insn], slot: usize, insn: Insn) -> Option<FlowRule>
     requires short { length (laid code.now) ≤ 4096 }
     requires at { program.at (laid code.now) slot ≡ Some insn }
@@ -88,7 +87,7 @@ pub fn edge_fault(code: &[Insn], slot: usize, insn: Insn) -> Option<FlowRule>
     }
 }
 
-/// The lowest place that breaks one of the rules F1 to F4, and the lowest of these.
+/// The lowest slot that breaks one of the rules F1 to F4, and the lowest rule that it breaks.
 pub fn first_edge_fault(code: &[Insn]) -> Option<(usize, FlowRule)>
     requires { length (laid code.now) ≤ 4096 }
     ensures fault { IfSome result (λ f. IsEdgeFault (laid code.now) f.0 f.1) }

@@ -1,4 +1,4 @@
-//! Why bytes are refused: a rule, and the slot where it is broken.
+//! Why bytes are refused: a rule, and the slot that breaks it.
 
 ghost use Rattle.std.specs.Prelude.{◌≡◌, Some};
 ghost use Rattle.flow_check.specs.Texts.{flow_rule_text, flow_fault_text};
@@ -9,7 +9,7 @@ use std::alloc::AllocError;
 use std::error::Error;
 use std::fmt;
 
-/// What is wrong, in the order of the numbers F1 to F8 that are printed.
+/// The rules, in the order of their printed numbers F1 to F8.
 #[derive(Clone, Copy, Debug, PartialEq, Eq)]
 pub enum FlowRule {
     /// A jump leads to its own slot or below.
@@ -18,15 +18,15 @@ pub enum FlowRule {
     Outside,
     /// A jump leads to the second half of a wide instruction.
     InsideWide,
-    /// The end comes after an instruction that is neither EXIT nor JA.
+    /// The last instruction is neither EXIT nor JA.
     FallsOff,
-    /// No run of edges leads from slot 0 to the instruction.
+    /// No path of edges leads from slot 0 to the instruction.
     Unreached,
     /// There are no bytes.
     Empty,
-    /// There are more than 32768 bytes, which is 4096 slots.
+    /// There are more than 32768 bytes, that is 4096 slots.
     TooLong,
-    /// The bytes from the slot on spell no instruction.
+    /// The bytes from the slot spell no instruction.
     Insn(InsnFault),
 }
 
@@ -51,7 +51,7 @@ impl fmt::Display for FlowRule {
 #[derive(Debug, Drop, PartialEq, Eq)]
 pub enum FlowFault {
     Rule { slot: usize, rule: FlowRule },
-    /// F9: no memory was left.
+    /// F9: out of memory.
     Memory,
 }
 

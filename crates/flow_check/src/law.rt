@@ -1,11 +1,10 @@
-//! No bytes have two verdicts. It is proved by reading the bytes once, as `read` does, and is
-//! called by nothing.
+//! No bytes have two verdicts. The proof reads the bytes once, as `read` does.
 
 ghost use Rattle.flow_check.specs.Fault.{HasOneVerdict};
 
 use bpf_insn::decode_at;
 
-/// A law: bytes are accepted as one program, or refused with one fault.
+/// Law: bytes are accepted as one program, or refused with one fault.
 pub fn one_verdict(bytes: &[u8])
     ensures { HasOneVerdict bytes.now }
 {

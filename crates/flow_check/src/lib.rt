@@ -1,6 +1,6 @@
-//! The first of the two gates before a program may run: `Flow::check` reads bytes as a program, and
-//! accepts it where every edge of its graph leads forward onto an instruction and every
-//! instruction is reached.
+//! The first of the two checks before a program may run. `Flow::check` reads bytes as a program,
+//! and accepts it if every edge of its control flow graph leads forward onto an instruction and
+//! every instruction is reached.
 //!
 //! See docs/DECISIONS.md, "The graph"; docs/PROGRAM.md, "Refusals".
 #![tactic(auto)]

@@ -1,5 +1,5 @@
-//! The places that are reached. Every edge leads forward, so one upward sweep finds them: when it
-//! reaches a place, it has passed all edges that lead there.
+//! The slots that are reached. Every edge leads forward, so one upward sweep finds them: when it
+//! reaches a slot, it has passed all edges that lead there.
 
 ghost use Rattle.std.specs.Prelude.{◌≡◌, true, false, ℕ, ◌<◌, ◌≤◌, ◌-◌, IfOk, IfSome};
 ghost use Rattle.std.specs.Prelude.{All, Contains, length, replicate, slice_set};
@@ -14,7 +14,7 @@ use crate::slots::{insn_behind, is_wide_at, slot_count};
 use bpf_insn::Insn;
 use std::alloc::{AllocError, Global};
 
-/// Marks a place, if there is one.
+/// Marks a slot, if there is one.
 fn mark(marks: &mut [bool], place: Option<usize>)
     requires { IfSome place (λ t. t < length marks.old) }
     ensures { marks.new ≡ marked marks.old place }
@@ -24,7 +24,7 @@ fn mark(marks: &mut [bool], place: Option<usize>)
     }
 }
 
-/// Marks the places that an instruction leads to.
+/// Marks the successors of an instruction.
 fn mark_successors(marks: &mut [bool], slot: usize, insn: Insn)
     requires slot { slot < 4096 }
     requires within { All (λ t. t < length marks.old) (successors slot insn) }
@@ -36,7 +36,7 @@ fn mark_successors(marks: &mut [bool], slot: usize, insn: Insn)
     mark(marks, next_place(slot, insn));
 }
 
-/// Sweeps upwards, and stops at the first place that isn't reached.
+/// Sweeps upwards, and stops at the first slot whose instruction isn't reached.
 fn sweep(marks: &mut [bool], code: &[Insn]) -> Option<usize>
     requires short { length (laid code.now) ≤ 4096 }
     requires ahead { LeadsAhead (laid code.now) }
@@ -57,7 +57,7 @@ fn sweep(marks: &mut [bool], code: &[Insn]) -> Option<usize>
     None
 }
 
-/// A mark for each slot, of which the first is set.
+/// A mark for each slot; only the first is set.
 fn opening(alloc: Global, count: usize) -> Result<Vec<bool>, AllocError>
     requires { 0 < count }
     ensures { IfOk result (λ v. v.items ≡ slice_set (replicate count false) 0 true) }
@@ -67,7 +67,7 @@ fn opening(alloc: Global, count: usize) -> Result<Vec<bool>, AllocError>
     Ok(marks)
 }
 
-/// The lowest place that isn't reached.
+/// The lowest slot whose instruction isn't reached.
 pub fn first_unreached(alloc: Global, code: &[Insn]) -> Result<Option<usize>, AllocError>
     requires some { 0 < length (laid code.now) }
     requires short { length (laid code.now) ≤ 4096 }

@@ -17,7 +17,7 @@ use Rattle.reference.specs.Marks.{mark_at}
 pub everywhere : {A B : Type 0} (f g : A → B) → ((a : A) → f a ≡ g a) → f ≡ g
 everywhere f g h = λ i a. h a i
 
--- ---- what is read
+-- ---- reads
 
 pub all_set : (memory : ℕ → Option ℕ) (place : ℕ) (bytes : List ℕ)
     → ((i : ℕ) → i < length bytes → memory (place + i) ≡ Some (slice_index bytes i))
@@ -50,13 +50,13 @@ one_unset memory place (suc n) (suc i) within none =
     absent_later (memory place) (set_bytes memory (place + 1) n)
     (one_unset memory (place + 1) n i (omega (arith, within)) (ap memory (omega arith) ∙ none))
 
--- a stack of which nothing is set
+-- a stack with nothing set
 pub none_set : (n k : ℕ) → mark_at (replicate n None) k ≡ None
 none_set zero k = refl
 none_set (suc n) zero = refl
 none_set (suc n) (suc k) = none_set n k
 
--- ---- what is written
+-- ---- writes
 
 written : (memory : ℕ → Option ℕ) (place n v j : ℕ) → place ≤ j → j < place + n
     → with_bytes memory place n v j ≡ Some (v / 256 ^ (j - place) % 256)
@@ -83,7 +83,7 @@ behind_written memory place n v j behind =
     ap (λ (x : Bool). if x && nat_lt j (place + n) then here else memory j) a
     ∙ ap (λ (x : Bool). if true && x then here else memory j) b
 
--- one byte more
+-- one more byte
 pub one_more : (memory : ℕ → Option ℕ) (marks : List (Option ℕ)) (place k v b j : ℕ)
     → place + k < length marks → b ≡ v / 256 ^ k
     → ((i : ℕ) → mark_at marks i ≡ with_bytes memory place k v i)
@@ -122,7 +122,7 @@ next_rest v k = div-div-eq-div-mul v (256 ^ k) 256 ∙ ap (λ (d : ℕ). v / d) 
 
 -- ---- numbers of bytes
 
--- a number of at most seven bytes has room for one byte more
+-- a number of at most seven bytes and one more byte fit 64 bits
 pub one_byte_more : (n m b : ℕ) → n ≤ 7 → m < 256 ^ n → b < 256 → b + 256 * m < 2 ^ 64
 one_byte_more n m b few small byte =
     let most : 256 ^ n ≤ 256 ^ 7 = pow-le-pow_right {n = 256} (omega arith) {i = n} {j = 7} few in

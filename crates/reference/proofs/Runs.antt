@@ -1,4 +1,4 @@
--- Runs, by their steps from the first on.
+-- Runs, by their steps from the first one.
 use Rattle.std.proofs.Common.{◌≡◌, ◌≢◌, ℕ, ◌+◌, ◌<◌, ◌∙◌, List, [], ◌∷◌, ◌++◌, subst, sym, ap, refl}
 use Rattle.std.proofs.Common.{append_assoc, append-nil}
 use Rattle.cells.specs.declared.event.CellEvent.{CellEvent}
@@ -19,7 +19,7 @@ use Rattle.reference.specs.declared.observed.RunEnd.TheVariants as end
 use Rattle.reference.specs.Runs.{GoesOn, IsCut, IsRun}
 use Rattle.reference.specs.Runs.GoesOn.{stays, goes, asked}
 
--- what a run comes to from a state on the way is what it comes to
+-- the end of a run from a state on the way is the end of the run
 pub then_ends : (p : ShapedProgram) (s : State) (es : List CellEvent) (t : State) → GoesOn p s es t
     → (ds : List CellEvent) (choice count : ℕ) → Ends p t ds choice count
     → Ends p s (es ++ ds) choice count
@@ -72,7 +72,7 @@ module _ {P : Type 0} (grew : P → CellEvent → P → Type 0) where
       absurd (going.0 n refl)
   one_step snoc p s pass t held observed.Trap u next run going is grown = absurd (going.1 refl)
 
-  -- the last step left the state as it was
+  -- the last step left the state unchanged
   cut : (p : ShapedProgram) (s : State) (es : List CellEvent) (limit : ℕ) (o : Outcome)
       (t u : State)
       → GoesOn p s es t → t.count < s.count + limit → (step p t ≡ o) × (u ≡ t)

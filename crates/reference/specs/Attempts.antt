@@ -1,4 +1,4 @@
--- What an instruction comes to, before a counter that it asks has replied.
+-- The result of an instruction, before the reply of a counter that it uses.
 use Rattle.std.specs.Prelude.{◌≡◌, ℕ, ◌+◌, ◌-◌, ◌<◌, ◌^◌, Option, Some, None, Bool, true, false}
 use Rattle.bpf_insn.specs.declared.insn.Insn.{Insn}
 use Rattle.bpf_insn.specs.declared.insn.Insn.TheVariants as insn
@@ -11,13 +11,13 @@ use Rattle.bpf_semantics.specs.Outcome.{Outcome, moved_to}
 use Rattle.reference.specs.declared.attempt.Attempt.{Attempt}
 use Rattle.reference.specs.declared.attempt.Attempt.TheVariants as attempt
 
--- the state once an asked counter has replied
+-- the state after the counter's reply
 abbrev pub replied : State → Option Reg → ℕ → State
 replied s None reply = moved_to s (s.slot + 1)
 replied s (Some dst) reply = moved_to (with_register s (number_of dst) reply) (s.slot + 1)
 
--- the outcome of a step from one state, which left another; all but a step that goes on leave it as
--- it was
+-- the outcome of a step from s is this result, and t is the state after it; only a step that
+-- continues changes the state
 abbrev pub Comes : Outcome → State → Attempt → State → Type 0
 Comes o s attempt.Going t = o ≡ outcome.Going t
 Comes o s (attempt.Asks cell op into) t =
@@ -25,12 +25,12 @@ Comes o s (attempt.Asks cell op into) t =
 Comes o s (attempt.Done choice) t = (o ≡ outcome.Done choice) × (t ≡ s)
 Comes o s attempt.Trap t = (o ≡ outcome.Trap) × (t ≡ s)
 
--- there is room for one more instruction at a slot of a program
+-- one more instruction fits: the slot is within a program, and the count doesn't overflow
 pub record HasRoom (s : State) : Type 0 where
   pub slot : s.slot < 4096
   pub count : s.count < 2 ^ 64 - 1
 
--- the same where an instruction may not be defined
+-- the same for an instruction that may be undefined
 abbrev pub ComesIf : Option Outcome → State → Option Attempt → Type 0
 ComesIf o s None = o ≡ None
 ComesIf None s (Some a) = ⊥

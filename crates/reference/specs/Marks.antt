@@ -1,15 +1,14 @@
--- The state of a run that an interpreter holds: registers and bytes with a mark where they are
--- unset.
+-- The state of the interpreter: registers and bytes, with a mark if unset.
 use Rattle.std.specs.Prelude.{ℕ, List, Option, None, slice_index_or}
 use Rattle.std.specs.Arc.{arc_value}
 use Rattle.bpf_semantics.specs.State.{State, with_bytes}
 use Rattle.reference.specs.declared.state.Interpreter.{Interpreter}
 
--- what a place has; past the last one nothing is set
+-- the mark at an index; past the end nothing is set
 abbrev pub mark_at : List (Option ℕ) → ℕ → Option ℕ
 mark_at marks k = slice_index_or marks k None
 
--- the state that an interpreter has: a register or byte that is unset is marked so
+-- the interpreter's state in the semantics; an unset register or byte is None
 unfoldable pub state_of : Interpreter → State
 state_of m = record {
   slot = m.slot;

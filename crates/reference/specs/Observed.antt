@@ -1,4 +1,4 @@
--- What is seen of a step, in the semantics' words.
+-- The observable result of a step, in terms of the semantics.
 use Rattle.std.specs.Prelude.{◌≡◌, ℕ}
 use Rattle.cells.specs.Events.{CanReply}
 use Rattle.cells.specs.declared.event.CellEvent.{CellEvent}
@@ -9,21 +9,21 @@ use Rattle.bpf_semantics.specs.Step.{step}
 use Rattle.reference.specs.declared.observed.Observed.{Observed}
 use Rattle.reference.specs.declared.observed.Observed.TheVariants as observed
 
--- the semantics' step asks for this event, and goes on with its reply
+-- the semantics' step requests the operation of this event, and continues with its reply
 pub record IsEventStep (p : ShapedProgram) (s : State) (e : CellEvent) (t : State) : Type 0 where
   pub next : ℕ → State
   pub asks : step p s ≡ outcome.Asks e.cell e.op next
   pub state : t ≡ next e.reply
   pub fits : CanReply e.cell e.op e.reply
 
--- the step from one state to another, as it was seen; an end leaves the state as it was
+-- the step from s to t has this observable result; the end of a run leaves the state unchanged
 abbrev pub IsStep : ShapedProgram → State → Observed → State → Type 0
 IsStep p s observed.Going t = step p s ≡ outcome.Going t
 IsStep p s (observed.Event e) t = IsEventStep p s e t
 IsStep p s (observed.Done choice) t = (step p s ≡ outcome.Done choice) × (t ≡ s)
 IsStep p s observed.Trap t = (step p s ≡ outcome.Trap) × (t ≡ s)
 
--- the pass grew by the event that was seen, and else is as it was
+-- the pass (a ghost token) gained the observed event, otherwise it is unchanged
 module _ {P : Type 0} (grew : P → CellEvent → P → Type 0) where
   abbrev pub Grew : P → Observed → P → Type 0
   Grew p (observed.Event e) q = grew p e q

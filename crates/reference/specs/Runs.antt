@@ -1,4 +1,4 @@
--- Runs that were cut off after so many steps.
+-- Runs with a limit of steps.
 use Rattle.std.specs.Prelude.{◌≡◌, ℕ, ◌+◌, ◌<◌, List, [], ◌∷◌, ◌++◌}
 use Rattle.cells.specs.declared.event.CellEvent.{CellEvent}
 use Rattle.bpf_semantics.specs.Program.{ShapedProgram}
@@ -19,16 +19,14 @@ pub data GoesOn (p : ShapedProgram) (s : State) : List CellEvent → State → T
       → GoesOn p s es t → step p t ≡ Asks e.cell e.op next
       → GoesOn p s (es ++ e ∷ []) (next e.reply)
 
--- the run from one state to another makes the events, within so many steps, and this outcome is
--- next
+-- the run from s to t has these events, within `limit` steps, and this outcome is next
 pub record IsCut (p : ShapedProgram) (s : State) (es : List CellEvent) (limit : ℕ) (o : Outcome)
     (t : State) : Type 0 where
   pub goes_on : GoesOn p s es t
   pub within : t.count < s.count + limit
   pub next : step p t ≡ o
 
--- what comes of a run of so many steps at most, with the events on the way; it leaves the last
--- state that it came to
+-- the result of a run with a limit of steps, with the events on the way; t is its last state
 abbrev pub IsRun : ShapedProgram → State → List CellEvent → ℕ → RunEnd → State → Type 0
 IsRun p s es limit (Choice choice) t =
     IsCut p s es limit (Done choice) t × Ends p s es choice (t.count + 1)

@@ -1,4 +1,4 @@
-//! The result of one instruction, before a counter that it uses has replied.
+//! The result of one instruction, before the reply of a counter that it uses.
 
 ghost use Rattle.std.specs.Prelude.{◌≡◌, ◌+◌, ◌<◌, ◌≤◌};
 ghost use Rattle.bpf_semantics.specs.Outcome as outcome;
@@ -10,11 +10,11 @@ use crate::state::Interpreter;
 use bpf_insn::{Distance, Reg};
 use cells::{CellNo, CellOp};
 
-/// It goes on, asks a counter, ends the run, or is nothing that the machine defines.
+/// The run continues, requests a counter operation, ends, or has an undefined step.
 #[derive(Clone, Copy)]
 pub enum Attempt {
     Going,
-    /// The register, if any, takes the counter's reply.
+    /// The counter's reply goes into the register, if there is one.
     Asks {
         cell: CellNo,
         op: CellOp,
@@ -25,7 +25,7 @@ pub enum Attempt {
 }
 
 impl Interpreter {
-    /// Goes on at a slot, if there is one to go to.
+    /// Continues at a slot, if there is one.
     pub(crate) fn jump_to(&mut self, slot: Option<usize>) -> Attempt
         requires { HasRoom (state_of self.old) }
         ensures { let s = state_of self.old in
@@ -40,7 +40,7 @@ impl Interpreter {
         }
     }
 
-    /// Jumps where the condition holds, and else goes on.
+    /// Jumps if the condition holds, otherwise continues at the next slot.
     pub(crate) fn branch(&mut self, offset: i16, taken: Option<bool>) -> Attempt
         requires { HasRoom (state_of self.old) }
         ensures { let s = state_of self.old in
@@ -59,7 +59,7 @@ impl Interpreter {
         }
     }
 
-    /// Sets a register, and goes on after so many slots. R10 is read-only.
+    /// Sets a register, and continues `width` slots further. R10 is read-only.
     pub(crate) fn write(&mut self, width: usize, dst: Reg, value: Option<u64>) -> Attempt
         requires room { HasRoom (state_of self.old) }
         requires width { width ≤ 2 }
@@ -77,7 +77,7 @@ impl Interpreter {
         }
     }
 
-    /// Takes a helper's result, and goes on.
+    /// Stores a helper's result, and continues.
     pub(crate) fn answer(&mut self, value: Option<u64>) -> Attempt
         requires { HasRoom (state_of self.old) }
         ensures { let s = state_of self.old in
@@ -94,7 +94,7 @@ impl Interpreter {
         }
     }
 
-    /// Takes a counter's reply, and goes on.
+    /// Stores a counter's reply, and continues.
     pub(crate) fn take_reply(&mut self, into: Option<Reg>, reply: u64)
         requires { HasRoom (state_of self.old) }
         ensures { state_of self.new ≡ replied (state_of self.old) into reply }
@@ -107,7 +107,8 @@ impl Interpreter {
     }
 }
 
-/// Asks a counter; a register takes the reply, if any does. R10 is read-only.
+/// Requests a counter operation; the reply goes into the register, if there is one. R10 is
+/// read-only.
 pub fn ask(cell: CellNo, op: CellOp, into: Option<Reg>) -> Attempt
     ensures { (s : State) → Comes (outcome.ask s cell.number op into) s result s }
 {

@@ -1,4 +1,4 @@
-//! What a call of a helper gives, and what wide loads of maps and counters give.
+//! The results of helpers, and the values of wide loads of maps and counters.
 
 ghost use Rattle.std.specs.Prelude.{◌≡◌};
 ghost use Rattle.bpf_semantics.specs.Calls as calls;
@@ -43,7 +43,7 @@ fn lookup(shape: &Shape, map: u64, key: u64) -> Option<u64>
 }
 
 impl Interpreter {
-    /// R0 after a call; a helper with another number isn't defined.
+    /// R0 after a call; `None` if no helper has the number.
     pub(crate) fn helper_result(&self, shape: &Shape, helper: i32) -> Option<u64>
         ensures { result ≡ calls.helper_result shape.now (state_of self.now) helper }
     {

@@ -19,7 +19,7 @@ use bpf_semantics::{
 };
 use cells::{CellNo, CellOp};
 
-/// How many bytes a counter has.
+/// The number of bytes of a counter.
 fn width(number: u64) -> u64
     ensures { 8 * result ≡ events.width number }
 {
@@ -30,7 +30,7 @@ fn width(number: u64) -> u64
     }
 }
 
-/// The counter that an access of so many bytes reaches: by its own address, in its own width.
+/// The counter of an access of `count` bytes: at its own address, with its own width.
 fn cell_at(address: u64, count: u64) -> Option<CellNo>
     ensures { cell_number_in result ≡ memory.cell_at address count }
 {
@@ -42,7 +42,7 @@ fn cell_at(address: u64, count: u64) -> Option<CellNo>
     }
 }
 
-/// The counter that a load reads; none is sign-extended.
+/// The counter that a load reads; `None` if the load is sign-extending.
 fn load_cell(kind: LoadKind, base: Option<u64>, offset: i16) -> Option<CellNo>
     ensures { cell_number_in result ≡ counters.load_cell kind base offset }
 {
@@ -60,7 +60,7 @@ fn store_cell(size: Size, base: Option<u64>, offset: i16) -> Option<CellNo>
     cell_at(add_offset(base?, offset), byte_count(size) as u64)
 }
 
-/// The low bytes of a number, 1 to 8.
+/// The low `count` bytes of a number, 1 to 8.
 fn cut(count: u64, number: u64) -> u64
     requires { count ≤ 8 }
     ensures { result ≡ counters.cut count number }
@@ -73,7 +73,7 @@ fn cut(count: u64, number: u64) -> u64
 }
 
 impl Interpreter {
-    /// Reads a counter, or else context or stack.
+    /// Reads a counter, otherwise the context or the stack.
     pub(crate) fn load(
         &mut self,
         kind: LoadKind,
@@ -94,7 +94,7 @@ impl Interpreter {
         }
     }
 
-    /// Writes a counter, or else the stack.
+    /// Writes a counter, otherwise the stack.
     pub(crate) fn store(
         &mut self,
         size: Size,
@@ -116,7 +116,7 @@ impl Interpreter {
         }
     }
 
-    /// Writes the low bytes of a number to the stack, and goes on.
+    /// Writes the low bytes of a number to the stack, and continues.
     fn store_bytes(&mut self, address: u64, count: u64, value: u64) -> Attempt
         requires room { HasRoom (state_of self.old) }
         requires count { count ≤ 8 }
@@ -132,7 +132,7 @@ impl Interpreter {
         Attempt::Going
     }
 
-    /// The number in R0 where the operation reads it, and else any.
+    /// The number in R0 if the operation reads it, otherwise any.
     fn expected(&self, op: AtomicOp) -> Option<u64>
         ensures { result ≡ counters.expected op (state_of self.now) }
     {
@@ -142,7 +142,7 @@ impl Interpreter {
         }
     }
 
-    /// What an atomic operation asks of which counter; none where it isn't defined.
+    /// The counter and the operation of an atomic instruction; `None` if it is undefined.
     fn atomic_asks(
         &self,
         op: AtomicOp,

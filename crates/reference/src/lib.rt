@@ -1,6 +1,6 @@
-//! The machine's semantics, executable: an interpreter with a mark for each register and byte that
-//! is unset, and an end that the machine does not define. It is slow and obvious, runs any program,
-//! accepted or not, and judges the machine that is fast.
+//! The machine's semantics, executable: an interpreter that marks each unset register and byte, and
+//! returns a trap for an undefined step. It is slow and simple, and runs any program, accepted or
+//! not; tests compare the fast machine with it.
 //!
 //! See docs/DECISIONS.md, "The machine".
 #![tactic(auto)]

@@ -1,4 +1,4 @@
-//! Addresses, and what is read at them.
+//! Addresses, and the numbers that are read at them.
 
 ghost use Rattle.std.specs.Prelude.{◌≡◌, ◌*◌, ◌+◌, ◌-◌, ◌<◌, ◌≤◌, ◌^◌, length};
 ghost use Rattle.bpf_insn.specs.Words as words;
@@ -13,7 +13,7 @@ use attrs::helper_attr_is;
 use bpf_insn::{Extension, LoadKind};
 use bpf_semantics::{CONTEXT_SIZE, CONTEXT_START, STACK_START, STACK_TOP, add_offset, load_count};
 
-/// Whether so many bytes from an address on lie in the context.
+/// Whether `count` bytes from `address` are in the context.
 fn in_context(address: u64, count: u64) -> bool
     requires { count ≤ 64 }
     ensures { result ≡ is_in_context address count }
@@ -21,7 +21,7 @@ fn in_context(address: u64, count: u64) -> bool
     CONTEXT_START <= address && address <= CONTEXT_START + CONTEXT_SIZE as u64 - count
 }
 
-/// Whether so many bytes from an address on lie in the stack.
+/// Whether `count` bytes from `address` are in the stack.
 pub fn in_stack(address: u64, count: u64) -> bool
     requires { count ≤ 512 }
     ensures { result ≡ is_in_stack address count }
@@ -29,7 +29,7 @@ pub fn in_stack(address: u64, count: u64) -> bool
     STACK_START <= address && address <= STACK_TOP - count
 }
 
-/// A number as a load fills a register with it: by zeroes, or by its sign.
+/// The number that a load puts into its register: zero-extended or sign-extended.
 fn fill(kind: LoadKind, number: u64) -> u64
     ensures { result ≡ reads.filled kind number }
 {
@@ -41,7 +41,7 @@ fn fill(kind: LoadKind, number: u64) -> u64
     }
 }
 
-/// The number whose bytes these are, the least first.
+/// The number with these bytes, lowest first.
 fn little_endian(bytes: &[u8]) -> u64
     requires { length bytes.now ≤ 8 }
     ensures value { result ≡ words.little_endian bytes.now }
@@ -54,8 +54,8 @@ fn little_endian(bytes: &[u8]) -> u64
 }
 
 impl Interpreter {
-    /// The number of the bytes at an address; none outside context and stack, or where a byte is
-    /// unset.
+    /// The number of the bytes at an address; `None` outside the context and the stack, or if a
+    /// byte is unset.
     pub fn number_at(&self, address: u64, count: u64) -> Option<u64>
         requires { count ≤ 8 }
         ensures { result ≡ read_at (state_of self.now) address count }
@@ -77,7 +77,7 @@ impl Interpreter {
         }
     }
 
-    /// What a load of context or stack gives.
+    /// The number that a load reads from the context or the stack.
     pub(crate) fn loaded(&self, kind: LoadKind, base: Option<u64>, offset: i16) -> Option<u64>
         ensures { result ≡ reads.loaded (state_of self.now) kind base offset }
     {
@@ -86,8 +86,8 @@ impl Interpreter {
         Some(fill(kind, number))
     }
 
-    /// `attr_is`: whether an attribute's bytes are those at an address of the stack, at most 64. Of
-    /// no bytes nothing is asked.
+    /// `attr_is`: whether an attribute's bytes are the `count` bytes at an address of the stack, at
+    /// most 64. If `count` is 0, any address is allowed.
     pub(crate) fn compared(&self, number: u64, address: u64, count: u64) -> Option<u64>
         ensures { result ≡ calls.compared (state_of self.now) number address count }
     {

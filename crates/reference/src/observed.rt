@@ -1,9 +1,9 @@
-//! What is seen of a step.
+//! The observable result of a step, and of a run.
 
 use cells::CellEvent;
 
-/// It goes on, it goes on with an event on a counter, it ends the run with a choice, or it is
-/// nothing that the machine defines.
+/// The run continues, continues with an event on a counter, ends with a choice, or has an undefined
+/// step.
 #[derive(Clone, Copy, Debug, PartialEq, Eq)]
 pub enum Observed {
     Going,
@@ -12,8 +12,7 @@ pub enum Observed {
     Trap,
 }
 
-/// What a run of so many steps at most comes to: a choice, a step that the machine does not define,
-/// or no end yet.
+/// The result of a run with a limit of steps: a choice, an undefined step, or no end yet.
 #[derive(Clone, Copy, Debug, PartialEq, Eq)]
 pub enum RunEnd {
     Choice(u64),

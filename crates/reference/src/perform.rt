@@ -62,7 +62,7 @@ impl Interpreter {
         Some(order.reorder(size, self.register(dst)?))
     }
 
-    /// Whether a condition holds of a register and an operand.
+    /// Whether a condition holds for a register and an operand.
     fn holds(&self, bits: Bits, condition: Condition, left: Reg, right: Operand) -> Option<bool>
         ensures { let s = state_of self.now in
             let test = conditions.holds bits condition in
@@ -71,7 +71,7 @@ impl Interpreter {
         Some(condition.holds(bits, self.register(left)?, self.operand(bits, right)?))
     }
 
-    /// One instruction of a program for an app of this shape.
+    /// Executes one instruction of a program for an app of this shape.
     pub(crate) fn perform(&mut self, shape: &Shape, insn: Insn) -> Attempt
         requires { HasRoom (state_of self.old) }
         ensures { let s = state_of self.old in

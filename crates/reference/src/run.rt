@@ -1,5 +1,5 @@
-//! A whole run of any program, of so many steps at most: a program that isn't accepted may go on
-//! without end.
+//! A whole run of any program, with a limit of steps: a program that isn't accepted may run
+//! forever.
 
 ghost use Rattle.std.specs.Prelude.{◌+◌, ◌<◌, ◌≤◌, ◌^◌, List, length};
 ghost use Rattle.cells.specs.Grown.{GrewBy};
@@ -15,7 +15,7 @@ use bpf_semantics::counts_instructions;
 use cells::{CellSteps, Shape, growth};
 
 impl Interpreter {
-    /// So many steps at most of a program of at most 4096 slots, for an app of this shape.
+    /// Runs at most `limit` steps of a program of at most 4096 slots, for an app of this shape.
     // open: which replies the counters give.
     pub fn run<C: CellSteps>(
         &mut self,

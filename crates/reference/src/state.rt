@@ -1,4 +1,4 @@
-//! The state of a run, as contracts see it in the semantics: what is unset is `None`.
+//! The state of a run. In contracts it is a state of the semantics, in which `None` means unset.
 
 ghost use Rattle.std.specs.Prelude.{◌≡◌, ℕ, ◌+◌, ◌<◌, ◌≤◌, ◌-◌, ◌^◌, length};
 ghost use Rattle.std.specs.Prelude.{if◌then◌else◌, Some, None};
@@ -48,7 +48,7 @@ impl Interpreter {
         self.slot
     }
 
-    /// How many instructions were done.
+    /// The number of instructions so far.
     pub fn count(&self) -> u64
         ensures { result ≡ (state_of self.now).count }
     {
@@ -62,7 +62,7 @@ impl Interpreter {
         &self.attrs
     }
 
-    /// What a register has, if it is set.
+    /// The number in a register, if it is set.
     pub fn register(&self, register: Reg) -> Option<u64>
         ensures { result ≡ reads.register (state_of self.now) register }
     {
@@ -88,7 +88,7 @@ impl Interpreter {
         self.registers[5] = None;
     }
 
-    /// Goes on at a slot, with one instruction more done.
+    /// Continues at a slot, and counts one instruction.
     pub(crate) fn go(&mut self, slot: usize)
         requires { (state_of self.old).count < 2 ^ 64 - 1 }
         ensures { state_of self.new ≡ moved_to (state_of self.old) slot }
@@ -97,7 +97,7 @@ impl Interpreter {
         self.count += 1;
     }
 
-    /// Sets the bytes of the stack from a place on to the low bytes of a number, the least first.
+    /// Sets the bytes of the stack from `place` to the low bytes of a number, lowest first.
     pub(crate) fn put(&mut self, place: usize, count: usize, value: u64)
         requires { place + count ≤ 512 }
         ensures { state_of self.new ≡ with_stack (state_of self.old) place count value }
@@ -105,7 +105,7 @@ impl Interpreter {
         put_bytes(&mut self.stack, place, count, value);
     }
 
-    /// Reads the bytes of the stack from a place on, and says whether all of them are set.
+    /// Reads the bytes of the stack from `place`, and returns whether all of them are set.
     pub(crate) fn read(&self, place: usize, into: &mut [u8]) -> bool
         requires { place + length into.old ≤ 512 }
         ensures { let s = state_of self.now in
@@ -125,7 +125,7 @@ fn opening_marks() -> [Option<u64>; 11]
     marks
 }
 
-// A stack of which no byte is set.
+// A stack with no byte set.
 fn unset_marks() -> [Option<u8>; STACK_SIZE as usize]
     ensures { (k : ℕ) → mark_at result k ≡ None }
 {
@@ -146,7 +146,7 @@ fn put_bytes(marks: &mut [Option<u8>], place: usize, count: usize, value: u64)
     }
 }
 
-// Reads marks, and says whether all of them are set.
+// Reads marks, and returns whether all of them are set.
 fn read_bytes(marks: &[Option<u8>], place: usize, into: &mut [u8]) -> bool
     requires { place + length into.old ≤ length marks.now }
     ensures { let bytes = set_bytes (mark_at marks.now) place (length into.old) in

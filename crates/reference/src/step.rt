@@ -14,7 +14,7 @@ use bpf_insn::Insn;
 use cells::{CellEvent, CellSteps, Shape};
 
 impl Interpreter {
-    /// One step of a program of at most 4096 slots, for an app of this shape.
+    /// Executes one step of a program of at most 4096 slots, for an app of this shape.
     // open: which reply the counter gives.
     pub fn step<C: CellSteps>(
         &mut self,
@@ -44,7 +44,7 @@ impl Interpreter {
         }
     }
 
-    /// The instruction at the slot, if there is one.
+    /// Executes the instruction at the slot, if there is one.
     fn attempt(&mut self, code: &[Option<Insn>], shape: &Shape) -> Attempt
         requires short { length code.now ≤ 4096 }
         requires count { (state_of self.old).count < 2 ^ 64 - 1 }

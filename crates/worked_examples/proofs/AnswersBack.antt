@@ -1,4 +1,4 @@
--- Of the answers by which an entry that looks back covers a state, those before it are enough.
+-- If an entry names only earlier calls and covers a state, only the results of those calls matter.
 use Rattle.std.proofs.Common.{◌≡◌, ℕ, ◌<◌, Option, Some, None, true, false, refl, arith}
 use Rattle.std.specs.Prelude.{nat_lt, if◌then◌else◌}
 use Rattle.bpf_semantics.specs.Program.{ShapedProgram}
@@ -18,7 +18,7 @@ use Rattle.bpf_verify.specs.Accepted.{entry_of}
 use Rattle.worked_examples.specs.LooksBack.{LooksBack, SlotLooksBack, StateLooksBack}
 use Rattle.worked_examples.proofs.EntriesBack.{entries_back}
 
--- the answers of the calls before a slot
+-- the results of the calls before a slot
 abbrev before : ℕ → Returns → Returns
 before s g = record g { by = λ call. if nat_lt call s then g.by call else None }
 

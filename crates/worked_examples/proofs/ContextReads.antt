@@ -1,4 +1,4 @@
--- What a run reads of the context, whatever the attributes are.
+-- What a run reads from the context, for all attributes.
 use Rattle.std.proofs.Common.{◌≡◌, ℕ, ◌+◌, ◌*◌, ◌/◌, ◌%◌, ◌^◌, ◌<◌}
 use Rattle.std.proofs.Common.{Some, refl, ap, arith, slice_index}
 use Rattle.attrs.specs.Attributes.{Attributes}
@@ -13,7 +13,7 @@ pub bucket_read : (a : Attributes) → a.context.bucket < 2 ^ 16
 unfolding context_bytes
 bucket_read a h = ap Some (two_bytes a.context.bucket h)
 
--- the number that its low four bytes make
+-- the number of its low four bytes
 abbrev four_bytes : ℕ → ℕ
 four_bytes n = n % 256
     + 256 * (n / 256 ^ 1 % 256 + 256 * (n / 256 ^ 2 % 256 + 256 * (n / 256 ^ 3 % 256 + 256 * 0)))

@@ -1,4 +1,4 @@
--- Each entry looks back: so each edge is made, and so edges are joined.
+-- Each entry names only earlier calls, since each edge does, and joins keep this.
 use Rattle.std.proofs.Common.{◌≡◌, ℕ, zero, suc, ◌<◌, List, [], ◌∷◌, ◌++◌}
 use Rattle.std.proofs.Common.{Option, Some, None, Bool, true, false, subst, arith}
 use Rattle.std.specs.Prelude.{IfSome, ◌==◌, if◌then◌else◌}
@@ -88,7 +88,7 @@ going_on_back s place shape e (JumpIf bits condition left right offset) lt h =
     state.refined_back s e bits condition left right false h
 going_on_back s place shape e i lt h = after_back s place shape e i lt h
 
--- ---- edges that are joined
+-- ---- joined edges
 
 AllLookBack : ℕ → List AbsState → Type 0
 AllLookBack s es = AllByRecursion (StateLooksBack s) es
@@ -154,7 +154,7 @@ edges_back shape k (Some e) (Some i) h =
 edges_back shape k (Some e) None h = tt
 edges_back shape k None w h = tt
 
--- what comes from places before k looks back from k
+-- the entries on edges from slots before k name only calls before k
 incoming_back : (p : ShapedProgram) (k m : ℕ) → AllLookBack k (incoming p k m)
 unfolding incoming AllLookBack
 incoming_back p zero m = if_back zero (m == 0) opening_state [] (state.opening_back zero) tt

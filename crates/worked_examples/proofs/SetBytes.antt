@@ -1,4 +1,4 @@
--- A store sets exactly the bytes that it writes, and leaves the other slots as they are.
+-- A store sets exactly the bytes that it writes, and leaves the other slots unchanged.
 use Rattle.std.proofs.Common.{◌≡◌, ◌≢◌, ℕ, ◌+◌, ◌-◌, ◌*◌, ◌/◌, ◌%◌, ◌^◌, ◌<◌, ◌≤◌}
 use Rattle.std.proofs.Common.{List, length, Bool, true, false, refl, sym}
 use Rattle.std.proofs.Common.{ap, ◌∙◌, arith, inl, inr, get_or-set_other}
@@ -51,7 +51,7 @@ high_bit m k = ap (λ n. n % 2) (shr-shr m 8 k)
 either_bit : (m n t : ℕ) → has_bit (bit_or m n) t ≡ (has_bit m t || has_bit n t)
 either_bit m n t = grind (arith, bit_at_or m n t, bit_at-lt m t, bit_at-lt n t)
 
--- ---- the bytes that are written, in the place's slot and in the next
+-- ---- the bytes that are written, in the slot of the place and in the next
 
 one_run : (place n byte : ℕ) → place % 8 + n ≤ 8
     → ((byte / 8 == place / 8) && has_bit (first_bits place n) (byte % 8))

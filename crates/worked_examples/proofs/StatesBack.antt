@@ -1,4 +1,4 @@
--- What an operation makes of a state that looks back looks back.
+-- If a state names only calls before a slot, so does each operation's result.
 use Rattle.std.proofs.Common.{◌≡◌, ℕ, zero, suc, ◌+◌, ◌/◌, ◌%◌, ◌<◌, ◌≤◌, ℤ, List, Option}
 use Rattle.std.proofs.Common.{Some, None, Bool, true, false, refl, sym, ap, subst, arith, inl, inr}
 use Rattle.std.proofs.Common.{map, replicate, length, get_or, set, get_or-set_other}
@@ -46,7 +46,7 @@ SlotsLookBack s slots = (i : ℕ) → SlotLooksBack s (slot_at slots i)
 
 -- ---- lists
 
--- what holds of the new element and of the old ones holds of each after the change
+-- what holds for the new element and for the old ones holds for each element of the new list
 set_keeps : {X : Type 0} (P : X → Type 0) (xs : List X) (i : ℕ) (v d : X) (j : ℕ) → P v
     → P (get_or xs j d) → P (get_or (set xs i v) j d)
 set_keeps P xs i v d j new old = elim (cases_eq j i) [
@@ -57,7 +57,7 @@ set_keeps P xs i v d j new old = elim (cases_eq j i) [
   | inr apart ↦ subst P (sym (get_or-set_other xs i j v d apart)) old
 ]
 
--- of a list that is made index by index
+-- for a list that is made index by index
 made_keeps : {X : Type 0} (P : X → Type 0) (f : ℕ → X) (n : ℕ) (d : X) (j : ℕ) → P d
     → ((i : ℕ) → P (f i)) → P (get_or (map f (range_with_len 0 n)) j d)
 made_keeps P f n d j none all = elim (cases_lt j n) [
@@ -146,7 +146,7 @@ load_back s e place Double h = by_test (place % 8 == 0)
     by_test false = value.loaded Double s
 load_back s e place kind h = value.loaded kind s
 
--- ---- joins, and the start
+-- ---- joins, and the start of a run
 
 kept_slot_back : (s : ℕ) (v : Abs) → LooksBack s v → SlotLooksBack s (kept_slot v)
 kept_slot_back s Unusable h = tt

@@ -1,4 +1,4 @@
--- What is computed of values that look back looks back.
+-- If values name only calls before a slot, so does each computed value.
 use Rattle.std.proofs.Common.{ℕ, ℤ, pos, negsuc, ◌<◌, ◌≤◌}
 use Rattle.std.proofs.Common.{Option, Some, None, Bool, true, false, arith}
 use Rattle.std.specs.Prelude.{IfSome, option_map, slice_get, ◌==◌, if◌then◌else◌}
@@ -46,7 +46,7 @@ one_of : (s : ℕ) (b : Bool) (v w : Abs) → LooksBack s v → LooksBack s w
 one_of s true v w h k = h
 one_of s false v w h k = k
 
--- ---- what an instruction computes
+-- ---- the results of instructions
 
 in_context : (s : ℕ) (o : Option Places) → LooksBack s (or_unusable (option_map Ctx o))
 in_context s None = tt
@@ -126,7 +126,7 @@ joined_back s a b h k = tt
 
 -- ---- comparisons
 
--- what is left of two values on an edge
+-- the two narrowed values on an edge
 abbrev pub BothLookBack : ℕ → Option (Abs × Abs) → Type 0
 BothLookBack s o = IfSome o (λ p. LooksBack s p.0 × LooksBack s p.1)
 

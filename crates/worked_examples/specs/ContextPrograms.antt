@@ -1,4 +1,4 @@
--- Programs that read the context, whose runs were worked out by hand.
+-- Programs that read the context, with runs worked out by hand.
 use Rattle.std.specs.Prelude.{[], ◌∷◌, pos}
 use Rattle.bpf_insn.specs.declared.reg.Reg.TheVariants.{R0, R1, R2}
 use Rattle.bpf_insn.specs.declared.operand.Bits.TheVariants.{Bits64, Bits32}

@@ -1,5 +1,4 @@
--- Programs over counters and helpers whose runs were worked out by hand, and the shapes they run
--- under.
+-- Programs over counters and helpers with runs worked out by hand, and their shapes.
 use Rattle.std.specs.Prelude.{◌≡◌, ℕ, ℤ, pos, negsuc, List, [], ◌∷◌, Option, None, Some}
 use Rattle.bpf_insn.specs.declared.reg.Reg.TheVariants.{R0, R1, R2, R3, R6, R10}
 use Rattle.bpf_insn.specs.declared.operand.AluOp.TheVariants.{Add, And}
@@ -35,7 +34,7 @@ array w base count quota =
 abbrev pub over : CellArray → Program → ShapedProgram
 over a p = record { code = p; shape = record { releases = 2; arrays = a ∷ [] } }
 
--- four counters of 64 bits, one of 32, and one of 64 with a quota
+-- four 64-bit counters, one 32-bit counter, and one 64-bit counter with a quota
 abbrev pub four_wide : CellArray
 four_wide = array width.Bits64 0 4 None
 
@@ -84,14 +83,14 @@ narrow_program = layout (
     ∷ Mov Bits64 R3 (Imm (pos 5)) ∷ Atomic atomic.CompareExchange atomic_size.Word R6 R3 (pos 0)
     ∷ Alu Bits64 And R0 (Imm (pos 1)) ∷ Exit ∷ [])
 
--- the same up to faddw, and then mov r0, r2 / exit
+-- the same up to faddw, followed by mov r0, r2 / exit
 abbrev pub fetched_program : Program
 fetched_program = layout (
     Wide R6 (Cell (pos 0) (pos 0)) ∷ Mov Bits32 R2 (Imm (negsuc 0)) ∷ Store size.Word R6 R2 (pos 0)
     ∷ Mov Bits64 R2 (Imm (pos 1)) ∷ Atomic atomic.FetchAdd atomic_size.Word R6 R2 (pos 0)
     ∷ Mov Bits64 R0 (Register R2) ∷ Exit ∷ [])
 
--- the events of the first on a counter that opens at 0: stored, added to, exchanged
+-- the events of the first on a counter that is 0 at first: a store, an addition, an exchange
 abbrev pub narrow_events : List CellEvent
 narrow_events =
     event 4096 (cell.Store 0xFFFFFFFF) 0 ∷ event 4096 (cell.Add 1) 0xFFFFFFFF
@@ -116,7 +115,7 @@ uncut_program = layout (
     ∷ Store size.Word R6 R2 (pos 0) ∷ Atomic atomic.Add atomic_size.Word R6 R2 (pos 0)
     ∷ Mov Bits64 R0 (Imm (pos 0)) ∷ Exit ∷ [])
 
--- its events where the counter replies so to the addition
+-- its events, with this reply to the addition
 abbrev pub cut_events : ℕ → List CellEvent
 cut_events reply =
     event 4096 (cell.Store 0xFFFFFFFF) 0 ∷ event 4096 (cell.Add 0xFFFFFFFF) reply ∷ []
@@ -130,16 +129,17 @@ version_is_program = layout (
     ∷ Mov Bits64 R2 (Register R10)
     ∷ Alu Bits64 Add R2 (Imm (negsuc 7)) ∷ Mov Bits64 R3 (Imm (pos 1)) ∷ Call (pos 2) ∷ Exit ∷ [])
 
--- ---- what is said of them
+-- ---- statements about the programs
 
--- from the opening state, whatever the attributes are
+-- from the opening state, for all attributes
 abbrev pub EndsOver : CellArray → Program → List CellEvent → ℕ → ℕ → Type 0
 EndsOver a p es choice count = (b : Attributes) → Ends (over a p) (opening b) es choice count
 
 abbrev pub TrapsOver : CellArray → Program → ℕ → Type 0
 TrapsOver a p count = (b : Attributes) → Traps (over a p) (opening b) [] count
 
--- the events reply by one counter's values from the first on, and leave it the others one by one
+-- the events' replies follow from the counter's first value v, and the values after each event are
+-- these
 abbrev pub AreValues : ℕ → List CellEvent → List ℕ → Type 0
 AreValues v [] [] = Unit {0}
 AreValues v (e ∷ es) (w ∷ ws) =

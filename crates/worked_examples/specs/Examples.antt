@@ -1,4 +1,4 @@
--- Stacks, lookups and states of the worked examples.
+-- Stacks, lookups and states for the worked examples.
 use Rattle.std.specs.Prelude.{ℕ, List, replicate, Option, option_map, Bool}
 use Rattle.bpf_insn.specs.declared.reg.Reg.TheVariants.{R0, R6}
 use Rattle.bpf_insn.specs.declared.operand.Bits.{Bits}
@@ -19,11 +19,11 @@ use Rattle.abs_value.specs.Stack.{stored, slot_at}
 use Rattle.abs_value.specs.States.{value_at, with_value, with_stored, opening_state}
 use Rattle.abs_value.specs.Lookups.{refined_state}
 
--- a number from the first to the second, of which no more is known
+-- a number from lo to hi, with no more known
 abbrev pub span : ℕ → ℕ → Number
 span lo hi = tidied (interval lo hi) (any_of Bits64)
 
--- a number from lo to hi that has the bits of one, and may have those of the other
+-- a number from lo to hi that has the bits of `has`, and may have those of `may_have`
 abbrev pub with_bits : ℕ → ℕ → ℕ → ℕ → Number
 with_bits lo hi has may_have = number (interval lo hi) (known has may_have)
 
@@ -37,7 +37,7 @@ second = record { array = 0; slot = 9 }
 abbrev pub elsewhere : Lookup
 elsewhere = record { array = 7; slot = 4 }
 
--- where a run starts
+-- the stack at the start of a run
 abbrev pub no_bytes : List AbsSlot
 no_bytes = replicate 64 (Bytes 0)
 
@@ -45,7 +45,7 @@ no_bytes = replicate 64 (Bytes 0)
 abbrev pub kept_at_end : List AbsSlot
 kept_at_end = stored no_bytes 504 8 (Num (single 7))
 
--- 8 bytes of which 4 lie in the last slot
+-- 8 bytes, 4 of them in the last slot
 abbrev pub two_halves : List AbsSlot
 two_halves = stored no_bytes 500 8 (Num (single 7))
 
@@ -53,7 +53,7 @@ two_halves = stored no_bytes 500 8 (Num (single 7))
 abbrev pub holding : Abs → Abs → AbsState
 holding a b = with_stored (with_value (with_value opening_state R0 a) R6 b) 504 8 b
 
--- these three
+-- these three values
 abbrev pub three : AbsState → Abs × Abs × AbsSlot
 three e = (value_at e 0, value_at e 6, slot_at e.stack 63)
 

@@ -1,4 +1,4 @@
--- Where the calls lie whose answers an entry names: before the slot at which it is known.
+-- The calls whose results an entry names are before its slot.
 use Rattle.std.specs.Prelude.{◌≡◌, ℕ, ◌<◌, ℤ, Option, Some, IfSome, Bool}
 use Rattle.bpf_insn.specs.declared.insn.Insn.{Insn}
 use Rattle.bpf_insn.specs.declared.operand.AluOp.{AluOp}
@@ -31,9 +31,9 @@ use Rattle.bpf_checks.specs.Arrays.{wide_abs}
 use Rattle.bpf_checks.specs.Transfer.{jumping, going_on}
 use Rattle.bpf_verify.specs.Accepted.{entry_of}
 
--- ---- what is known
+-- ---- abstract values
 
--- where the value is what a lookup answered, its call lies before the slot
+-- if the value is a lookup's result, the call is before the slot
 abbrev pub LooksBack : ℕ → Abs → Type 0
 LooksBack s (MayCell call) = call.slot < s
 LooksBack s (Cell (Found call)) = call.slot < s
@@ -43,14 +43,14 @@ abbrev pub SlotLooksBack : ℕ → AbsSlot → Type 0
 SlotLooksBack s (Kept v) = LooksBack s v
 SlotLooksBack s (Bytes mask) = Unit {0}
 
--- so does that of each value in a register, or kept in the stack
+-- also for each value in a register or a stack slot
 pub record StateLooksBack (s : ℕ) (e : AbsState) : Type 0 where
   pub registers : (r : ℕ) → LooksBack s (value_at e r)
   pub stack : (i : ℕ) → SlotLooksBack s (slot_at e.stack i)
 
--- ---- values that are computed
+-- ---- computed values
 
--- it looks back from each slot, so it is the answer of no lookup
+-- true for each slot, so the value isn't a lookup's result
 abbrev pub OfNoLookup : Abs → Type 0
 OfNoLookup v = (s : ℕ) → LooksBack s v
 
@@ -74,7 +74,7 @@ abbrev pub WideNameNone : Type 0
 WideNameNone =
     (shape : AppShape) (value : WideValue) → OfNoLookup (or_unusable (wide_abs shape value))
 
--- a copy of an answer is that answer
+-- a copy of a lookup's result is that result
 abbrev pub CopiesLookBack : Type 0
 CopiesLookBack = (s : ℕ) (bits : Bits) (a : Abs) → LooksBack s a → LooksBack s (copied_value bits a)
 
@@ -108,14 +108,14 @@ JoinsLookBack =
     (s : ℕ) (e f : AbsState)
     → StateLooksBack s e → StateLooksBack s f → StateLooksBack s (join_states e f)
 
--- on both edges of a comparison, that of a lookup's answer with 0 too
+-- on both edges of a comparison, also of a lookup's result with 0
 abbrev pub RefinedLooksBack : Type 0
 RefinedLooksBack =
     (s : ℕ) (e : AbsState) (bits : Bits) (condition : Condition)
     (left : Reg) (right : Operand) (jumps : Bool) → StateLooksBack s e
     → IfSome (refined_state e bits condition left right jumps) (StateLooksBack s)
 
--- what a call before the slot leaves: its own answer, where it is a lookup
+-- after a call before the slot: its own result, if it is a lookup
 abbrev pub CallsLookBack : Type 0
 CallsLookBack =
     (s call : ℕ) (e : AbsState) (helper : ℤ)
@@ -129,18 +129,18 @@ JumpingLooksBack =
     (s : ℕ) (e : AbsState) (i : Insn)
     → StateLooksBack s e → IfSome (jumping e i) (StateLooksBack s)
 
--- on the edge that goes on from a place before the slot
+-- on the fall-through edge of a slot before s
 abbrev pub GoingOnLooksBack : Type 0
 GoingOnLooksBack =
     (s place : ℕ) (shape : AppShape) (e : AbsState) (i : Insn)
     → place < s → StateLooksBack s e → IfSome (going_on shape place e i) (StateLooksBack s)
 
--- the entry of a place names only lookups before it, whichever way the program's jumps lead
+-- the entry of a slot names only lookups before it, wherever the program's jumps lead
 abbrev pub EntriesLookBack : Type 0
 EntriesLookBack =
     (p : ShapedProgram) (s : ℕ) (e : AbsState) → entry_of p s ≡ Some e → StateLooksBack s e
 
--- so given whatever answers an entry covers a state, those of the calls before it are enough
+-- so if an entry covers a state for any results, those of the calls before it suffice
 abbrev pub CoversAreBefore : Type 0
 CoversAreBefore =
     (p : ShapedProgram) (s : State) (e : AbsState) (by : ℕ → Option ℕ)

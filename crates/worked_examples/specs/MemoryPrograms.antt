@@ -1,4 +1,4 @@
--- Programs of loads and stores on the stack whose runs were worked out by hand.
+-- Programs of loads and stores on the stack, with runs worked out by hand.
 use Rattle.std.specs.Prelude.{[], ◌∷◌, ℤ, pos, negsuc}
 use Rattle.bpf_insn.specs.declared.reg.Reg.TheVariants.{R0, R2, R10}
 use Rattle.bpf_insn.specs.declared.operand.AluOp.TheVariants.{And}
@@ -56,7 +56,7 @@ stdw_program =
     layout (StoreImm size.Double R10 (negsuc 7) (negsuc 1) ∷ Load load.Word R0 R10 (negsuc 3)
     ∷ Exit ∷ [])
 
--- ---- how a load fills 64 bits, at the top of the stack
+-- ---- how a load extends to 64 bits, at the top of the stack
 
 -- STORE [r10+offset], -2 / LOAD r0, [r10+offset] / exit
 abbrev pub negative_program : Size → LoadKind → ℤ → Program

@@ -1,4 +1,4 @@
--- Programs of arithmetic and jumps whose runs were worked out by hand.
+-- Programs of arithmetic and jumps, with runs worked out by hand.
 use Rattle.std.specs.Prelude.{[], ◌∷◌, pos, negsuc}
 use Rattle.bpf_insn.specs.declared.reg.Reg.TheVariants.{R0, R2}
 use Rattle.bpf_insn.specs.declared.operand.AluOp.TheVariants.{Add, And, Lsh, Rsh}

@@ -1,4 +1,4 @@
--- Which bytes of the stack are set after a store, and which slots it leaves as they are.
+-- Which bytes of the stack are set after a store, and which slots are unchanged.
 use Rattle.std.specs.Prelude.{◌≡◌, ℕ, ◌+◌, ◌*◌, ◌/◌, ◌<◌, ◌≤◌, List, length}
 use Rattle.std.specs.Prelude.{Bool, false, ◌&&◌, ◌||◌, nat_le, nat_lt}
 use Rattle.bpf_semantics.specs.Memory.{stack_size}
@@ -6,11 +6,11 @@ use Rattle.abs_value.specs.declared.slot.AbsSlot.{AbsSlot}
 use Rattle.abs_value.specs.declared.value.Abs.{Abs}
 use Rattle.abs_value.specs.Stack.{slot_at, is_set, stored}
 
--- one of n bytes from a place on
+-- one of n bytes from a place
 abbrev pub is_written : ℕ → ℕ → ℕ → Bool
 is_written place n byte = nat_le place byte && nat_lt byte (place + n)
 
--- of a store within the stack, of at most 8 bytes and of any value: each byte is set afterwards
+-- for a store of at most 8 bytes within the stack, and any value: each byte is set afterwards
 -- exactly if it was set before, or is written
 abbrev pub StoresSetTheirBytes : Type 0
 StoresSetTheirBytes =
@@ -18,7 +18,7 @@ StoresSetTheirBytes =
     → 8 * length slots ≡ stack_size → n ≤ 8 → place + n ≤ stack_size
     → is_set (stored slots place n v) byte ≡ (is_set slots byte || is_written place n byte)
 
--- a slot of which no byte is written keeps what is known of it, a value too
+-- a slot of which no byte is written is unchanged, also if it keeps a value
 abbrev pub OtherSlotsStay : Type 0
 OtherSlotsStay =
     (slots : List AbsSlot) (place n i : ℕ) (v : Abs)

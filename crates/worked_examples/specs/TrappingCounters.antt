@@ -1,4 +1,4 @@
--- Programs over counters and helpers that do what the machine does not define.
+-- Programs over counters and helpers with an undefined step.
 use Rattle.std.specs.Prelude.{ℕ, ℤ, pos, negsuc, List, [], ◌∷◌}
 use Rattle.bpf_insn.specs.declared.reg.Reg.{Reg}
 use Rattle.bpf_insn.specs.declared.reg.Reg.TheVariants.{R1, R2, R3, R6, R10}
@@ -13,11 +13,11 @@ use Rattle.bpf_insn.specs.declared.insn.Insn.{Insn}
 use Rattle.bpf_insn.specs.declared.insn.Insn.TheVariants.{Alu, Mov, Call, StoreImm, Atomic, Wide}
 use Rattle.bpf_insn.specs.Program.{Program, layout}
 
--- ldcell r6, 0, 0 / mov r2, 1 and then these
+-- ldcell r6, 0, 0 / mov r2, 1, followed by these
 abbrev pub on_cell : List Insn → Program
 on_cell rest = layout (Wide R6 (Cell (pos 0) (pos 0)) ∷ Mov Bits64 R2 (Imm (pos 1)) ∷ rest)
 
--- lddw r6, ADDRESS / mov r2, 1 and then these
+-- lddw r6, ADDRESS / mov r2, 1, followed by these
 abbrev pub on_address : ℕ → List Insn → Program
 on_address address rest = layout (Wide R6 (Number address) ∷ Mov Bits64 R2 (Imm (pos 1)) ∷ rest)
 
@@ -44,7 +44,7 @@ compare_program place count = layout (
     ∷ Mov Bits64 R2 (Register R10)
     ∷ Alu Bits64 Add R2 (Imm place) ∷ Mov Bits64 R3 (Imm count) ∷ Call (pos 2) ∷ [])
 
--- call 3, which leaves R1 to R5 unset, and then these
+-- call 3, which leaves R1 to R5 unset, followed by these
 abbrev pub behind_call : List Insn → Program
 behind_call rest = layout (Call (pos 3) ∷ rest)
 

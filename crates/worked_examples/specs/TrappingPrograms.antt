@@ -1,4 +1,4 @@
--- Programs that do what the machine does not define: their runs come to Trap.
+-- Programs with an undefined step: their runs end with Trap.
 use Rattle.std.specs.Prelude.{[], ◌∷◌, pos, negsuc}
 use Rattle.bpf_insn.specs.declared.reg.Reg.TheVariants.{R0, R2, R3, R10}
 use Rattle.bpf_insn.specs.declared.operand.AluOp.TheVariants as alu
@@ -21,7 +21,7 @@ use Rattle.bpf_insn.specs.Program.{Program, layout}
 abbrev pub single : Insn → Program
 single i = layout (i ∷ [])
 
--- ---- an unset register is read; at the opening only R1 and R10 are set
+-- ---- an unset register is read; in the opening state only R1 and R10 are set
 
 -- exit
 abbrev pub exit_program : Program

@@ -1,5 +1,5 @@
-//! The formulas of arithmetic on numbers that were worked out by hand (RFC 9669, "Arithmetic
-//! Instructions" and "Byte Swap Instructions").
+//! The formulas of arithmetic on numbers worked out by hand (RFC 9669, "Arithmetic Instructions"
+//! and "Byte Swap Instructions").
 
 ghost use Rattle.std.specs.Prelude.{◌≡◌, pos, negsuc};
 ghost use Rattle.bpf_insn.specs.declared.operand.AluOp.TheVariants.{Add, Sub, Or, And};
@@ -12,7 +12,8 @@ ghost use Rattle.bpf_insn.specs.declared.operand.Extension.TheVariants.{Word64, 
 ghost use Rattle.bpf_insn.specs.Words.{immediate};
 ghost use Rattle.bpf_insn.specs.Arithmetic.{alu_result, negated, extended, reordered};
 
-/// Sums and differences wrap, in 32 bits of the low halves alone: `add`, `add32`, `sub`, `sub32`.
+/// Sums and differences wrap; with 32 bits only the low halves count: `add`, `add32`, `sub`,
+/// `sub32`.
 pub fn sums()
     ensures add { alu_result Bits64 Add 0xFFFFFFFFFFFFFFFF 2 ≡ 1 }
     ensures add_carries { alu_result Bits64 Add 0xFFFFFFFF 1 ≡ 0x100000000 }
@@ -31,7 +32,7 @@ pub fn negations()
     ensures low_half { negated Bits32 0x7FFFFFFFE ≡ 2 }
 {}
 
-/// `or`, `and`, `xor`, and in 32 bits of the low halves alone.
+/// `or`, `and`, `xor`; with 32 bits only the low halves count.
 pub fn bit_operations()
     ensures or { alu_result Bits64 Or 0xF0F000000000F0F0 0x0FF0 ≡ 0xF0F000000000FFF0 }
     ensures and { alu_result Bits64 And 0xF0F000000000F0F0 0xFF00000000000FF0 ≡ 0xF0000000000000F0 }
@@ -41,7 +42,7 @@ pub fn bit_operations()
     ensures xor32 { alu_result Bits32 Xor 0x700000003 0x900000002 ≡ 1 }
 {}
 
-/// `lsh` and `rsh` mask their count by 63, and in 32 bits by 31.
+/// `lsh` and `rsh` mask their count by 63, or with 32 bits by 31.
 pub fn shifts()
     ensures lsh { alu_result Bits64 Lsh 3 63 ≡ 0x8000000000000000 }
     ensures lsh_masked { alu_result Bits64 Lsh 3 65 ≡ 6 }
@@ -65,7 +66,7 @@ pub fn arithmetic_shifts()
     ensures positive_of_32 { alu_result Bits32 Arsh 0xFFFFFFFF7FFFFFFF 4 ≡ 0x07FFFFFF }
 {}
 
-/// `movsx8`, `movsx16`, `movsx32`, and `movsx8w`, `movsx16w`, which leave the upper half 0.
+/// `movsx8`, `movsx16`, `movsx32`, and `movsx8w`, `movsx16w`, which make the upper half 0.
 pub fn sign_extensions()
     ensures movsx8 { extended Byte64 0x180 ≡ 0xFFFFFFFFFFFFFF80 }
     ensures movsx8_positive { extended Byte64 0xFFFFFFFFFFFFFF7F ≡ 0x7F }
@@ -93,7 +94,7 @@ pub fn byte_orders()
     ensures swap64 { reordered Swap Double 0x0102030405060708 ≡ 0x0807060504030201 }
 {}
 
-/// An imm as an operand: sign-extended to 64 bits, or its own 32 bits.
+/// An imm as an operand: sign-extended to 64 bits, or as 32 bits.
 pub fn immediates()
     ensures minus_one { immediate Bits64 (negsuc 0) ≡ 0xFFFFFFFFFFFFFFFF }
     ensures lowest { immediate Bits64 (negsuc 2147483647) ≡ 0xFFFFFFFF80000000 }

@@ -1,5 +1,5 @@
-//! Known bits that were worked out by hand: what they and an interval tell one another, once, and
-//! what operations and JSET leave of them.
+//! Known bits worked out by hand: how they and an interval tighten each other, once, and the known
+//! bits after operations and JSET.
 
 ghost use Rattle.std.specs.Prelude.{◌≡◌, true, false, Some, None};
 ghost use Rattle.bpf_insn.specs.declared.operand.AluOp.TheVariants.{Add, And, Or, Xor, Lsh, Rsh};
@@ -12,9 +12,9 @@ ghost use Rattle.abs_value.specs.Numbers.{single, up_to, tidy, is_empty, tidied,
 ghost use Rattle.abs_value.specs.Results.{alu_number, copied_number};
 ghost use Rattle.abs_value.specs.Narrowing.{narrowed};
 
-/// The ends move in to the bits, and then the bits above those in which the ends differ are known:
-/// once, so what is tidy may move on where it is made tidy again. Then a join of a number with
-/// itself isn't that number.
+/// The ends move in to the bits, and then the bits above those in which the ends differ are known.
+/// This is done once, so tidying a tidied number may change it again. Then the join of a number
+/// with itself isn't that number.
 pub fn tidied_once()
     ensures to_the_bits { tidy (interval 1 255) (known 4 12) ≡ with_bits 4 12 4 12 }
     ensures from_the_ends { tidy (interval 8 9) (known 0 255) ≡ with_bits 8 9 8 9 }
@@ -27,8 +27,8 @@ pub fn tidied_once()
         ≡ with_bits 5 7 5 7 }
 {}
 
-/// No number from 4 to 6 has the bits of 3: that is found where it is made tidy again. A result or
-/// a join then stays as it was computed, and only an edge is dropped.
+/// No number from 4 to 6 has the bits of 3. This is found only by tidying again. Then a result or a
+/// join stays as it was computed, and only an edge is dropped.
 pub fn found_empty()
     ensures not_at_once { tidied (interval 4 6) (known 3 255) ≡ with_bits 4 6 7 7 }
     ensures again { is_empty (tidy (interval 4 6) (known 7 7)) ≡ true }
@@ -38,8 +38,8 @@ pub fn found_empty()
     ensures dropped { narrowed Bits64 Eq false (with_bits 4 6 7 7) (up_to 255) ≡ None }
 {}
 
-/// Of AND, OR and XOR each bit by itself, of shifts what stays; of sums nothing. A join knows what
-/// both sides know alike.
+/// AND, OR and XOR know each bit separately, and shifts the bits that remain; sums know none. A
+/// join knows the bits that both sides know to be the same.
 pub fn bit_by_bit()
     ensures and { alu_number Bits64 And (with_bits 0 5 0 5) (single 6) ≡ with_bits 0 4 0 4 }
     ensures or { alu_number Bits64 Or (with_bits 0 4 0 4) (single 1) ≡ with_bits 1 5 1 5 }
@@ -54,8 +54,8 @@ pub fn bit_by_bit()
     ensures joined { join_numbers (with_bits 0 4 0 4) (with_bits 1 3 1 3) ≡ with_bits 0 4 0 7 }
 {}
 
-/// On the edge of JSET that goes on no bit of a single number is there; on the one that jumps one
-/// is, and which is known where there is one alone.
+/// On the fall-through edge of JSET, no bit of a single number is set. On the edge that jumps at
+/// least one is, and it is known if there is only one.
 pub fn bits_in_common()
     ensures goes_on { narrowed Bits64 Set false (up_to 3) (single 2) ≡ Some (up_to 1, single 2) }
     ensures jumps { narrowed Bits64 Set true (up_to 3) (single 2)

@@ -1,5 +1,5 @@
-//! The conditions of jumps on numbers that were worked out by hand (RFC 9669, "Jump Instructions").
-//! 0xFFFFFFFFFFFFFFFF is -1 as a signed number, and 0xFFFFFFFFFFFFFFFE is -2.
+//! The conditions of jumps on numbers worked out by hand (RFC 9669, "Jump Instructions"). As signed
+//! numbers 0xFFFFFFFFFFFFFFFF is -1, and 0xFFFFFFFFFFFFFFFE is -2.
 
 ghost use Rattle.std.specs.Prelude.{IsTrue, IsFalse};
 ghost use Rattle.bpf_insn.specs.declared.operand.Bits.TheVariants.{Bits64, Bits32};
@@ -7,7 +7,7 @@ ghost use Rattle.bpf_insn.specs.declared.operand.Condition.TheVariants.{Eq, Gt, 
 ghost use Rattle.bpf_insn.specs.declared.operand.Condition.TheVariants.{Sge, Lt, Le, Slt, Sle};
 ghost use Rattle.bpf_insn.specs.Conditions.{holds};
 
-/// `jeq`, `jne`, and `jset`, which asks for a common bit.
+/// `jeq`, `jne`, and `jset`, which tests for a common bit.
 pub fn equalities()
     ensures jeq { IsTrue (holds Bits64 Eq 7 7) }
     ensures jeq_less { IsFalse (holds Bits64 Eq 7 0x100000007) }

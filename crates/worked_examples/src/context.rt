@@ -1,4 +1,4 @@
-//! Whole programs that read the context, over all attributes.
+//! Whole programs that read the context, for all attributes.
 
 ghost use Rattle.std.specs.Prelude.{◌≡◌, ◌<◌, ◌≤◌, slice_index};
 ghost use Rattle.attrs.specs.Attributes.{Attributes};
@@ -14,8 +14,8 @@ pub fn buckets()
         → EndsWith worked.bucket_program a 0 4 }
 {}
 
-/// `ldxw r2, [r1+0] / mov r0, 0 / jslt32 r2, 0, +1 / mov r0, 1 / exit` takes the first number of
-/// the version as a signed one of 32 bits.
+/// `ldxw r2, [r1+0] / mov r0, 0 / jslt32 r2, 0, +1 / mov r0, 1 / exit` reads the first number of
+/// the version as a signed 32-bit number.
 pub fn versions()
     ensures small { (a : Attributes) → slice_index a.context.version 0 ≡ 1
         → EndsWith worked.version_program a 1 5 }

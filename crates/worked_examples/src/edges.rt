@@ -1,5 +1,5 @@
-//! What conditional jumps leave, of numbers that were worked out by hand: of each edge the least
-//! that is left, and the case in which it is dropped.
+//! Narrowing on the edges of conditional jumps, for numbers worked out by hand: for each edge the
+//! tightest result, and the case in which it is dropped.
 
 ghost use Rattle.std.specs.Prelude.{◌≡◌, Some, None, true, false};
 ghost use Rattle.bpf_insn.specs.declared.operand.Bits.TheVariants.{Bits64, Bits32};
@@ -55,7 +55,7 @@ pub fn decisions()
     ensures signed32 { narrowed Bits32 jump.Sgt true (single 0x80000000) (single 0) ≡ None }
 {}
 
-/// Signed comparisons narrow on one side of the sign bit, and those of 32 bits below 2 to the 32.
+/// Signed comparisons narrow on one side of the sign bit, and 32-bit comparisons below 2 to the 32.
 pub fn sides()
     ensures positive { narrowed Bits64 jump.Slt true (up_to 0x7FFFFFFFFFFFFFFF) (single 5)
         ≡ Some (up_to 4, single 5) }

@@ -1,7 +1,6 @@
-//! Laws without a body, of definitions that the code equals. Most compare one with results that
-//! were worked out by hand, on both sides of each of its bounds; the last two are of all cases. The
-//! functions have nothing to do and no program calls them. A definition that said something else
-//! would make one of them false.
+//! Laws about definitions that the code equals. Most compare one with results worked out by hand,
+//! on both sides of each of its bounds; the last two modules are about all cases. No program calls
+//! the functions. A different definition would make one of the laws false.
 #![tactic(auto)]
 
 // The machine (`bpf_semantics`): formulas, whole programs, and programs that trap.
@@ -15,13 +14,13 @@ pub mod products;
 pub mod programs;
 pub mod traps;
 
-// What the verifier knows of values (`abs_value`).
+// The verifier's abstract values (`abs_value`).
 pub mod bits;
 pub mod edges;
 pub mod lookups;
 pub mod numbers;
 pub mod values;
 
-// Of all cases: which bytes a store sets, and that what a verifier's entry names lies behind it.
+// All cases: which bytes a store sets, and that an entry names only lookups before it.
 pub mod looking_back;
 pub mod stores;

@@ -1,9 +1,9 @@
-//! What an entry names lies behind it: of each lookup whose answer is known at a place the call
-//! stands at a slot before.
+//! An entry names only lookups before it: if it knows a lookup's result, the call is at an earlier
+//! slot.
 
 ghost use Rattle.worked_examples.specs.LooksBack as entry;
 
-/// What an instruction computes is the answer of no lookup, except that a copy of one is.
+/// The result of an instruction names no lookup, except a copy of a lookup's result.
 pub fn values_look_back()
     ensures results { entry.ResultsNameNone }
     ensures negated { entry.NegationsNameNone }
@@ -14,8 +14,8 @@ pub fn values_look_back()
     ensures copied { entry.CopiesLookBack }
 {}
 
-/// Of states that look back from a slot each operation makes one that does: a call before the slot
-/// names itself, and all others name what was named.
+/// If states name only calls before a slot, so does each operation's result: a call before the slot
+/// adds itself, and the other operations add none.
 pub fn states_look_back()
     ensures opening { entry.OpeningLooksBack }
     ensures operands { entry.OperandsLookBack }
@@ -27,19 +27,19 @@ pub fn states_look_back()
     ensures calls { entry.CallsLookBack }
 {}
 
-/// So what is known on each edge of an instruction before the slot looks back from there.
+/// So the state on each edge of an instruction before the slot names only calls before the slot.
 pub fn edges_look_back()
     ensures jumping { entry.JumpingLooksBack }
     ensures going_on { entry.GoingOnLooksBack }
 {}
 
-/// The entry of a place names only lookups before it.
+/// The entry of a slot names only lookups before it.
 pub fn entries_look_back()
     ensures { entry.EntriesLookBack }
 {}
 
-/// So an entry that covers a state, given whatever answers, stands for it given those of the calls
-/// before it alone.
+/// So if an entry covers a state for any results of calls, it represents the state with only the
+/// results of the calls before it.
 pub fn covers_are_before()
     ensures { entry.CoversAreBefore }
 {}

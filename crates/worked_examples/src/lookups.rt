@@ -1,5 +1,5 @@
-//! Comparisons with 0 and calls, on states that were worked out by hand: a value in R0, and one in
-//! R6 and in the last slot of the stack.
+//! Comparisons with 0 and calls, on states worked out by hand: a value in R0, and one in R6 and in
+//! the last slot of the stack.
 
 ghost use Rattle.std.specs.Prelude.{◌≡◌, Some, None, true, false, pos, negsuc};
 ghost use Rattle.bpf_insn.specs.declared.operand.Bits.TheVariants.{Bits64, Bits32};
@@ -17,7 +17,7 @@ ghost use Rattle.abs_value.specs.States.{value_at};
 ghost use Rattle.worked_examples.specs.Examples.{first, second, elsewhere, holding, three};
 ghost use Rattle.worked_examples.specs.Examples.{compared};
 
-/// On the equal edge each copy of the answer is 0, on the other the address of a cell.
+/// On the equal edge each copy of the lookup's result is 0, on the other the address of a cell.
 pub fn null_checks()
     ensures equal { compared (MayCell first) (MayCell first) Bits64 Eq (Imm (pos 0)) true
         ≡ Some (Num (single 0), Num (single 0), Kept (Num (single 0))) }
@@ -35,7 +35,7 @@ pub fn null_checks()
         ≡ Some (Num (single 0), Num (single 0), Kept (Num (single 0))) }
 {}
 
-/// The address of a cell isn't 0. Of a pointer that is compared otherwise nothing is learnt.
+/// The address of a cell isn't 0. Other comparisons don't narrow a pointer.
 pub fn other_checks()
     ensures cell { compared (Cell (Found first)) (MayCell second) Bits64 Eq (Imm (pos 0)) true
         ≡ None }
@@ -58,7 +58,7 @@ pub fn other_checks()
         ≡ Some (Num (span 1 9), Stk 0, Kept (Stk 0)) }
 {}
 
-/// R0 is the helper's result and R1 to R5 are unset; R6 to R10 and the stack stay.
+/// R0 is the helper's result and R1 to R5 are unset; R6 to R10 and the stack are unchanged.
 pub fn call_results()
     ensures lookup { call_value (pos 1) 9 (Map 0) ≡ MayCell second }
     ensures no_map { call_value (pos 1) 9 (Num (single 0)) ≡ Unusable }

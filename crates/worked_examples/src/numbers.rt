@@ -1,5 +1,5 @@
-//! The formulas on numbers that were worked out by hand, on both sides of each of their bounds. The
-//! functions have no work to do: each is a law of the definitions, which the code equals.
+//! The formulas on numbers worked out by hand, on both sides of each of their bounds. Each function
+//! is a law about the definitions, which the code equals.
 
 ghost use Rattle.std.specs.Prelude.{◌≡◌};
 ghost use Rattle.bpf_insn.specs.declared.operand.AluOp.TheVariants.{Add, Sub, Or, And, Xor};
@@ -14,7 +14,7 @@ ghost use Rattle.abs_value.specs.Numbers.{single, up_to};
 ghost use Rattle.abs_value.specs.Results.{alu_number, copied_number};
 ghost use Rattle.abs_value.specs.Results.{extended_number, reordered_number};
 
-/// ADD adds the ends, and gives any number of its class where the greatest sum doesn't fit.
+/// ADD adds the ends, and gives the whole class if the greatest sum doesn't fit.
 pub fn sums()
     ensures inside { alu_number Bits64 Add (span 1 5) (span 10 20) ≡ span 11 25 }
     ensures fits { alu_number Bits64 Add (span 5 0xFFFFFFFFFFFFFFF5) (span 0 10)
@@ -28,7 +28,7 @@ pub fn sums()
     ensures single_wraps { alu_number Bits64 Add (single 0xFFFFFFFFFFFFFFFF) (single 2) ≡ single 1 }
 {}
 
-/// SUB subtracts the ends crosswise where no number of the first is below one of the second.
+/// SUB subtracts the ends crosswise if no number of the first is below one of the second.
 pub fn differences()
     ensures touching { alu_number Bits64 Sub (span 10 20) (span 3 10) ≡ span 0 17 }
     ensures below { alu_number Bits64 Sub (span 10 20) (span 3 11) ≡ up_to 0xFFFFFFFFFFFFFFFF }
@@ -39,8 +39,7 @@ pub fn differences()
     ensures negated_one { alu_number Bits64 Sub (single 0) (single 1) ≡ single 0xFFFFFFFFFFFFFFFF }
 {}
 
-/// MUL multiplies the ends, and gives any number of its class where the greatest product doesn't
-/// fit.
+/// MUL multiplies the ends, and gives the whole class if the greatest product doesn't fit.
 pub fn products()
     ensures inside { alu_number Bits64 Mul (span 2 5) (span 10 20) ≡ span 20 100 }
     ensures fits { alu_number Bits64 Mul (span 1 0xFFFFFFFF) (span 2 0x100000001)
@@ -55,7 +54,7 @@ pub fn products()
         ≡ single 0 }
 {}
 
-/// DIV divides the ends crosswise where no divisor is 0, and gives at most the dividend elsewhere.
+/// DIV divides the ends crosswise if no divisor is 0; otherwise the result is at most the dividend.
 pub fn quotients()
     ensures inside { alu_number Bits64 Div (span 10 20) (span 3 5) ≡ span 2 6 }
     ensures by_single { alu_number Bits64 Div (span 100 9999) (single 100) ≡ span 1 99 }
@@ -71,7 +70,7 @@ pub fn quotients()
         ≡ single 0xFFFFFFFFFFFFFFFC }
 {}
 
-/// MOD is below the greatest divisor where none is 0, and nowhere above the dividend.
+/// MOD is below the greatest divisor if none is 0, and never above the dividend.
 pub fn remainders()
     ensures by_single { alu_number Bits64 Mod (span 10 9999) (single 4) ≡ up_to 3 }
     ensures by_range { alu_number Bits64 Mod (span 10 9999) (span 1 5) ≡ up_to 4 }
@@ -89,8 +88,8 @@ pub fn remainders()
         ≡ single 0xFFFFFFFFFFFFFFFF }
 {}
 
-/// AND is at most the lesser of the greatest numbers; OR and XOR have no bit above those of the
-/// greater one, and XOR no bit that is known to be in both.
+/// AND is at most the lesser of the greatest numbers. OR and XOR have no bit above those of the
+/// greater one, and XOR has no bit that is known to be in both.
 pub fn bit_operations()
     ensures and { alu_number Bits64 And (span 5 12) (span 7 200) ≡ up_to 12 }
     ensures and_too { alu_number Bits64 And (span 5 200) (span 7 12) ≡ up_to 12 }
@@ -104,9 +103,9 @@ pub fn bit_operations()
     ensures single_xor { alu_number Bits64 Xor (single 12) (single 10) ≡ single 6 }
 {}
 
-/// A single count is masked, and shifts both ends: to the left where the greatest fits, and with
-/// the sign where no number has it. The bits that come in are 0. By a range of counts anything may
-/// come.
+/// A single count is masked, and shifts both ends: to the left if the greatest fits, and with the
+/// sign if no number has it. The bits that are shifted in are 0. A range of counts may give any
+/// number.
 pub fn shifts()
     ensures lsh_fits { alu_number Bits64 Lsh (span 1 0xFFFFFFFFFFFFFFF) (single 4)
         ≡ with_bits 16 0xFFFFFFFFFFFFFFF0 0 0xFFFFFFFFFFFFFFF0 }
@@ -138,7 +137,7 @@ pub fn shifts()
         ≡ single 0xF8000000 }
 {}
 
-/// MOV of 32 bits, MOVSX and END: single numbers as the machine has them, ranges by their size.
+/// 32-bit MOV, MOVSX and END: single numbers as the machine computes them, ranges by their size.
 pub fn sizes()
     ensures mov32_below { copied_number Bits32 (span 1 0xFFFFFFFF) ≡ span 1 0xFFFFFFFF }
     ensures mov32_past { copied_number Bits32 (span 1 0x100000000) ≡ up_to 0xFFFFFFFF }

@@ -1,6 +1,6 @@
-//! Products, quotients and remainders (RFC 9669, "Arithmetic Instructions") that were worked out by
-//! hand. A row has a number by 0, by 1, by the highest signed number, by the lowest and by -1: of
-//! the class, in a register, and of 32 bits, as an imm.
+//! Products, quotients and remainders (RFC 9669, "Arithmetic Instructions") worked out by hand.
+//! Each row has one number and five second operands: 0, 1, the highest signed number, the lowest
+//! and -1. In a register these are the numbers of the class, and as an imm those of 32 bits.
 
 ghost use Rattle.std.specs.Prelude.{◌≡◌, [], ◌∷◌, map, negsuc};
 ghost use Rattle.bpf_insn.specs.declared.operand.AluOp.TheVariants.{Mul, Div, Sdiv, Mod, Smod};
@@ -39,7 +39,7 @@ pub fn products()
         ≡ 0 ∷ 0xFFFFFFFF ∷ 0x80000001 ∷ 0x80000000 ∷ 1 ∷ [] }
 {}
 
-/// `div` and `div32` of unsigned numbers; a divisor of 0 gives 0.
+/// `div` and `div32` of unsigned numbers; division by 0 gives 0.
 pub fn quotients()
     ensures zero { by_each Bits64 Div 0 ≡ 0 ∷ 0 ∷ 0 ∷ 0 ∷ 0 ∷ [] }
     ensures one { by_each Bits64 Div 1 ≡ 0 ∷ 1 ∷ 0 ∷ 0 ∷ 0 ∷ [] }
@@ -64,7 +64,8 @@ pub fn quotients()
     ensures minus_one_of_32 { by_each Bits32 Div 0xFFFFFFFF ≡ 0 ∷ 0xFFFFFFFF ∷ 2 ∷ 1 ∷ 1 ∷ [] }
 {}
 
-/// `sdiv` and `sdiv32` round toward 0; a divisor of 0 gives 0, and the lowest number by -1 itself.
+/// `sdiv` and `sdiv32` round toward 0; division by 0 gives 0, and the lowest number divided by -1
+/// is itself.
 pub fn signed_quotients()
     ensures zero { by_each Bits64 Sdiv 0 ≡ 0 ∷ 0 ∷ 0 ∷ 0 ∷ 0 ∷ [] }
     ensures one { by_each Bits64 Sdiv 1 ≡ 0 ∷ 1 ∷ 0 ∷ 0 ∷ 0xFFFFFFFFFFFFFFFF ∷ [] }
@@ -91,7 +92,7 @@ pub fn signed_quotients()
     ensures minus_one_of_32 { by_each Bits32 Sdiv 0xFFFFFFFF ≡ 0 ∷ 0xFFFFFFFF ∷ 0 ∷ 0 ∷ 1 ∷ [] }
 {}
 
-/// `mod` and `mod32` of unsigned numbers; a divisor of 0 leaves the dividend.
+/// `mod` and `mod32` of unsigned numbers; the remainder of division by 0 is the dividend.
 pub fn remainders()
     ensures zero { by_each Bits64 Mod 0 ≡ 0 ∷ 0 ∷ 0 ∷ 0 ∷ 0 ∷ [] }
     ensures one { by_each Bits64 Mod 1 ≡ 1 ∷ 0 ∷ 1 ∷ 1 ∷ 1 ∷ [] }
@@ -119,7 +120,8 @@ pub fn remainders()
         ≡ 0xFFFFFFFF ∷ 0 ∷ 1 ∷ 0x7FFFFFFF ∷ 0 ∷ [] }
 {}
 
-/// `smod` and `smod32` have the sign of the dividend; a divisor of 0 leaves the dividend.
+/// `smod` and `smod32` have the sign of the dividend; the remainder of division by 0 is the
+/// dividend.
 pub fn signed_remainders()
     ensures zero { by_each Bits64 Smod 0 ≡ 0 ∷ 0 ∷ 0 ∷ 0 ∷ 0 ∷ [] }
     ensures one { by_each Bits64 Smod 1 ≡ 1 ∷ 0 ∷ 1 ∷ 1 ∷ 0 ∷ [] }
@@ -147,12 +149,13 @@ pub fn signed_remainders()
         ≡ 0xFFFFFFFF ∷ 0 ∷ 0xFFFFFFFF ∷ 0xFFFFFFFF ∷ 0 ∷ [] }
 {}
 
-/// An imm of 32 bits is its own bits, so by an imm the 32-bit rows are those by a register.
+/// A 32-bit imm is an operand with the same bits, so the 32-bit rows are the same for an imm and
+/// for a register.
 pub fn immediates()
     ensures { map (immediate Bits32) imm_ends ≡ ends Bits32 }
 {}
 
-/// 13 and -13 by 3 and -3.
+/// 13 and -13 divided by 3 and -3.
 pub fn signs()
     ensures quotient { alu_result Bits64 Sdiv 13 3 ≡ 4 }
     ensures of_negative { alu_result Bits64 Sdiv 0xFFFFFFFFFFFFFFF3 3 ≡ 0xFFFFFFFFFFFFFFFC }
@@ -171,7 +174,7 @@ pub fn signs()
     ensures rest_by_imm { alu_result Bits64 Mod 13 (immediate Bits64 (negsuc 2)) ≡ 13 }
 {}
 
-/// In 32 bits the low halves alone count, and the upper half of the result is 0.
+/// With 32 bits only the low halves count, and the upper half of the result is 0.
 pub fn low_halves()
     ensures mul32 { alu_result Bits32 Mul 0x700000003 0x900000005 ≡ 15 }
     ensures div32 { alu_result Bits32 Div 0x70000000D 0x900000003 ≡ 4 }

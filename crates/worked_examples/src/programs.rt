@@ -1,5 +1,5 @@
-//! Whole programs of arithmetic and jumps: the definitions of a step and a run are checked against
-//! results that were worked out by hand. Each holds whatever the attributes are.
+//! Whole programs of arithmetic and jumps: the definitions of a step and a run are compared with
+//! results worked out by hand. Each law holds for all attributes.
 
 ghost use Rattle.bpf_semantics.specs.Run.{AlwaysEnds};
 ghost use Rattle.worked_examples.specs.Programs as worked;
@@ -25,9 +25,9 @@ pub fn wide_load()
     ensures { AlwaysEnds worked.wide_program 5 3 }
 {}
 
-/// An imm is sign-extended in 64 bits, `mov r0, -1 / and r0, -1 / rsh r0, 32 / exit`, and not in
-/// 32, `mov r0, -1 / and32 r0, -1 / exit` and `mov32 r0, -1 / exit`; a register's upper half is cut
-/// in 32 bits, `mov r2, -1 / mov32 r0, r2 / exit`. Each ends with 4294967295.
+/// An imm is sign-extended with 64 bits: `mov r0, -1 / and r0, -1 / rsh r0, 32 / exit`. With 32
+/// bits it isn't: `mov r0, -1 / and32 r0, -1 / exit` and `mov32 r0, -1 / exit`. A register is
+/// truncated with 32 bits: `mov r2, -1 / mov32 r0, r2 / exit`. Each ends with 4294967295.
 pub fn operands()
     ensures extended { AlwaysEnds worked.all_ones_program 4294967295 4 }
     ensures not_extended { AlwaysEnds worked.low_ones_program 4294967295 3 }
@@ -35,9 +35,9 @@ pub fn operands()
     ensures cut { AlwaysEnds worked.mov32_register_program 4294967295 3 }
 {}
 
-/// `mov r2, 128 / movsx8 r0, r2 / neg r0 / exit` ends with 128,
-/// `mov r2, 128 / movsx8w r0, r2 / exit` with 4294967168, `mov r0, 1 / neg32 r0 / exit` with
-/// 4294967295, and `mov r0, 66051 / be16 r0 / exit`, where 0x010203 becomes 0x0302, with 770.
+/// `mov r2, 128 / movsx8 r0, r2 / neg r0 / exit` ends with 128, `mov r2, 128 / movsx8w r0, r2 /
+/// exit` with 4294967168, and `mov r0, 1 / neg32 r0 / exit` with 4294967295. `mov r0, 66051 / be16
+/// r0 / exit` changes 0x010203 to 0x0302, and ends with 770.
 pub fn one_operand()
     ensures movsx8 { AlwaysEnds worked.movsx8_program 128 4 }
     ensures movsx8w { AlwaysEnds worked.movsx8w_program 4294967168 3 }
@@ -56,14 +56,14 @@ pub fn jumps()
 {}
 
 /// `mov r0, 1 / mov r2, -1 / jsgt r0, r2, +1 / mov r0, 0 / exit` jumps and ends with 1; with `jgt`
-/// it goes on and ends with 0.
+/// it falls through and ends with 0.
 pub fn signs()
     ensures signed { AlwaysEnds worked.signed_program 1 4 }
     ensures unsigned { AlwaysEnds worked.unsigned_program 0 5 }
 {}
 
-/// `mov r0, 1 / mov32 r2, -1 / jeq r2, -1, +1 / mov r0, 0 / exit` goes on and ends with 0, since
-/// the imm has 64 ones; with `jeq32` it jumps and ends with 1.
+/// `mov r0, 1 / mov32 r2, -1 / jeq r2, -1, +1 / mov r0, 0 / exit` falls through and ends with 0,
+/// since the imm has 64 ones; with `jeq32` it jumps and ends with 1.
 pub fn halves()
     ensures whole { AlwaysEnds worked.jeq_program 0 5 }
     ensures low { AlwaysEnds worked.jeq32_program 1 4 }

@@ -1,10 +1,10 @@
-//! What a store within the stack makes known of its bytes: no less than it writes, and no more.
+//! Which bytes are known to be set after a store within the stack: exactly those that it writes,
+//! and those that were set.
 
 ghost use Rattle.worked_examples.specs.StoredBytes.{StoresSetTheirBytes, OtherSlotsStay};
 
-/// Of a store at any place and of at most 8 bytes, be it of a whole slot, of part of one, or of
-/// parts of two: exactly the bytes that it writes are set besides those that were, and a slot of
-/// which it writes none stays as it is.
+/// A store of at most 8 bytes at any place, in a whole slot, in part of one, or in parts of two.
+/// Exactly the bytes that it writes become set, and a slot of which it writes none is unchanged.
 pub fn stores_set_their_bytes()
     ensures bytes { StoresSetTheirBytes }
     ensures others { OtherSlotsStay }

@@ -1,4 +1,4 @@
-//! Programs that do what the machine does not define, by its causes.
+//! Programs with an undefined step, by its causes.
 
 ghost use Rattle.std.specs.Prelude.{pos, negsuc};
 ghost use Rattle.bpf_insn.specs.declared.reg.Reg.TheVariants.{R0, R1, R10};
@@ -63,8 +63,8 @@ pub fn loads_outside()
     ensures below_stack { AlwaysTraps (traps.single (Load load.Byte R0 R10 (negsuc 512))) 0 }
 {}
 
-/// The context is read-only, `stb [r1+0], 1` and `stxdw [r1+0], r1`, and the stack has its ends,
-/// `stb [r10+0], 1`, `stw [r10-2], 1`, `stb [r10-513], 1`.
+/// The context is read-only: `stb [r1+0], 1` and `stxdw [r1+0], r1`. The stack has bounds: `stb
+/// [r10+0], 1`, `stw [r10-2], 1` and `stb [r10-513], 1`.
 pub fn stores_outside()
     ensures context_imm { AlwaysTraps (traps.single (StoreImm size.Byte R1 (pos 0) (pos 1))) 0 }
     ensures context_register { AlwaysTraps (traps.single (Store size.Double R1 R1 (pos 0))) 0 }
@@ -74,9 +74,9 @@ pub fn stores_outside()
         (traps.single (StoreImm size.Byte R10 (negsuc 512) (pos 1))) 0 }
 {}
 
-/// No instruction begins at the slot: a program of no slots, `mov r0, 0` and its end,
-/// `ja +1 / exit`, `ja -2 / exit`, and `ja +1 / lddw r0, 5 / exit`, which lands on a second half. A
-/// slot past the end is gone to and traps there; below slot 0 there is none to go to.
+/// No instruction begins at the slot: a program of no slots, `mov r0, 0` and its end, `ja +1 /
+/// exit`, `ja -2 / exit`, and `ja +1 / lddw r0, 5 / exit`, which lands on a second half. A jump
+/// past the end continues there and then traps; a jump below slot 0 itself traps.
 pub fn no_instruction()
     ensures empty { AlwaysTraps traps.empty_program 0 }
     ensures end { AlwaysTraps traps.endless_program 1 }

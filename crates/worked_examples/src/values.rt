@@ -1,4 +1,4 @@
-//! Pointers, joins and the stack, on values that were worked out by hand.
+//! Pointers, joins and the stack, on values worked out by hand.
 
 ghost use Rattle.std.specs.Prelude.{◌≡◌};
 ghost use Rattle.std.specs.Prelude.{true, false, pos, negsuc};
@@ -68,8 +68,8 @@ pub fn joins()
     ensures set { join_slots (Bytes 60) (Bytes 240) ≡ Bytes 48 }
 {}
 
-/// A store of a whole slot keeps the value; any other leaves set bytes, in two slots where it
-/// passes the end of one. A load of a whole slot gives the value that is kept.
+/// A store of a whole slot keeps the value; any other store leaves set bytes, in two slots if it
+/// passes the end of one. A load of a whole slot gives the kept value.
 pub fn stack_bytes()
     ensures whole { slot_at kept_at_end 63 ≡ Kept (Num (single 7)) }
     ensures loaded { loaded_from kept_at_end 504 load.Double ≡ Num (single 7) }

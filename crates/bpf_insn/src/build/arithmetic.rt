@@ -51,7 +51,7 @@ pub fn neg_in(bits: Bits, fields: Fields) -> Insn
     Insn::Neg { bits, dst }
 }
 
-/// MOV, or with a register and an offset MOVSX.
+/// MOV, or MOVSX if the source is a register and the offset isn't 0.
 pub fn mov_in(bits: Bits, source: Source, fields: Fields) -> Result<Insn, InsnFault>
     requires { IsInOrder (Form.Mov bits source) fields }
     ensures insn { IfOk result (λ i. IsTheInsn (Form.Mov bits source) fields None i) }

@@ -1,4 +1,4 @@
-//! A wide load, of two halves.
+//! A wide load, from its two halves.
 
 ghost use Rattle.std.specs.Prelude.{◌≡◌, Some};
 ghost use Rattle.bpf_insn.specs.declared.operand.WideValue.{WideValue};
@@ -16,7 +16,8 @@ use crate::lookup::wide_source_in;
 use crate::operand::WideValue;
 use crate::reg::Reg;
 
-/// What is loaded: of a number imm is the low half, and the second half's imm the high one.
+/// The value that is loaded. For a number, imm is the low half, and the second half's imm the high
+/// half.
 fn wide_value_in(source: WideSource, first: Fields, second: Fields) -> WideValue
     requires second { IsSecondHalf (source_code source) second }
     ensures fits { IsWideNumber result }

@@ -2,7 +2,7 @@ use Rattle.std.proofs.Common.{◌≡◌, ℕ, ◌<◌, ◌≤◌, length}
 use Rattle.abs_value.specs.Stack.{slot_at, join_slots}
 use Rattle.abs_value.proofs.stack.join_from.Given as goal
 
--- the slots below i are joined, the others are as they were
+-- the slots below i are joined, the others unchanged
 abbrev pub invariant-loop-i : goal.invariant-loop-i
 invariant-loop-i l = record {
   all : length l.stack ≡ 64;

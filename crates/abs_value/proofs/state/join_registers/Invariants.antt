@@ -3,7 +3,7 @@ use Rattle.abs_value.specs.Values.{join_values}
 use Rattle.abs_value.specs.States.{register_at}
 use Rattle.abs_value.proofs.state.join_registers.Given as goal
 
--- the registers below r are joined, the others are as they were
+-- the registers below r are joined, the others unchanged
 abbrev pub invariant-loop-r : goal.invariant-loop-r
 invariant-loop-r l = record {
   all : length l.registers ≡ 11;

@@ -8,7 +8,7 @@ use Rattle.bpf_machine.proofs.Loads.{load_ready, load_agrees, load_asks}
 use Rattle.bpf_machine.proofs.access.load_register.Goals as goal
 use Rattle.bpf_machine.proofs.access.load_register.Goals.{After-add_offset-address}
 
--- the address, and what is known of it
+-- the address, and its value
 address_is : (c : After-add_offset-address) → c.add_offset-address.result
     ≡ address_of (register_word c.args.words.now c.args.src) c.args.offset
 address_is c =

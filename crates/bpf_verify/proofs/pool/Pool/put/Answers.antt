@@ -58,7 +58,7 @@ returns-in-Some-clause-most c =
     (slice_set c.self.inside.places.items c.args.place (Some c.in-Some.index)) c.pop.new.self.items
     (rw len pool) (sym (ap (λ w. w.most) c.self.view_is) ∙ sym len)
 
--- none was free
+-- no index was free
 no_more : (c : In-None) → c.pop.new.self.items ≡ []
 no_more c = search rules
 
