@@ -1,4 +1,4 @@
--- What is added behind a line in several steps.
+-- What is appended to a line in several steps.
 use Rattle.std.proofs.Common.{◌≡◌, ℕ, List, [], ◌∷◌, ◌++◌, Bool, true, false, refl, sym, ap, ◌∙◌}
 use Rattle.std.proofs.Common.{append_assoc, append-nil, codes}
 use Rattle.std.specs.Str.{chars}
@@ -27,7 +27,7 @@ pub adds_nothing : (before : Bool) (line : List ℕ) → AddsTokens before befor
 unfolding spelled_from
 adds_nothing before line = record { text = sym (append-nil line); ended = refl }
 
--- whether a value has ended behind two lists
+-- whether two lists, one after the other, end with the end of a value
 pub ends_joined : (before : Bool) (xs ys : List Token)
     → ends_behind before (xs ++ ys) ≡ ends_behind (ends_behind before xs) ys
 ends_joined before [] ys = refl
@@ -46,7 +46,7 @@ then_adds {p} {q} {r} {a} {b} {c} {xs} {ys} first last = record {
 
 -- ---- members
 
--- a name that stands as it is, and a value behind it
+-- a name that needs no escape, followed by a value
 member_text : (line name value : List ℕ)
     → (line ++ ((44 ∷ 34 ∷ []) ++ name ++ 34 ∷ 58 ∷ [])) ++ value
     ≡ line ++ (44 ∷ ((34 ∷ (name ++ 34 ∷ [])) ++ 58 ∷ []) ++ (value ++ []))

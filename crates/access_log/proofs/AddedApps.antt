@@ -1,4 +1,4 @@
--- What is added of apps behind a line in several steps.
+-- What is appended of apps to a line in several steps.
 use Rattle.std.proofs.Common.{◌≡◌, ℕ, ◌+◌, ◌<◌, ◌≤◌, List, [], ◌∷◌, ◌++◌, Bool, true, false, cond}
 use Rattle.std.proofs.Common.{length, drop, take, get_or, sym, ap, subst, ◌∙◌, append_assoc, refl}
 use Rattle.std.proofs.Common.{append-nil, codes}
@@ -51,7 +51,7 @@ pub adds_end : {a b : List ℕ} → b ≡ a ++ 125 ∷ [] → AddsTokens true tr
 unfolding spelled_from
 adds_end is = record { text = is; ended = refl }
 
--- the app at a place behind those before it, and what it leaves to those behind it
+-- the app at place i after earlier ones, and what it leaves for later ones
 pub one_more : {all line new : List ℕ} {comma : Bool} (apps : List AskedApp)
     (i room left more beside : ℕ) (d : AskedApp)
     → i < length apps → left ≡ behind_event room (get_or apps i d).event

@@ -1,11 +1,11 @@
--- A text is cut at the last place where what stands before it is brief.
+-- A text is cut at the last place before which all of it is brief.
 use Rattle.std.proofs.Common.{◌≡◌, ℕ, ◌-◌, ◌<◌, ◌≤◌, ◌⊎◌, inl, inr, List, take, sym, subst, arith}
 use Rattle.std.proofs.Common.{ap, ◌∙◌, slice_range}
 use Rattle.std.specs.Str.{IsCharBoundary}
 use Rattle.std.proofs.lemmas.Bool.{cases_order}
 use Rattle.access_log.specs.Room.{text_room}
 
--- no place from one up to the most is right
+-- after `end`, no boundary up to `most` gives a brief text
 abbrev pub IsTooLong : ℕ → List ℕ → ℕ → Type 0
 IsTooLong most text end =
     (i : ℕ) → end < i → i ≤ most → IsCharBoundary text i → most < text_room (take i text)
@@ -21,14 +21,14 @@ at_one most text end next i over none before above few bound (inr (inl less)) =
 at_one most text end next i over none before above few bound (inr (inr more)) =
     before i more few bound
 
--- one place further to the front
+-- from one place to the boundary before it
 pub further : (most : ℕ) (text : List ℕ) (end next : ℕ) → most < text_room (take end text)
     → ((k : ℕ) → next < k → k ≤ end - 1 → ¬ IsCharBoundary text k)
     → IsTooLong most text end → IsTooLong most text next
 further most text end next over none before i above few bound =
     at_one most text end next i over none before above few bound (cases_order i end)
 
--- what stands before a place takes more, as it was reckoned
+-- the text before a place takes more than `most`, as it was computed
 pub over_at : (most : ℕ) (text : List ℕ) (end room : ℕ) {part : List ℕ}
     → part ≡ slice_range text 0 end → room ≡ text_room part → most < room
     → most < text_room (take end text)

@@ -1,4 +1,4 @@
--- Of apps that are brief all stand in a line, or eleven.
+-- All brief apps are in a line, or eleven of them.
 use Rattle.std.proofs.Common.{◌≡◌, ℕ, zero, suc, ◌-◌, ◌*◌, ◌≤◌, ◌⊎◌, inl, inr, refl}
 use Rattle.std.proofs.Common.{List, [], ◌∷◌, length, Bool, true, false, ap, arith}
 use Rattle.std.specs.Prelude.{◌==◌, IfSome, Option, Some, None, if◌then◌else◌}
@@ -49,7 +49,7 @@ brief_app app is =
       any_event app.event,
     )
 
--- ---- how many have room
+-- ---- how many fit
 
 one_more : (room : ℕ) (app : AskedApp) (apps : List AskedApp) → app_room app ≤ room
     → count_fitting room (app ∷ apps) ≡ suc (count_fitting (room - app_room app) apps)

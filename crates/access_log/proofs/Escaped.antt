@@ -1,4 +1,4 @@
--- A text in which nothing is to be escaped stands in JSON as it is, and the text of a time is one.
+-- A text without characters to escape is its own text in JSON, and the text of a time is one.
 use Rattle.std.proofs.Common.{◌≡◌, ℕ, zero, suc, ◌/◌, ◌<◌, List, [], ◌∷◌, ◌++◌, length}
 use Rattle.std.proofs.Common.{Bool, true, false, cond, refl, ap, ◌∙◌, sym, append_assoc, arith}
 use Rattle.std.proofs.Common.{append-nil}
@@ -15,7 +15,7 @@ use Rattle.access_log.specs.Spelled.{spelled_char, spelled_text, spelled_quoted}
 use Rattle.access_log.specs.Utc.{digit, two_digits, date_text, clock_text, utc_text}
 use Rattle.access_log.specs.declared.utc.Utc.{Utc}
 
--- a byte that stands as it is
+-- a byte that needs no escape
 as_spelled : (b : ℕ) → is_escaped b ≡ false → spelled_char b ≡ b ∷ []
 unfolding escape_byte
 as_spelled b is = grind (arith, nat_tests)
@@ -114,7 +114,7 @@ two_stand n =
     stands (digit (n / 10)) (digit n ∷ []) (digit_stands (n / 10))
     (stands (digit n) [] (digit_stands n) refl)
 
--- two digits behind others, and a mark behind these
+-- two digits after others, followed by a mark
 marked : (before : List ℕ) (mark n : ℕ) → AllStand before → is_escaped mark ≡ false
     → AllStand (before ++ mark ∷ two_digits n)
 marked before mark n first is =

@@ -1,4 +1,4 @@
--- A text has no more bytes in a line than it is given room.
+-- A text has no more bytes in a line than were computed for it.
 use Rattle.std.proofs.Common.{◌≡◌, ℕ, ◌≤◌, List, [], ◌∷◌, length, length-append, arith}
 use Rattle.std.proofs.Common.{Bool, true, false, cond, refl, ap}
 use Rattle.std.specs.Prelude.{nat_lt, ◌==◌, ◌||◌, if◌then◌else◌}
@@ -17,7 +17,7 @@ either : {A : Type 0} (P : A → Type 0) (b : Bool) (x y : A)
 either P true x y first other = first refl
 either P false x y first other = other refl
 
--- the room of a character that is a control, and of one that isn't
+-- the bytes for a character that is a control, and for another one
 abbrev room_if : Bool → ℕ → ℕ
 room_if b c = if b then 6 else (if (c == 34) || (c == 92) then 2 else len_utf8 c)
 
@@ -65,7 +65,7 @@ chars_fit (c ∷ cs) =
       chars_fit cs,
     )
 
--- of a text that has no more than 64 bytes of room
+-- for a text of at most 64 bytes
 pub brief_fits : (text : List ℕ) → text_room text ≤ 64 → length (spelled_text text) ≤ 64
 brief_fits text few =
     either (λ (n : ℕ). n ≤ 64 → length (spelled_text text) ≤ 64) (nat_lt 4096 (length text)) _ _

@@ -25,7 +25,7 @@ either : {A : Type 0} (P : A → Type 0) (b : Bool) (x y : A)
 either P true x y first other = first refl
 either P false x y first other = other refl
 
--- ---- bytes of ASCII, and texts behind one another
+-- ---- bytes of ASCII, and concatenated texts
 
 ascii_is : (b : ℕ) → 32 ≤ b → b < 127 → is_control b ≡ false
 ascii_is b from to = grind (arith, nat_tests)

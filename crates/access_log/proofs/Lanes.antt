@@ -1,4 +1,4 @@
--- From the empty mask of a load to bytes that stand as they are.
+-- From the empty mask of a load to bytes that need no escape.
 use Rattle.std.proofs.Common.{◌≡◌, ℕ, suc, ◌+◌, ◌-◌, ◌%◌, ◌^◌, ◌≤◌, eqb, ltb, leb, ◌==◌, refl, sym}
 use Rattle.std.proofs.Common.{ap, ap₂, ◌∙◌, subst, arith, Bool, true, false, cond, not, ◌||◌}
 use Rattle.std.proofs.Common.{List, [], ◌∷◌, map, length, get_or, replicate, bit_or, Fits, w8}
@@ -14,7 +14,7 @@ use Rattle.access_log.specs.Plain.{is_escaped, is_plain_text, StandBetween}
 abbrev stands : ℕ → Bool
 stands b = not (is_escaped b)
 
--- what three comparisons leave in a lane
+-- what a comparison leaves in a lane
 abbrev hit : ℕ → ℕ → ℕ
 hit a b = cond (eqb a b) 255 0
 
@@ -29,12 +29,12 @@ zip2-map : (f g : ℕ → ℕ) (xs : List ℕ)
 zip2-map f g [] = refl
 zip2-map f g (x ∷ xs) = ap (λ r. bit_or (f x) (g x) ∷ r) (zip2-map f g xs)
 
--- of two vectors that were computed lane by lane from v
+-- OR of two vectors that were computed lane by lane from v
 either : (f g : ℕ → ℕ) (v : List ℕ) {a b : List ℕ} → a ≡ map f v → b ≡ map g v
     → zip2 bit_or a b ≡ map (λ x. bit_or (f x) (g x)) v
 either f g v p q = ap₂ (zip2 bit_or) p q ∙ zip2-map f g v
 
--- no lane is set, and each byte whose lane isn't set stands as it is
+-- if no lane is set, and each byte whose lane isn't set needs no escape, no byte needs one
 all_stand : (d : List ℕ) (i n : ℕ) (z : List ℕ) → i + n ≤ length d → n ≤ 64
     → ((k : ℕ) → Fits w8 (get_or d k 0)) → eqb (mask_l (map (top 7) z) % 2 ^ 64) 0 ≡ true
     → (f : ℕ → ℕ) → z ≡ map f (chunk i n d)

@@ -1,4 +1,4 @@
--- What stands between the quotes of a text is read as the text.
+-- The bytes between the quotes of a text are read back as the text.
 use Rattle.std.proofs.Common.{◌≡◌, ℕ, ◌+◌, ◌*◌, ◌/◌, ◌%◌, ◌<◌, ◌≤◌}
 use Rattle.std.proofs.Common.{◌⊎◌, inl, inr, List, [], ◌∷◌, ◌++◌}
 use Rattle.std.proofs.Common.{Bool, true, false, cond, ◌&&◌, refl, sym, ap, ◌∙◌, subst, arith}
@@ -23,7 +23,7 @@ either : {A : Type 0} (P : A → Type 0) (b : Bool) (x y : A)
 either P true x y first other = first refl
 either P false x y first other = other refl
 
--- these bytes are read as those
+-- the bytes `shown` are read as `text`
 abbrev Reads : List ℕ → List ℕ → Type 0
 Reads shown text = (r : List ℕ) → content plain (shown ++ r) ≡ prepend text (content plain r)
 
@@ -96,7 +96,7 @@ return_reads : Reads (escape_byte 13) (13 ∷ [])
 unfolding escape_byte content short_escape
 return_reads r = refl
 
--- one that stands as it is
+-- a byte that needs no escape
 as_it_is : (x : ℕ) → (x ≡ 34 → ⊥) → (x ≡ 92 → ⊥) → 32 ≤ x → Reads (x ∷ []) (x ∷ [])
 unfolding content
 as_it_is x q b l r = rw (ne_eqb x 34 q, ne_eqb x 92 b, le-ltb x 32 l)
@@ -168,7 +168,7 @@ both_read a b c d first last r =
     ap (content plain) (append_assoc a b r) ∙ first (b ++ r) ∙ ap (prepend c) (last r)
     ∙ joined c d (content plain r)
 
--- a byte and those behind it
+-- a byte and those after it
 then_reads : (b : ℕ) (bs : List ℕ) → 128 ≤ b → Reads bs bs → Reads (b ∷ bs) (b ∷ bs)
 then_reads b bs high = both_read (b ∷ []) bs (b ∷ []) bs (high_byte b high)
 

@@ -1,4 +1,4 @@
--- What is left to be reckoned at a place.
+-- What is left to be computed at a place.
 use Rattle.std.proofs.Common.{◌≡◌, ℕ, suc, ◌+◌, ◌-◌, ◌<◌, ◌≤◌, List, [], ◌∷◌, length, drop, get_or}
 use Rattle.std.proofs.Common.{Bool, true, false, sym, ap, ◌∙◌, arith, length-append, ◌++◌}
 use Rattle.std.specs.Prelude.{nat_lt, if◌then◌else◌, None, encode_utf8}
@@ -32,7 +32,7 @@ unfolding chars_room
 no_chars [] none = ap chars_room chars-nil
 no_chars (b ∷ text) none = absurd (omega (arith, none))
 
--- of a text that isn't too long
+-- for a text that isn't too long
 pub in_room : (n room : ℕ) → n ≤ 4096 → room ≡ n → n ≡ (if nat_lt 4096 n then 4097 else room)
 in_room n room few is =
     sym (ap (λ (b : Bool). if b then 4097 else room) (le-ltb 4096 n few) ∙ is)
@@ -64,7 +64,7 @@ pub no_more_from : (apps : List AskedApp) (i room : ℕ) → length apps ≤ i
 unfolding more_left_out
 no_more_from apps i room past = ap (more_left_out room) (drop_all i apps past)
 
--- what a reading past the end of a list of apps gives
+-- the result of a read past the end of a list of apps
 abbrev pub nobody : AskedApp
 nobody = record {
   appid = record { text = record { ref_ptr = (0, 0); now = [] }; length = 0 };

@@ -1,4 +1,4 @@
--- What an event says is printed in one line.
+-- The members of an event are printed in one line.
 use Rattle.std.proofs.Common.{◌≡◌, ℕ, List, [], ◌∷◌, ◌++◌, codes, Option}
 use Rattle.std.specs.Prelude.{option_copied}
 use Rattle.std.specs.Borrow.{Bor}
@@ -93,7 +93,7 @@ connection a =
     (text (codes "peer") a.peer.now)) (maybe (codes "forwarded") (option_copied a.forwarded)))
     (reply a)) (asked a.apps.now)
 
--- a number behind other members
+-- a number after other members
 behind : (ts : List Token) (name : List ℕ) (n : ℕ) → HaveHarmlessNumbers ts
     → HaveHarmlessNumbers (ts ++ number_member name n)
 behind ts name n are = all_harmless ts (number_member name n) are (count name n)

@@ -1,4 +1,4 @@
--- The line that stands in the place of one that is too long is short.
+-- The line that replaces one that is too long is short.
 use Rattle.std.proofs.Common.{◌≡◌, ℕ, ◌+◌, ◌^◌, ◌<◌, ◌≤◌, List, [], ◌∷◌, ◌++◌, length, codes}
 use Rattle.std.proofs.Common.{Bool, true, false, cond, arith, refl, ap, length-append}
 use Rattle.std.specs.Prelude.{◌&&◌, decimal}
@@ -13,7 +13,7 @@ use Rattle.access_log.specs.Utc.{utc_text}
 use Rattle.access_log.specs.declared.utc.Utc.{Utc}
 use Rattle.access_log.proofs.Escaped.{plain_spelled, time_stands}
 
--- the room that is enough for these tokens, each with a comma
+-- an upper bound of the bytes of these tokens, each with a comma
 abbrev room : List Token → ℕ
 room [] = 0
 room (t ∷ ts) = length (spelled_token t) + 1 + room ts
@@ -40,7 +40,7 @@ spelled_is_short after (t ∷ ts) =
       spelled_is_short (ends t) ts,
     )
 
--- a text that stands as it is has two quotes beside it, and a name a colon behind them
+-- a text that needs no escape gets two quotes, and a name also a colon
 quoted_length : (text : List ℕ) → is_plain_text text ≡ true
     → length (spelled_quoted text) ≡ length text + 2
 quoted_length text is =

@@ -1,4 +1,4 @@
--- A day since 1970 lies in a year that isn't negative.
+-- A day since 1970 is in a year that isn't negative.
 use Rattle.std.proofs.Common.{◌≡◌, ℕ, ◌<◌, ℤ, pos, ◌<ℤ◌, ◌≤ℤ◌, arith}
 use Rattle.std.proofs.lemmas.Int.{by_lt_z}
 use Rattle.jiff_core.specs.Calendar.{IsCivilDate, day_count, days_from_civil}

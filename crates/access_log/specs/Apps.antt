@@ -1,4 +1,4 @@
--- What a line says of the apps of a request.
+-- What a line logs of the apps of a request.
 use Rattle.std.specs.Prelude.{ℕ, ◌+◌, List, [], ◌∷◌, ◌++◌, codes, length, take, drop, true}
 use Rattle.std.specs.Prelude.{nat_lt, ◌==◌, if◌then◌else◌, Option, Some, None}
 use Rattle.json.specs.Token.{Token, begin_object, end_object, begin_array, end_array, key}
@@ -17,14 +17,14 @@ abbrev pub offer_members : ℕ → List ℕ → List Token
 offer_members choice version =
     number_member (codes "choice") choice ++ text_member (codes "release") version
 
--- a choice of 0 is no update
+-- a choice of 0 means no update
 abbrev pub outcome_members : Outcome → List Token
 outcome_members Unknown = flag_member (codes "unknown") true
 outcome_members Unasked = []
 outcome_members NoUpdate = number_member (codes "choice") 0
 outcome_members (Offered choice version) = offer_members choice version.now
 
--- an event of a size, for which there is so much room; where that isn't enough it is left out whole
+-- an event of `size` bytes; if it doesn't fit in `room` bytes, it is left out whole
 abbrev pub told_event : ℕ → ℕ → Excerpt → List Token
 told_event room size e =
     if nat_lt room size then count_member (codes "event_left_out") e.length
@@ -38,7 +38,7 @@ event_members room None = []
 abbrev pub head_of : List ℕ → List Token
 head_of appid = (begin_object ∷ []) ++ text_member (codes "appid") appid
 
--- an app, of whose event so many bytes have room, and so many of what it says beside
+-- an app, with `room` bytes for its event and `more` for its further members
 abbrev pub app_object : ℕ → ℕ → AskedApp → List Token
 app_object room more app =
     head_of app.appid.text.now
@@ -51,14 +51,14 @@ app_object room more app =
     ++ event_members room app.event
     ++ (end_object ∷ [])
 
--- apps, whose events share so much room, and what they say beside so much
+-- apps, which share `room` bytes for their events and `more` for their further members
 unfoldable pub app_objects : ℕ → ℕ → List AskedApp → List Token
 app_objects room more [] = []
 app_objects room more (app ∷ apps) =
     app_object room more app
     ++ app_objects (behind_event room app.event) (behind_more more app.more) apps
 
--- what they say beside has what the events leave
+-- the further members get the bytes that the events leave
 abbrev pub list_of : ℕ → List AskedApp → List Token
 list_of room apps =
     (key (codes "apps") ∷ []) ++ (begin_array ∷ [])
@@ -67,12 +67,12 @@ list_of room apps =
 
 -- ---- what is left out
 
--- 1 of an app that is offered a release, and else 0
+-- 1 if the app was offered a release, otherwise 0
 abbrev pub offers_of : Outcome → ℕ
 offers_of (Offered choice version) = 1
 offers_of outcome = 0
 
--- 1 of an app that the server doesn't know, and else 0
+-- 1 if the server doesn't have the app, otherwise 0
 abbrev pub unknown_of : Outcome → ℕ
 unknown_of Unknown = 1
 unknown_of outcome = 0
@@ -85,31 +85,31 @@ unfoldable pub unknown_in : List AskedApp → ℕ
 unknown_in [] = 0
 unknown_in (app ∷ apps) = unknown_of app.outcome + unknown_in apps
 
--- how many of these apps are told without what they say beside, for which there is so much room
+-- how many of these apps are logged without their further members, which share `room` bytes
 unfoldable pub more_left_out : ℕ → List AskedApp → ℕ
 more_left_out room [] = 0
 more_left_out room (app ∷ apps) =
     without_more room (more_room app.more) + more_left_out (behind_more room app.more) apps
 
--- of those whose events share so much room: it has what these leave
+-- the number of the above, if the events and the further members share `room` bytes
 abbrev pub more_left_out_member : ℕ → List AskedApp → List Token
 more_left_out_member room apps =
     count_member (codes "more_left_out") (more_left_out (behind_events room apps) apps)
 
--- how many they are, and how many of them are offers and how many are unknown
+-- how many apps these are, and how many of them have offers or are unknown
 abbrev pub left_out_members : List AskedApp → List Token
 left_out_members apps =
     count_member (codes "left_out") (length apps)
     ++ count_member (codes "offers_left_out") (offers_in apps)
     ++ count_member (codes "unknown_left_out") (unknown_in apps)
 
--- the first apps, and what is left out of them and behind them
+-- the first n apps, what is left out of them, and counts of the apps after them
 abbrev pub first_apps : ℕ → ℕ → List AskedApp → List Token
 first_apps n room apps =
     list_of room (take n apps) ++ more_left_out_member room (take n apps)
     ++ left_out_members (drop n apps)
 
--- nothing of what asks of no app
+-- nothing if the request has no apps
 abbrev pub apps_members : List AskedApp → List Token
 apps_members apps =
     if length apps == 0 then []

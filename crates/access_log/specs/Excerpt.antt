@@ -1,18 +1,18 @@
--- How much of a long text a line tells.
+-- How much of a long text a line logs.
 use Rattle.std.specs.Prelude.{◌≡◌, ℕ, ◌<◌, ◌≤◌, List, length, take}
 use Rattle.std.specs.Str.{IsCharBoundary}
 use Rattle.access_log.specs.Room.{text_room}
 use Rattle.access_log.specs.declared.excerpt.Excerpt.{Excerpt}
 
--- the longest beginning of whole characters that has at most 512 bytes, and the text's length
+-- the longest prefix of whole characters that has at most 512 bytes, and the text's length
 pub record IsExcerpt (whole : List ℕ) (e : Excerpt) : Type 0 where
   pub beginning : e.text.now ≡ take (length e.text.now) whole
   pub short : length e.text.now ≤ 512
   pub longest : (i : ℕ) → length e.text.now < i → i ≤ 512 → ¬ IsCharBoundary whole i
   pub counted : e.length ≡ length whole
 
--- the longest beginning of whole characters that takes at most so many bytes in a line, with its
--- escapes, and the text's length
+-- the longest prefix of whole characters that takes at most `most` bytes in a line, escapes
+-- included, and the text's length
 pub record IsBriefExcerpt (most : ℕ) (whole : List ℕ) (e : Excerpt) : Type 0 where
   pub beginning : e.text.now ≡ take (length e.text.now) whole
   pub brief : text_room e.text.now ≤ most

@@ -52,7 +52,7 @@ load_members load =
     ++ optional_member (codes "refusal") (option_copied load.refusal)
     ++ optional_excerpt (codes "cause") (codes "cause_left_out") load.cause
 
--- what was replied, if anything was
+-- the reply, if there was one
 abbrev pub reply_members : Connection → List Token
 reply_members connection =
     count_member (codes "status") connection.status
@@ -78,7 +78,7 @@ unaccepted_members reason =
 abbrev pub lost_members : ℕ → List Token
 lost_members lines = kind_member (codes "lost") ++ number_member (codes "lines") lines
 
--- how many replies there were of each status
+-- the number of replies of each status
 abbrev pub status_members : Totals → List Token
 status_members totals =
     number_member (codes "status_200") totals.success
@@ -90,7 +90,7 @@ status_members totals =
     ++ number_member (codes "status_431") totals.header_fields_too_large
     ++ number_member (codes "status_500") totals.internal_server_error
 
--- what connections came to in a minute
+-- totals of the connections of a minute
 abbrev pub totals_members : Totals → List Token
 totals_members totals =
     kind_member (codes "totals") ++ status_members totals
@@ -135,13 +135,13 @@ with_line_feed tokens = spelled tokens ++ 10 ∷ []
 abbrev pub line_with : Utc → List Token → List ℕ
 line_with time members = with_line_feed (object_at time members)
 
--- What stands in the place of a line of so many bytes. By what a server tells none of a connection
--- comes to that: its apps have 3660 bytes, and what stands round them 431 at most. No clause says
--- so; a row of test_access_log has the longest.
+-- What replaces a line of more than 4096 bytes. A server's connections never have such a line:
+-- their apps have at most 3660 bytes, and the rest at most 431. No clause says so; a row of
+-- test_access_log has the longest.
 abbrev pub too_long_members : ℕ → List Token
 too_long_members bytes = kind_member (codes "too-long") ++ number_member (codes "bytes") bytes
 
--- a line of more than 4096 bytes is left out, and how many it would have is told
+-- a line of more than 4096 bytes is replaced by its length
 abbrev pub line_or_length : Utc → List ℕ → List ℕ
 line_or_length time whole =
     if nat_lt 4096 (length whole) then line_with time (too_long_members (length whole)) else whole
@@ -150,7 +150,7 @@ line_or_length time whole =
 abbrev pub event_line : Utc → LogEvent → List ℕ
 event_line time e = line_or_length time (line_with time (said e))
 
--- of a connection's apps as a server tells them all are told, or eleven at least
+-- all apps of a connection are logged, or at least eleven, if they are as brief as a server's
 abbrev pub TellsApps : LogEvent → Type 0
 TellsApps (log.Connection connection) = TellsEnough connection.apps.now
 TellsApps e = ⊤

@@ -13,7 +13,7 @@ number_member name n = key name ∷ number (decimal n) ∷ []
 abbrev pub flag_member : List ℕ → Bool → List Token
 flag_member name holds = key name ∷ boolean holds ∷ []
 
--- a text, where there is one
+-- a text, if there is one
 abbrev pub optional_member : List ℕ → Option (List ℕ) → List Token
 optional_member name (Some text) = text_member name text
 optional_member name None = []
@@ -30,7 +30,7 @@ left_out e = e.length - length e.text.now
 abbrev pub excerpt_members : List ℕ → List ℕ → Excerpt → List Token
 excerpt_members name count e = text_member name e.text.now ++ count_member count (left_out e)
 
--- the same, where there is one
+-- an excerpt, if there is one
 abbrev pub optional_excerpt : List ℕ → List ℕ → Option Excerpt → List Token
 optional_excerpt name count (Some e) = excerpt_members name count e
 optional_excerpt name count None = []

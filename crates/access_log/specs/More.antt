@@ -1,4 +1,4 @@
--- What a line says of an app beside its id, its version, its outcome and its event.
+-- The further members of an app in a line: all but its id, its version, its outcome and its event.
 use Rattle.std.specs.Prelude.{ℕ, ◌+◌, List, [], ◌++◌, codes, nat_lt, if◌then◌else◌}
 use Rattle.std.specs.Prelude.{Option, Some, None, option_copied}
 use Rattle.json.specs.Token.{Token}
@@ -20,7 +20,7 @@ more_members m =
     ++ day_member m.installdate
     ++ optional_member (codes "ignored") (option_copied m.ignored)
 
--- what it takes: of an excerpt its name and quotes, its text, and the member of what is left out
+-- the bytes of an excerpt: its name and quotes, its text, and the member of what is left out
 abbrev pub named_room : ℕ → Option Excerpt → ℕ
 named_room name (Some e) = name + excerpt_room e
 named_room name None = 0
@@ -38,14 +38,14 @@ more_room m =
     named_room 8 m.ap + named_room 10 m.lang + named_room 11 m.brand + named_room 15 m.platform
     + day_room m.installdate + ignored_room (option_copied m.ignored)
 
--- of a size, where there is so much room: all of it, or nothing
+-- members of `size` bytes: all if they fit in `room` bytes, otherwise none
 abbrev pub told_more : ℕ → ℕ → AskedMore → List Token
 told_more room size m = if nat_lt room size then [] else more_members m
 
--- 1 where it is left out, and else 0
+-- 1 if they are left out, otherwise 0
 abbrev pub without_more : ℕ → ℕ → ℕ
 without_more room size = if nat_lt room size then 1 else 0
 
--- what is left to the apps behind it
+-- the bytes of `room` that are left for later apps
 abbrev pub behind_more : ℕ → AskedMore → ℕ
 behind_more room m = left_after room (more_room m)

@@ -1,5 +1,5 @@
--- How a text stands in a line: a string of JSON (RFC 8259, section 7), in which each control that a
--- terminal may obey is escaped, too. And what is printed of tokens with such strings.
+-- How a text is printed in a line: a string of JSON (RFC 8259, section 7), in which each control
+-- that a terminal may obey is also escaped. And how tokens with such strings are printed.
 use Rattle.std.specs.Prelude.{◌≡◌, ℕ, ◌/◌, ◌%◌, List, [], ◌∷◌, ◌++◌, Bool, false, nat_lt}
 use Rattle.std.specs.Prelude.{if◌then◌else◌, encode_utf8, Some}
 use Rattle.std.specs.Char.{digit_char}
@@ -30,18 +30,18 @@ spelled_text text = flat_map spelled_char (chars text)
 abbrev pub spelled_quoted : List ℕ → List ℕ
 spelled_quoted text = 34 ∷ (spelled_text text ++ 34 ∷ [])
 
--- a reader of JSON reads what stands behind the quote that opens a text as the text
+-- a reader of JSON reads the text back from what follows its opening quote
 abbrev pub IsReadBack : List ℕ → Type 0
 IsReadBack text =
     IsUtf8 text → (behind : List ℕ) → content plain (spelled_text text ++ 34 ∷ behind) ≡ Some text
 
--- a token: names and texts as above, and any other as the kit's writer has it
+-- a token: names and texts as above, and any other as the kit's writer prints it
 abbrev pub spelled_token : Token → List ℕ
 spelled_token (key name) = spelled_quoted name ++ 58 ∷ []
 spelled_token (string text) = spelled_quoted text
 spelled_token t = token_text t
 
--- tokens, with the commas between them, behind a value or not
+-- tokens, with the commas between them, after a value or not
 unfoldable pub spelled_from : Bool → List Token → List ℕ
 spelled_from after [] = []
 spelled_from after (t ∷ ts) = separator after t ++ (spelled_token t ++ spelled_from (ends t) ts)

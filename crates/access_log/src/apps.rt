@@ -1,4 +1,4 @@
-//! The apps of a request, as a line tells them.
+//! The apps of a request, as a line logs them.
 
 ghost use Rattle.std.specs.Prelude.{◌≡◌, ◌≤◌, [], ◌∷◌, ◌++◌, true, false, cond, length, OnOk};
 ghost use Rattle.access_log.specs.Spelled.{spelled_from};
@@ -19,7 +19,7 @@ use crate::room::{Told, behind_event, behind_events, event_room, told_apps};
 use crate::text::write_quoted;
 use std::alloc::AllocError;
 
-/// The member `apps`, unless there is none, and what is left out of it.
+/// The member `apps`, if there is one, and what is left out of it.
 #[tactic(auto, using(crate::proofs::Added::adds_nothing))]
 pub fn write_apps(line: &mut LineRoom, apps: &[AskedApp<'_>]) -> Result<(), AllocError>
     ensures { OnOk result (AddsMembers line.old line.new (specs.apps_members apps.now)) }
@@ -30,7 +30,7 @@ pub fn write_apps(line: &mut LineRoom, apps: &[AskedApp<'_>]) -> Result<(), Allo
     write_first(line, apps, told_apps(apps))
 }
 
-// So many of the first apps, and what is left out.
+// The first `told.count` apps, and what is left out.
 fn write_first(line: &mut LineRoom, apps: &[AskedApp<'_>], told: Told) -> Result<(), AllocError>
     requires { told.count ≤ length apps.now }
     ensures { OnOk result (AddsMembers line.old line.new
@@ -43,7 +43,7 @@ fn write_first(line: &mut LineRoom, apps: &[AskedApp<'_>], told: Told) -> Result
     Ok(())
 }
 
-// Apps whose events have so much room.
+// Apps, with `room` bytes for their events.
 fn write_list(line: &mut LineRoom, apps: &[AskedApp<'_>], room: usize) -> Result<(), AllocError>
     ensures { OnOk result (AddsMembers line.old line.new (specs.list_of room apps.now)) }
 {
@@ -53,7 +53,7 @@ fn write_list(line: &mut LineRoom, apps: &[AskedApp<'_>], room: usize) -> Result
     Ok(())
 }
 
-// These apps; what they say beside has so much room of its own.
+// These apps: `room` bytes for their events, `more` for their other members.
 fn write_each(
     line: &mut LineRoom,
     apps: &[AskedApp<'_>],
@@ -75,7 +75,7 @@ fn write_each(
     Ok(())
 }
 
-// An app, behind a comma or not.
+// An app, after a comma or not.
 fn write_app(
     line: &mut LineRoom,
     comma: bool,
@@ -154,7 +154,7 @@ fn write_event(
     }
 }
 
-// An event, or how many bytes it has, where it has no room.
+// An event; if it doesn't fit, only how many bytes it has.
 fn write_told_event(line: &mut LineRoom, event: &Excerpt<'_>, room: usize) -> Result<(), AllocError>
     ensures { OnOk result (AddsMembers line.old line.new
         (specs.told_event room (event_room event.now) event.now)) }
@@ -162,7 +162,7 @@ fn write_told_event(line: &mut LineRoom, event: &Excerpt<'_>, room: usize) -> Re
     write_sized_event(line, event, room, event_room(event))
 }
 
-// The same of one that takes so much.
+// As above, for an event of `size` bytes.
 fn write_sized_event(
     line: &mut LineRoom,
     event: &Excerpt<'_>,

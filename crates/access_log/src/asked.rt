@@ -1,18 +1,18 @@
-//! An app that a request asks of, and what it was answered.
+//! An app of a request, and the outcome that it got.
 
 use crate::excerpt::Excerpt;
 use crate::more::AskedMore;
 
-/// What an app was answered.
+/// The outcome of an app.
 #[derive(Clone, Copy)]
 pub enum Outcome<'a> {
-    /// The server knows no such app.
+    /// The server doesn't have this app.
     Unknown,
-    /// It asked for no update.
+    /// The app requested no update.
     Unasked,
-    /// It was offered no release.
+    /// No release was offered.
     NoUpdate,
-    /// It was offered a release: its number from 1 on, and its version.
+    /// A release was offered: its number, counted from 1, and its version.
     Offered(u8, &'a str),
 }
 
@@ -20,15 +20,15 @@ pub enum Outcome<'a> {
 #[derive(Clone, Copy)]
 pub struct AskedApp<'a> {
     pub appid: Excerpt<'a>,
-    /// As the client wrote it, if it did.
+    /// As the client wrote it; `None` if it didn't.
     pub version: Option<Excerpt<'a>>,
     /// From 0 to 9999.
     pub bucket: u16,
     /// Whether the client's cohort named the bucket.
     pub named: bool,
     pub outcome: Outcome<'a>,
-    /// The member `event` that the client wrote, as JSON, if it did.
+    /// The member `event` as the client wrote it, in JSON; `None` if it didn't.
     pub event: Option<Excerpt<'a>>,
-    /// What it says beside these.
+    /// The app's other members.
     pub more: AskedMore<'a>,
 }

@@ -1,4 +1,4 @@
-//! What happens to a server, as its log tells it.
+//! What happens to a server, as its log has it.
 
 use crate::asked::AskedApp;
 use crate::excerpt::Excerpt;
@@ -14,21 +14,21 @@ pub struct Start<'a> {
     /// The digest of its manifest and of the files that this names, in hexadecimal digits.
     pub digest: Option<&'a str>,
     pub refusal: Option<&'a str>,
-    /// What is told of the refusal beside: which array or which member is wrong.
+    /// A detail of the refusal, such as which array or which member is wrong.
     pub cause: Option<Excerpt<'a>>,
 }
 
-/// A load that the operator asked for.
+/// A load that the operator requested.
 #[derive(Clone, Copy)]
 pub struct Load<'a> {
     /// The path of the manifest, as the operator wrote it.
     pub path: Excerpt<'a>,
-    /// The generation that is served from then on; 0 where the load was refused.
+    /// The generation that is served from then on; 0 if the load was refused.
     pub generation: u64,
     /// The digest of the manifest and of the files that it names, in hexadecimal digits.
     pub digest: Option<&'a str>,
     pub refusal: Option<&'a str>,
-    /// What is told of the refusal beside: which array changes, or which member is wrong.
+    /// A detail of the refusal, such as which array changes, or which member is wrong.
     pub cause: Option<Excerpt<'a>>,
 }
 
@@ -39,27 +39,27 @@ pub struct Connection<'a> {
     pub peer: &'a str,
     /// The address that a proxy names.
     pub forwarded: Option<&'a str>,
-    /// The status of the reply; 0 where there is none, or not all of it was sent.
+    /// The status of the reply; 0 if there was none, or it was sent only in part.
     pub status: u16,
-    /// What the client was told, or why it was told nothing.
+    /// The error that the client got, or why it got no reply.
     pub refusal: Option<&'a str>,
     /// What failed: a time-out, a reset, the clock.
     pub cause: Option<&'a str>,
-    /// That of the ruleset that the apps were answered under; 0 where there is none.
+    /// The generation of the ruleset that decided for the apps; 0 if there was none.
     pub generation: u64,
     /// How many bytes were written.
     pub bytes: u64,
-    /// How many microseconds it took.
+    /// How long it took, in microseconds.
     pub micros: u64,
-    /// How many microseconds it had waited for a worker before; 0 where that isn't known.
+    /// How long it had waited for a worker, in microseconds; 0 if that isn't known.
     pub waited: u64,
     pub apps: &'a [AskedApp<'a>],
 }
 
-/// What connections came to, by the statuses of their replies.
+/// Totals of connections, by the statuses of their replies.
 #[derive(Clone, Copy)]
 pub struct Totals {
-    /// How many had a whole reply of the status 200, and so on.
+    /// How many got a whole reply of status 200; the next fields count other statuses.
     pub success: u64,
     pub bad_request: u64,
     pub not_found: u64,
@@ -68,15 +68,15 @@ pub struct Totals {
     pub content_too_large: u64,
     pub header_fields_too_large: u64,
     pub internal_server_error: u64,
-    /// How many had no whole reply.
+    /// How many got no whole reply.
     pub dropped: u64,
-    /// How many microseconds one of them had waited for a worker at most.
+    /// The longest wait for a worker, in microseconds.
     pub longest_wait: u64,
-    /// How many workers were at work at once at most.
+    /// The most workers that were busy at once.
     pub busy: u64,
 }
 
-/// A counter that isn't 0 when a server has ended.
+/// A counter that isn't 0 when a server ends.
 #[derive(Clone, Copy)]
 pub struct Counter<'a> {
     pub array: &'a str,
@@ -94,11 +94,11 @@ pub enum LogEvent<'a> {
     Connection(Connection<'a>),
     /// A connection couldn't be accepted, for this reason.
     Unaccepted(&'a str),
-    /// So many lines before this one were lost, since they weren't read in time.
+    /// This number of lines before this one was lost, since they weren't read in time.
     Lost(u64),
-    /// What the connections since the last such line came to.
+    /// Totals of the connections since the last such line.
     Totals(Totals),
-    /// The operator has stopped the server; and what was refused at its end, if anything was.
+    /// The operator stopped the server; and the error at its end, if there was one.
     Stop(Option<&'a str>),
     Counter(Counter<'a>),
 }

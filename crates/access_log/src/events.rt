@@ -15,7 +15,7 @@ use crate::member::{
 };
 use std::alloc::AllocError;
 
-/// What an event says.
+/// The members of an event.
 pub fn write_said(line: &mut LineRoom, event: &LogEvent<'_>) -> Result<(), AllocError>
     ensures { OnOk result (AddsMembers line.old line.new (specs.said event.now)) }
 {
@@ -77,7 +77,7 @@ fn write_connection(line: &mut LineRoom, connection: &Connection<'_>) -> Result<
     Ok(())
 }
 
-// What was replied, if anything was.
+// The reply, if there was one.
 fn write_reply(line: &mut LineRoom, connection: &Connection<'_>) -> Result<(), AllocError>
     ensures { OnOk result (AddsMembers line.old line.new (specs.reply_members connection.now)) }
 {
@@ -118,7 +118,7 @@ fn write_totals(line: &mut LineRoom, totals: &Totals) -> Result<(), AllocError>
     Ok(())
 }
 
-// How many replies there were of each status.
+// The number of replies of each status.
 fn write_statuses(line: &mut LineRoom, totals: &Totals) -> Result<(), AllocError>
     ensures { OnOk result (AddsMembers line.old line.new (specs.status_members totals.now)) }
 {
@@ -151,7 +151,7 @@ fn write_counter(line: &mut LineRoom, counter: &Counter<'_>) -> Result<(), Alloc
     Ok(())
 }
 
-/// The member that says what kind of event it is.
+/// The member that names the kind of event.
 pub fn write_kind(line: &mut LineRoom, kind: &str) -> Result<(), AllocError>
     requires { is_plain_text kind.now ≡ true }
     ensures { OnOk result (AddsMembers line.old line.new (specs.kind_member kind.now)) }

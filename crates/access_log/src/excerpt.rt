@@ -1,4 +1,4 @@
-//! A text that may be long, as far as a line tells it.
+//! The part of a long text that a line logs.
 
 ghost use Rattle.std.specs.Prelude.{◌≡◌, ◌≤◌, ◌<◌, ℕ, take};
 ghost use Rattle.std.specs.Str.{IsCharBoundary};
@@ -8,13 +8,13 @@ ghost use Rattle.access_log.specs.Room.{text_room};
 
 use crate::room::text_room;
 
-/// The most bytes of a text that a line tells.
+/// The most bytes of a text that a line logs.
 const EXCERPT_LIMIT: usize = 512;
 
-/// The most bytes that a text takes in a line with its escapes, where it has to be brief.
+/// The most bytes of a brief text in a line, escapes included.
 const BRIEF_ROOM: usize = 64;
 
-/// The most that one takes which is told only where there is room for it.
+/// The most bytes of a text that is logged only if it fits, escapes included.
 const SHORT_ROOM: usize = 32;
 
 /// The beginning of a text, and how many bytes the whole text has.
@@ -25,7 +25,7 @@ pub struct Excerpt<'a> {
 }
 
 impl<'a> Excerpt<'a> {
-    /// As many whole characters of a text as 512 bytes hold.
+    /// The longest prefix of whole characters within 512 bytes.
     pub fn of(text: &'a str) -> Excerpt<'a>
         ensures { IsExcerpt text.now result }
     {
@@ -36,7 +36,8 @@ impl<'a> Excerpt<'a> {
         }
     }
 
-    /// As many whole characters of a text as take 64 bytes in a line, with their escapes.
+    /// The longest prefix of whole characters that takes at most 64 bytes in a line, escapes
+    /// included.
     pub fn brief(text: &'a str) -> Excerpt<'a>
         ensures { IsBriefExcerpt 64 text.now result }
     {
@@ -46,7 +47,7 @@ impl<'a> Excerpt<'a> {
         }
     }
 
-    /// As many as take 32 bytes.
+    /// As `brief`, within 32 bytes.
     pub fn short(text: &'a str) -> Excerpt<'a>
         ensures { IsBriefExcerpt 32 text.now result }
     {
@@ -64,7 +65,7 @@ impl<'a> Excerpt<'a> {
     }
 }
 
-// Where a beginning ends that takes so many bytes at most.
+// The end of the longest prefix that takes at most `most` bytes.
 fn brief_end(text: &str, most: usize) -> usize
     ensures boundary { IsCharBoundary text.now result }
     ensures brief { text_room (take result text.now) ≤ most }

@@ -1,5 +1,5 @@
-//! What a line leaves out of a request's apps: of how many that it tells what they say beside, how
-//! many more there are, how many of these are offered a release, and how many aren't known.
+//! What a line leaves out of a request's apps. The counts: listed apps without their other members,
+//! apps that aren't listed, and how many of these were offered a release or aren't known.
 
 ghost use Rattle.std.specs.Prelude.{◌≡◌, ◌≤◌, OnOk};
 ghost use Rattle.access_log.specs.Tokens.{AddsMembers};
@@ -12,7 +12,7 @@ use crate::more::{behind_more, without_more};
 use crate::room::behind_events;
 use std::alloc::AllocError;
 
-/// The members of what is left out, unless they are 0.
+/// The counts of what is left out, unless they are 0.
 pub fn write_left_out(line: &mut LineRoom, apps: &[AskedApp<'_>]) -> Result<(), AllocError>
     ensures { OnOk result (AddsMembers line.old line.new (specs.left_out_members apps.now)) }
 {
@@ -22,8 +22,8 @@ pub fn write_left_out(line: &mut LineRoom, apps: &[AskedApp<'_>]) -> Result<(), 
     Ok(())
 }
 
-/// Of how many of these apps, whose events have so much room, all that they say beside is left out,
-/// unless it is of none.
+/// How many of these apps are listed without their other members, unless there are none. Their
+/// events have `room` bytes.
 pub fn write_more_left_out(
     line: &mut LineRoom,
     apps: &[AskedApp<'_>],

@@ -1,10 +1,11 @@
-//! The lines of a server's log: a JSON object (RFC 8259) each, which says what happened and when.
+//! The lines of a server's log: each is a JSON object (RFC 8259), which says what happened and
+//! when.
 //!
-//! What an event says is defined as tokens of JSON, in a fixed order, and its line is what the
-//! kit's writer prints of them, with a line feed behind; but that more is escaped in a text: all
-//! characters by which it could change a terminal. A line has at most 4096 bytes. So much of a
-//! client's request is told as has room: a text is cut, and of many apps the first are told, and
-//! what is left out stands there as a number.
+//! An event is defined as tokens of JSON, in a fixed order. Its line is these tokens as the kit's
+//! writer prints them, followed by a line feed. Only texts differ: all characters that could
+//! control a terminal are escaped. A line has at most 4096 bytes. As much of a client's request is
+//! logged as fits: long texts are cut, only the first apps are listed, and counts say what is left
+//! out.
 //!
 //! See docs/OPERATING.md, "The log".
 #![tactic(auto)]

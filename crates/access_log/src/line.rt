@@ -13,8 +13,8 @@ use crate::room::LINE_LIMIT;
 use crate::utc::Utc;
 use std::alloc::{AllocError, Global};
 
-/// The line of what happened at a time, with its line feed. Refused memory leaves no line.
-// open: whether memory is refused; that no line of a connection is too long, and that a line is
+/// The line of what happened at a time, with its line feed. Returns no line if an allocation fails.
+// open: whether an allocation fails; that no line of a connection is too long, and that a line is
 // JSON, as its definition has it: tests.
 #[tactic(auto, using(crate::proofs::Enough::tells_apps))]
 pub fn log_line(alloc: Global, time: &Utc, event: &LogEvent<'_>) -> Result<Vec<u8>, AllocError>
@@ -28,10 +28,9 @@ pub fn log_line(alloc: Global, time: &Utc, event: &LogEvent<'_>) -> Result<Vec<u
     Vec::from_slice(alloc, room.bytes())
 }
 
-/// Writes the line of an event in the place of what stands in the room, which is kept from one line
-/// to the next.
-/// Where memory is refused a part of a line may stand there.
-// open: whether memory is refused; the same as of `log_line`.
+/// Replaces the contents of the buffer by the line of an event. The buffer is reused from line to
+/// line; if an allocation fails, it may have part of a line.
+// open: whether an allocation fails; the same as for `log_line`.
 #[tactic(auto, using(crate::proofs::Enough::tells_apps))]
 pub fn log_line_in(room: &mut LineRoom, time: &Utc, event: &LogEvent<'_>) -> Result<(), AllocError>
     ensures text { OnOk result (room.new ≡ specs.event_line time.now event.now) }
@@ -47,7 +46,7 @@ pub fn log_line_in(room: &mut LineRoom, time: &Utc, event: &LogEvent<'_>) -> Res
     Ok(())
 }
 
-// However many bytes it has.
+// Without the limit on its length.
 fn whole_line(room: &mut LineRoom, time: &Utc, event: &LogEvent<'_>) -> Result<(), AllocError>
     ensures { OnOk result (room.new ≡ specs.line_with time.now (specs.said event.now)) }
 {
@@ -57,7 +56,7 @@ fn whole_line(room: &mut LineRoom, time: &Utc, event: &LogEvent<'_>) -> Result<(
     Ok(())
 }
 
-// What stands in the place of a line of so many bytes.
+// What replaces a line of `bytes` bytes, which is too long.
 
 fn too_long_line(room: &mut LineRoom, time: &Utc, bytes: usize) -> Result<(), AllocError>
     ensures text { OnOk result
@@ -70,7 +69,7 @@ fn too_long_line(room: &mut LineRoom, time: &Utc, bytes: usize) -> Result<(), Al
     Ok(())
 }
 
-// The brace that opens the object, and the time, in the place of what stands in the room.
+// Replaces the contents by the brace that opens the object, and the time.
 fn begin_line(room: &mut LineRoom, time: &Utc) -> Result<(), AllocError>
     ensures { OnOk result (room.new ≡ spelled (specs.begun_at time.now)) }
 {

@@ -1,5 +1,5 @@
-//! Room for a line, which is kept from one line to the next. Behind the bytes that are written
-//! stand others, so that a piece of a line is stored with one test.
+//! The buffer of a line, which is reused from line to line. It keeps spare bytes after those that
+//! are written, so that a piece of a line is stored with one test.
 
 ghost use Rattle.std.specs.Prelude.{◌≡◌, ◌++◌, ◌+◌, ◌≤◌, [], length, OnOk};
 ghost use Rattle.json.specs.Filled.{Placed};
@@ -7,10 +7,10 @@ ghost use Rattle.json.specs.Filled.{Placed};
 use std::alloc::{AllocError, Global};
 use std::marker::Model;
 
-/// How much room there is at first, and how much more is made where it isn't enough.
+/// The spare bytes that are added when the buffer grows.
 const MORE_ROOM: usize = 1024;
 
-/// The bytes of a line so far, and room for more.
+/// The bytes of a line so far, and spare ones.
 #[derive(Drop)]
 pub struct LineRoom {
     bytes: Vec<u8>,
@@ -28,7 +28,7 @@ impl Model for LineRoom {
 }
 
 impl LineRoom {
-    /// Room that takes no memory yet.
+    /// An empty buffer, without an allocation.
     pub fn new(alloc: Global) -> LineRoom
         ensures { result ≡ [] }
     {
@@ -45,14 +45,14 @@ impl LineRoom {
         &self.bytes.as_slice()[..self.len]
     }
 
-    /// Lets the bytes go, and keeps their room.
+    /// Removes the bytes, and keeps the buffer's memory.
     pub(crate) fn clear(&mut self)
         ensures { self.new ≡ [] }
     {
         self.len = 0;
     }
 
-    /// Writes bytes behind the others. Where memory is refused a part of them may stand there.
+    /// Appends bytes. If an allocation fails, part of them may be appended.
     #[inline(always)]
     pub(crate) fn put(&mut self, bytes: &[u8]) -> Result<(), AllocError>
         ensures { OnOk result (self.new ≡ self.old ++ bytes.now) }
@@ -65,7 +65,7 @@ impl LineRoom {
         Ok(())
     }
 
-    // The same where there isn't room for them.
+    // Appends bytes for which the buffer is too small.
     #[cold]
     #[inline(never)]
     fn put_behind(&mut self, bytes: &[u8]) -> Result<(), AllocError>

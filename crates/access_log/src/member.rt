@@ -1,4 +1,4 @@
-//! Members of an object of JSON behind other members, written one after another.
+//! Members of a JSON object, each appended after earlier ones.
 
 ghost use Rattle.std.specs.Prelude.{◌≡◌, ◌++◌, true, OnOk, option_copied};
 ghost use Rattle.json.specs.Token.{boolean};
@@ -25,7 +25,7 @@ pub fn write_text(line: &mut LineRoom, name: &str, text: &str) -> Result<(), All
     Ok(())
 }
 
-/// A member that is a text in which nothing is to be escaped.
+/// A member that is a text without characters to escape.
 #[inline(always)]
 #[tactic(auto, using(crate::proofs::Added::adds_text))]
 pub fn write_word(line: &mut LineRoom, name: &str, word: &str) -> Result<(), AllocError>
@@ -38,7 +38,7 @@ pub fn write_word(line: &mut LineRoom, name: &str, word: &str) -> Result<(), All
     Ok(())
 }
 
-/// One that is a number.
+/// A member that is a number.
 #[inline(always)]
 #[tactic(auto, using(crate::proofs::Added::adds_number))]
 pub fn write_number(line: &mut LineRoom, name: &str, n: u64) -> Result<(), AllocError>
@@ -51,7 +51,7 @@ pub fn write_number(line: &mut LineRoom, name: &str, n: u64) -> Result<(), Alloc
     Ok(())
 }
 
-/// One that is true or false.
+/// A member that is true or false.
 #[inline(always)]
 #[tactic(auto, using(crate::proofs::Added::adds_flag))]
 pub fn write_flag(line: &mut LineRoom, name: &str, holds: bool) -> Result<(), AllocError>
@@ -76,7 +76,7 @@ fn write_bool(line: &mut LineRoom, holds: bool) -> Result<(), AllocError>
     }
 }
 
-/// One that is a text, where there is one.
+/// A member that is a text, if there is one.
 #[inline(always)]
 #[tactic(auto, using(crate::proofs::Added::adds_nothing))]
 pub fn write_optional(line: &mut LineRoom, name: &str, text: Option<&str>) -> Result<(), AllocError>
@@ -90,7 +90,7 @@ pub fn write_optional(line: &mut LineRoom, name: &str, text: Option<&str>) -> Re
     }
 }
 
-/// One that is a number, unless it is 0.
+/// A member that is a number, unless it is 0.
 #[inline(always)]
 #[tactic(auto, using(crate::proofs::Added::adds_nothing))]
 pub fn write_count(line: &mut LineRoom, name: &str, n: u64) -> Result<(), AllocError>
@@ -104,7 +104,7 @@ pub fn write_count(line: &mut LineRoom, name: &str, n: u64) -> Result<(), AllocE
     write_number(line, name, n)
 }
 
-/// How many bytes are left out of a text, unless none are.
+/// How many bytes are left out of a text, if any are.
 pub fn write_left_out_of(
     line: &mut LineRoom,
     name: &str,
@@ -117,7 +117,7 @@ pub fn write_left_out_of(
     write_count(line, name, excerpt.left_out())
 }
 
-/// One that is a text which may be cut, and behind it how many bytes are left out, if any are.
+/// A member that is a text which may be cut, followed by the number of bytes left out, if any are.
 pub fn write_excerpt(
     line: &mut LineRoom,
     name: &str,

@@ -1,5 +1,5 @@
-//! What a line tells of an app beside its id, its version, its outcome and its event, where these
-//! leave room for it: all of it, or nothing.
+//! The further members of an app in a line: all but its id, its version, its outcome and its event.
+//! They are logged together if they fit, or not at all.
 
 ghost use Rattle.std.specs.Prelude.{◌≡◌, ◌≤◌, OnOk, option_copied};
 ghost use Rattle.access_log.specs.Tokens.{AddsMembers};
@@ -11,7 +11,7 @@ use crate::member::{write_number, write_optional, write_optional_excerpt};
 use crate::room::{behind_excerpt, excerpt_room, text_room};
 use std::alloc::AllocError;
 
-/// What a client says of an app beside its id and its version.
+/// What a client says of an app besides its id and its version.
 #[derive(Clone, Copy)]
 pub struct AskedMore<'a> {
     pub ap: Option<Excerpt<'a>>,
@@ -25,7 +25,7 @@ pub struct AskedMore<'a> {
     pub ignored: Option<&'a str>,
 }
 
-/// The members, where there is so much room.
+/// The members, if they fit in `room` bytes.
 pub fn write_more(line: &mut LineRoom, more: &AskedMore<'_>, room: usize) -> Result<(), AllocError>
     ensures { OnOk result (AddsMembers line.old line.new
         (specs.told_more room (specs.more_room more.now) more.now)) }
@@ -33,7 +33,7 @@ pub fn write_more(line: &mut LineRoom, more: &AskedMore<'_>, room: usize) -> Res
     write_sized_more(line, more, room, more_room(more))
 }
 
-// The same of what takes so much.
+// As above, for members of `size` bytes.
 fn write_sized_more(
     line: &mut LineRoom,
     more: &AskedMore<'_>,
@@ -71,7 +71,7 @@ fn write_day(line: &mut LineRoom, installdate: Option<u64>) -> Result<(), AllocE
     }
 }
 
-/// 1 where they are left out, and else 0.
+/// 1 if they are left out, otherwise 0.
 pub fn without_more(room: usize, more: &AskedMore<'_>) -> usize
     ensures value { result ≡ specs.without_more room (specs.more_room more.now) }
     ensures bound { result ≤ 1 }
@@ -79,7 +79,7 @@ pub fn without_more(room: usize, more: &AskedMore<'_>) -> usize
     if room < more_room(more) { 1 } else { 0 }
 }
 
-/// What they leave of this room.
+/// The bytes of `room` that they leave.
 pub fn behind_more(room: usize, more: &AskedMore<'_>) -> usize
     ensures { result ≡ specs.behind_more room more.now }
 {
@@ -97,7 +97,7 @@ fn more_room(more: &AskedMore<'_>) -> usize
         + ignored_room(more.ignored)
 }
 
-// What an excerpt takes whose name and quotes take so much.
+// The bytes of an excerpt, `name` of them for its name and quotes.
 fn named_room(name: usize, excerpt: &Option<Excerpt<'_>>) -> usize
     requires { name ≤ 15 }
     ensures value { result ≡ specs.named_room name excerpt.now }

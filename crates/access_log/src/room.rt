@@ -1,5 +1,6 @@
-//! How many apps a line tells, reckoned before any is written: each takes room for its texts, as
-//! many bytes as they may have in JSON, and for all else. What is left is room for their events.
+//! How many apps a line logs, computed before any is written. The budget of each app is as many
+//! bytes as its texts may have in JSON, and a fixed number for the rest. What is left is for their
+//! events.
 
 ghost use Rattle.std.specs.Prelude.{◌≡◌, ◌*◌, ◌≤◌, length};
 ghost use Rattle.std.specs.Str.{chars};
@@ -13,23 +14,23 @@ use printing::is_control;
 /// The most bytes of a line, with its line feed.
 pub const LINE_LIMIT: usize = 4096;
 
-/// What all apps of a line may take.
+/// The most bytes of all apps of a line.
 const APPS_ROOM: usize = 3660;
 
-/// What an app takes beside its texts, its version, its outcome and its event.
+/// The bytes of an app without its texts, its version, its outcome and its event.
 const APP_ROOM: usize = 41;
 
-/// What a member takes that tells how much of a text is left out.
+/// The bytes of a member that says how much of a text is left out.
 const COUNT_ROOM: usize = 27;
 
-/// How many apps a line tells, from the first one on, and how much room they leave.
+/// How many apps a line logs, counted from the first, and how many bytes they leave.
 #[derive(Clone, Copy)]
 pub struct Told {
     pub count: usize,
     pub room: usize,
 }
 
-/// What a line tells of these apps.
+/// Computes how many of these apps a line logs.
 pub fn told_apps(apps: &[AskedApp<'_>]) -> Told
     ensures count { result.count ≡ specs.told_apps apps.now }
     ensures within { result.count ≤ length apps.now }
@@ -90,7 +91,7 @@ fn event_count_room(event: &Option<Excerpt<'_>>) -> usize
     }
 }
 
-/// What the text of an excerpt takes, and the member that tells what is left out of it.
+/// The bytes of an excerpt's text, and of the member that says what is left out of it.
 pub fn excerpt_room(excerpt: &Excerpt<'_>) -> usize
     ensures value { result ≡ specs.excerpt_room excerpt.now }
     ensures bound { result ≤ 24603 }
@@ -103,14 +104,14 @@ pub fn excerpt_room(excerpt: &Excerpt<'_>) -> usize
     text_room(excerpt.text) + count
 }
 
-/// What an event takes beside the number of what is left out of it.
+/// The bytes of an event, without the number of what is left out of it.
 pub fn event_room(event: &Excerpt<'_>) -> usize
     ensures { result ≡ specs.event_room event.now }
 {
     11 + text_room(event.text)
 }
 
-/// What the events of these apps leave of this room.
+/// The bytes of `room` that the events of these apps leave.
 pub fn behind_events(room: usize, apps: &[AskedApp<'_>]) -> usize
     ensures { result ≡ specs.behind_events room apps.now }
 {
@@ -121,7 +122,7 @@ pub fn behind_events(room: usize, apps: &[AskedApp<'_>]) -> usize
     left
 }
 
-/// What an event leaves of this room.
+/// The bytes of `room` that an event leaves.
 pub fn behind_event(room: usize, event: &Option<Excerpt<'_>>) -> usize
     ensures { result ≡ specs.behind_event room event.now }
 {
@@ -131,7 +132,7 @@ pub fn behind_event(room: usize, event: &Option<Excerpt<'_>>) -> usize
     }
 }
 
-/// What is left behind so much, where it has room.
+/// `room` less `size` if it fits, otherwise `room`.
 pub fn behind_excerpt(room: usize, size: usize) -> usize
     ensures { result ≡ specs.left_after room size }
 {

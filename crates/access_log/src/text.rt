@@ -1,5 +1,5 @@
-//! The text of JSON's tokens (RFC 8259), written as bytes behind what stands in a line. A control
-//! that a terminal may obey is escaped, too.
+//! Appends the text of JSON's tokens (RFC 8259) to a line. A control that a terminal may obey is
+//! also escaped.
 
 ghost use Rattle.std.specs.Prelude.{◌≡◌, ◌++◌, ◌<◌, true, decimal, OnOk};
 ghost use Rattle.std.specs.Char.{digit_char};
@@ -22,7 +22,7 @@ pub fn write_digits(line: &mut LineRoom, n: u64) -> Result<(), AllocError>
     line.put(buffer.format(n).as_bytes())
 }
 
-/// A comma, a name in which nothing is to be escaped, and a colon.
+/// A comma, a name without characters to escape, and a colon.
 #[inline(always)]
 pub fn write_name(line: &mut LineRoom, name: &str) -> Result<(), AllocError>
     ensures { OnOk result (line.new ≡ line.old ++ named name.now) }
@@ -33,7 +33,7 @@ pub fn write_name(line: &mut LineRoom, name: &str) -> Result<(), AllocError>
     Ok(())
 }
 
-/// A text between quotes. A reader of JSON reads it as the text.
+/// A text between quotes. A reader of JSON gets the same text back.
 #[tactic(auto, using(crate::proofs::ReadBack::text_reads))]
 pub fn write_quoted(line: &mut LineRoom, text: &str) -> Result<(), AllocError>
     ensures text { OnOk result (line.new ≡ line.old ++ specs.spelled_quoted text.now) }
@@ -45,7 +45,7 @@ pub fn write_quoted(line: &mut LineRoom, text: &str) -> Result<(), AllocError>
     Ok(())
 }
 
-/// A text in which nothing is to be escaped, between quotes.
+/// A text without characters to escape, between quotes.
 #[inline(always)]
 pub fn write_plain(line: &mut LineRoom, text: &[u8]) -> Result<(), AllocError>
     requires { is_plain_text text.now ≡ true }
@@ -57,7 +57,7 @@ pub fn write_plain(line: &mut LineRoom, text: &[u8]) -> Result<(), AllocError>
     Ok(())
 }
 
-// A text with its escapes, of which most texts have none.
+// A text with its escapes; most texts have none.
 fn write_spelled(line: &mut LineRoom, text: &str) -> Result<(), AllocError>
     ensures { OnOk result (line.new ≡ line.old ++ specs.spelled_text text.now) }
 {
@@ -121,7 +121,7 @@ fn write_escape(line: &mut LineRoom, byte: u8) -> Result<(), AllocError>
     line.put(&[byte])
 }
 
-// The letter of a short escape, or 0 where there is none.
+// The letter of a short escape, or 0 if there is none.
 fn letter(byte: u8) -> u8
     ensures { result ≡ escape_letter byte }
 {

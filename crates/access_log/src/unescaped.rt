@@ -1,5 +1,5 @@
-//! Whether nothing is to be escaped in a text, eight or sixteen bytes at a time. Two loads that
-//! overlap cover the end of a text.
+//! Whether a text has nothing to escape, eight or sixteen bytes at a time. Two loads that overlap
+//! cover the end of a text.
 
 ghost use Rattle.std.specs.Prelude.{◌≡◌, ◌+◌, ◌≤◌, ◌<◌, length, true};
 ghost use Rattle.std.specs.Bool.{OnTrue};
@@ -7,7 +7,7 @@ ghost use Rattle.access_log.specs.Plain.{is_plain_text, StandBetween};
 
 use std::simd::prelude::*;
 
-/// That nothing is. Where it is unknown, something may be.
+/// Whether nothing needs escaping; `false` also if that isn't known.
 #[inline(always)]
 pub fn is_plain(text: &[u8]) -> bool
     ensures { OnTrue result (is_plain_text text.now ≡ true) }

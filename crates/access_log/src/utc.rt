@@ -9,8 +9,8 @@ use jiff_core::constants::SECS_PER_CIVIL_DAY;
 
 const DAY_SECONDS: u64 = SECS_PER_CIVIL_DAY as u64;
 
-/// A moment of a year from 0 to 9999, to the millisecond. `of_unix` gives it; other numbers than a
-/// calendar has are printed by their last digits.
+/// A moment of a year from 0 to 9999, to the millisecond. `of_unix` computes it. Numbers outside
+/// the calendar's ranges are printed by their last digits.
 #[derive(Clone, Copy)]
 pub struct Utc {
     pub year: u16,
@@ -23,8 +23,8 @@ pub struct Utc {
 }
 
 impl Utc {
-    /// The moment so many seconds, and milliseconds of the next second, after 1970 began. None
-    /// after the year 9999, which ends with the second 253402300799.
+    /// The moment that is `seconds` and `millis` after 1970 began. Returns `None` after the year
+    /// 9999, which ends with the second 253402300799.
     pub fn of_unix(seconds: u64, millis: u16) -> Option<Utc>
         ensures moment { IsSome result ↔ seconds < 253402300800 }
         ensures civil { IfSome result (λ t. IsCivilDate (pos t.year) t.month t.day) }
@@ -51,7 +51,7 @@ impl Utc {
         })
     }
 
-    /// As RFC 3339 has it (section 5.6), with three digits of a second's fraction and `Z`.
+    /// As RFC 3339 defines it (section 5.6), with three digits of a second's fraction and `Z`.
     pub(crate) fn text(&self) -> [u8; 24]
         ensures { result ≡ specs.utc_text self.now }
     {

@@ -1,5 +1,5 @@
--- A pass that grew by the runs of some apps, and then by that of one more; and what was found of
--- the apps.
+-- A pass, which is a ghost token, that grew by the runs of some apps, and then by that of one more;
+-- and what was found for the apps.
 use Rattle.std.proofs.Common.{Bool, true, false, not, ◌≡◌, ℕ, suc, ◌+◌, ◌<◌, ◌≤◌, get_or, arith}
 use Rattle.std.proofs.Common.{List, [], ◌∷◌, ◌++◌, length, take, length-append}
 use Rattle.std.proofs.Common.{Option, None, Some, option_map, refl, ap, sym, subst, ◌∙◌}
@@ -34,7 +34,7 @@ not_false false h = sym h
 kept_appid : (app : AppRule) → IsApp app → app.appid ≡ kept_text (Some app.appid)
 kept_appid app kept = let named = kept.named in grind (arith, named)
 
--- so attribute 0 is the appid, where the ruleset has the app
+-- so attribute 0 is the appid, if the ruleset has the app
 known_by : (rules : Rules) (app : AppFacts) (facts : RequestFacts) (moment : ℤ) (known : AppRule)
     → IsApp known → ListsApp rules app.appid known
     → ListsApp rules (appid_of (attributes_of app facts moment)) known
@@ -54,7 +54,7 @@ module _ (rules : Rules) (facts : RequestFacts) (moment : ℤ) where
 -- ---- what the ruleset has for apps
 
 module _ (rules : Rules) (facts : RequestFacts) where
-  -- an app that it knows
+  -- an app that is in the ruleset
   pub found_is : (app : AppFacts) (choice : Option ℕ) (known : AppRule) (bucket : ℕ)
       (found : FoundApp)
       → app_of rules app.appid ≡ Some known → bucket ≡ app_bucket app facts
@@ -93,7 +93,7 @@ module _ (rules : Rules) (facts : RequestFacts) (moment : ℤ) where
   pub finds_nothing : FindsApps rules facts moment [] [] []
   finds_nothing = record { choices = []; runs = none; found_are = refl }
 
-  -- an app that it doesn't know
+  -- an app that isn't in the ruleset
   pub finds_none : (app : AppFacts) → app_of rules app.appid ≡ None
       → FindsApp rules facts moment app None []
   finds_none app knows = record {
@@ -102,7 +102,7 @@ module _ (rules : Rules) (facts : RequestFacts) (moment : ℤ) where
     found_is = sym (ap (option_map (known_app facts app None)) knows);
   }
 
-  -- one that asks for no update
+  -- an app that requests no update
   pub finds_unasked : (app : AppFacts) (found : Option FoundApp) → app.updatecheck ≡ false
       → found ≡ found_app rules facts app None → FindsApp rules facts moment app found []
   finds_unasked app found asks is = record { choice = None; runs = unasked asks; found_is = is }
@@ -138,7 +138,7 @@ module _ {P : Type 0} (grew : P → CellEvent → P → Type 0) where
               (subst L same runs.lawful);
         }
 
-    -- what was found of an app, with the choice of its run
+    -- what was found for an app, with the choice of its run
     pub grows_found : (p q : P) (app : AppFacts) (choice : Option ℕ) (found : Option FoundApp)
         → found ≡ found_app rules facts app choice
         → Grows grew p q (RunsApp rules facts moment app choice)
@@ -184,7 +184,7 @@ module _ {P : Type 0} (grew : P → CellEvent → P → Type 0) where
         rw (longer, d) (grows_then p m q (take i apps) old app one append a b)
 
   module _ (rules : Rules) (moment : ℤ) (p q : P) where
-    -- the runs of the first few apps, by the names that the request has for them
+    -- the runs of the first few apps, by the request's own names
     pub grows_few : (facts facts' : RequestFacts) (apps apps' : List AppFacts) (few : ℕ)
         (found : List (Option FoundApp)) → facts ≡ facts' → apps ≡ apps'
         → Grows grew p q (FindsApps rules facts moment (take few apps) found)

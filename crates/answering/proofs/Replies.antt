@@ -1,4 +1,4 @@
--- Which reply a body and an input have, put together from what the calls say.
+-- Which reply a body and an input have, put together from the contracts of the calls.
 use Rattle.std.proofs.Common.{◌≡◌, ◌≢◌, ◌∙◌, ℕ, List, [], refl, ap, sym, subst}
 use Rattle.std.proofs.Common.{Option, Result, Ok, Err}
 use Rattle.std.specs.Prelude.{ℤ}
@@ -22,7 +22,7 @@ use Rattle.answering.specs.Answer.{taken, rejected}
 use Rattle.answering.specs.Reply.{HttpReply, success, omaha_rejection}
 
 module _ (body : List ℕ) (watcher : Beginning) (moment : ℤ) where
-  -- the body's fault, or memory that was refused
+  -- the body's fault, or out of memory
   pub refused_by : (fault : OmahaFault)
       → (let found : Result Request OmahaFault = Err fault in
       found ≢ Err Memory → found ≡ request_in body)
@@ -35,7 +35,7 @@ module _ (body : List ℕ) (watcher : Beginning) (moment : ℤ) where
 
 module _ {P : Type 0} (grew : P → CellEvent → P → Type 0)
     (request : Request) (watcher : Beginning) (moment : ℤ) where
-  -- memory was refused after some runs
+  -- an allocation failed after some runs
   pub is_broken_off : (p q : P) (generation : ℕ) (rules : Rules) → IsLatest watcher generation rules
       → Grows grew p q (RunsFew rules request.facts moment request.apps)
       → Grows grew p q
@@ -61,7 +61,7 @@ module _ {P : Type 0} (grew : P → CellEvent → P → Type 0)
       let whole = t ∙ ap N named ∙ ap F (d ∙ a.of.found_are) in
       record { events = a.events; grown = a.grown; of = subst J (sym whole) (replied l a.of.runs) }
 
--- ---- no run was made where the status is neither 200 nor 500
+-- ---- no run was made if the status is neither 200 nor 500
 
 module _ (request : Request) (watcher : Beginning) (moment : ℤ) where
   pub idle_request : {events : List CellEvent} {reply : HttpReply}
@@ -87,7 +87,7 @@ module _ (told : Option (List ℕ)) (watcher : Beginning) (moment : ℤ) where
   idle_input (rejected fault status f e) h k = refl
 
 module _ (told : Option (List ℕ)) where
-  -- what was read of a body is what was heard of a reader
+  -- from the result of a body to that of a reader
   pub is_heard : (body slice : List ℕ) → AnswersPost told (Ok body) → slice ≡ body
       → (read : Result Request HttpReply) → IsHeardBody slice read → IsHeard told read
   is_heard body slice b e (Ok request) r =
@@ -98,7 +98,7 @@ module _ (told : Option (List ℕ)) where
 
 module _ {P : Type 0} (grew : P → CellEvent → P → Type 0)
     (told : Option (List ℕ)) (watcher : Beginning) (moment : ℤ) where
-  -- a request was heard, and replied to
+  -- a request was read, and has a reply
   pub is_answered : (p q : P) (request : Request) (reply : HttpReply) → IsHeard told (Ok request)
       → Grows grew p q (λ events. RepliesToRequest request watcher moment events reply)
       → RepliesByRuns grew told watcher moment p q reply
@@ -108,7 +108,7 @@ module _ {P : Type 0} (grew : P → CellEvent → P → Type 0)
     of = taken h.0 h.1 (asked h.2 a.of);
   }
 
-  -- no run was made where the status is neither 200 nor 500
+  -- no run was made if the status is neither 200 nor 500
   pub idle : {p q : P} {reply : HttpReply} → RepliesByRuns grew told watcher moment p q reply
       → code_of reply.status ≢ 200 → code_of reply.status ≢ 500 → q ≡ p
   idle {p} {q} a h k =

@@ -1,6 +1,6 @@
 -- Which reply a request has, and which events on counters its runs make: a constructor an outcome.
--- Those for want of memory are open, since nobody knows when memory is refused; every other refusal
--- is the one that the bytes have.
+-- Those for "out of memory" are open, since it is unspecified when an allocation fails; every other
+-- refusal is the one that the bytes have.
 use Rattle.std.specs.Prelude.{◌≡◌, ℕ, ℤ, List, [], Option, Some, Result, Ok, Err, Vec}
 use Rattle.cells.specs.declared.event.CellEvent.{CellEvent}
 use Rattle.hot_swap.specs.Published.{Beginning, IsLatest}
@@ -21,47 +21,47 @@ use Rattle.answering.specs.Reply.{omaha_rejection, no_place, settled_reply}
 use Rattle.answering.specs.declared.answering.AnswerFault.{AnswerFault}
 use Rattle.answering.specs.declared.answering.AnswerFault.TheVariants as answer
 
--- of a request, under the ruleset that the watcher saw last
+-- to a request, under the ruleset that the watcher read last
 pub data RepliesToRequest (request : Request) (watcher : Beginning) (moment : ℤ)
     : List CellEvent → HttpReply → Type 0 where
-  -- Omaha's reply: all apps are answered under one ruleset, each by the choice of its run
+  -- Omaha's reply: all apps get their results under one ruleset, each by the choice of its run
   replied : {generation : ℕ} {rules : Rules} {choices : List (Option ℕ)} {events : List CellEvent}
       → IsLatest watcher generation rules
       → RunsApps rules request.facts moment request.apps choices events
       → RepliesToRequest request watcher moment events
       (success (reply_text request rules choices moment))
-  -- the ruleset has no room for one more owner, or none is shown any more
+  -- the ruleset can't have another owner, or none is published any more
   unowned : RepliesToRequest request watcher moment [] no_place
-  -- memory is refused after the runs of the first few apps, each of which was made to its end
+  -- an allocation fails after the runs of the first few apps, each of which was made to its end
   broken_off : {generation : ℕ} {rules : Rules} {events : List CellEvent}
       → IsLatest watcher generation rules
       → RunsFew rules request.facts moment request.apps events
       → RepliesToRequest request watcher moment events (omaha_rejection omaha.Memory)
 
--- of a body
+-- to a body
 pub data RepliesToBody (body : List ℕ) (watcher : Beginning) (moment : ℤ)
     : List CellEvent → HttpReply → Type 0 where
   asked : {request : Request} {events : List CellEvent} {reply : HttpReply}
       → request_in body ≡ Ok request → RepliesToRequest request watcher moment events reply
       → RepliesToBody body watcher moment events reply
-  -- it is no request
+  -- it isn't a request
   refused : (fault : OmahaFault) → request_in body ≡ Err fault
       → RepliesToBody body watcher moment [] (omaha_rejection fault)
-  -- memory is refused as it is read
+  -- an allocation fails while it is read
   unread : RepliesToBody body watcher moment [] (omaha_rejection omaha.Memory)
 
--- of the bytes of a reader, where it tells them
+-- to the bytes of a reader, if they are known
 pub data RepliesTo (told : Option (List ℕ)) (watcher : Beginning) (moment : ℤ)
     : List CellEvent → HttpReply → Type 0 where
   taken : {events : List CellEvent} {reply : HttpReply} (body : List ℕ) → AnswersPost told (Ok body)
       → RepliesToBody body watcher moment events reply
       → RepliesTo told watcher moment events reply
-  -- there is no body to read, and the client is told why
+  -- there is no body to read, and the client gets the reason
   rejected : (fault : PostFault) (status : Status) → AnswersPost told (Err fault)
       → status_of fault ≡ Some status
       → RepliesTo told watcher moment [] (rejection status (post_name fault))
 
--- what a body is: a request, or it is refused, whatever ruleset and moment there are
+-- what a body is: a request, or a refusal that depends on neither ruleset nor moment
 abbrev pub IsHeardBody : List ℕ → Result Request HttpReply → Type 0
 IsHeardBody body (Ok request) = request_in body ≡ Ok request
 IsHeardBody body (Err reply) =
@@ -80,13 +80,14 @@ WritesNothing answer.Ended = Unit {0}
 WritesNothing answer.Reading = Unit {0}
 WritesNothing (answer.Writing written) = ⊥
 
--- the reply is that to the bytes of the reader, and the pass grew by the events of its runs
+-- the reply is that to the bytes of the reader, and the pass (a ghost token) grew by the events of
+-- its runs
 module _ {P : Type 0} (grew : P → CellEvent → P → Type 0) where
   abbrev pub RepliesByRuns : Option (List ℕ) → Beginning → ℤ → P → P → HttpReply → Type 0
   RepliesByRuns told watcher moment before after reply =
       Grows grew before after (λ events. RepliesTo told watcher moment events reply)
 
-  -- what was found before anything is written: the reply, or that there is none
+  -- the result before anything is written: a reply, or that there is none
   abbrev pub Settles : {A : Type 0} → Option (List ℕ) → Beginning → ℤ → P → P
       → Result (Result (Vec ℕ A) HttpReply) AnswerFault → Type 0
   Settles told watcher moment before after (Ok outcome) =

@@ -1,5 +1,5 @@
--- The runs of a request: which of its apps have one, what it gives, and all of them one after the
--- other.
+-- The runs of a request: which of its apps have one, with which choice, and all of them one after
+-- the other.
 use Rattle.std.specs.Prelude.{◌≡◌, ℕ, ℤ, ◌≤◌, false, true, List, [], ◌∷◌, ◌++◌, length, take, All}
 use Rattle.std.specs.Prelude.{Option, Some, None}
 use Rattle.attrs.specs.Facts.{attributes_of}
@@ -15,14 +15,14 @@ use Rattle.omaha_json.specs.Found.{FoundApp, found_app, found_apps}
 module _ (rules : Rules) (facts : RequestFacts) (moment : ℤ) where
   -- one app, with the choice of its run, if it has one, and the events that the run made
   pub data RunsApp (app : AppFacts) : Option ℕ → List CellEvent → Type 0 where
-    -- no run where it asks for no update
+    -- no run if it requests no update
     unasked : app.updatecheck ≡ false → RunsApp app None []
-    -- nor where the ruleset doesn't know it
+    -- nor if the ruleset doesn't have it
     unknown : app_of rules app.appid ≡ None → RunsApp app None []
-    -- else one run on its attributes at the moment, to its end, of the program that the ruleset has
-    -- for attribute 0, which is its appid. It takes at most as many instructions as the program has
-    -- slots, and chooses 0 or one of the app's releases. Each reply fits its counter, and each
-    -- event is one that the app's arrays allow
+    -- otherwise one run on its attributes at the moment, to its end, of the program that the
+    -- ruleset has for attribute 0, which is its appid. It takes at most as many instructions as the
+    -- program has slots, and chooses 0 or one of the app's releases. Each reply fits its counter,
+    -- and the app's arrays allow each event
     ran : {choice : ℕ} {events : List CellEvent} (known : AppRule) (count : ℕ)
         → app.updatecheck ≡ true → app_of rules app.appid ≡ Some known
         → ListsApp rules (appid_of (attributes_of app facts moment)) known

@@ -1,4 +1,4 @@
--- What a connection comes to: a reply was written, or its beginning, or nothing.
+-- The outcome of a connection: a reply was written, or a prefix of it, or nothing.
 use Rattle.std.specs.Prelude.{◌≡◌, ◌≢◌, ℕ, ◌+◌, ◌≤◌, ℤ, List, length, take, Option}
 use Rattle.std.specs.Prelude.{Result, Err, IfOk, IfErr}
 use Rattle.std.specs.Io.KnownBytes.{Appends}
@@ -14,20 +14,21 @@ use Rattle.answering.specs.declared.answering.AnswerFault.{AnswerFault}
 use Rattle.answering.specs.declared.answering.AnswerFault.TheVariants as answer
 use Rattle.answering.specs.declared.sent.Sent.{Sent}
 
--- How a pass grows, what a reader has left, and what a writer holds. Then what the watcher knows,
--- the moment, the pass, the reader and the writer, each before and after, and the outcome.
+-- How a pass (a ghost token) grows, what a reader has left, and what a writer holds. Then what the
+-- watcher knows, the moment, the pass, the reader and the writer, each before and after, and the
+-- outcome.
 pub record Answers {P R W : Type 0} (grew : P → CellEvent → P → Type 0)
     (remaining : R → Option (List ℕ)) (contents : W → Option (List ℕ))
     (known : Beginning) (moment : ℤ) (pass pass' : P) (reader reader' : Counted R)
     (writer writer' : Counted W) (outcome : Result Sent AnswerFault) : Type 0 where
-  -- what was written is the reply to what was read, under the ruleset that the watcher gave
+  -- what was written is the reply to what was read, under the ruleset that the watcher read
   pub replied : IfOk outcome (λ sent. (reply : HttpReply)
       × (code_of reply.status ≡ sent.status) × (sent.line.now ≡ told_line reply)
       × RepliesByRuns grew (remaining reader.inner) known moment pass pass' reply
       × Appends (contents writer.inner) (contents writer'.inner) (message_bytes reply))
-  -- a request that isn't one makes no run
+  -- a refused request makes no run
   pub idle : IfOk outcome (λ sent. sent.status ≢ 200 → sent.status ≢ 500 → pass' ≡ pass)
-  -- or a beginning of it was written, and the failure was counted
+  -- or a prefix of it was written, and the failure was counted
   pub begun : (n : ℕ) → outcome ≡ Err (answer.Writing n)
       → (reply : HttpReply) × (n ≤ length (message_bytes reply))
       × RepliesByRuns grew (remaining reader.inner) known moment pass pass' reply

@@ -15,7 +15,7 @@ pub record HttpReply : Type 0 where
   pub status : Status
   pub text : List ℕ
 
--- as HTTP has it
+-- its bytes in HTTP
 abbrev pub message_bytes : HttpReply → List ℕ
 message_bytes reply = reply_bytes reply.status reply.text
 
@@ -43,7 +43,7 @@ no_place = rejection status.InternalServerError (swap_text swap.NoPlace)
 abbrev pub IsRefusalStatus : Status → Type 0
 IsRefusalStatus s = s ≢ status.Success
 
--- the line that is told of a reply by its status: all of a refusal's text, and none of Omaha's
+-- the line that is logged of a reply by its status: all of a refusal's text, and none of Omaha's
 abbrev pub line_by : Status → List ℕ → List ℕ
 line_by status.Success text = []
 line_by s text = text
@@ -51,7 +51,7 @@ line_by s text = text
 abbrev pub told_line : HttpReply → List ℕ
 told_line reply = line_by reply.status reply.text
 
--- what the code hands on, as a reply
+-- the result of the code, as a reply
 abbrev pub settled_reply : {A : Type 0} → Result (Vec ℕ A) HttpReply → HttpReply
 settled_reply (Ok text) = success text.items
 settled_reply (Err rejection) = rejection

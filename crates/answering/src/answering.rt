@@ -25,7 +25,7 @@ pub enum AnswerFault {
     Ended,
     /// P8: the reader failed. Nothing was written.
     Reading,
-    /// P8: the writer failed after it took so many bytes, which are a beginning of the reply.
+    /// P8: the writer failed after it took this number of bytes, which are a prefix of the reply.
     Writing(usize),
 }
 
@@ -41,7 +41,7 @@ impl Display for AnswerFault {
 
 impl Error for AnswerFault {}
 
-/// Reads a request, answers it, and tells the reply that was sent.
+/// Reads a request, writes its reply, and returns the reply that was sent.
 // open: what `answer_in` leaves open.
 pub fn answer<R: Read, W: Write, C: CellSteps>(
     alloc: Global,

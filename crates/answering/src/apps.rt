@@ -1,4 +1,4 @@
-//! The apps of a request: each is looked up, and run if it asks for an update, app after app.
+//! The apps of a request: each is looked up, and run if it requests an update, app after app.
 
 ghost use Rattle.std.specs.Prelude.{◌≡◌, false, length, IfOk, MatchResult};
 ghost use Rattle.std.specs.Arc.{arc_value};
@@ -46,8 +46,8 @@ fn start(
     }
 }
 
-// What the ruleset has for an app, with the choice of its run to its end, if it has one. Where
-// memory is refused no run is made. An app that names no bucket is in the hashed one.
+// What the ruleset has for an app, with the choice of its run to its end, if it has one. If an
+// allocation fails, no run is made. An app that names no bucket is in the hashed one.
 fn run_app<'r, C: CellSteps>(
     turn: &Turn<'_, C>,
     app: &SharedFacts,
@@ -80,8 +80,8 @@ fn run_app<'r, C: CellSteps>(
     Ok(Some(FoundApp::new(known, bucket, Some(choice))))
 }
 
-/// What the ruleset has for all apps of a request, with the choice of each run that was made. Where
-/// memory is refused, the runs of the first few apps were made.
+/// What the ruleset has for all apps of a request, with the choice of each run that was made. If an
+/// allocation fails, the runs of the first few apps were made.
 pub fn run_apps<'r, C: CellSteps>(
     turn: &Turn<'_, C>,
     request: &Request,
@@ -99,7 +99,7 @@ pub fn run_apps<'r, C: CellSteps>(
 {
     growth::<C>();
     let facts = request.facts();
-    // Once a request: it takes time by the length of the request's id.
+    // Once a request: the time that it takes depends on the length of the request's id.
     let hashed = hashed_bucket(facts);
     let apps = request.apps();
     let Ok(mut found) = Vec::with_capacity(turn.alloc, apps.len()) else {

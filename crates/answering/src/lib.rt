@@ -1,15 +1,14 @@
 //! One request of an update server, from its bytes to the bytes of its reply.
 //!
-//! A request is read and its body is judged. The newest ruleset is looked up once. For each app
-//! that asks for an update and that the ruleset knows, the app's program is run to its end, one app
-//! after the other. Then the reply is written. A request that can't be answered is refused by a
-//! line of text. What a run did to the server's counters stays, even if memory is refused before
-//! the reply is made.
+//! A request is read and its body is checked. The newest ruleset is looked up once. For each app
+//! that requests an update and is in the ruleset, the app's program is run to its end, one app
+//! after the other. Then the reply is written. A bad request is refused by a line of text. What a
+//! run did to the server's counters stays, even if an allocation fails before the reply is made.
 //!
-//! `answer`, and `answer_in`, which it calls, have one contract, the definition `Answers`: what was
-//! written is the reply to what was read, or its beginning. One relation, with a constructor for
-//! each outcome, says which reply that is under the watcher's ruleset, and which events the runs
-//! made, by which the pass grew.
+//! `answer`, and `answer_in`, which it calls, have one contract, the definition `Answers`. It says
+//! that what was written is the reply to what was read, or a prefix of it. One relation, with a
+//! constructor for each outcome, defines that reply under the watcher's ruleset, and the events
+//! that the runs made. The pass, a ghost token, grew by these events.
 //!
 //! See docs/DECISIONS.md, "Requests"; docs/DECISIONS.md, "The front".
 #![tactic(auto)]

@@ -1,4 +1,4 @@
-//! What the bytes of a reader ask: a request, or nothing that can be replied to.
+//! What the bytes of a reader are: a request, or a refusal, or nothing that gets a reply.
 
 ghost use Rattle.std.specs.Prelude.{◌≡◌, ◌+◌, ◌-◌, ◌^◌, ◌<◌, Err, IfOk, IfErr};
 ghost use Rattle.http_front.specs.Post.{AnswersPost};
@@ -13,7 +13,7 @@ use omaha_json::{Request, read_request};
 use std::alloc::Global;
 use std::io::Read;
 
-/// Reads a request into the room, or finds what the client is told in its place.
+/// Reads a request into the buffers, and returns it, or its refusal.
 pub fn hear<R: Read, W: Witness>(
     alloc: Global,
     room: &mut PostRoom,
@@ -41,7 +41,7 @@ pub fn hear<R: Read, W: Witness>(
     }
 }
 
-// The request that a body is, or what its client is told in its place.
+// The request that a body is, or its refusal.
 fn request_of<W: Witness>(alloc: Global, body: &[u8], witness: &mut W) -> Result<Request, Rejection>
     ensures { IsHeardBody body.now result }
 {

@@ -1,5 +1,5 @@
-//! What is sent where there is no reply to a request: a status, and a line that names what is
-//! wrong. The lines are constants, so that they are there where memory is refused.
+//! What is sent if there is no reply to a request: a status, and a line that names what is wrong.
+//! The lines are constants, so they need no memory.
 
 ghost use Rattle.std.specs.Prelude.{◌≡◌};
 ghost use Rattle.http_front.specs.Faults.{post_name};
@@ -28,7 +28,7 @@ impl Model for Rejection {
 }
 
 impl Rejection {
-    /// There is no place for one more owner of the ruleset.
+    /// The ruleset can't have another owner.
     pub fn no_place() -> Rejection
         ensures { result ≡ specs.no_place }
     {
@@ -38,7 +38,7 @@ impl Rejection {
         }
     }
 
-    /// What a body is refused with.
+    /// The refusal of a body.
     pub fn of_omaha(fault: OmahaFault) -> Rejection
         ensures { result ≡ specs.omaha_rejection fault }
     {
@@ -48,7 +48,7 @@ impl Rejection {
         }
     }
 
-    /// What a head, or a body that could not be read, is refused with by this status.
+    /// The refusal, with this status, of a head, or of a body that could not be read.
     pub fn of_post(fault: PostFault, status: Status) -> Rejection
         requires { specs.IsRefusalStatus status }
         ensures { result ≡ specs.rejection status (post_name fault) }
@@ -59,7 +59,7 @@ impl Rejection {
         }
     }
 
-    /// The status.
+    /// The status, which isn't 200.
     pub fn status(&self) -> Status
         ensures status { result ≡ self.now.status }
         ensures refusal { specs.IsRefusalStatus self.now.status }
@@ -75,7 +75,7 @@ impl Rejection {
     }
 }
 
-// Want of memory is the server's fault, and any other the client's.
+// Out of memory is the server's fault, any other fault is the client's.
 fn omaha_status(fault: OmahaFault) -> Status
     ensures status { result ≡ specs.omaha_status fault }
     ensures refusal { specs.IsRefusalStatus result }

@@ -1,4 +1,4 @@
-//! What a request is answered with: each of its apps is looked up and run, under one ruleset.
+//! Makes the reply to a request: each of its apps is looked up and run, under one ruleset.
 
 ghost use Rattle.cells.specs.Grown.{Grows};
 ghost use Rattle.hot_swap.specs.Published.{GoesOnwards};
@@ -14,8 +14,8 @@ use hot_swap::Watcher;
 use omaha_json::{OmahaFault, Request, found_text};
 use ruleset::Ruleset;
 
-/// The text of the reply to a request, in the room of an earlier text, or why there is none. The
-/// ruleset is asked for once. The witness sees what the apps were answered.
+/// The text of the reply to a request, in the buffer of an earlier text, or why there is none. The
+/// ruleset is looked up once. The witness is passed the result of each app.
 pub fn reply_to<C: CellSteps, W: Witness>(
     turn: &Turn<'_, C>,
     text: Vec<u8>,

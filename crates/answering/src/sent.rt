@@ -1,9 +1,9 @@
-//! What is told of a reply that was sent.
+//! What is logged of a reply that was sent.
 
 use std::fmt::{self, Display};
 use std::str;
 
-/// A reply that was sent, as the log tells it: `200`, or `400 O3 Protocol`.
+/// A reply that was sent, as in the log: `200`, or `400 O3 Protocol`.
 #[derive(Debug, Drop)]
 pub struct Sent {
     /// The number of its status.

@@ -1,4 +1,4 @@
-//! One request at a turn: it is read into room that is kept, its reply is found, and written.
+//! One request at a turn: it is read into reused buffers, its reply is found, and written.
 
 ghost use Rattle.std.specs.Prelude.{◌≡◌, ◌+◌, ◌-◌, ◌^◌, ◌<◌, Err, IfOk};
 ghost use Rattle.hot_swap.specs.Published.{GoesOnwards};
@@ -23,10 +23,10 @@ use hot_swap::Watcher;
 use http_front::{Counted, Status, WriteFault, write_reply};
 use std::io::{Read, Write};
 
-/// Reads a request at a turn into room that is kept, answers it before a witness, and tells the
-/// reply that was sent.
-// open: whether memory is refused (O5, P9), or a ruleset (H2), each a reply with status 500; which
-// bytes a socket carries; that the moment is the clock's: a test.
+/// Reads a request at a turn into reused buffers, writes its reply, and returns the reply that was
+/// sent. A witness observes both.
+// open: whether an allocation fails (O5, P9), or a ruleset can't have another owner (H2), each a
+// reply with status 500; which bytes a socket carries; that the moment is the clock's: a test.
 pub fn answer_in<R: Read, W: Write, C: CellSteps, N: Witness>(
     turn: &Turn<'_, C>,
     room: &mut AnswerRoom,
@@ -84,7 +84,7 @@ fn settle<R: Read, C: CellSteps, N: Witness>(
     }
 }
 
-// Writes the reply, and tells of it.
+// Writes the reply, and returns what was sent.
 fn send<W: Write>(
     writer: &mut Counted<W>,
     outcome: &Result<Vec<u8>, Rejection>,

@@ -1,14 +1,15 @@
-//! A worker's turn: what it answers one request by, beside its own pass and its own watcher.
+//! A worker's turn: what one reply depends on, as well as the worker's own pass (a ghost token) and
+//! its own watcher.
 
 use attrs::Moment;
 use std::alloc::Global;
 
-/// What stays as it is while a request is answered.
+/// What stays the same while a request is served.
 #[derive(Drop)]
 pub struct Turn<'a, C> {
     pub alloc: Global,
     /// The counters on which the runs act.
     pub cells: &'a C,
-    /// When the request is answered.
+    /// When the request is served.
     pub moment: &'a Moment,
 }

@@ -1,18 +1,17 @@
-//! Who is told what is asked and answered, beside the client, as a server's log is.
+//! Observers of requests and replies, such as a server's log.
 
 use hot_swap::Generation;
 use omaha_json::{FoundApp, HearsApps, Request, WrittenApp};
 
-/// What sees a request, and what comes of it: first each app as its client wrote it, also of a
-/// request that is refused, and then what the apps were answered. What it does with that changes
-/// nothing of the answer.
+/// Observes a request and its result. First it is passed each app as its client wrote it, even if
+/// the request is refused, and then the results of the apps. It can't change the reply.
 pub trait Witness: HearsApps {
-    /// The apps were answered, all under the ruleset of this generation. There is nothing for an
-    /// app that the ruleset doesn't know.
+    /// The apps have results, all under the ruleset of this generation. `found` has `None` for an
+    /// app that isn't in the ruleset.
     fn see(&mut self, generation: Generation, request: &Request, found: &[Option<FoundApp<'_>>]);
 }
 
-/// A witness that takes no notice.
+/// A witness that does nothing.
 #[derive(Clone, Copy, Debug)]
 pub struct Nobody;
 

@@ -17,7 +17,7 @@ decimal_number-None false n h = refl
 digits_are : IsNumeralModel (λ ds. all_ascii_digits ds ≡ true) (digits_value 10)
 digits_are = numerals_by_value _ tells_all_ascii_digits
 
--- with no plus in front, `parse` reads what is a number, and nothing else
+-- without a leading plus sign, `parse` reads exactly the numbers
 pub decimal_number-parse : {E : Type 0} (part : List ℕ) (r : Result ℕ E)
     → (get_or part 0 0 == 43) ≡ false → ParsesUnsigned 32 10 part r
     → result_ok r ≡ decimal_number part

@@ -1,4 +1,4 @@
--- What is kept of a text is short, and kept again it is the same.
+-- A text as it is kept is short, and is kept again unchanged.
 use Rattle.std.proofs.Common.{◌≡◌, ℕ, ◌≤◌, List, [], ◌∷◌, length, map, Bool, true, false}
 use Rattle.std.proofs.Common.{Option, Some, None, nat_le, if◌then◌else◌, refl, arith}
 use Rattle.std.proofs.lemmas.Grind.{common_steps}

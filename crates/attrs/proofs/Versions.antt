@@ -17,8 +17,8 @@ set_next : (f : List ℕ → ℕ) (done : List (List ℕ)) (part : List ℕ) (k 
 set_next f [] part k = refl
 set_next f (p ∷ done) part k = ap (λ ns. f p ∷ ns) (set_next f done part k)
 
--- Of the parts of a text that come from an iterator, as v shows them, `done` were read as these
--- numbers, and `rest` are to come from s.
+-- Of a text's parts, which an iterator returns and v maps to bytes, `done` were read as these
+-- numbers, and `rest` are still to be returned from s.
 pub record IsRead {S A : Type 0} (steps : S → Option A → S → Type 0) (v : A → List ℕ)
     (text : List ℕ) (s : S) (count : ℕ) (numbers : List ℕ) : Type 0 where
   pub done : List (List ℕ)

@@ -10,7 +10,7 @@ pub record Attributes : Type 0 where
   pub context : Context
   pub texts : List (List ℕ)
 
--- an absent text, or one over 1024 bytes, is kept as the empty one, so that all are short
+-- an absent text, or one over 1024 bytes, is kept as the empty one, so all are short
 abbrev pub kept_text : Option (List ℕ) → List ℕ
 kept_text (Some text) = if nat_le (length text) 1024 then text else []
 kept_text None = []
@@ -21,7 +21,7 @@ AreShort texts = All (λ text. length text ≤ 1024) texts
 abbrev pub plain_flags : Bool → ℕ
 plain_flags has_version = updatecheck + (if has_version then version_known else 0)
 
--- an app that asks for an update on day 0 at second 0
+-- an app that requests an update on day 0 at second 0
 abbrev pub plain_context : (version : Option (List ℕ)) (bucket : ℕ) → Context
 plain_context version bucket = let numbers = option_and_then version_of version in record {
   version = unwrap_or numbers (replicate 4 0);
@@ -32,7 +32,7 @@ plain_context version bucket = let numbers = option_and_then version_of version 
   seconds = 0;
 }
 
--- such an app, with no texts but these
+-- such an app, with only these texts
 abbrev pub plain : (appid : List ℕ) (version : Option (List ℕ)) (bucket : ℕ) → Attributes
 plain appid version bucket = record {
   context = plain_context version bucket;

@@ -1,4 +1,4 @@
--- Which bucket an app is in: the one that its cohort names, or else a hash of who asks.
+-- The bucket of an app: the one that its cohort names, or otherwise a hash of the request's id.
 use Rattle.std.specs.Prelude.{ℕ, ◌+◌, ◌/◌, ◌%◌, List, [], ◌∷◌, ◌++◌}
 use Rattle.std.specs.Prelude.{length, drop, codes, nat_eq, Bool, ◌&&◌, ◌==◌}
 use Rattle.std.specs.Prelude.{Option, None, option_and_then, unwrap_or, if◌then◌else◌}
@@ -17,7 +17,7 @@ abbrev pub four_digits : ℕ → List ℕ
 four_digits n =
     last_digit (n / 1000) ∷ last_digit (n / 100) ∷ last_digit (n / 10) ∷ last_digit n ∷ []
 
--- the cohort that an app in a bucket is told
+-- the cohort in the reply to an app in a bucket
 abbrev pub told_cohort : ℕ → List ℕ
 told_cohort bucket = codes "b:" ++ four_digits bucket
 
@@ -37,7 +37,7 @@ abbrev pub text_or : List ℕ → List ℕ → List ℕ
 text_or [] other = other
 text_or (first ∷ rest) other = first ∷ rest
 
--- the request's id, or its session's where that is empty or absent, or the empty text
+-- the request's id, or its session's if that is empty or absent, or the empty text
 abbrev pub asker : RequestFacts → List ℕ
 asker request = text_or (unwrap_or request.requestid []) (unwrap_or request.sessionid [])
 

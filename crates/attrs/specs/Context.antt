@@ -36,7 +36,7 @@ context_bytes c =
     ++ to_le_bytes w32 c.seconds
     ++ replicate 32 0
 
--- where the fields behind the version begin
+-- the offsets of the fields after the version
 abbrev pub bucket_offset : ℕ
 bucket_offset = 16
 
@@ -56,7 +56,7 @@ seconds_offset = 28
 abbrev pub StandsAt : Context → ℕ → List ℕ → Type 0
 StandsAt c offset field = take (length field) (drop offset (context_bytes c)) ≡ field
 
--- what the flags are a sum of
+-- the flags, which are added up
 abbrev pub version_known : ℕ
 version_known = 1
 

@@ -1,4 +1,4 @@
--- The attributes of an app, from what its request says of it and the moment at which it asks.
+-- The attributes of an app, from its facts in a request and the moment of the request.
 use Rattle.std.specs.Prelude.{ℕ, ◌+◌, ℤ, List, [], ◌∷◌, map, replicate, Bool, nat_lt, Option}
 use Rattle.std.specs.Prelude.{Some, None, is_some, option_and_then, unwrap_or, if◌then◌else◌}
 use Rattle.attrs.specs.declared.facts.AppFacts.{AppFacts}
@@ -10,11 +10,11 @@ use Rattle.attrs.specs.Context.{cohort_known, installdate_known, unknown_day}
 use Rattle.attrs.specs.Moment.{elapsed_days, elapsed_seconds}
 use Rattle.attrs.specs.Version.{version_of}
 
--- a version text over 1024 bytes gives its numbers too
+-- a version text over 1024 bytes also gives its numbers
 abbrev pub app_version : AppFacts → Option (List ℕ)
 app_version app = option_and_then version_of app.version
 
--- 4294967295 stands for a day that isn't known, so no day is that number
+-- 4294967295 means an unknown day, so no day is that number
 abbrev pub known_day : Option ℕ → Option ℕ
 known_day (Some day) = if nat_lt day unknown_day then Some day else None
 known_day None = None
@@ -22,18 +22,18 @@ known_day None = None
 abbrev pub flag : Bool → ℕ → ℕ
 flag holds number = if holds then number else 0
 
--- what the request says of the app, where it can be read
+-- which facts of the app can be read
 abbrev pub known_flags : AppFacts → ℕ
 known_flags app =
     flag (is_some (app_version app)) version_known
     + flag (is_some (named_bucket app)) cohort_known
     + flag (is_some (known_day app.installdate)) installdate_known
 
--- what the app asks for
+-- what the app requests
 abbrev pub asked_flags : AppFacts → ℕ
 asked_flags app = flag app.updatecheck updatecheck + flag app.ping ping + flag app.event event
 
--- an app that names no bucket is in the one that its request is hashed to
+-- an app that names no bucket is in its request's hashed one
 abbrev pub context_in : (app : AppFacts) (hashed : ℕ) (moment : ℤ) → Context
 context_in app hashed moment = record {
   version = unwrap_or (app_version app) (replicate 4 0);

@@ -1,4 +1,4 @@
--- What a program's helpers answer of an app: functions of its attributes alone.
+-- The results of a program's helpers for an app: functions of only its attributes.
 use Rattle.std.specs.Prelude.{ℕ, ◌%◌, List, ◌++◌, length}
 use Rattle.std.specs.Prelude.{Option, Some, None, slice_get, bytes_eq, if◌then◌else◌}
 use Rattle.std.specs.Int.{w64, to_le_bytes}
@@ -10,7 +10,7 @@ use Rattle.attrs.specs.Hash.{fnv1a}
 abbrev pub attribute : Attributes → ℕ → Option (List ℕ)
 attribute a number = slice_get a.texts number
 
--- 1 where an attribute has these bytes, else 0
+-- 1 if an attribute has these bytes, otherwise 0
 abbrev pub is_text : List ℕ → Option (List ℕ) → ℕ
 is_text bytes (Some text) = if bytes_eq text bytes then 1 else 0
 is_text bytes None = 0
@@ -24,10 +24,10 @@ abbrev pub text_length : Option (List ℕ) → ℕ
 text_length (Some text) = length text
 text_length None = 0
 
--- the length of an attribute's text, 0 of an unknown number
+-- the length of an attribute's text, 0 for an unknown number
 abbrev pub attr_len : Attributes → (number : ℕ) → ℕ
 attr_len a number = text_length (attribute a number)
 
--- a bucket of the salt's own: a hash of the app's bucket, as four digits, and the salt's bytes
+-- a bucket by a salt: a hash of the app's bucket, as four digits, and the salt's bytes
 abbrev pub bucket_of : Attributes → (salt : ℕ) → ℕ
 bucket_of a salt = fnv1a (four_digits a.context.bucket ++ to_le_bytes w64 salt) % 10000

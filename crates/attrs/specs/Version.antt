@@ -1,4 +1,4 @@
--- What a version text means: one to four decimal numbers from 0 to 4294967295, joined by single
+-- The meaning of a version text: one to four decimal numbers from 0 to 4294967295, joined by single
 -- dots. Leading zeros are allowed, and missing numbers are 0.
 use Rattle.std.specs.Prelude.{ℕ, ◌-◌, ◌^◌, List, ◌++◌, length, map, replicate}
 use Rattle.std.specs.Prelude.{Bool, ◌&&◌, nat_lt, nat_le, ◌==◌, Option, Some, None, if◌then◌else◌}
@@ -6,7 +6,7 @@ use Rattle.std.specs.List.{slice_split, list_all}
 use Rattle.std.specs.Str.{all_ascii_digits, byte}
 use Rattle.std.specs.Str.Parse.{digits_value}
 
--- one ASCII digit or more, which write a number of 32 bits
+-- one or more ASCII digits, whose number fits 32 bits
 abbrev pub is_decimal_number : List ℕ → Bool
 is_decimal_number part =
     all_ascii_digits part && nat_lt 0 (length part) && nat_lt (digits_value 10 part) (2 ^ 32)
@@ -21,7 +21,7 @@ parts_of text = slice_split (λ b. b == byte ".") text
 abbrev pub is_version : List (List ℕ) → Bool
 is_version parts = nat_le (length parts) 4 && list_all is_decimal_number parts
 
--- the four numbers that the parts write
+-- the four numbers of the parts
 abbrev pub numbers_of : List (List ℕ) → List ℕ
 numbers_of parts = map (digits_value 10) parts ++ replicate (4 - length parts) 0
 

@@ -35,7 +35,7 @@ all_flags =
     flag.VersionKnown ∷ flag.Updatecheck ∷ flag.Ping ∷ flag.Event ∷ flag.CohortKnown
     ∷ flag.InstalldateKnown ∷ []
 
--- the one that has this text, if any has
+-- the one with this text, if there is one
 unfoldable pub flag_named : List ℕ → Option Flag
 flag_named w = find (λ f. bytes_eq w (flag_text f)) all_flags
 
@@ -51,7 +51,7 @@ attribute_text attribute.Lang = codes "lang"
 attribute_text attribute.Cohort = codes "cohort"
 attribute_text attribute.Platform = codes "platform"
 
--- the number by which a program asks for an attribute
+-- the number by which a program queries an attribute
 abbrev pub attribute_number : Attribute → ℕ
 attribute_number attribute.Appid = 0
 attribute_number attribute.Version = 1
@@ -67,6 +67,6 @@ all_attributes =
     attribute.Appid ∷ attribute.Version ∷ attribute.Brand ∷ attribute.Ap ∷ attribute.Lang
     ∷ attribute.Cohort ∷ attribute.Platform ∷ []
 
--- the one that has this text, if any has
+-- the one with this text, if there is one
 unfoldable pub attribute_named : List ℕ → Option Attribute
 attribute_named w = find (λ a. bytes_eq w (attribute_text a)) all_attributes

@@ -1,5 +1,5 @@
-//! The context of an app: from what its request says and the moment at which it asks, or from a
-//! version and a bucket alone.
+//! The context of an app: from the facts of its request and the moment of the request, or from only
+//! a version and a bucket.
 
 ghost use Rattle.std.specs.Prelude.{◌≡◌, ◌≤◌, option_copied};
 ghost use Rattle.attrs.specs.Attributes.{plain_context};
@@ -12,7 +12,7 @@ use crate::moment::{Elapsed, Moment};
 use crate::text::lent;
 use crate::version::read_version;
 
-/// The context of an app at a moment, in the bucket that it names or else the request's.
+/// The context of an app at a moment, in the bucket that it names or otherwise the request's.
 pub(crate) fn context_in(app: &AppFacts, hashed: Bucket, moment: Moment) -> Context
     ensures { result ≡ specs.context_in app.now hashed moment }
 {
@@ -33,7 +33,7 @@ pub(crate) fn context_in(app: &AppFacts, hashed: Bucket, moment: Moment) -> Cont
     }
 }
 
-/// The context of an app that asks for an update on day 0 at second 0.
+/// The context of an app that requests an update on day 0 at second 0.
 pub(crate) fn plain_context(version: Option<&str>, bucket: Bucket) -> Context
     ensures { result ≡ plain_context (option_copied version.entry) bucket }
 {
@@ -58,7 +58,7 @@ fn app_version(app: &AppFacts) -> Option<[u32; 4]>
     read_version(lent(&app.version)?)
 }
 
-// An install day, where it isn't the number that stands for an unknown one, or above.
+// An install day, if it is below the number that means an unknown one.
 fn known_day(installdate: Option<u64>) -> Option<u32>
     ensures { result ≡ specs.known_day installdate }
 {
@@ -68,7 +68,7 @@ fn known_day(installdate: Option<u64>) -> Option<u32>
     }
 }
 
-// A sum of the flags of what the app asks for.
+// A sum of the flags of what the app requests.
 fn asked_flags(app: &AppFacts) -> u8
     ensures value { result ≡ specs.asked_flags app.now }
     ensures limit { result ≤ 14 }
@@ -78,7 +78,7 @@ fn asked_flags(app: &AppFacts) -> u8
         + flag(app.event, Context::EVENT)
 }
 
-// A flag's number, where it is set.
+// A flag's number, if it is set; otherwise 0.
 fn flag(holds: bool, number: u8) -> u8
     ensures value { result ≡ specs.flag holds number }
     ensures limit { result ≤ number }

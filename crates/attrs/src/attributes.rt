@@ -1,5 +1,5 @@
-//! The attributes of an app: its context, and seven texts by number. The texts are those of what
-//! its request says, which they share with the request; one over 1024 bytes counts as an empty one.
+//! The attributes of an app: its context, and seven texts by number. The texts are those in the
+//! app's facts, which the request shares; one over 1024 bytes counts as empty.
 
 ghost use Rattle.std.specs.Prelude.{◌≡◌, ◌<◌, [], Some, codes, slice_index_or, IfOk, option_copied};
 ghost use Rattle.attrs.specs.Bucket as specs;
@@ -22,7 +22,7 @@ use std::marker::Model;
 /// Why no attributes were made.
 #[derive(Clone, Copy, Debug, PartialEq, Eq)]
 pub enum AttrFault {
-    /// Memory was refused.
+    /// An allocation failed.
     Memory,
 }
 
@@ -61,9 +61,9 @@ impl Attrs {
     ghost use Rattle.attrs.specs.Facts.{attributes_of};
     ghost use Rattle.attrs.specs.Helpers.{attribute};
 
-    /// An app that asks for an update on day 0 at second 0, with no attributes but these. A version
+    /// An app that requests an update on day 0 at second 0, with only these attributes. A version
     /// text that is too long to be kept still gives its numbers.
-    // open: whether memory is refused, its one error.
+    // open: whether an allocation fails, its one error.
     pub fn plain(
         alloc: Global,
         appid: &str,
@@ -92,8 +92,8 @@ impl Attrs {
         })
     }
 
-    /// The attributes of an app at a moment, from what its request says, which is copied.
-    // open: whether memory is refused, its one error.
+    /// The attributes of an app at a moment, from its facts, which are copied.
+    // open: whether an allocation fails, its one error.
     pub fn of(
         alloc: Global,
         app: &AppFacts,
@@ -109,9 +109,9 @@ impl Attrs {
         })
     }
 
-    /// As `of`, for an app of a request whose hashed bucket is known. What the request says of the
-    /// app is shared; of what it says of itself the platform is copied.
-    // open: whether memory is refused, its one error.
+    /// As `of`, for an app of a request whose hashed bucket is known. The app's facts are shared;
+    /// only the platform in the request's facts is copied.
+    // open: whether an allocation fails, its one error.
     pub fn of_hashed(
         alloc: Global,
         app: &SharedFacts,
@@ -159,7 +159,7 @@ impl Attrs {
         self.context.keeps();
     }
 
-    /// The text of a number, which is empty where no attribute has the number.
+    /// The text of a number, which is empty if no attribute has the number.
     pub fn text(&self, number: u64) -> &str
         ensures { result.now ≡ slice_index_or self.now.texts number [] }
     {

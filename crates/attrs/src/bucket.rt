@@ -1,5 +1,6 @@
-//! Which of 10000 buckets an app is in: the one that its cohort names, or else a hash of the
-//! request's id or its session's, so that all apps of one request are in one bucket.
+//! The bucket of an app, of 10000. It is the one that the app's cohort names, or otherwise a hash
+//! of the request's id or its session's. So all apps of one request are in one bucket, unless
+//! cohorts name others.
 
 ghost use Rattle.std.specs.Prelude.{◌≡◌, ℕ, ◌<◌, unwrap_or};
 ghost use Rattle.attrs.specs.Bucket as specs;
@@ -10,7 +11,7 @@ use crate::text::lent;
 use crate::version::read_number;
 use std::marker::Model;
 
-/// How long a cohort is that names a bucket.
+/// The length of a cohort that names a bucket.
 const COHORT_LENGTH: usize = 6;
 
 /// A bucket by its number, 0 to 9999.
@@ -52,7 +53,7 @@ impl Bucket {
     }
 }
 
-/// A bucket as four ASCII digits, as a cohort has them behind its `b:`.
+/// A bucket as four ASCII digits, as in a cohort after its `b:`.
 pub fn four_digits(bucket: u16) -> [u8; 4]
     ensures { result ≡ specs.four_digits bucket }
 {
@@ -71,8 +72,8 @@ fn last_digit(number: u16) -> u8
     b'0' + (number % 10) as u8
 }
 
-/// A law: an app that sends back the cohort that it was told, `b:` and its bucket's digits, stays
-/// in that bucket.
+/// Law: an app that sends back the cohort of its reply, `b:` and its bucket's digits, stays in that
+/// bucket.
 pub fn cohort_keeps_bucket()
     ensures { (n : ℕ) → n < 10000 → specs.cohort_bucket (specs.told_cohort n) ≡ Some n }
 {}
@@ -114,7 +115,7 @@ pub fn cohort_bucket(cohort: &str) -> Option<Bucket>
     }
 }
 
-// The request's id, or its session's where that is empty or absent.
+// The request's id, or its session's if that is empty or absent.
 fn asker(request: &RequestFacts) -> &str
     ensures { result.now ≡ specs.asker request.now }
 {

@@ -8,7 +8,7 @@ use std::marker::Model;
 /// The facts of one app of a request at a moment. Its type keeps the ranges.
 #[derive(Clone, Copy, Debug, PartialEq, Eq)]
 pub struct Context {
-    /// The four numbers of the app's version; `Attrs` gives 0 where it isn't known.
+    /// The four numbers of the app's version; `Attrs` sets them to 0 if it isn't known.
     pub version: [u32; 4],
     /// Which of the 10000 buckets the app is in.
     pub bucket: u16,
@@ -58,9 +58,9 @@ impl Context {
     ghost use Rattle.attrs.specs.Context as specs;
     ghost use Rattle.std.specs.Int.{w8, w16, w32, to_le_bytes};
 
-    /// The app sent a version, and it is one.
+    /// The app sent a valid version.
     pub const VERSION_KNOWN: u8 = 1;
-    /// The app asks for an update.
+    /// The app requests an update.
     pub const UPDATECHECK: u8 = 2;
     /// The app sent a ping.
     pub const PING: u8 = 4;
@@ -71,21 +71,21 @@ impl Context {
     /// The app sent its install day.
     pub const INSTALLDATE_KNOWN: u8 = 32;
 
-    /// Where the bucket begins in the bytes, two of them.
+    /// The offset of the bucket, two bytes.
     pub const BUCKET_OFFSET: u8 = 16;
-    /// Where the flags stand, one byte.
+    /// The offset of the flags, one byte.
     pub const FLAGS_OFFSET: u8 = 18;
-    /// Where the install day begins, four bytes.
+    /// The offset of the install day, four bytes.
     pub const INSTALL_DAY_OFFSET: u8 = 20;
-    /// Where the day of the moment begins, four bytes.
+    /// The offset of the day of the moment, four bytes.
     pub const TODAY_OFFSET: u8 = 24;
-    /// Where the seconds of that day begin, four bytes.
+    /// The offset of the seconds of that day, four bytes.
     pub const SECONDS_OFFSET: u8 = 28;
 
     /// The install day of an app that sent none.
     pub const UNKNOWN_DAY: u32 = u32::MAX;
 
-    /// Each flag has the number that the layout gives it, and so has the unknown day.
+    /// Law: each flag and the unknown day have the numbers of the layout.
     pub fn flag_numbers()
         ensures version { Self.VERSION_KNOWN ≡ version_known }
         ensures updatecheck { Self.UPDATECHECK ≡ updatecheck }
@@ -96,7 +96,7 @@ impl Context {
         ensures day { Self.UNKNOWN_DAY ≡ unknown_day }
     {}
 
-    /// Each offset has the number that the layout gives it.
+    /// Law: each offset has the number of the layout.
     pub fn offset_numbers()
         ensures bucket { Self.BUCKET_OFFSET ≡ bucket_offset }
         ensures flags { Self.FLAGS_OFFSET ≡ flags_offset }
@@ -105,7 +105,7 @@ impl Context {
         ensures seconds { Self.SECONDS_OFFSET ≡ seconds_offset }
     {}
 
-    /// At its offset each field stands in the bytes, little-endian.
+    /// Law: each field is at its offset in the bytes, little-endian.
     #[tactic(auto, unfolding(crate::specs::Context::context_bytes))]
     pub fn fields_stand()
         ensures bucket { (c : specs.Context) → StandsAt c bucket_offset (to_le_bytes w16 c.bucket) }
@@ -117,7 +117,7 @@ impl Context {
             → StandsAt c seconds_offset (to_le_bytes w32 c.seconds) }
     {}
 
-    /// What the type keeps: each number lies in its range.
+    /// What the type keeps: each number is in its range.
     pub fn keeps(&self)
         ensures { HasContextRanges self.now }
     {

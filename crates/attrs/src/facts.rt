@@ -1,9 +1,9 @@
-//! What an Omaha 3.1 request says: of itself, and of one of its apps. Each member is as it was
-//! read, and absent where the request has none, or one of another kind.
+//! The facts of an Omaha 3.1 request: about itself, and about each of its apps. Each member is as
+//! it was read, and absent if the request has none, or one of another kind.
 
 use crate::text::Text;
 
-/// What a request says of itself.
+/// The facts of a request itself.
 #[derive(Drop)]
 pub struct RequestFacts {
     pub requestid: Option<Text>,
@@ -12,7 +12,7 @@ pub struct RequestFacts {
     pub platform: Option<Text>,
 }
 
-/// What a request says of one of its apps.
+/// The facts of one app of a request.
 #[derive(Drop)]
 pub struct AppFacts {
     pub appid: Text,
@@ -21,9 +21,9 @@ pub struct AppFacts {
     pub ap: Option<Text>,
     pub lang: Option<Text>,
     pub cohort: Option<Text>,
-    /// Days from 2007-01-01 to the installation, where that is a whole number from 0 on.
+    /// Days from 2007-01-01 to the installation, if it is a whole number of at least 0.
     pub installdate: Option<u64>,
-    /// Whether the member is there, and isn't null; so of the next two.
+    /// Whether the member exists, and isn't null; the same for the next two.
     pub updatecheck: bool,
     pub ping: bool,
     pub event: bool,

@@ -7,7 +7,7 @@ const BASIS: u64 = 14695981039346656037;
 
 const PRIME: u64 = 1099511628211;
 
-/// The hash of bytes by FNV-1a with 64 bits. It takes no memory.
+/// The hash of bytes by FNV-1a with 64 bits. It allocates nothing.
 pub fn fnv1a(bytes: &[u8]) -> u64
     ensures { result ≡ specs.fnv1a bytes.now }
 {

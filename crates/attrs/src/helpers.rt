@@ -1,5 +1,5 @@
-//! What a program may ask of its app by CALL: whether an attribute has some bytes, its length, and
-//! a bucket by a salt of the program's own. Each answers for any arguments, and takes no memory.
+//! What a program may query by CALL: whether an attribute has some bytes, its length, and a bucket
+//! by the program's own salt. Each has a result for any arguments, and allocates nothing.
 
 ghost use Rattle.std.specs.Prelude.{◌≡◌};
 ghost use Rattle.attrs.specs.Helpers.{attr_is, attr_len, bucket_of};
@@ -8,8 +8,8 @@ use crate::attributes::Attrs;
 use crate::bucket::{Bucket, four_digits};
 use crate::hash::fnv1a;
 
-/// CALL 2: 1 where attribute `number` has exactly these bytes, else 0. No attribute has a number
-/// from 7 on, which is compared as a whole 64-bit number.
+/// CALL 2: 1 if attribute `number` has exactly these bytes, otherwise 0. No attribute has a number
+/// above 6. The number is compared in all of its 64 bits.
 pub fn helper_attr_is(attrs: &Attrs, number: u64, bytes: &[u8]) -> u64
     ensures { result ≡ attr_is attrs.now number bytes.now }
 {
@@ -19,7 +19,7 @@ pub fn helper_attr_is(attrs: &Attrs, number: u64, bytes: &[u8]) -> u64
     }
 }
 
-/// CALL 3: the length of attribute `number` in bytes, 0 to 1024; 0 where the number is unknown.
+/// CALL 3: the length of attribute `number` in bytes, 0 to 1024; 0 if the number is unknown.
 pub fn helper_attr_len(attrs: &Attrs, number: u64) -> u64
     ensures { result ≡ attr_len attrs.now number }
 {
@@ -29,7 +29,7 @@ pub fn helper_attr_len(attrs: &Attrs, number: u64) -> u64
     }
 }
 
-/// CALL 4: a bucket from 0 to 9999 that depends on the app's bucket and the salt alone. Programs
+/// CALL 4: a bucket from 0 to 9999 that depends only on the app's bucket and the salt. Programs
 /// with different salts divide the apps independently.
 pub fn helper_bucket(attrs: &Attrs, salt: u64) -> u64
     ensures { result ≡ bucket_of attrs.now salt }

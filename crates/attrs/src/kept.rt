@@ -1,4 +1,4 @@
-//! What is kept of the texts of a request: one over 1024 bytes counts as an empty one.
+//! How the texts of a request are kept: one over 1024 bytes counts as empty.
 
 ghost use Rattle.std.specs.Prelude.{◌≡◌, Some, IfOk, option_copied};
 ghost use Rattle.attrs.specs.Attributes.{kept_text};
@@ -13,7 +13,7 @@ use std::alloc::Global;
 /// A text over this many bytes is kept as an empty one.
 const TEXT_LIMIT: usize = 1024;
 
-/// A text as it is kept: nothing of one that is too long.
+/// A text as it is kept: empty if it is too long.
 pub(crate) fn short(text: &str) -> &str
     ensures { result.now ≡ kept_text (Some text.now) }
 {
@@ -23,7 +23,7 @@ pub(crate) fn short(text: &str) -> &str
     text
 }
 
-/// The same, and nothing of one that is absent.
+/// A text as it is kept, also empty if it is absent.
 pub(crate) fn short_or_none(text: &Option<Text>) -> &str
     ensures { result.now ≡ kept_text text.now }
 {
@@ -43,7 +43,7 @@ pub(crate) fn keep_text(alloc: Global, text: &str) -> Result<Text, AttrFault>
     }
 }
 
-/// The same of one that may be absent.
+/// A copy of a text that may be absent, as it is kept.
 #[tactic(auto, using(crate::proofs::ShortTexts::kept_again))]
 pub(crate) fn keep_some(alloc: Global, text: Option<&str>) -> Result<Option<Text>, AttrFault>
     ensures { IfOk result (λ t. kept_text t ≡ kept_text (option_copied text.entry)) }
@@ -64,7 +64,7 @@ pub(crate) fn own(alloc: Global, app: AppFacts) -> Result<SharedFacts, AttrFault
     }
 }
 
-/// A copy of what a program may see of an app's texts.
+/// A copy of the app's texts that a program may read.
 pub(crate) fn copied(alloc: Global, app: &AppFacts) -> Result<SharedFacts, AttrFault>
     ensures { IfOk result (λ s. (platform : _) → texts_with s platform
         ≡ texts_with app.now platform) }

@@ -1,5 +1,5 @@
-//! The facts of one app of an Omaha 3.1 request at a moment, as a rollout program may see them: a
-//! context of 64 bytes, and texts by number.
+//! The facts of one app of an Omaha 3.1 request at a moment, in a rollout program's form: a context
+//! of 64 bytes, and texts by number.
 //!
 //! See docs/DECISIONS.md, "The context".
 #![tactic(auto)]

@@ -1,10 +1,10 @@
-//! A moment, and the days and seconds of it from 2007-01-01 UTC on, where Omaha's count begins.
+//! A moment, and its days and seconds since 2007-01-01 UTC, from which Omaha counts.
 
 ghost use Rattle.std.specs.Prelude.{◌≡◌, ◌<◌, ◌≤◌, pos};
 ghost use Rattle.attrs.specs.Moment.{elapsed, elapsed_days, elapsed_seconds};
 ghost use Rattle.attrs.specs.Moment.{first_second, last_second};
 
-/// A second by the Unix clock, which may lie before 1970.
+/// A second of the Unix clock, which may be before 1970.
 pub type Moment = i64;
 
 /// The first second of 2007.
@@ -17,26 +17,26 @@ const LAST_SECOND: i64 = 253402300799;
 pub struct Elapsed {
     /// Whole days.
     pub days: u32,
-    /// Seconds of the day that has begun, 0 to 86399.
+    /// Seconds of the current day, 0 to 86399.
     pub seconds: u32,
 }
 
 impl Elapsed {
-    /// The second from which time is counted, with which 2007 begins.
+    /// The second from which time is counted, the first of 2007.
     pub const FIRST_SECOND: u64 = 1167609600;
-    /// How many seconds a day has.
+    /// The seconds of a day.
     pub const SECONDS_OF_A_DAY: u64 = 86400;
     /// The last day that a moment is in, 9999-12-31.
     pub const LAST_DAY: u32 = 2919382;
 
-    /// Each constant is the number that the definitions give it.
+    /// Law: each constant is the number in the definitions.
     pub fn day_numbers()
         ensures first { Self.FIRST_SECOND ≡ first_second }
         ensures last { Self.LAST_DAY ≡ elapsed_days (pos last_second) }
     {}
 
-    /// The time to this moment. One before 2007 counts as the first second of that year, and one
-    /// after 9999 as the last of that.
+    /// The time to this moment. A moment before 2007 counts as the first second of that year, and
+    /// one after 9999 as the last of that year.
     pub fn at(moment: Moment) -> Elapsed
         ensures days { result.days ≡ elapsed_days moment }
         ensures seconds { result.seconds ≡ elapsed_seconds moment }

@@ -1,5 +1,5 @@
-//! What a request says of one of its apps, owned by all who need it: the request, the attributes of
-//! the app's run, and the log. So no text of it is copied.
+//! The facts of one app of a request. Its owners are the request, the attributes of the app's run,
+//! and the log. So none of its texts is copied.
 
 ghost use Rattle.std.specs.Prelude.{◌≡◌, IfOk};
 
@@ -23,7 +23,7 @@ impl Model for SharedFacts {
 }
 
 impl SharedFacts {
-    /// These facts, which take memory once.
+    /// These facts, with one allocation.
     pub fn new(alloc: Global, facts: AppFacts) -> Result<SharedFacts, AllocError>
         ensures { IfOk result (λ s. s ≡ facts) }
     {
@@ -33,8 +33,8 @@ impl SharedFacts {
         }
     }
 
-    /// One more owner of the same facts. It takes no memory, and is refused only if there is no
-    /// place for one more.
+    /// Another owner of the same facts. It allocates nothing, and fails only if there can't be
+    /// another owner.
     pub fn share(&self) -> Result<SharedFacts, AllocError>
         ensures { IfOk result (λ s. s ≡ self.now) }
     {
@@ -44,14 +44,14 @@ impl SharedFacts {
         }
     }
 
-    /// The facts, lent.
+    /// The facts.
     pub fn facts(&self) -> &AppFacts
         ensures { result.now ≡ self.now }
     {
         &self.facts
     }
 
-    /// The app's id, lent.
+    /// The app's id.
     pub fn appid(&self) -> &str
         ensures { result.now ≡ self.now.appid }
     {

@@ -1,4 +1,4 @@
-//! A text of a request, which contracts see as its bytes.
+//! A text of a request; in contracts, its bytes.
 
 ghost use Rattle.std.specs.Prelude.{◌≡◌, string_bytes, option_copied};
 
@@ -19,21 +19,21 @@ impl Model for Text {
 }
 
 impl Text {
-    /// A text as an attribute; it takes no memory.
+    /// A text as an attribute; it allocates nothing.
     pub fn new(text: String) -> Text
         ensures { result ≡ string_bytes text }
     {
         Text { text }
     }
 
-    /// The text, lent.
+    /// The text as a `&str`.
     pub fn as_str(&self) -> &str
         ensures { result.now ≡ self.now }
     {
         self.text.as_str()
     }
 
-    /// The text, given back.
+    /// The text as the `String` that it was made of.
     pub fn into_string(self) -> String
         ensures { string_bytes result ≡ self }
     {
@@ -41,7 +41,7 @@ impl Text {
     }
 }
 
-/// A text that may be absent, lent.
+/// A text that may be absent, as a `&str`.
 pub(crate) fn lent(text: &Option<Text>) -> Option<&str>
     ensures { option_copied result ≡ text.now }
 {

@@ -4,8 +4,8 @@
 ghost use Rattle.std.specs.Prelude.{◌≡◌};
 ghost use Rattle.attrs.specs.Version.{version_of, decimal_number};
 
-/// The four numbers of a version, of which the missing ones are 0, or `None` where the text is no
-/// version. Leading zeros are allowed; a number has ASCII digits alone, and is at most 4294967295.
+/// The four numbers of a version, with 0 for missing ones, or `None` if the text isn't a version.
+/// Leading zeros are allowed; a number has only ASCII digits, and is at most 4294967295.
 pub fn read_version(text: &str) -> Option<[u32; 4]>
     ensures { result ≡ version_of text.now }
 {
@@ -21,7 +21,7 @@ pub fn read_version(text: &str) -> Option<[u32; 4]>
     Some(numbers)
 }
 
-// One number. `parse` alone would allow a plus in front.
+// One number. `parse` would also allow a plus sign.
 pub(crate) fn read_number(part: &str) -> Option<u32>
     ensures { result ≡ decimal_number part.now }
 {

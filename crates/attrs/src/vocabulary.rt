@@ -67,7 +67,7 @@ impl Flag {
         }
     }
 
-    /// Its name, as a rule has it.
+    /// Its name in a rule.
     pub fn text(self) -> &'static str
         ensures { result.now ≡ words.flag_text self }
     {
@@ -83,7 +83,7 @@ impl Flag {
 }
 
 impl Attribute {
-    /// The number by which a helper knows it.
+    /// Its number in a helper's arguments.
     pub fn number(self) -> u8
         ensures { result ≡ words.attribute_number self }
     {
@@ -98,7 +98,7 @@ impl Attribute {
         }
     }
 
-    /// Its name, as a rule has it.
+    /// Its name in a rule.
     pub fn text(self) -> &'static str
         ensures { result.now ≡ words.attribute_text self }
     {

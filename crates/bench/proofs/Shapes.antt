@@ -1,4 +1,4 @@
--- A shape is known by its releases and its arrays.
+-- A shape is determined by its releases and its arrays.
 use Rattle.std.proofs.Common.{◌≡◌, ◌∙◌, ap, ℕ, List, []}
 use Rattle.cells.specs.Arrays.{AppShape}
 use Rattle.cells.specs.declared.array.CellArray.{CellArray}

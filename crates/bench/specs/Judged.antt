@@ -8,15 +8,15 @@ use Rattle.bench.specs.declared.fault.BenchFault.{BenchFault}
 use Rattle.bench.specs.declared.fault.BenchFault.TheVariants.{Memory, Output}
 use Rattle.bench.specs.declared.fault.BenchFault.TheVariants as fault
 
--- every program is judged for an app of 64 releases, and no array
+-- every program is checked for an app of 64 releases, and no array
 abbrev pub bench_shape : AppShape
 bench_shape = record { releases = 64; arrays = [] }
 
--- they are a program that is accepted
+-- they are an accepted program
 abbrev pub AreAccepted : List ℕ → Type 0
 AreAccepted bytes = (code : Program) × IsProgramOf bytes (shaped code bench_shape)
 
--- why they are none
+-- why they aren't one
 abbrev pub IsBenchFault : List ℕ → BenchFault → Type 0
 IsBenchFault bytes (fault.Program refused) = RefusesProgram bytes bench_shape refused
 IsBenchFault bytes Memory = ⊥

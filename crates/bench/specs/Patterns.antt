@@ -32,11 +32,11 @@ and bits dst imm = Alu bits And dst (Imm (pos imm))
 abbrev pub add : Bits → Reg → Reg → Insn
 add bits dst src = Alu bits Add dst (Register src)
 
--- of the context, at whose first byte R1 points
+-- a load of the context, to whose first byte R1 points
 abbrev pub load : LoadKind → Reg → ℕ → Insn
 load kind dst place = Load kind dst R1 (pos place)
 
--- where a slot of the stack begins, from the top; the highest is slot 0
+-- the offset of a slot of the stack from the top; the highest is slot 0
 abbrev pub slot_offset : ℕ → ℤ
 slot_offset slot = pos 0 -ℤ pos (8 * slot + 8)
 
@@ -46,7 +46,7 @@ store size slot src = Store size R10 src (slot_offset slot)
 abbrev pub load_slot : Reg → ℕ → Insn
 load_slot dst slot = Load Double dst R10 (slot_offset slot)
 
--- over so many slots, from this bucket on
+-- over `slots` slots, from this bucket on
 abbrev pub jump_from : ℕ → ℕ → Insn
 jump_from imm slots = JumpIf Bits64 Ge R2 (Imm (pos imm)) (pos slots)
 
@@ -67,8 +67,8 @@ abbrev pub straight_block : Bits → List Insn
 straight_block bits =
     add bits R0 R2 ∷ and bits R2 0x7fff ∷ add bits R2 R0 ∷ and bits R0 0xffff ∷ []
 
--- block k of count: no bucket is as high as these numbers, and each jump leads to the first
--- instruction that closes
+-- block k of count: no bucket is as high as these numbers, and each jump leads to the first of the
+-- closing instructions
 abbrev pub one_target_block : ℕ → ℕ → List Insn
 one_target_block count k =
     jump_from (0xffff - 4 * k) (4 * (count - k) - 1)
@@ -82,7 +82,7 @@ abbrev pub diamond : ℕ → List Insn
 diamond k =
     jump_from (1000 * (k % 10 + 1)) 2 ∷ add Bits64 R0 R2 ∷ skip ∷ and Bits64 R0 0x7fff ∷ []
 
--- four slots of the stack get the bucket
+-- stores the bucket to four slots of the stack
 abbrev pub filling : ℕ → List Insn
 filling k =
     store size.Double (4 * k) R2
@@ -103,7 +103,7 @@ load_block k =
     ∷ add Bits64 R0 R5
     ∷ []
 
--- a store that a slot keeps, a load of what it keeps, and a store to its low half
+-- a store to a whole slot, a load of that slot, and a store to its low half
 abbrev pub store_block : ℕ → List Insn
 store_block k =
     store size.Double (k % 64) R2

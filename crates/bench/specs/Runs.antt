@@ -13,7 +13,7 @@ use Rattle.bench.specs.declared.runs.RunTotals.{RunTotals}
 abbrev pub bucket_of : ℕ → ℕ
 bucket_of k = 1000 * k + 500
 
--- app k is in its bucket, and has no attributes but this
+-- app k is in its bucket, and has no other attributes
 abbrev pub IsBenchApp : ℕ → Attributes → Type 0
 IsBenchApp k a = a ≡ plain [] None (bucket_of k)
 
@@ -36,8 +36,8 @@ pub record RunsOnce (p : ShapedProgram) (a : Attributes) (before after : List �
   pub grew : GrewBy IsEvent before events after
   pub ends : Ends p (opening a) events choice count
 
--- the tally of the first n runs, one after the other on the same cells, with the values that the
--- cells had before and have after them: run n is that of app n modulo ten
+-- the tally of the first n runs, one after the other on the same cells, with the cells' values
+-- before and after them. Run n is that of app n modulo ten
 pub data RunsInTurn (p : ShapedProgram) (apps : List Attributes) (opened : List ℕ)
     : ℕ → List ℕ → RunTotals → Type 0 where
   none : RunsInTurn p apps opened 0 opened no_runs
@@ -46,7 +46,7 @@ pub data RunsInTurn (p : ShapedProgram) (apps : List Attributes) (opened : List 
       → RunsOnce p a values after choice count
       → RunsInTurn p apps opened (n + 1) after (with_run t choice count)
 
--- the tally of so many runs, on cells that open at 0
+-- the totals of n runs, on cells that open at 0
 pub record AreRuns (p : ShapedProgram) (apps : List Attributes) (n : ℕ) (t : RunTotals)
     : Type 0 where
   pub opened : List ℕ

@@ -6,14 +6,14 @@ use crate::pattern::Pattern;
 use std::alloc::{AllocError, Global};
 use std::convert::AsStr;
 
-/// How long a program is: so many blocks, of four slots each, and four slots more.
+/// The length of a program: `blocks` blocks of four slots each, and four slots more.
 #[derive(Clone, Copy)]
 pub struct ProgramSize {
     pub blocks: u16,
     pub ghost in_range: { blocks < 1024 },
 }
 
-/// What is asked for.
+/// What is requested.
 #[derive(Drop)]
 pub enum Benchmark {
     /// The bytes of one program.
@@ -21,13 +21,13 @@ pub enum Benchmark {
         size: ProgramSize,
         pattern: Pattern,
     },
-    /// To verify each of some programs so many times.
+    /// To verify each of some programs `times` times.
     Verify {
         size: ProgramSize,
         times: u32,
         patterns: Vec<Pattern>,
     },
-    /// To verify each of some programs once, and to run it so many times.
+    /// To verify each of some programs once, and to run it `times` times.
     Run {
         size: ProgramSize,
         times: u32,
@@ -62,7 +62,7 @@ fn patterns_of<S: AsStr>(alloc: Global, words: &[S]) -> Result<Option<Vec<Patter
     })
 }
 
-/// The benchmark of the words, of which the first is the program's name; none where they are wrong.
+/// The benchmark of the words, the first of which is the program's name; `None` if they are wrong.
 pub fn benchmark_of<S: AsStr>(alloc: Global, words: &[S]) -> Result<Option<Benchmark>, AllocError> {
     let [_, verb, size, rest @ ..] = words else {
         return Ok(None);

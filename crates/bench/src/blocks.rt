@@ -56,7 +56,7 @@ fn load(kind: LoadKind, dst: Reg, place: u16) -> Insn
     }
 }
 
-/// A store to a slot of the stack, of which the highest is slot 0.
+/// A store to a slot of the stack; the highest is slot 0.
 fn store(size: Size, slot: u16, src: Reg) -> Insn
     requires { slot < 64 }
     ensures { result ≡ patterns.store size slot src }
@@ -82,7 +82,7 @@ fn load_slot(dst: Reg, slot: u16) -> Insn
     }
 }
 
-/// Where a slot of the stack begins, from the top.
+/// The offset of a slot of the stack from the top.
 fn slot_offset(slot: u16) -> i16
     requires { slot < 64 }
     ensures { result ≡ patterns.slot_offset slot }
@@ -90,7 +90,7 @@ fn slot_offset(slot: u16) -> i16
     -8 * slot as i16 - 8
 }
 
-/// `jge R2, imm`, over so many slots.
+/// `jge R2, imm`, over `slots` slots.
 fn jump_from(imm: u16, slots: u16) -> Insn
     requires { slots < 2 ^ 15 }
     ensures { result ≡ patterns.jump_from imm slots }
@@ -167,7 +167,7 @@ fn diamond(k: u16) -> [Insn; 4]
     ]
 }
 
-/// Four slots of the stack get the bucket.
+/// Stores the bucket to four slots of the stack.
 fn filling(k: u16) -> [Insn; 4]
     requires { k < 16 }
     ensures { result ≡ patterns.filling k }

@@ -15,9 +15,9 @@ use std::convert::AsStr;
 use std::io::{self, ErrorKind, Write};
 use std::sync::Arc;
 
-/// It did what it was asked.
+/// It did what was requested.
 const DONE: u8 = 0;
-/// A program was refused, memory was, or a line couldn't be written.
+/// A program was refused, an allocation failed, or a line couldn't be written.
 const REFUSED: u8 = 1;
 /// The words are wrong.
 const USAGE: u8 = 2;
@@ -26,7 +26,7 @@ const USAGE_LINE: &str =
     "usage: bench bytes SLOTS PATTERN, or bench verify|run SLOTS TIMES PATTERN.., \
     of straight straight32 one-target diamonds full-stack loads stores";
 
-/// Does what the words ask, the first of which is the program's name.
+/// Does what the words request, the first of which is the program's name.
 pub fn command<S: AsStr, O: Write, E: Write>(
     alloc: Global,
     words: &[S],
@@ -116,7 +116,7 @@ fn run_one<O: Write>(
     Ok(())
 }
 
-/// What words are answered that can't be read: their memory was refused, or one isn't UTF-8.
+/// Reports words that can't be read: out of memory, or one isn't UTF-8.
 pub fn unreadable_words<E: Write>(error: &io::Error, err: &mut E) -> u8
     ensures within { (1 ≤ result) × (result ≤ 2) }
     ensures memory { error_kind error.now ≡ ErrorKind.OutOfMemory → result ≡ 1 }

@@ -7,7 +7,7 @@ use std::{fmt, io};
 /// What went wrong.
 #[derive(Debug, Drop)]
 pub enum BenchFault {
-    /// Memory is refused.
+    /// An allocation failed.
     Memory,
     /// A line can't be written.
     Output,

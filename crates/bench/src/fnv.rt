@@ -1,4 +1,4 @@
-//! FNV-1a with 64 bits, a byte at a time: the hash of the choices, of which no list is kept.
+//! FNV-1a with 64 bits, a byte at a time: the hash of the choices, which aren't kept in a list.
 
 ghost use Rattle.std.specs.Prelude.{◌≡◌};
 ghost use Rattle.attrs.specs.Hash as fnv;

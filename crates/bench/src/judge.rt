@@ -18,8 +18,8 @@ fn bench_shape(alloc: Global) -> Shape
     Shape::plain(alloc, 64)
 }
 
-/// The program that the bytes are, once it is accepted for an app of 64 releases.
-// open: whether memory is refused.
+/// The program of the bytes, if it is accepted for an app of 64 releases.
+// open: whether an allocation fails.
 pub fn verified(alloc: Global, bytes: &[u8]) -> Result<Verified, BenchFault>
     ensures program { IfOk result (IsProgramOf bytes.now) }
     ensures shape { IfOk result (λ v. v.shape ≡ bench_shape) }
@@ -28,8 +28,8 @@ pub fn verified(alloc: Global, bytes: &[u8]) -> Result<Verified, BenchFault>
     accept(alloc, bytes, &bench_shape(alloc)).map_err(BenchFault::Program)
 }
 
-/// Verifies the program that the bytes are so many times.
-// open: whether memory is refused.
+/// Verifies the program of the bytes `times` times.
+// open: whether an allocation fails.
 pub fn verify_times(alloc: Global, bytes: &[u8], times: u32) -> Result<(), BenchFault>
     ensures accepted { OnOk result (0 < times → AreAccepted bytes.now) }
     ensures fault { IfErr result (λ e. IsBenchFault bytes.now e) }

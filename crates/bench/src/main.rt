@@ -1,6 +1,6 @@
-//! The benchmark's program: it builds one of seven kinds of program, of up to 4096 slots, verifies
-//! it and runs it as often as it is asked, and prints counts and hashes that are the same
-//! everywhere. It reads no clock: `bench/run` times whole processes from outside.
+//! The benchmark's program. It builds one of seven kinds of program, of up to 4096 slots, verifies
+//! it and runs it as often as requested. It prints counts and hashes that are the same everywhere.
+//! It reads no clock: `bench/run` times whole processes from outside.
 #![tactic(auto)]
 
 mod benchmark;

@@ -2,18 +2,18 @@
 
 use std::fmt;
 
-/// What a program of the benchmark is made of.
+/// The instructions of a program of the benchmark.
 #[derive(Clone, Copy, Debug, PartialEq, Eq)]
 pub enum Pattern {
-    /// Arithmetic alone.
+    /// Only arithmetic.
     Straight,
-    /// The same in 32 bits.
+    /// Only arithmetic, in 32 bits.
     Straight32,
     /// Conditional jumps, all to one slot, which no run takes.
     OneTarget,
     /// Branches, one after the other, whose two sides meet again.
     Diamonds,
-    /// The same over a stack in which all 64 slots keep a value.
+    /// Such branches over a stack in which all 64 slots keep a value.
     FullStack,
     /// Loads of the context, and an addition after each three.
     Loads,

@@ -22,7 +22,7 @@ fn push_all(bytes: &mut Vec<u8>, insns: &[Insn]) -> Result<(), AllocError>
 }
 
 /// The bytes of the program of `count` blocks, which is `4 * count + 4` slots.
-// open: whether memory is refused.
+// open: whether an allocation fails.
 pub fn program(alloc: Global, pattern: Pattern, count: u16) -> Result<Vec<u8>, AllocError>
     requires { count < 1024 }
     ensures { IfOk result (λ bytes. bytes.items ≡ encodings (patterns.program pattern count)) }

@@ -12,7 +12,7 @@ use cells::{PlainCells, PlainPass};
 use std::alloc::Global;
 use std::sync::Arc;
 
-/// What runs come to: the instructions of all of them, and the hash of their choices.
+/// Totals of runs: their instructions, and the hash of their choices.
 #[derive(Clone, Copy, Debug, PartialEq, Eq)]
 pub struct RunTotals {
     pub instructions: u64,
@@ -65,8 +65,8 @@ fn run_once(
     Ok(Run::start(program, app).run(cells, pass))
 }
 
-/// Runs the program so many times, for each app in turn, on cells that open at 0.
-// open: whether memory is refused.
+/// Runs the program `times` times, for each app in turn, on cells that open at 0.
+// open: whether an allocation fails.
 pub fn run_times(
     alloc: Global,
     program: &Arc<Verified>,

@@ -1,4 +1,4 @@
-//! Answering one request over and over, by one worker whose reader and writer are memory.
+//! Sends one request over and over to one worker whose reader and writer are memory.
 
 ghost use Rattle.std.specs.Prelude.{◌≡◌, ◌+◌, IfOk};
 ghost use Rattle.bench_answer.specs.Answered.{IsSuccess, IsReplyTally, IsTallyFromZeros, moment};
@@ -16,14 +16,14 @@ use std::sync::{Arc, Wait};
 /// 2026-03-02 01:00:00 UTC, which is day 7000 and second 3600 of Omaha's count.
 const MOMENT: i64 = 1772413200;
 
-/// What replies come to: the bytes of all of them, and the hash of the last.
+/// Totals of replies: their bytes, and the hash of the last.
 #[derive(Clone, Copy, Debug, PartialEq, Eq)]
 pub(crate) struct ReplyTally {
     pub(crate) bytes: u64,
     pub(crate) reply: u64,
 }
 
-/// Answers the request once in room that is kept, and writes into that of an earlier reply.
+/// Makes one reply with reused buffers, and writes it over an earlier reply.
 fn answer_once<C: CellSteps>(
     turn: &Turn<'_, C>,
     room: &mut AnswerRoom,
@@ -56,16 +56,16 @@ fn answer_once<C: CellSteps>(
     Ok(writer.into_inner())
 }
 
-/// The sum, where it fits.
+/// The sum, if it fits.
 fn sum(bytes: u64, more: usize) -> Result<u64>
     ensures { IfOk result (λ n. n ≡ bytes + more) }
 {
     bytes.checked_add(more as u64).context("too many bytes")
 }
 
-/// Answers the request so often, under the ruleset that the watcher sees, by runs that act on the
+/// Makes `times` replies to the request, under the ruleset that the watcher reads, by runs on the
 /// cells.
-// open: whether memory is refused; how many takes several workers make at once, which the gate
+// open: whether an allocation fails; how many takes several workers make at once, which the gate
 // compares.
 pub(crate) fn answer_times<C: CellSteps>(
     alloc: Global,
@@ -96,7 +96,7 @@ pub(crate) fn answer_times<C: CellSteps>(
     })
 }
 
-/// Answers the request so often on cells of its own.
+/// Makes `times` replies to the request on new cells.
 fn answer_alone(
     alloc: Global,
     watcher: &mut Watcher,
@@ -109,8 +109,8 @@ fn answer_alone(
     answer_times(alloc, &cells, &mut pass, watcher, input, times)
 }
 
-/// Answers the request so often under one ruleset.
-// open: whether memory is refused.
+/// Makes `times` replies to the request under one ruleset.
+// open: whether an allocation fails.
 pub(crate) fn answer_under<H: Wait>(
     rt: &H,
     alloc: Global,

@@ -1,7 +1,7 @@
-//! Answers a request over memory as often as it is told, or takes from a quota, by one worker or by
-//! several at once; or looks at a published ruleset, or installs others. It prints what came of it,
-//! which is the same on every machine but for looks beside installs. It reads no clock:
-//! `bench/answer`, `bench/quotas` and `bench/swap` time whole processes.
+//! Serves a request over memory, or takes from a quota, a given number of times, by one worker or
+//! by several at once. Or reads a published ruleset, or installs others. It prints the results,
+//! which are the same on every machine, except the number of reads during installs. It reads no
+//! clock: `bench/answer`, `bench/quotas` and `bench/swap` time whole processes.
 #![tactic(auto)]
 
 mod answers;
@@ -25,7 +25,7 @@ use std::thread::Threads;
 /// The most apps that a request may have.
 const MAX_APPS: u16 = 256;
 
-/// Answers the request that a word names: `worked`, or a number of apps.
+/// Serves the request that a word names: `worked`, or a number of apps.
 fn tally_of<H: Wait>(rt: &H, alloc: Global, word: &str, times: u32) -> Result<ReplyTally> {
     if word == "worked" {
         let input = post(alloc, WORKED)?;
@@ -39,7 +39,7 @@ fn tally_of<H: Wait>(rt: &H, alloc: Global, word: &str, times: u32) -> Result<Re
     answer_under(rt, alloc, rules::many(alloc, MAX_APPS)?, &input, times)
 }
 
-/// Does what a word names so often, and tells what came of it.
+/// Does what a word names `times` times, and returns the line to print.
 fn line_of<H: Threads + Wait + Sync>(
     rt: &H,
     alloc: Global,

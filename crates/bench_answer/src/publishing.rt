@@ -1,4 +1,4 @@
-//! A publisher and its watchers at work: looks at the published ruleset, and installs.
+//! A publisher and its watchers at work: reads of the published ruleset, and installs.
 
 use crate::rules::without_apps;
 use crate::work::{WatchKind, Watching};
@@ -10,14 +10,13 @@ use std::sync::atomic::{AtomicBool, Ordering};
 use std::sync::{Arc, Wait};
 use std::thread::{Threads, join, map_vec};
 
-/// How often a watcher looks at most beside installs.
+/// How often a watcher reads at most during installs.
 const PATIENCE: u32 = 1_000_000_000;
 
 /// The most watchers that a publisher has.
 const MOST: usize = 65;
 
-/// Has watchers of a publisher do this so often, and tells how many looks saw a ruleset, and which
-/// generation is the last.
+/// Does this work `times` times. Returns how many reads got a ruleset, and the last generation.
 pub(crate) fn watched<H: Threads + Wait + Sync>(
     rt: &H,
     alloc: Global,
@@ -39,7 +38,7 @@ fn sum(counts: &[u64]) -> u64 {
     sum
 }
 
-// Looks so often, or until it is told to stop, and gives the number of looks that saw a ruleset.
+// Reads `times` times, or until `stop` is set, and returns the number of reads that got a ruleset.
 fn look(watcher: &mut Watcher, times: u32, stop: &AtomicBool) -> u64 {
     let mut seen = 0u64;
     for _ in 0..times {
@@ -53,7 +52,7 @@ fn look(watcher: &mut Watcher, times: u32, stop: &AtomicBool) -> u64 {
     seen
 }
 
-// The same of all watchers, each in a thread of its own.
+// As above for all watchers, each in a thread of its own.
 fn look_all<H: Threads + Sync>(
     rt: &H,
     watchers: Vec<Watcher>,
@@ -68,7 +67,7 @@ fn look_all<H: Threads + Sync>(
     Ok(sum(&seen))
 }
 
-// Installs a ruleset so often, and tells those that look to stop.
+// Installs a ruleset `times` times, and then stops the readers.
 fn install_all<H: Wait>(
     rt: &H,
     publisher: &mut Publisher,
@@ -92,7 +91,7 @@ fn install<H: Wait>(rt: &H, publisher: &mut Publisher, rules: &Arc<Ruleset>) -> 
     Ok(())
 }
 
-// So many watchers.
+// `count` watchers.
 fn watchers(alloc: Global, publisher: &mut Publisher, count: usize) -> Result<Vec<Watcher>> {
     let mut watchers = Vec::new(alloc);
     for _ in 0..count {
@@ -101,8 +100,8 @@ fn watchers(alloc: Global, publisher: &mut Publisher, count: usize) -> Result<Ve
     Ok(watchers)
 }
 
-/// Does this so often with watchers of the publisher, and gives the number of looks that saw a
-/// ruleset.
+/// Does this work `times` times with watchers of the publisher, and returns the number of reads
+/// that got a ruleset.
 fn done<H: Threads + Wait + Sync>(
     rt: &H,
     alloc: Global,

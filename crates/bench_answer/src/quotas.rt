@@ -1,6 +1,6 @@
-//! Workers that take from one quota at once, each in a thread of its own: the takes alone, or whole
-//! answers to a request of which each app takes once. The counters stand under a lock, or are
-//! shared without one.
+//! Workers that take from one quota at once, each in a thread of its own: only the takes, or whole
+//! replies to a request in which each app takes once. The counters are under a lock, or are shared
+//! without one.
 
 ghost use Rattle.std.specs.Prelude.{All, IfOk};
 
@@ -17,14 +17,15 @@ use std::alloc::Global;
 use std::sync::Wait;
 use std::thread::{Threads, map_vec};
 
-/// What all did: how many takes had a place, or the bytes of all replies; and the counter then.
+/// The work of all: how many takes had a place, or the bytes of all replies; and the counter after
+/// it.
 #[derive(Clone, Copy)]
 struct Total {
     sum: u64,
     counter: u64,
 }
 
-/// Has each of 1 to 64 workers do its task so often, and tells what came of it.
+/// Has each of 1 to 64 workers do its task `times` times, and returns the line to print.
 pub(crate) fn told<H: Threads + Wait + Sync>(
     rt: &H,
     alloc: Global,
@@ -45,8 +46,8 @@ pub(crate) fn told<H: Threads + Wait + Sync>(
     }
 }
 
-/// Publishes the ruleset of so many apps that take, under which each worker answers the request so
-/// often. Where there is none, it takes and does nothing else.
+/// Publishes a ruleset of `apps` apps that take. Each worker replies to the request `times` times
+/// under it, or only takes if there is no request.
 fn published<H: Threads + Wait + Sync>(
     rt: &H,
     alloc: Global,
@@ -114,7 +115,7 @@ where
     Ok(workers)
 }
 
-/// Has each worker do its task so often in a thread of its own, and looks at the counter then.
+/// Has each worker do its task `times` times in a thread of its own, and then reads the counter.
 fn at_once<H, C>(
     rt: &H,
     alloc: Global,
@@ -146,7 +147,7 @@ where
     Ok(Total { sum, counter })
 }
 
-/// What one worker does, and its part of the sum; none where an answer isn't of status 200.
+/// The work of one worker, and its part of the sum; `None` if a reply's status isn't 200.
 fn done_by<C: CellSteps>(
     alloc: Global,
     cells: &C,
@@ -168,7 +169,7 @@ where
     }
 }
 
-/// Takes so often, and tells how many of the takes had a place.
+/// Takes `times` times, and returns how many of the takes had a place.
 fn take_times<C: CellSteps>(cells: &C, pass: &mut C::Pass, times: u32) -> u64
     requires { C.belongs cells.now pass.old }
 {

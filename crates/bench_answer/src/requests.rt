@@ -1,13 +1,13 @@
-//! The requests that are answered.
+//! The requests that are served.
 
 use std::alloc::{AllocError, Global};
 
-/// One app, which asks for an update and pings.
+/// One app, which requests an update and pings.
 pub(crate) const WORKED: &str = "{\"request\":{\"protocol\":\"3.1\",\"requestid\":\"a\",\
     \"sessionid\":\"\",\"app\":[{\"appid\":\"x\",\"version\":\"1.0\",\"updatecheck\":{},\
     \"ping\":{\"r\":1}}]}}";
 
-/// A request of the first so many apps of the large ruleset, each of which asks for an update.
+/// A request of the first `count` apps of the large ruleset, each of which requests an update.
 pub(crate) fn of_apps(alloc: Global, count: u16) -> Result<String, AllocError> {
     let mut body = String::from_str(alloc, r#"{"request":{"protocol":"3.1","app":["#)?;
     for number in 0..count {

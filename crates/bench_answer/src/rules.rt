@@ -1,4 +1,4 @@
-//! The rulesets under which requests are answered, and one that is only published.
+//! The rulesets under which requests are served, and one that is only published.
 
 ghost use Rattle.std.specs.Prelude.{◌≡◌, ◌≤◌, IfOk, length};
 
@@ -19,37 +19,37 @@ const BELOW_2000: &str = "ldxh r2, [r1+16]\nmov r0, 0\njge r2, 2000, end\nmov r0
 /// Offers the last of 64 releases.
 const THE_LAST: &str = "mov r0, 64\nexit";
 
-/// How many may take of the quota. Nobody is meant to find it used up.
+/// How many takes the quota allows: more than are made.
 pub(crate) const QUOTA: u64 = 2_000_000_000;
 
-/// Takes of the quota, and offers the first release.
+/// Takes from the quota, and offers the first release.
 const TAKES: &str = "ldcell r6, 0, 0\nmov r2, 1\nfadddw [r6+0], r2\nmov r0, 0\n\
     jge r2, 2000000000, end\nmov r0, 1\nend:\nexit";
 
 /// The SHA-256 of `abc`.
 const HASH: &str = "ba7816bf8f01cfea414140de5dae2223b00361a396177a9cb410ff61f20015ad";
 
-/// The ruleset of a server `prod` that knows the app `x`, which has one release of one package.
+/// The ruleset of a server `prod` with the app `x`, which has one release of one package.
 pub(crate) fn worked(alloc: Global) -> Result<Arc<Ruleset>> {
     let program = program(alloc, BELOW_2000, &Shape::plain(alloc, 1))?;
     let apps = vec![in alloc; app(alloc, "x", &program, 1)?]?;
     ruleset(alloc, apps)
 }
 
-/// The ruleset of a server `prod` that knows so many apps, each of 64 releases of 16 packages.
+/// The ruleset of a server `prod` with `count` apps, each of 64 releases of 16 packages.
 pub(crate) fn many(alloc: Global, count: u16) -> Result<Arc<Ruleset>> {
     let program = program(alloc, THE_LAST, &Shape::plain(alloc, 64))?;
     ruleset(alloc, apps(alloc, count, &program, 16)?)
 }
 
-/// The ruleset of a server `prod` that knows so many apps, each of one release of one package. Each
-/// run takes from one quota, whichever app it is of: it adds 1 to cell 0.
+/// The ruleset of a server `prod` with `count` apps, each of one release of one package. The runs
+/// of all apps take from one quota: each adds 1 to cell 0.
 pub(crate) fn takers(alloc: Global, count: u16) -> Result<Arc<Ruleset>> {
     let program = program(alloc, TAKES, &quota_shape(alloc)?)?;
     ruleset(alloc, apps(alloc, count, &program, 1)?)
 }
 
-/// The ruleset of a server `prod` that knows no app.
+/// The ruleset of a server `prod` without apps.
 pub(crate) fn without_apps(alloc: Global) -> Result<Arc<Ruleset>> {
     ruleset(alloc, Vec::new(alloc))
 }
@@ -75,8 +75,8 @@ fn program(alloc: Global, text: &str, shape: &Shape) -> Result<Arc<Verified>> {
     Ok(Arc::new(alloc, program)?)
 }
 
-/// So many apps `app0`, `app1` and so on, each with as many releases as the program has, each of so
-/// many packages.
+/// `count` apps `app0`, `app1` and so on, each with as many releases as the program has, each of
+/// `packages` packages.
 fn apps(alloc: Global, count: u16, program: &Arc<Verified>, packages: u8) -> Result<Vec<App>>
     requires some { 1 ≤ packages }
     requires few { packages ≤ 16 }
@@ -89,7 +89,7 @@ fn apps(alloc: Global, count: u16, program: &Arc<Verified>, packages: u8) -> Res
     Ok(apps)
 }
 
-/// An app with as many releases as its program has, each of so many packages.
+/// An app with as many releases as its program has, each of `packages` packages.
 fn app(alloc: Global, appid: &str, program: &Arc<Verified>, packages: u8) -> Result<App>
     requires some { 1 ≤ packages }
     requires few { packages ≤ 16 }

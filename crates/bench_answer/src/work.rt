@@ -1,11 +1,11 @@
-//! What a word of the command line asks several workers, or several watchers, to do.
+//! The work of several workers, or of several watchers, that a word of the command line requests.
 
-/// What a worker does again and again.
+/// What a worker repeats.
 #[derive(Clone, Copy)]
 pub(crate) enum Task {
-    /// It takes, and does nothing else.
+    /// It only takes.
     Take,
-    /// It answers a request of so many apps.
+    /// It replies to a request of this number of apps.
     Answer(u16),
 }
 
@@ -14,11 +14,11 @@ pub(crate) enum Task {
 pub(crate) enum Sharing {
     /// Under a lock.
     Locked,
-    /// Without one.
+    /// Without a lock.
     Shared,
 }
 
-/// What so many workers do at once, and how they share the counters.
+/// What `workers` workers do at once, and how they share the counters.
 #[derive(Clone, Copy)]
 pub(crate) struct Work {
     pub(crate) task: Task,
@@ -26,8 +26,8 @@ pub(crate) struct Work {
     pub(crate) workers: usize,
 }
 
-/// The work that a word names, as `quotas:shared:4`: a task (`take`; `quota`, `quotas`, which are
-/// requests of 1 and of 256 apps), the counters (`locked`, `shared`), and how many workers.
+/// The work that a word names, such as `quotas:shared:4`: a task (`take`; `quota`, `quotas`, which
+/// are requests of 1 and of 256 apps), the counters (`locked`, `shared`), and how many workers.
 pub(crate) fn work_of(word: &str) -> Option<Work> {
     let (task, rest) = word.split_once(':')?;
     let (sharing, workers) = rest.split_once(':')?;
@@ -53,13 +53,13 @@ pub(crate) fn work_of(word: &str) -> Option<Work> {
 /// What watchers of a published ruleset do.
 #[derive(Clone, Copy)]
 pub(crate) enum WatchKind {
-    /// Each that looks does so, in a thread of its own.
+    /// Each reading watcher reads, in a thread of its own.
     Looks,
-    /// A ruleset is installed, while those that look do so.
+    /// A ruleset is installed, while the reading watchers read.
     Installs,
 }
 
-/// What is done with so many watchers that look, and so many that stand still.
+/// What is done with `looking` watchers that read, and `still` watchers that don't.
 #[derive(Clone, Copy)]
 pub(crate) struct Watching {
     pub(crate) kind: WatchKind,
@@ -67,8 +67,8 @@ pub(crate) struct Watching {
     pub(crate) still: usize,
 }
 
-/// What a word asks of watchers, as `installs:3:61`: what is done (`looks`, `installs`), how many
-/// look, and how many stand still.
+/// The work of watchers that a word names, such as `installs:3:61`: what is done (`looks`,
+/// `installs`), how many read, and how many don't.
 pub(crate) fn watching_of(word: &str) -> Option<Watching> {
     let (kind, rest) = word.split_once(':')?;
     let (looking, still) = rest.split_once(':')?;

@@ -1,4 +1,4 @@
--- The arrays of a directory lie apart, and a directory keeps those that it has.
+-- Arrays of a directory share no cells, and a directory keeps the arrays that it has.
 use Rattle.std.proofs.Common.{◌≡◌, ℕ, zero, suc, ◌+◌, ◌≤◌, inl, inr, List, [], ◌∷◌, ◌++◌}
 use Rattle.std.proofs.Common.{get_or, refl, sym, ap, subst, ◌∙◌, arith}
 use Rattle.std.proofs.Common.{Bool, true, false, Option, Some, None}
@@ -43,7 +43,7 @@ are_wide arrays a cell known there has in_a =
 
 -- ---- by their names
 
--- the array that a name finds in a list of at least one
+-- the array that a name finds in a nonempty list
 found_by : (name : List ℕ) (b : CellArray) (rest : List CellArray) (t : Bool)
     → bytes_eq b.name name ≡ t
     → array_named name (b ∷ rest) ≡ (if t then Some b else array_named name rest)

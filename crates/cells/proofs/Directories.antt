@@ -1,4 +1,4 @@
--- What a declaration keeps of a directory.
+-- A directory stays one after a declaration.
 use Rattle.std.proofs.Common.{◌≡◌, ◌≢◌, ℕ, zero, suc, ◌+◌, ◌≤◌, ◌⊎◌, inl, inr, List, [], ◌∷◌}
 use Rattle.std.proofs.Common.{◌++◌, length, take, get_or, sym, ◌∙◌, ap, subst, arith, refl}
 use Rattle.std.specs.Prelude.{Option, Some, slice_get, All, Contains, unwrap_or}
@@ -27,7 +27,7 @@ pushed_place (z ∷ zs) y zero x e = inl e
 pushed_place (z ∷ zs) y (suc i) x e = elim (pushed_place zs y i x e)
     [ inl h ↦ inl h | inr h ↦ inr (ap (λ n. suc n) h.0, h.1) ]
 
--- what holds of all elements, at a place
+-- what is true of all elements, at a place
 pub all_at : {X : Type 0} (P : X → Type 0) (xs : List X) (i : ℕ) (x : X) → All P xs
     → slice_get xs i ≡ Some x → P x
 all_at P xs i x all e = subst P (get_or_from_slice_get xs i x x e)
@@ -37,7 +37,7 @@ pub one_of : {X : Type 0} (P : X → Type 0) (x : X) → P x → All P (x ∷ []
 one_of P x p zero d h = p
 one_of P x p (suc k) d h = absurd (omega (arith, h))
 
--- how many cells of a width are taken once the array is there
+-- how many cells of a width are taken with the new array
 pub taken_after : (w : CellWidth) (d : Declaration) (old : List CellArray)
     → taken w (old ++ next_array d old ∷ []) ≡ taken w old +
     (if same_width w d.width then d.length else 0)
@@ -123,7 +123,7 @@ moved old d new t v u w is e f k =
     let second : IsKept new v u = subst (λ (n : ℕ). IsKept new n u) e first in
     subst (λ (n : ℕ). IsKept new v n) f second
 
--- the same of an array of each width
+-- as above, for an array of each width
 pub kept_wide : (d : Declaration) (old new : List CellArray) (t u : ℕ) → IsDeclaration d
     → IsKept old t u → IsNew d old → taken d.width old + d.length ≤ 4096
     → new ≡ old ++ next_array d old ∷ [] → d.width ≡ Bits64 → IsKept new (t + d.length) u
@@ -159,12 +159,12 @@ declared d old new n last fresh room is =
 abbrev pub IsSame : Declaration → CellArray → Type 0
 IsSame d a = HasValues a d.width d.length d.quota
 
--- the array that was read at the place of the one of this name is that one
+-- the array at the place of this name is that array
 read_is : (d : Declaration) (old : List CellArray) (n : ℕ) (a : CellArray)
     (there : IsNamed old d.name n) → a ≡ get_or old n a → there.0 ≡ a
 read_is d old n a there read = sym (get_or_from_slice_get old n there.0 a there.1) ∙ sym read
 
--- one that stands is declared again, or refused
+-- an array that exists is declared again, or refused
 pub stands_again : (d : Declaration) (old : List CellArray) (n : ℕ) (a : CellArray)
     → IsNamed old d.name n → a ≡ get_or old n a → IsSame d a → Declares d old n old
 stands_again d old n a there read same =

@@ -20,7 +20,7 @@ reply_fits cell v (Xor x) h = h
 reply_fits cell v (Swap x) h = h
 reply_fits cell v (CompareExchange expected new) h = h
 
--- a value of a cell that isn't there is no value
+-- a value of a cell that doesn't exist changes nothing
 cells_with : (values : List ℕ) (c v : ℕ) → AreCells values → v < limit c
     → AreCells (slice_set values c v)
 cells_with values c v cells small = elim (cases_lt c 8192) [

@@ -12,7 +12,7 @@ use Rattle.cells.specs.Directory.Declares.{again, anew}
 use Rattle.cells.specs.OneWay.{DeclaresOneWay}
 use Rattle.cells.proofs.Directories.{all_at, name_after, added}
 
--- the name is there, so it isn't new
+-- the name exists, so it isn't new
 not_new : (d : Declaration) (old : List CellArray) (n : ℕ) (a : CellArray)
     → slice_get old n ≡ Some a → a.name ≡ d.name → ¬ IsNew d old
 not_new d old n a at name new = all_at (λ x. x.name ≢ d.name) old n a new at name
@@ -22,7 +22,7 @@ pub place_of : (old : List CellArray) (a : CellArray) → Contains old a
 place_of old a there =
     (there.0, slice_get-get_or old there.0 a there.1 ∙ ap (λ x. Some x) there.2)
 
--- two arrays of one name are one
+-- two arrays with one name are equal
 same_array : (old : List CellArray) → HasDistinctNames old → (i j : ℕ) (a b : CellArray)
     → slice_get old i ≡ Some a → slice_get old j ≡ Some b → a.name ≡ b.name → a ≡ b
 same_array old apart i j a b at_i at_j same =

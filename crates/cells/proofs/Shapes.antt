@@ -1,6 +1,5 @@
--- The arrays of a shape, as those of a directory: each lies in the cells of its width, and two of
--- them are equal or share
--- no cell.
+-- The arrays of a shape, as those of a directory: each is within the cells of its width, and two of
+-- them are equal or share no cell.
 use Rattle.std.proofs.Common.{◌≡◌, ℕ, zero, suc, ◌+◌, ◌<◌, ◌≤◌, ◌⊎◌, inl, inr, List, [], ◌∷◌}
 use Rattle.std.proofs.Common.{◌++◌, length, take, get_or, sym, ◌∙◌, ap, subst, arith, refl, map}
 use Rattle.std.specs.Prelude.{Option, Some, None, is_some, slice_get, Bool, true}
@@ -73,7 +72,7 @@ same Bits64 = refl
 own_cells : (a : CellArray) → cells_of a.width a ≡ a.length
 own_cells a = ap (λ (b : Bool). if b then a.length else 0) (same a.width)
 
--- the cells of an array and those before it are among those that are taken
+-- the cells of an array and of those before it are among the taken cells
 whole : (directory : List CellArray) (m : ℕ) (a : CellArray) → slice_get directory m ≡ Some a
     → taken a.width (take m directory) + a.length ≤ taken a.width directory
 whole directory m a at =
@@ -105,7 +104,7 @@ part directory m n a before at =
     subst (λ (l : List CellArray). taken a.width l + a.length ≤ taken a.width (take n directory))
     (take_of_take m n directory (omega (arith, before))) cells
 
--- an array of a directory lies in the cells of its width
+-- an array of a directory is within the cells of its width
 pub array_in : (directory : List CellArray) (m : ℕ) (a : CellArray) → IsDirectory directory
     → slice_get directory m ≡ Some a → IsArray a
 array_in directory m a known at =
@@ -128,7 +127,7 @@ either_side Bits64 Bits64 p n q k a b c d h = inl (h refl)
 either_side Bits64 Bits32 p n q k a b c d h = inl (omega (arith, b, c))
 either_side Bits32 Bits64 p n q k a b c d h = inr (omega (arith, a, d))
 
--- of two arrays of a directory one lies behind the other
+-- of two arrays of a directory, one is after the other
 in_order : (directory : List CellArray) (m n : ℕ) (a b : CellArray) → IsDirectory directory → m < n
     → slice_get directory m ≡ Some a → slice_get directory n ≡ Some b
     → (a.base + a.length ≤ b.base) ⊎ (b.base + b.length ≤ a.base)
@@ -152,7 +151,7 @@ apart_of a b (inr h) c p q = omega (arith, h, p.0, q.1)
 shares_none : (a b : CellArray) → SharesNoCell a b → SharesNoCell b a
 shares_none a b h c p q = h c q p
 
--- two arrays of a directory are one, or share no cell
+-- two arrays of a directory are equal, or share no cell
 pub apart_in : (directory : List CellArray) (m n : ℕ) (a b : CellArray) → IsDirectory directory
     → slice_get directory m ≡ Some a → slice_get directory n ≡ Some b
     → (a ≡ b) ⊎ SharesNoCell a b

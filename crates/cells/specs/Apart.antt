@@ -1,4 +1,4 @@
--- The arrays of a directory lie apart, and a directory keeps those that it has.
+-- Arrays of a directory share no cells, and a directory keeps the arrays that it has.
 use Rattle.std.specs.Prelude.{◌≡◌, ℕ, ◌<◌, List, All, Contains, IsSome}
 use mathlib.Core.List.{IsPrefix}
 use Rattle.cells.specs.declared.array.ArrayNo.{ArrayNo}
@@ -8,7 +8,7 @@ use Rattle.cells.specs.Directory.{HasDistinctNames, IsDirectory, HasArray}
 
 -- ---- their cells
 
--- two arrays of a directory that have a cell in common are one
+-- two arrays of a directory that have a cell in common are equal
 abbrev pub ArraysLieApart : Type 0
 ArraysLieApart = (arrays : List CellArray) (a b : CellArray) (cell : ℕ) → IsDirectory arrays
     → Contains arrays a → Contains arrays b → HasCell a cell → HasCell b cell → a ≡ b
@@ -20,19 +20,19 @@ QuotasAreWide = (arrays : List CellArray) (a : CellArray) (cell : ℕ) → IsDir
 
 -- ---- which arrays a directory has
 
--- an array that a directory has by its name is one of its arrays
+-- an array that is found by its name in a directory is one of its arrays
 abbrev pub NamedArraysAreThere : Type 0
 NamedArraysAreThere =
     (arrays : List CellArray) (a : CellArray) → HasArray arrays a → Contains arrays a
 
--- and each array that was taken of it by a number it has by its name
+-- and each array that was taken from it by a number is found by its name
 abbrev pub NumberedArraysAreNamed : Type 0
 NumberedArraysAreNamed =
     (directory : List CellArray) (numbers : List ArrayNo) (arrays : List CellArray)
     → HasDistinctNames directory → AreNumbered directory numbers arrays
     → All (HasArray directory) arrays
 
--- and one that begins with another has all that the other has
+-- if one directory is a prefix of another, the other has all its arrays
 abbrev pub ArraysStay : Type 0
 ArraysStay = (old new : List CellArray) (a : CellArray) → IsPrefix old new → HasArray old a
     → HasArray new a

@@ -12,19 +12,19 @@ abbrev pub first_cell : CellWidth → ℕ
 first_cell Bits64 = 0
 first_cell Bits32 = 4096
 
--- a quota stands over 64-bit cells alone
+-- only arrays of 64-bit cells have a quota
 pub record IsQuota (w : CellWidth) (q : ℕ) : Type 0 where
   pub width : w ≡ Bits64
   pub from : 1 ≤ q
   pub to : q < 2 ^ 63
 
--- what an array may have
+-- the ranges of an array's values
 pub record HasRanges (w : CellWidth) (size : ℕ) (quota : Option ℕ) : Type 0 where
   pub from : 1 ≤ size
   pub to : size ≤ 4096
   pub quota_is : (q : ℕ) → quota ≡ Some q → IsQuota w q
 
--- the array has these ranges, and lies in the cells of its width
+-- the array has these ranges, and is within the cells of its width
 pub record IsArray (a : CellArray) : Type 0 where
   pub ranges : HasRanges a.width a.length a.quota
   pub from : first_cell a.width ≤ a.base

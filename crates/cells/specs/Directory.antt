@@ -39,16 +39,16 @@ pub record IsDirectory (arrays : List CellArray) : Type 0 where
   pub room : (w : CellWidth) → taken w arrays ≤ 4096
   pub ranges : All (λ a. HasRanges a.width a.length a.quota) arrays
 
--- the array of a name: of two the first
+-- the array of a name; the first if there are two
 abbrev pub array_named : List ℕ → List CellArray → Option CellArray
 array_named name [] = None
 array_named name (a ∷ rest) = if bytes_eq a.name name then Some a else array_named name rest
 
--- among these arrays is this one, as that of its name
+-- this array is the one of its name among these
 abbrev pub HasArray : List CellArray → CellArray → Type 0
 HasArray arrays a = array_named a.name arrays ≡ Some a
 
--- what a `Directory` keeps beside its arrays: how many cells of each width they have
+-- what a `Directory` keeps as well as its arrays: how many cells of each width they have
 pub record IsKept (arrays : List CellArray) (taken_64 taken_32 : ℕ) : Type 0 where
   pub directory : IsDirectory arrays
   pub wide : taken_64 ≡ taken Bits64 arrays
@@ -94,16 +94,16 @@ next_array d arrays =
     let base = next_cell d.width arrays in
     record { name = d.name; width = d.width; base = base; length = d.length; quota = d.quota }
 
--- a declaration gives the array of this number, in the directory after it
+-- a declaration returns the array of this number, in the directory after it
 pub data Declares (d : Declaration) (old : List CellArray) : ℕ → List CellArray → Type 0 where
-  -- it stands already
+  -- it exists already
   again : {n : ℕ} {a : CellArray}
       → slice_get old n ≡ Some a → IsAsDeclared d a → Declares d old n old
-  -- there is room, and it is added at the end
+  -- there are enough cells, and it is added at the end
   anew : IsNew d old → taken d.width old + d.length ≤ 4096
       → Declares d old (length old) (old ++ next_array d old ∷ [])
 
--- when each fault is the answer; of want of memory nothing is said
+-- when each fault is returned; nothing is said of "out of memory"
 abbrev pub IsRefusedDeclaration : Declaration → List CellArray → CellsFault → Type 0
 IsRefusedDeclaration d old Redefined =
     (a : CellArray) × Contains old a × (a.name ≡ d.name) × ¬ IsAsDeclared d a

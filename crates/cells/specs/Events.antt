@@ -1,4 +1,4 @@
--- Cells: how wide each is, and what an operation replies and leaves (RFC 9669, "Atomic
+-- Cells: how wide each is, and the reply and the result of an operation (RFC 9669, "Atomic
 -- Operations").
 use Rattle.std.specs.Prelude.{◌≡◌, ℕ, ◌+◌, ◌%◌, ◌^◌, ◌<◌, ◌==◌, nat_lt, if◌then◌else◌}
 use Rattle.std.specs.Prelude.{bit_and, bit_or, bit_xor, List, length, slice_index, slice_set}
@@ -18,7 +18,7 @@ width cell = if nat_lt cell 4096 then 64 else 32
 abbrev pub limit : ℕ → ℕ
 limit cell = 2 ^ width cell
 
--- the value after an operation, of a cell whose values are below `m` and which had the value v
+-- the value after an operation, for a cell whose values are below `m` and which had the value v
 abbrev pub after : ℕ → ℕ → CellOp → ℕ
 after m v Load = v
 after m v (Store x) = x % m
@@ -40,7 +40,7 @@ reply_of v (Xor x) = v
 reply_of v (Swap x) = v
 reply_of v (CompareExchange expected new) = v
 
--- a reply fits the cell, and of a Store it is 0
+-- a reply fits the cell, and is 0 for a Store
 abbrev pub CanReply : ℕ → CellOp → ℕ → Type 0
 CanReply cell Load r = r < limit cell
 CanReply cell (Store x) r = r ≡ 0
@@ -56,17 +56,17 @@ pub record AreCells (values : List ℕ) : Type 0 where
   pub count : length values ≡ 8192
   pub fit : (c : ℕ) → slice_index values c < limit c
 
--- so many zeros: how the cells open
+-- n zeros: the cells at first
 pub record AreZeros (n : ℕ) (values : List ℕ) : Type 0 where
   pub count : length values ≡ n
   pub zero : (c : ℕ) → slice_index values c ≡ 0
 
--- the value of the event's cell after it, where the cells had these values
+-- the value of the event's cell after it, if the cells had these values
 abbrev pub value_after : List ℕ → CellEvent → ℕ
 value_after values e = after (limit e.cell) (slice_index values e.cell) e.op
 
--- the event on cells of the values `old` leaves them the values `new`: it replies by its cell's old
--- value, and its cell alone gets a new one
+-- the event on cells with the values `old` leaves the values `new`: it replies by its cell's old
+-- value, and only its cell gets a new one
 pub record IsEvent (old : List ℕ) (e : CellEvent) (new : List ℕ) : Type 0 where
   pub reply_is : e.reply ≡ reply_of (slice_index old e.cell) e.op
   pub values_are : new ≡ slice_set old e.cell (value_after old e)

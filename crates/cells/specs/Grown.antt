@@ -1,5 +1,5 @@
--- A pass that grew by a list of events, one after the other. How it grows by one is a relation of a
--- pass, an event and the pass after it.
+-- A pass, which is a ghost token, that grew by a list of events, one after the other. How it grows
+-- by one is a relation of a pass, an event and the pass after it.
 use Rattle.std.specs.Prelude.{◌≡◌, List, [], ◌∷◌, ◌++◌}
 use Rattle.cells.specs.declared.event.CellEvent.{CellEvent}
 
@@ -19,7 +19,7 @@ module _ {P : Type 0} (grew : P → CellEvent → P → Type 0) where
   GrowsByAppend = (p : P) (es : List CellEvent) (m : P) (ds : List CellEvent) (q : P)
       → GrewBy p es m → GrewBy m ds q → GrewBy p (es ++ ds) q
 
-  -- the pass grew by events of which this holds
+  -- the pass grew by events that satisfy `Of`
   pub record Grows (before after : P) (Of : List CellEvent → Type 0) : Type 0 where
     pub events : List CellEvent
     pub grown : GrewBy before events after

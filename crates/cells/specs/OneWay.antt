@@ -1,4 +1,4 @@
--- A directory declares one way.
+-- A declaration has one result.
 use Rattle.std.specs.Prelude.{◌≡◌, ◌≢◌, ℕ, List}
 use Rattle.cells.specs.declared.array.CellArray.{CellArray}
 use Rattle.cells.specs.declared.fault.CellsFault.{CellsFault}
@@ -6,7 +6,8 @@ use Rattle.cells.specs.declared.fault.CellsFault.TheVariants.{Memory}
 use Rattle.cells.specs.Directory.{Declaration, IsDeclaration, Declares, IsRefusedDeclaration}
 use Rattle.cells.specs.Directory.{HasDistinctNames, IsDirectory}
 
--- a declaration gives one array in one directory, or it has one fault, want of memory aside
+-- a declaration has one array and one directory as its result, or one fault, apart from "out of
+-- memory"
 pub record DeclaresOneWay (d : Declaration) (old : List CellArray) : Type 0 where
   pub array : (n m : ℕ) (new last : List CellArray) → Declares d old n new → Declares d old m last
       → (n ≡ m) × (new ≡ last)
@@ -15,7 +16,7 @@ pub record DeclaresOneWay (d : Declaration) (old : List CellArray) : Type 0 wher
   pub either : (n : ℕ) (new : List CellArray) (e : CellsFault) → Declares d old n new
       → IsRefusedDeclaration d old e → e ≡ Memory
 
--- it does so where no name stands twice, and then none does in the directory after it
+-- it does so if there are no duplicate names, and then the directory after it has none
 abbrev pub DeclareOneWay : Type 0
 DeclareOneWay = (d : Declaration) (old : List CellArray) → HasDistinctNames old
     → DeclaresOneWay d old
@@ -24,7 +25,7 @@ abbrev pub KeepsNames : Type 0
 KeepsNames = (d : Declaration) (old : List CellArray) (n : ℕ) (new : List CellArray)
     → HasDistinctNames old → Declares d old n new → HasDistinctNames new
 
--- what is declared in a directory leaves one
+-- a directory stays one after a declaration
 abbrev pub KeepsDirectory : Type 0
 KeepsDirectory = (d : Declaration) (old : List CellArray) (n : ℕ) (new : List CellArray)
     → IsDeclaration d → IsDirectory old → Declares d old n new → IsDirectory new

@@ -1,4 +1,4 @@
--- The texts of what isn't declared or made, as they are printed.
+-- The printed texts of the faults.
 use Rattle.std.specs.Prelude.{ℕ, List, codes}
 use Rattle.cells.specs.declared.fault.CellsFault.{CellsFault}
 use Rattle.cells.specs.declared.fault.CellsFault.TheVariants.{CellsFull, Redefined, Memory}

@@ -1,4 +1,4 @@
--- What an event keeps: values within their cells' widths, and a reply that fits.
+-- An event leaves values within their cells' widths, and has a reply that fits.
 use Rattle.std.specs.Prelude.{List, ℕ}
 use Rattle.cells.specs.declared.event.CellEvent.{CellEvent}
 use Rattle.cells.specs.Events.{AreCells, CanReply, IsEvent}

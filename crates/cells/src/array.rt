@@ -11,7 +11,7 @@ use lexing::{is_letter, is_word_byte};
 use std::alloc::{AllocError, Global};
 use std::marker::Model;
 
-/// How wide the cells of an array are.
+/// The width of an array's cells.
 #[derive(Clone, Copy, Debug, PartialEq, Eq)]
 pub enum CellWidth {
     Bits32,
@@ -19,7 +19,7 @@ pub enum CellWidth {
 }
 
 impl CellWidth {
-    /// How many cells there are of each width, and so the most that an array has.
+    /// The number of cells of each width, which is also the most that an array has.
     pub const CELLS: u16 = 4096;
 }
 
@@ -64,7 +64,7 @@ impl ArrayName {
     }
 
     /// A text as a name.
-    // open: whether memory is refused.
+    // open: whether an allocation fails.
     pub fn of(alloc: Global, text: &str) -> Result<ArrayName, AllocError>
         requires { IsName text.now }
         ensures { IfOk result (λ n. n ≡ text.now) }
@@ -88,8 +88,8 @@ pub struct ArrayNo {
     pub number: usize,
 }
 
-/// An array of cells: the `length` cells from number `base` on. One with a quota grants so many
-/// takes of each cell.
+/// An array of cells: the `length` cells from number `base` on. With a quota, that number of takes
+/// of each cell is granted.
 #[derive(Debug, Drop)]
 pub struct CellArray {
     pub name: ArrayName,
@@ -120,7 +120,7 @@ impl CellArray {
     pub const MOST_QUOTA: u64 = 9223372036854775807;
 
     /// A copy of the array, with a name of its own.
-    // open: whether memory is refused.
+    // open: whether an allocation fails.
     pub fn copy(&self, alloc: Global) -> Result<CellArray, AllocError>
         ensures { IfOk result (λ a. a ≡ self.now) }
     {
@@ -135,7 +135,7 @@ impl CellArray {
     }
 }
 
-/// The same arrays once more, in their order.
+/// Copies of the arrays, in their order.
 pub(crate) fn copies(alloc: Global, arrays: &[CellArray]) -> Result<Vec<CellArray>, AllocError>
     ensures { IfOk result (λ v. v.items ≡ arrays.now) }
 {

@@ -1,5 +1,5 @@
-//! The arrays of a server, by name. An array is laid behind the earlier ones of its width, and
-//! stays where it is: the directory only grows.
+//! The arrays of a server, by name. An array is placed after the earlier ones of its width, and
+//! stays there: the directory only grows.
 
 ghost use Rattle.std.specs.Prelude.{◌≡◌, ◌≢◌, ◌↔◌, ◌+◌, ◌≤◌, [], All};
 ghost use Rattle.std.specs.Prelude.{IfOk, IfErr, OnErr, IfSome, IfNone, IsTrue};
@@ -48,10 +48,10 @@ impl Directory {
 
     /// Declares an array of 1 to 4096 cells, with a quota of 1 to 2^63 - 1 over 64-bit cells only.
     ///
-    /// An array that exists with the same values is returned. N2 if the name exists with other
-    /// values, N1 if the name is new and fewer cells of the width are left, N3 if memory is
-    /// refused. A new array gets the lowest cells of its width that no array has.
-    // open: whether memory is refused (N3).
+    /// Returns an array that exists with the same values. Returns N2 if the name exists with other
+    /// values. Returns N1 if the name is new and too few cells of the width are left. Returns N3 if
+    /// an allocation fails. A new array gets the lowest cells of its width that no array has.
+    // open: whether an allocation fails (N3).
     pub fn declare(
         &mut self,
         alloc: Global,
@@ -80,8 +80,8 @@ impl Directory {
         self.add(name, width, length, quota)
     }
 
-    /// A copy of the directory. N3 if memory is refused.
-    // open: whether memory is refused (N3).
+    /// A copy of the directory. Returns N3 if an allocation fails.
+    // open: whether an allocation fails (N3).
     pub fn copy(&self, alloc: Global) -> Result<Directory, CellsFault>
         ensures same { IfOk result (λ d. d ≡ self.now) }
         ensures memory { IfErr result (λ e. e ≡ CellsFault.Memory) }
@@ -102,7 +102,7 @@ impl Directory {
         &self.arrays
     }
 
-    // Adds an array behind the earlier ones of its width.
+    // Adds an array after the earlier ones of its width.
     fn add(
         &mut self,
         name: ArrayName,

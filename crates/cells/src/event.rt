@@ -1,5 +1,5 @@
-//! Cells, and what is done to them. An event is one operation on one cell with the reply that it
-//! got. Cells 0 to 4095 are 64 bits wide, cells 4096 to 8191 are 32.
+//! Cells, which are counters, and operations on them. An event is one operation on one cell with
+//! the reply that it got. Cells 0 to 4095 are 64 bits wide, cells 4096 to 8191 are 32.
 
 ghost use Rattle.std.specs.Prelude.{◌≡◌, ◌<◌};
 
@@ -37,8 +37,7 @@ impl CellNo {
     }
 }
 
-/// An atomic operation on a cell. A 32-bit cell takes the low 32 bits of an operand and ignores the
-/// others.
+/// An atomic operation on a cell. A 32-bit cell takes only the low 32 bits of an operand.
 #[derive(Clone, Copy, Debug, PartialEq, Eq)]
 pub enum CellOp {
     Load,
@@ -48,11 +47,11 @@ pub enum CellOp {
     And(u64),
     Xor(u64),
     Swap(u64),
-    /// The value that is expected, and the one that is stored where it is there.
+    /// The expected value, and the new one, which is stored if the cell has the expected one.
     CompareExchange(u64, u64),
 }
 
-/// An operation on the cell of a number, with its reply: the value before, or 0 of a Store.
+/// An operation on the cell of a number, with its reply: the previous value, or 0 for a Store.
 #[derive(Clone, Copy, Debug, PartialEq, Eq)]
 pub struct CellEvent {
     pub cell: u16,

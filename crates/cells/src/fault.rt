@@ -1,4 +1,4 @@
-//! Why something isn't declared or made.
+//! The faults of declarations and of allocations.
 
 ghost use Rattle.std.specs.Prelude.{◌≡◌, Some};
 ghost use Rattle.cells.specs.Texts.{cells_fault_text};
@@ -13,9 +13,9 @@ use std::fmt;
 pub enum CellsFault {
     /// Fewer cells of the width are left than the array has.
     CellsFull,
-    /// The name stands with another width, length or quota.
+    /// The name exists with another width, length or quota.
     Redefined,
-    /// Memory was refused.
+    /// An allocation failed.
     Memory,
 }
 

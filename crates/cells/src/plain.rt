@@ -1,4 +1,5 @@
-//! Cells of one thread. The pass holds their values, so it is what an operation changes.
+//! Cells of one thread. The pass, a ghost token elsewhere, holds their values here, so an operation
+//! changes the pass.
 
 ghost use Rattle.std.specs.Prelude.{◌≡◌, ◌%◌, ◌<◌, slice_index, IfOk, IfErr};
 ghost use Rattle.cells.specs.Events.{limit, after, reply_of, event, CanReply, IsEvent};
@@ -32,8 +33,8 @@ impl Model for PlainPass {
 }
 
 impl PlainCells {
-    /// The cells, and a pass in which all of them are 0. N3 where memory is refused.
-    // open: whether memory is refused (N3).
+    /// The cells, and a pass in which all values are 0. Returns N3 if an allocation fails.
+    // open: whether an allocation fails (N3).
     pub fn new(alloc: Global) -> Result<(PlainCells, PlainPass), CellsFault>
         ensures opening { IfOk result (λ made. AreZeros 8192 made.1) }
         ensures memory { IfErr result (λ e. e ≡ CellsFault.Memory) }
@@ -44,7 +45,7 @@ impl PlainCells {
 }
 
 impl PlainPass {
-    /// What the type keeps. It does nothing: a proof calls it for its clause.
+    /// Law: what the type keeps.
     pub fn keeps(&self)
         ensures { AreCells self.now }
     {
@@ -83,14 +84,14 @@ impl CellSteps for PlainCells {
     }
 }
 
-// So many zeros.
+// `count` zeros.
 fn zeros(alloc: Global, count: usize) -> Result<Vec<u64>, AllocError>
     ensures { IfOk result (λ v. AreZeros count v.items) }
 {
     Vec::from_elem(alloc, 0, count)
 }
 
-// The bits of a number that a cell has room for.
+// The bits of a number within the cell's width.
 fn cut(cell: usize, number: u64) -> u64
     ensures { result ≡ number % limit cell }
 {

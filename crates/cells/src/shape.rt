@@ -1,4 +1,4 @@
-//! The shape of an app: what its programs are judged against beside their own instructions.
+//! The shape of an app: what its programs are checked against, besides their own instructions.
 
 ghost use Rattle.std.specs.Prelude.{◌≡◌, ◌<◌, ◌≤◌, [], length, IfOk, IfErr, All};
 ghost use Rattle.cells.specs.Arrays.{AreNumbered, IsShape};
@@ -31,9 +31,9 @@ impl Shape {
     /// The most releases of an app.
     pub const MOST_RELEASES: u8 = 64;
 
-    /// The shape of an app with so many releases, 0 to 64, over the arrays of these numbers of the
-    /// directory, in their order. N3 where memory is refused.
-    // open: whether memory is refused (N3).
+    /// The shape of an app with `releases` releases, 0 to 64, over the arrays of these numbers of
+    /// the directory, in their order. Returns N3 if an allocation fails.
+    // open: whether an allocation fails (N3).
     pub fn of(
         alloc: Global,
         releases: u8,
@@ -50,8 +50,8 @@ impl Shape {
         Ok(Shape { releases, arrays })
     }
 
-    /// The shape of an app with so many releases, 0 to 64, whose programs use no array. It takes no
-    /// memory.
+    /// The shape of an app with `releases` releases, 0 to 64, whose programs use no array. It
+    /// allocates nothing.
     pub fn plain(alloc: Global, releases: u8) -> Shape
         requires { releases ≤ 64 }
         ensures releases { result.releases ≡ releases }
@@ -63,8 +63,8 @@ impl Shape {
         }
     }
 
-    /// A copy of the shape. N3 if memory is refused.
-    // open: whether memory is refused (N3).
+    /// A copy of the shape. Returns N3 if an allocation fails.
+    // open: whether an allocation fails (N3).
     pub fn copy(&self, alloc: Global) -> Result<Shape, CellsFault>
         ensures same { IfOk result (λ s. s ≡ self.now) }
         ensures memory { IfErr result (λ e. e ≡ CellsFault.Memory) }
@@ -76,7 +76,7 @@ impl Shape {
         })
     }
 
-    /// How many releases the app has: a program ends with 0, or with a release from 1 on.
+    /// How many releases the app has: a program ends with 0, or with the number of a release.
     #[inline]
     pub fn releases(&self) -> u8
         ensures value { result ≡ self.now.releases }
@@ -93,7 +93,7 @@ impl Shape {
         &self.arrays
     }
 
-    /// What the type keeps. It does nothing: a proof calls it for its clauses.
+    /// Law: what the type keeps.
     pub fn keeps(&self)
         ensures { IsShape self.now }
     {

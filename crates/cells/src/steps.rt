@@ -1,12 +1,12 @@
-//! What every keeper of the cells offers. A pass is one user's leave to act on them; how it grows
-//! by an event is for each keeper to say.
+//! The interface of every counter store. A pass, which is a ghost token, is one user's right to act
+//! on the cells; each counter store defines how an event extends it.
 
 ghost use Rattle.cells.specs.Events.{event, CanReply};
 ghost use Rattle.cells.specs.Grown.{GrowsBySnoc, GrowsByAppend};
 
 use crate::event::{CellNo, CellOp};
 
-/// Cells on which one can act.
+/// Cells that can be read and changed.
 pub trait CellSteps {
     ghost use Rattle.cells.specs.declared.event.CellEvent.{CellEvent};
 
@@ -18,9 +18,9 @@ pub trait CellSteps {
     /// The pass grew by the event: before, the event, after.
     ghost grew: { Self.Pass → CellEvent → Self.Pass → Type 0 };
 
-    /// One atomic operation on a cell. The reply is the value before, of a Store 0.
-    // open: which reply an operation gets. Of `PlainCells` `grew` is `IsEvent`: the reply is the
-    // cell's value before, and this cell alone gets a new one.
+    /// One atomic operation on a cell. The reply is the previous value, for a Store 0.
+    // open: which reply an operation gets. For `PlainCells`, `grew` is `IsEvent`: the reply is the
+    // cell's previous value, and only this cell gets a new one.
     fn act(&self, pass: &mut Self::Pass, cell: CellNo, op: CellOp) -> u64
         requires { belongs self.now pass.old }
         ensures belongs { belongs self.now pass.new }
@@ -28,7 +28,7 @@ pub trait CellSteps {
         ensures fits { CanReply cell.number op result };
 }
 
-/// How lists of events join, of any cells. It does nothing: a proof calls it for its clauses.
+/// Law: how lists of events join, for any cells.
 pub fn growth<C: CellSteps>()
     ensures snoc { GrowsBySnoc C.grew }
     ensures append { GrowsByAppend C.grew }

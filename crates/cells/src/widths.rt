@@ -1,9 +1,8 @@
-//! A law of all events on cells, by the definitions alone.
+//! A law of all events on cells, by the definitions only.
 
 ghost use Rattle.cells.specs.Widths.{EventsFit};
 
-/// An event leaves each value within its cell's width, and its reply fits the cell. It does
-/// nothing: a proof calls it for its clause.
+/// Law: an event leaves each value within its cell's width, and its reply fits the cell.
 pub fn events_fit()
     ensures { EventsFit }
 {}

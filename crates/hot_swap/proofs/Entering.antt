@@ -1,4 +1,4 @@
--- The step that enters a ruleset keeps the rule of the book.
+-- The step that appends a ruleset keeps the rule of the book.
 use Rattle.std.proofs.Common.{◌≡◌, ℕ, ◌+◌, ◌<◌, ◌==◌, Bool, true, false, List, [], ◌∷◌, ◌++◌}
 use Rattle.std.proofs.Common.{length, refl, ap, sym, subst, arith, inl, length-append, None}
 use Rattle.std.proofs.lemmas.List.{append-nil}
@@ -15,7 +15,7 @@ pub same_book : (a b : Book) → id_of a ≡ id_of b → a ≡ b
 same_book a b e i =
     record { number = (e i).number; log_name = (e i).log_name; cells_name = (e i).cells_name }
 
--- nothing but the list is shown, and nothing is promised of how it moved
+-- only the list is visible, and nothing is promised of how it changes
 abbrev pub nothing : List Rules → List Rules
 nothing log = []
 
@@ -26,14 +26,14 @@ module _ (v : List Rules) (e : Rules) (old : ℕ) where
   abbrev pub sees : View Rules ℕ
   sees = (v, (no_nib, None))
 
-  -- the word behind the exchange
+  -- the word after the exchange
   abbrev pub exchanged : ℕ → ℕ
   exchanged n = either (n == old) (old + 1) n
 
   abbrev pub finds : ℕ → View Rules ℕ → Type 0
   finds = EntersOrFinds (step 0 old (old + 1) e) sees
 
-  -- the list and the word go on together
+  -- the list and the word change together
   abbrev pub GoesFrom : List Cell → List Rules → Type 0
   GoesFrom = Goes IsCounted nothing freely 0 sees exchanged finds
 
@@ -65,7 +65,7 @@ module _ (v : List Rules) (e : Rules) (old : ℕ) where
         rw is (ap length all),
       )
 
-  -- whatever the book is, the exchange enters the ruleset behind all that was seen, or finds that
+  -- whatever the book is, the exchange appends the ruleset to all that was known, or finds that
   -- there is more
   pub enters_moves : length v ≡ old → Moves IsCounted nothing freely 0 sees exchanged finds
   enters_moves len cs log kept pre away =

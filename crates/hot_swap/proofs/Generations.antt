@@ -1,4 +1,4 @@
--- What follows of one list.
+-- The laws of one list.
 use Rattle.std.proofs.Common.{◌≡◌, length, ap, sym, ◌∙◌, arith, length-append, None, Some}
 use Rattle.std.specs.List.{last_or}
 use Rattle.hot_swap.proofs.Prefixes.{prefix_shorter, prefix_whole}

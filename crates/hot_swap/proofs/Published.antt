@@ -1,4 +1,4 @@
--- What a publish shows is what its last operation brings.
+-- A publish makes visible what its last operation brings.
 use Rattle.std.proofs.Common.{◌≡◌, ◌+◌, ◌++◌, [], ◌∷◌, List}
 use Rattle.std.proofs.Common.{Bool, true, false, length, fold, ap, sym, ◌∙◌}
 use Rattle.std.proofs.Common.{ℕ, length-append, Option, None, Some}
@@ -31,11 +31,11 @@ brought x = record {
 abbrev pub replaced : Stamp → NextInstall → Stamp
 replaced s x = brought x
 
--- the list of what waits ends with this operation
+-- the list of waiting operations ends with this one
 abbrev pub EndsIn : List NextInstall → List NextInstall → NextInstall → Type 0
 EndsIn all waiting next = all ≡ waiting ++ next ∷ []
 
--- whatever was waiting, the last operation is what is shown
+-- whatever was waiting, the last operation is what is published
 pub applied_last : (shown : Shown) (waiting all : List NextInstall) (next : NextInstall)
     → EndsIn all waiting next
     → fold replaced (stamp_of shown) all ≡ brought next
@@ -43,20 +43,20 @@ applied_last shown waiting all next e =
     ap (fold replaced (stamp_of shown)) e
     ∙ fold-append replaced (stamp_of shown) waiting (next ∷ [])
 
--- so it is what any value has that a publish may show
+-- so each value that a publish may make visible has what the operation brings
 pub brings : (shown new : Shown) (waiting all : List NextInstall) (next : NextInstall)
     → EndsIn all waiting next
     → stamp_of new ≡ fold replaced (stamp_of shown) all → stamp_of new ≡ brought next
 brings shown new waiting all next e is = is ∙ applied_last shown waiting all next e
 
--- the next ruleset is shown, and the seat behind the publish knows its publisher
+-- the next ruleset is published, and the publish's seat (a ghost token) knows its publisher
 abbrev pub IsShown : Option PublisherId → Shown → NextInstall → Type 0
 IsShown after new next = (after ≡ Some next.known.publisher)
     × (new.generation ≡ next.generation)
     × (arc_value new.rules ≡ arc_value next.rules)
     × (new.known.publisher ≡ next.known.publisher)
 
--- what a publish gives, put together
+-- the result of a publish, put together
 pub told : {U E : Type 0} (P Q : Type 0) (r : Result U E) (next : NextInstall) (old new : Shown)
     (before after : Option PublisherId) (s : Stamp) → s ≡ brought next
     → MatchResult r (λ _. (stamp_of new ≡ s) × P) (λ _. (new ≡ old) × Q)
@@ -73,7 +73,7 @@ told P Q (Ok u) next old new before after s e v t =
     )
 told P Q (Err e) next old new before after s is v t = (t, v.0)
 
--- what was entered ends the list, as the generation of its length
+-- the appended ruleset ends the list, as the generation of its length
 pub is_latest : (P : Type 0) (entered : Bool) (old : List Rules) (new : Beginning) (rules : Rules)
     (generation : ℕ) → generation ≡ length old + 1
     → MatchBool entered (new.rulesets ≡ old ++ rules ∷ []) P → IsTrue entered

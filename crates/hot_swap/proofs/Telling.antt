@@ -1,4 +1,4 @@
--- Each step on what is shown keeps the rule on what its seats know.
+-- Each step on what is published keeps the rule on what its seats, which are ghost tokens, know.
 use Rattle.std.proofs.Common.{◌≡◌, ℕ, ◌≢◌, List, set, refl, ap, sym, ◌∙◌, ⊎_elim}
 use Rattle.std.proofs.Common.{Option, None, Some}
 use mathlib.Core.Option.{some}
@@ -12,7 +12,7 @@ use Rattle.hot_swap.specs.declared.shown.Shown.{Shown}
 abbrev Views : Type 0
 Views = List (Option PublisherId)
 
--- at a seat stands that it knows this publisher
+-- the seat knows this publisher
 abbrev KnowsAt : Views → ℕ → PublisherId → Type 0
 KnowsAt views seat id = get_elem? views seat ≡ some (Some id)
 
@@ -22,7 +22,7 @@ admits x views h seat id at =
     ⊎_elim (h seat id) (λ (e : None ≡ Some id). absurd (cc e))
     (at_snoc views None (Some id) seat at)
 
--- what is shown is of the publisher that it was of before
+-- what is published is of the same publisher as before
 pub turns : (seat : ℕ) (v : Option PublisherId) (x y : Shown)
     → y.known.publisher ≡ x.known.publisher
     → TurnsAt KnowOnePublisher seat v x y TellsPublisher
@@ -35,7 +35,7 @@ turns seat v x y same views h at =
       (refl, (λ other e. h seat other (at ∙ ap some e) ∙ sym same)),
     )
 
--- what a seat knows is known at another, too
+-- what a seat knows may become known at another
 pub forks : (seat : ℕ) (v : Option PublisherId) → Forks KnowOnePublisher seat v v v
 forks seat v x views h at j id e =
     ⊎_elim (λ (a : KnowsAt (set views seat v) j id).
@@ -44,7 +44,7 @@ forks seat v x views h at j id e =
     (λ (same : v ≡ Some id). h seat id (at ∙ ap some same))
     (at_snoc (set views seat v) v (Some id) j e)
 
--- a seat takes over what another knows, which knows nothing afterwards
+-- a seat takes over what another knows; the other knows nothing afterwards
 pub merges : (seat : ℕ) (v : Option PublisherId) (other : ℕ) (w : Option PublisherId)
     → Merges KnowOnePublisher seat v other w w None
 merges seat v other w x views h at apart there j id e =

@@ -1,4 +1,4 @@
--- The book of a published list, and what is told by the step that enters a ruleset.
+-- The book of a published list, and what the step that appends a ruleset makes known.
 use Rattle.std.specs.Prelude.{ℕ, ◌≡◌, ◌==◌, true, List, [], ◌∷◌, ◌++◌, length, MatchBool}
 use Rattle.logbook.specs.Pages.{Cell, Step, View, Book, Named}
 use Rattle.hot_swap.specs.declared.publisher_id.PublisherId.{PublisherId}
@@ -16,7 +16,7 @@ IsCounted cells log = cells ≡ (length log, true) ∷ (0, true) ∷ []
 abbrev pub word_of : Book → Named
 word_of book = record { tracked = true; key = 0; book = book }
 
--- the ruleset was entered behind all that had been seen; or there were more, and all were seen
+-- the ruleset was appended to all that was known; or there were more, and now all are known
 abbrev pub EntersOrFinds : Step Rules → View Rules ℕ → ℕ → View Rules ℕ → Type 0
 EntersOrFinds s v found w =
     MatchBool (found == s.old) (w.0 ≡ v.0 ++ s.ask ∷ []) (length w.0 ≡ found)

@@ -14,13 +14,13 @@ pub record Latest : Type 0 where
 abbrev pub latest : ℕ → Rules → Latest
 latest generation rules = record { generation = generation; rules = rules }
 
--- all that was installed, what was installed last, and for how many watchers there is a place yet
+-- all that was installed, what was installed last, and for how many watchers there still is a place
 pub record Publishing : Type 0 where
   pub known : Beginning
   pub latest : Latest
   pub places : ℕ
 
--- the ruleset is installed as the next generation, behind all that was installed
+-- the ruleset is installed as the next generation, after all that was installed
 pub record Installs (old : Publishing) (rules : Rules) (generation : ℕ) (new : Publishing)
     : Type 0 where
   pub next : generation ≡ old.latest.generation + 1
@@ -29,8 +29,8 @@ pub record Installs (old : Publishing) (rules : Rules) (generation : ℕ) (new :
   pub publisher : new.known.publisher ≡ old.known.publisher
   pub listed : new.known.rulesets ≡ old.known.rulesets ++ rules ∷ []
 
--- what a publisher keeps: its list is sound and ends with its last ruleset, and its seat, what is
--- shown and its book are of the list's publisher
+-- what a publisher keeps: its list is sound and ends with its last ruleset; its seat (a ghost
+-- token), what is published and its book belong to the list's publisher
 pub record IsPublisher (known : Beginning) (rules : Rules) (seat : Option PublisherId)
     (shown : PublisherId) (book : Book) : Type 0 where
   pub last : HasLast known.rulesets rules

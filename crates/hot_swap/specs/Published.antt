@@ -5,7 +5,7 @@ use mathlib.Core.List.{IsPrefix}
 use Rattle.hot_swap.specs.declared.publisher_id.PublisherId.{PublisherId}
 use Rattle.ruleset.specs.Rules.{Rules}
 
--- whose list it is, and a beginning of it
+-- the publisher of a list, and a prefix of the list
 pub record Beginning : Type 0 where
   pub publisher : PublisherId
   pub rulesets : List Rules
@@ -14,29 +14,29 @@ pub record Beginning : Type 0 where
 abbrev pub HasLast : List Rules → Rules → Type 0
 HasLast rulesets rules = last_or None rulesets ≡ Some rules
 
--- of all that is known this was installed last, as this generation
+-- of all that is known, this ruleset was installed last, as this generation
 pub record IsLatest (known : Beginning) (generation : ℕ) (rules : Rules) : Type 0 where
   pub generation_is : generation ≡ length known.rulesets
   pub rules_are : HasLast known.rulesets rules
 
--- what is known later begins with what was known
+-- what was known is a prefix of what is known later
 pub record GoesOnwards (old new : Beginning) : Type 0 where
   pub publisher : new.publisher ≡ old.publisher
   pub onwards : IsPrefix old.rulesets new.rulesets
 
--- ---- what follows of one list
+-- ---- laws of one list
 
 -- generations never go back
 abbrev pub NeverGoesBack : Type 0
 NeverGoesBack = (old new : Beginning) (m n : ℕ) (r s : Rules)
     → GoesOnwards old new → IsLatest old m r → IsLatest new n s → m ≤ n
 
--- a generation has one ruleset, whoever of those who know a beginning of one list saw it
+-- a generation has one ruleset, the same for all that know a prefix of one list
 abbrev pub HasOneRuleset : Type 0
 HasOneRuleset = (a b all : Beginning) (n : ℕ) (r s : Rules)
     → GoesOnwards a all → GoesOnwards b all → IsLatest a n r → IsLatest b n s → r ≡ s
 
--- of two beginnings of one list the shorter begins the longer
+-- of two prefixes of one list, the shorter is a prefix of the longer
 abbrev pub ShorterBegins : Type 0
 ShorterBegins = (a b all : Beginning) → GoesOnwards a all → GoesOnwards b all
     → length a.rulesets ≤ length b.rulesets → GoesOnwards a b

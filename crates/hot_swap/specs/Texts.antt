@@ -1,4 +1,4 @@
--- The texts of what a publisher refuses.
+-- The texts of a publisher's faults.
 use Rattle.std.specs.Prelude.{ℕ, List, codes}
 use Rattle.hot_swap.specs.declared.fault.SwapFault.{SwapFault}
 use Rattle.hot_swap.specs.declared.fault.SwapFault.TheVariants.{Memory, NoPlace, Exhausted}

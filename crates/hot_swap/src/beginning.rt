@@ -1,4 +1,4 @@
-//! What is known of a published list: a beginning of it.
+//! What is known of a published list: a prefix of it.
 
 ghost use Rattle.std.specs.Prelude.{◌≡◌, ◌+◌, ◌-◌, ◌^◌, ◌<◌, ◌≤◌, [], ◌∷◌, ◌++◌};
 ghost use Rattle.std.specs.Prelude.{◌⊎◌, length, MatchBool};
@@ -13,10 +13,11 @@ use ruleset::Ruleset;
 use std::marker::Model;
 use std::sync::Arc;
 
-/// How many rulesets had been installed with this one: 1 is the first.
+/// The version number of the published ruleset, which is the number of rulesets installed with it.
+/// The first has 1.
 pub type Generation = u64;
 
-/// The list itself exists in the proofs alone; what is kept is its length.
+/// The list itself exists only in the proofs; what is kept is its length.
 #[derive(Drop)]
 pub(crate) struct Beginning {
     generation: Generation,
@@ -57,7 +58,7 @@ impl Beginning {
         self.generation
     }
 
-    /// A copy of it.
+    /// A copy.
     pub(crate) fn again(&self) -> Beginning
         ensures { result ≡ self.now }
     {
@@ -67,7 +68,7 @@ impl Beginning {
         }
     }
 
-    /// The longer of the two is known afterwards.
+    /// Keeps the longer of the two lists.
     pub(crate) fn learn(&mut self, other: &Beginning)
         requires { other.now.publisher ≡ self.old.publisher }
         ensures publisher { self.new.publisher ≡ self.old.publisher }
@@ -84,8 +85,8 @@ impl Beginning {
         }
     }
 
-    /// Enters a ruleset behind all that is known, and says whether it did: it didn't where the list
-    /// is longer.
+    /// Appends a ruleset to all that is known, and returns whether it did: it didn't if the list is
+    /// longer than what is known.
     pub(crate) fn enter(&mut self, end: &ListEnd, rules: &Arc<Ruleset>) -> bool
         requires room { length self.old.rulesets < 2 ^ 64 - 1 }
         requires publisher { id_of end.now.word.book ≡ self.old.publisher }

@@ -1,11 +1,11 @@
-//! The rule of the book that lists what was installed, and the step that enters a ruleset. No value
-//! of these types is made; they are names for definitions.
+//! The rule of the book that lists what was installed, and the step that appends a ruleset. No
+//! value of these types is made; they are names for definitions.
 
 use logbook::{Gain, Plain, Play, Rule};
 use ruleset::Ruleset;
 use std::sync::Arc;
 
-/// The rule: the word is the number of the rulesets.
+/// The rule: the word is the number of rulesets.
 pub(crate) struct CountsRulesets;
 
 impl Rule<Ruleset, u64> for CountsRulesets {
@@ -26,7 +26,7 @@ impl Rule<Ruleset, u64> for CountsRulesets {
     ghost moves = { λ ask before after answer. Unit {0} };
 }
 
-/// Who enters a ruleset gains nothing beside the longer list.
+/// The step that appends a ruleset brings nothing but the longer list.
 pub(crate) struct Nothing;
 
 impl Gain<Ruleset, u64> for Nothing {
@@ -35,7 +35,7 @@ impl Gain<Ruleset, u64> for Nothing {
     ghost after = { λ names about answer. ftrue };
 }
 
-/// The step that enters a ruleset.
+/// The step that appends a ruleset.
 pub(crate) struct Enters;
 
 impl Play<Ruleset, u64> for Enters {

@@ -1,10 +1,9 @@
-//! A law of published lists, by the definitions alone.
+//! A law of published lists, by the definitions only.
 
 ghost use Rattle.hot_swap.specs.Published.{HasOneRuleset, NeverGoesBack, ShorterBegins};
 
-/// In one published list generations never go back, and each has one ruleset. Of two lists that are
-/// known, that of a watcher which learned a notice and that of its publisher, the shorter begins
-/// the longer. It does nothing: a proof calls it for its clauses.
+/// Law: in one published list generations never go back, and each has one ruleset. Of the lists of
+/// a publisher and of a watcher that learned its notice, one is a prefix of the other.
 pub fn generations_go_onwards()
     ensures back { NeverGoesBack }
     ensures one { HasOneRuleset }

@@ -1,15 +1,14 @@
-//! The ruleset that a server answers by, which is swapped while it serves.
+//! The ruleset of a server, which is swapped while it serves, by read-copy-update.
 //!
-//! One publisher installs rulesets, numbered from 1; up to 65 watchers, in threads of their own,
-//! see them without waiting. Two things are shared. `left_right` shows one ruleset with its
+//! One publisher installs rulesets, numbered from 1. Up to 65 watchers, in threads of their own,
+//! read them without waiting. Two things are shared. `left_right` publishes one ruleset with its
 //! generation, which readers copy out while the publisher prepares the next. A book (`logbook`)
 //! lists all that was installed, in order. It exists only in the proofs, except for one word, its
-//! length. It only grows, and whoever has seen a list of it knows that every longer one begins with
-//! it.
+//! length. It only grows: a list that was read once is a prefix of every later one.
 //!
-//! A ruleset is entered in the list by the publish that shows it, after the last step that can be
-//! refused and before any reader sees it. So what is shown comes with the list that it ends. What a
-//! watcher has seen, what a notice says and what was installed are beginnings of one list.
+//! A publish appends its ruleset to the list after the last step that can fail, and before any
+//! reader gets the ruleset. So what is published comes with the list that it ends. What a watcher
+//! has read, what a notice has and what was installed are prefixes of one list.
 //!
 //! See docs/DECISIONS.md, "The published ruleset".
 #![tactic(auto)]

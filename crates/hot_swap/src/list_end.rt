@@ -1,4 +1,4 @@
-//! The end of a published list, where rulesets are entered. Only its publisher has it.
+//! The end of a published list, where rulesets are appended. Only its publisher has it.
 
 ghost use Rattle.std.specs.Prelude.{◌≡◌};
 ghost use Rattle.hot_swap.specs.Book.{word_of};
@@ -8,8 +8,8 @@ use logbook::Word;
 use ruleset::Ruleset;
 use std::sync::atomic::{AtomicU64, Ordering};
 
-/// The word of the book, which is the length of the list, and the number of the one install that
-/// may enter the next ruleset.
+/// The word of the book, which is the length of the list, and the number of the only install that
+/// may append the next ruleset.
 #[derive(Drop)]
 pub(crate) struct ListEnd {
     pub(crate) word: Word<Ruleset, u64, CountsRulesets>,
@@ -18,7 +18,7 @@ pub(crate) struct ListEnd {
 }
 
 impl ListEnd {
-    /// That of a book that was just opened.
+    /// The end of a book that was just opened.
     pub(crate) fn new(word: Word<Ruleset, u64, CountsRulesets>) -> ListEnd
         requires { word ≡ word_of word.book }
         ensures { result.word ≡ word }
@@ -29,12 +29,12 @@ impl ListEnd {
         }
     }
 
-    /// The number of a new install. No install before it may enter a ruleset any more.
+    /// The number of a new install. Earlier installs may then append nothing.
     pub(crate) fn begin_install(&self) -> u64 {
         self.install.fetch_add(1, Ordering::SeqCst).wrapping_add(1)
     }
 
-    /// Whether this install may enter its ruleset: none began after it.
+    /// Whether this install may append its ruleset: none began after it.
     pub(crate) fn is_last(&self, install: u64) -> bool {
         self.install.load(Ordering::SeqCst) == install
     }

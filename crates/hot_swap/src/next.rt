@@ -1,4 +1,4 @@
-//! The one operation on what is shown: the next ruleset takes its place.
+//! The one operation on what is published: the next ruleset replaces it.
 
 ghost use Rattle.std.specs.Prelude.{◌≡◌, ◌+◌, ◌-◌, ◌^◌, ◌<◌, length, IsTrue, IfOk};
 ghost use Rattle.std.specs.Arc.{arc_value};
@@ -28,7 +28,7 @@ pub struct NextInstall {
 }
 
 impl NextInstall {
-    /// The install of this ruleset, of which it is one more owner.
+    /// The install of this ruleset; it becomes another owner of the ruleset.
     pub(crate) fn new(
         end: &Arc<ListEnd>,
         known: &Beginning,
@@ -51,8 +51,8 @@ impl NextInstall {
         })
     }
 
-    // What is known once the ruleset is entered, and whether it was: an install that a later one
-    // overtook enters nothing.
+    // What is known once the ruleset is appended, and whether it was: an install that a later one
+    // overtook appends nothing.
     fn entered(&self, rules: &Arc<Ruleset>) -> (Beginning, bool)
         ensures publisher { result.0.publisher ≡ self.now.known.publisher }
         ensures listed { IsTrue result.1
@@ -66,8 +66,7 @@ impl NextInstall {
         (known, entered)
     }
 
-    // What is shown by it first. It copies the Arc, which may be refused, before it enters the
-    // ruleset.
+    // What it publishes first. It copies the Arc, which may fail, before it appends the ruleset.
     fn listed(&self) -> Result<Shown, AllocError>
         ensures { IfOk result (λ x. (x.generation ≡ self.now.generation)
             × (arc_value x.rules ≡ arc_value self.now.rules)
@@ -83,7 +82,7 @@ impl NextInstall {
         })
     }
 
-    // What the other copy becomes. The next operation replaces it before it is shown.
+    // What the other copy becomes. The next operation replaces it before it is published.
     fn unlisted(self) -> Shown
         ensures { (result.generation ≡ self.generation)
             × (arc_value result.rules ≡ arc_value self.rules)

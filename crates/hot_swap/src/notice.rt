@@ -1,4 +1,4 @@
-//! A notice: what a publisher had installed when it was made, for watchers to learn.
+//! A notice: what a publisher had installed at some moment, for watchers to learn.
 
 ghost use Rattle.std.specs.Prelude.{◌≡◌};
 
@@ -20,14 +20,14 @@ impl Model for Notice {
 }
 
 impl Notice {
-    /// Tells this.
+    /// A notice of this list.
     pub(crate) fn new(known: Beginning) -> Notice
         ensures { result ≡ known }
     {
         Notice { known }
     }
 
-    /// What it tells.
+    /// The list in it.
     pub(crate) fn known(&self) -> &Beginning
         ensures { result.now ≡ self.now }
     {

@@ -18,8 +18,8 @@ use std::alloc::Global;
 use std::marker::Model;
 use std::sync::{Arc, Wait};
 
-/// Installs rulesets, and makes watchers of them. It is ended by `close`, and has to live as long
-/// as its watchers are used.
+/// Installs rulesets, and makes watchers. It is ended by `close`, and must live as long as its
+/// watchers are used.
 pub struct Publisher {
     writer: ShownWriter,
     end: Arc<ListEnd>,
@@ -51,9 +51,9 @@ impl Publisher {
     ghost use Rattle.hot_swap.specs.Published.{IsLatest};
     ghost use Rattle.hot_swap.specs.Latest.{Installs, latest};
 
-    /// Installs the first ruleset, of generation 1, with places for 1 to 65 watchers. H1 where
-    /// memory is refused. There is nobody yet for whom it could wait.
-    // open: whether memory is refused (H1).
+    /// Installs the first ruleset, of generation 1, with places for 1 to 65 watchers. Returns H1 if
+    /// an allocation fails. It never waits, since there is no watcher yet.
+    // open: whether an allocation fails (H1).
     pub fn new<R: Wait>(
         rt: &R,
         alloc: Global,
@@ -94,10 +94,10 @@ impl Publisher {
         }
     }
 
-    /// What the type keeps. It does nothing: a proof calls it for its clauses.
+    /// Law: what the type keeps.
     pub fn keeps(&self)
         ensures last { IsLatest self.now.known self.now.latest.generation self.now.latest.rules }
-        // Each ruleset of the list has one app an appid, and a run of its program ends well.
+        // In each ruleset of the list an appid has one app, and a run of its program ends well.
         ensures sound { All IsRuleset self.now.known.rulesets }
     {
         let _places = self.places;
@@ -117,10 +117,11 @@ impl Publisher {
         &self.latest
     }
 
-    /// Installs a ruleset, and gives its generation, which is one above the last. It may wait for
-    /// watchers that still look at the ruleset before the last. H3 after generation 2^64 - 1, and
-    /// else H1 where memory is refused; then the old ruleset stays.
-    // open: whether memory is refused (H1). That watchers who weren't told come to see it: tests.
+    /// Installs a ruleset, and returns its generation, which is one above the last. It may wait for
+    /// watchers that still read the ruleset before the last. Returns H3 after generation 2^64 - 1,
+    /// and H1 if an allocation fails; then the old ruleset stays.
+    // open: whether an allocation fails (H1). That watchers without a notice get the ruleset:
+    // tests.
     pub fn install<R: Wait>(&mut self, rt: &R, next: Arc<Ruleset>) -> Result<Generation, SwapFault>
         ensures done { IfOk result (λ n. Installs self.old (arc_value next) n self.new) }
         ensures same { IfErr result (λ _. self.new ≡ self.old) }
@@ -149,9 +150,9 @@ impl Publisher {
         Ok(generation)
     }
 
-    /// A watcher, which has seen all that was installed. It takes a place for good. H2 where none
-    /// is left, and else H1 where memory is refused.
-    // open: whether memory is refused (H1).
+    /// A watcher, which knows all that was installed. It takes a place for good. Returns H2 if none
+    /// is left, and H1 if an allocation fails.
+    // open: whether an allocation fails (H1).
     pub fn watcher(&mut self) -> Result<Watcher, SwapFault>
         ensures seen { IfOk result (λ w. w ≡ self.old.known) }
         ensures known { self.new.known ≡ self.old.known }
@@ -172,15 +173,15 @@ impl Publisher {
         Ok(Watcher::new(reader, self.known.again()))
     }
 
-    /// A notice of all that was installed, for its watchers to learn. It takes no memory.
+    /// A notice of all that was installed, for its watchers to learn. It allocates nothing.
     pub fn tell(&self) -> Notice
         ensures { result ≡ self.now.known }
     {
         Notice::new(self.known.again())
     }
 
-    /// Waits for those that look, and gives up what it holds. Its watchers see nothing more.
-    // open: that watchers see nothing afterwards.
+    /// Waits for readers, and frees what it holds. Its watchers get nothing more.
+    // open: that watchers get nothing afterwards.
     pub fn close<R: Wait>(self, rt: &R) {
         let Publisher {
             writer,
@@ -195,7 +196,7 @@ impl Publisher {
 
 #[cfg(test)]
 impl Publisher {
-    /// Leaves an operation waiting, as a publish does that is refused.
+    /// Leaves an operation waiting, as a failed publish does.
     pub(crate) fn leave_waiting(&mut self, rules: &Arc<Ruleset>) -> bool {
         if self.known.generation() == u64::MAX {
             return false;

@@ -1,4 +1,4 @@
-//! Which publisher it is.
+//! The identity of a publisher, in proofs.
 
 /// Distinguishes a publisher from all others in proofs, by its book. No value of it is made.
 pub struct PublisherId {

@@ -1,12 +1,12 @@
-//! What those who show and look know of one another: which publisher it is. No value of these types
-//! is made; they are names for definitions.
+//! What the seats of the publisher and its watchers, which are ghost tokens, know: which publisher
+//! it is. No value of these types is made; they are names for definitions.
 
 use crate::publisher_id::PublisherId;
 use crate::shown::Shown;
 use atomic_table::{Join, Split};
 use crossbeam_utils::rule::{Outcome, Protocol};
 
-/// The rule: all that know of a publisher know of the same.
+/// The rule: all seats that know a publisher know the same.
 pub struct OnePublisher;
 
 impl Protocol<Shown, Option<PublisherId>> for OnePublisher {
@@ -18,7 +18,7 @@ impl Protocol<Shown, Option<PublisherId>> for OnePublisher {
     ghost first = { None };
 }
 
-/// A look, and a publish.
+/// What a look, and a publish, make known.
 pub struct Telling;
 
 impl Outcome<Shown, Option<PublisherId>> for Telling {
@@ -27,7 +27,7 @@ impl Outcome<Shown, Option<PublisherId>> for Telling {
     ghost then = { TellsPublisher };
 }
 
-/// The publisher tells a watcher what it knows, and goes on knowing it.
+/// The publisher shares what it knows with a watcher.
 pub struct Shared;
 
 impl Split<Option<PublisherId>> for Shared {
@@ -36,7 +36,7 @@ impl Split<Option<PublisherId>> for Shared {
     ghost right = { λ v. v };
 }
 
-/// A new watcher, which knows nothing, knows what it was told.
+/// A new watcher, which knows nothing, takes over what was shared.
 pub struct Taken;
 
 impl Join<Option<PublisherId>> for Taken {

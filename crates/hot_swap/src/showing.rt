@@ -1,4 +1,4 @@
-//! Showing the next ruleset in place of the last.
+//! Publishes the next ruleset in place of the last.
 
 ghost use Rattle.std.specs.Prelude.{◌≡◌, ◌≤◌, [], ◌∷◌, ◌++◌, Some, IfOk, IfSome, MatchResult};
 ghost use Rattle.std.specs.Arc.{arc_value};
@@ -14,10 +14,10 @@ use ruleset::Ruleset;
 use std::alloc::{AllocError, Global};
 use std::sync::{Arc, Wait};
 
-/// What shows rulesets to the readers.
+/// What publishes rulesets to the readers.
 pub(crate) type ShownWriter = Writer<Shown, NextInstall, Option<PublisherId>, OnePublisher>;
 
-/// A writer that has shown nothing yet, with places for 1 to 65 readers.
+/// A writer that has published nothing yet, with places for 1 to 65 readers.
 pub(crate) fn nothing_shown(
     alloc: Global,
     first: &Arc<Ruleset>,
@@ -33,7 +33,7 @@ pub(crate) fn nothing_shown(
     Ok(writer)
 }
 
-/// Enters the next ruleset in the list and shows it, and gives all that is then installed.
+/// Appends the next ruleset to the list and publishes it, and returns all that is then installed.
 pub(crate) fn show<R: Wait>(
     writer: ShownWriter,
     next: NextInstall,
@@ -58,7 +58,7 @@ pub(crate) fn show<R: Wait>(
     }
 }
 
-// Publishes the next ruleset. What an earlier refusal left waiting is replaced in the same publish.
+// Publishes the next ruleset. In the same publish it replaces what an earlier failure left waiting.
 fn publish<R: Wait>(
     mut writer: ShownWriter,
     next: NextInstall,

@@ -1,4 +1,4 @@
-//! What watchers are shown.
+//! What is published to watchers.
 
 ghost use Rattle.std.specs.Prelude.{◌≡◌, ◌+◌, [], ◌∷◌, ◌++◌, length, IsTrue, IfSome};
 ghost use Rattle.std.specs.Arc.{arc_value};
@@ -8,8 +8,8 @@ use crate::beginning::{Beginning, Generation};
 use ruleset::Ruleset;
 use std::sync::Arc;
 
-/// A ruleset with its generation. If it was entered in the published list, it comes with the list
-/// that it ends.
+/// A ruleset with its generation. If it is in the published list, it comes with the list that it
+/// ends.
 #[derive(Drop)]
 pub struct Shown {
     pub(crate) generation: Generation,
@@ -20,7 +20,7 @@ pub struct Shown {
 }
 
 impl Shown {
-    /// What is shown before the first install: nothing that a watcher takes.
+    /// What is published before the first install: watchers don't take it.
     pub(crate) fn nothing(rules: Arc<Ruleset>, known: Beginning) -> Shown
         ensures { (result.generation ≡ 0) × (arc_value result.rules ≡ arc_value rules)
             × (result.known ≡ known) }
@@ -33,7 +33,7 @@ impl Shown {
         }
     }
 
-    /// All that is installed with it, where it is the next after all that was known.
+    /// All that is installed with it, if it follows all that was known.
     pub(crate) fn grown(&self, mut known: Beginning) -> Option<Beginning>
         requires publisher { self.now.known.publisher ≡ known.publisher }
         requires next { self.now.generation ≡ length known.rulesets + 1 }
@@ -47,8 +47,8 @@ impl Shown {
         Some(known)
     }
 
-    /// What is known after a look at it, and one more owner of its ruleset, if there is room for
-    /// one. What isn't in the list, or is older than what was known, isn't taken.
+    /// What is known after a look at it, and another owner of its ruleset, if there can be one. A
+    /// ruleset that isn't in the list, or is older than what was known, isn't taken.
     pub(crate) fn look(&self, mut known: Beginning) -> (Beginning, Option<Arc<Ruleset>>)
         requires { self.now.known.publisher ≡ known.publisher }
         ensures onwards { GoesOnwards known result.0 }

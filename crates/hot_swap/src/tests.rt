@@ -1,4 +1,4 @@
-//! What watchers see that were told of an install, that weren't, and that run beside a hundred.
+//! What watchers get with a notice of an install, without one, and during a hundred installs.
 
 ghost use Rattle.std.specs.Prelude.{◌≡◌};
 
@@ -17,7 +17,7 @@ fn numbered_once(alloc: Global, number: u64) -> Result<Arc<Ruleset>, AllocError>
     Ok(Arc::new(alloc, rules)?)
 }
 
-// A ruleset whose server has this number for its name. Where memory is refused it is asked again.
+// A ruleset whose server has this number for its name. A failed allocation is tried again.
 fn numbered(alloc: Global, number: u64) -> Result<Arc<Ruleset>, AllocError> {
     match numbered_once(alloc, number) {
         Ok(rules) => Ok(rules),
@@ -25,7 +25,7 @@ fn numbered(alloc: Global, number: u64) -> Result<Arc<Ruleset>, AllocError> {
     }
 }
 
-// The generation that a watcher sees, or 0 where it sees none, or not that one's ruleset.
+// The generation that a watcher gets, or 0 if it gets none, or another generation's ruleset.
 fn seen(watcher: &mut Watcher) -> u64 {
     match watcher.current() {
         Ok((generation, rules)) if rules.server().parse::<u64>() == Ok(generation) => generation,
@@ -33,8 +33,8 @@ fn seen(watcher: &mut Watcher) -> u64 {
     }
 }
 
-// What a watcher sees that isn't told, before an install and after it; and what another sees that
-// is told, and then isn't told of one more.
+// What a watcher without notices gets, before an install and after it; and what another gets after
+// a notice, and then after an install without a notice.
 fn told<R: Wait>(rt: &R, alloc: Global, publisher: &mut Publisher) -> Result<[u64; 4], Fail> {
     let mut first = publisher.watcher()?;
     let mut second = publisher.watcher()?;
@@ -60,7 +60,7 @@ fn watchers_see_installs(rt: HostRuntime) -> Result<(), Fail> {
     Ok(())
 }
 
-// A publisher of the ruleset 1, with two places. Where memory is refused it is asked again.
+// A publisher of the ruleset 1, with two places. A failed allocation is tried again.
 fn publisher_again<R: Wait + Print>(rt: &R, alloc: Global) -> Result<Publisher, Fail> {
     match Publisher::new(rt, alloc, numbered(alloc, 1)?, 2) {
         Err(SwapFault::Memory) => {
@@ -71,7 +71,7 @@ fn publisher_again<R: Wait + Print>(rt: &R, alloc: Global) -> Result<Publisher, 
     }
 }
 
-// Once there is a publisher no call takes memory, so this passes wherever one growth is refused.
+// Once there is a publisher no call allocates, so this passes if any single allocation fails.
 #[test]
 fn memory(rt: HostRuntime) -> Result<(), Fail> {
     let mut publisher = publisher_again(&rt, rt.alloc())?;
@@ -81,7 +81,7 @@ fn memory(rt: HostRuntime) -> Result<(), Fail> {
     Ok(())
 }
 
-// What a watcher sees once it was told.
+// What a watcher gets after a notice.
 fn seen_after(mut watcher: Watcher, notice: &Notice) -> u64
     requires { notice.now.publisher ≡ watcher.publisher }
 {
@@ -89,7 +89,7 @@ fn seen_after(mut watcher: Watcher, notice: &Notice) -> u64
     seen(&mut watcher)
 }
 
-// What two watchers in two threads see that learn one notice.
+// What two watchers in two threads get that learn one notice.
 fn both_told<R: Threads + Wait + Sync>(
     rt: &R,
     alloc: Global,
@@ -120,7 +120,7 @@ fn one_notice_tells_two(rt: HostRuntime) -> Result<(), Fail> {
     Ok(())
 }
 
-// Leaves an install of this ruleset waiting, as a refused publish does.
+// Leaves an install of this ruleset waiting, as a failed publish does.
 fn leave_waiting(alloc: Global, publisher: &mut Publisher, number: u64) -> Result<(), Fail> {
     let rules = numbered(alloc, number)?;
     publisher
@@ -130,7 +130,7 @@ fn leave_waiting(alloc: Global, publisher: &mut Publisher, number: u64) -> Resul
     Ok(())
 }
 
-// What is installed and seen after two installs were left waiting, and after one more was.
+// Generations installed and read: after two installs were left waiting, and after one more was.
 fn waited<R: Wait>(rt: &R, alloc: Global, publisher: &mut Publisher) -> Result<[u64; 4], Fail> {
     let mut watcher = publisher.watcher()?;
     leave_waiting(alloc, publisher, 7)?;
@@ -151,8 +151,8 @@ fn what_waits_is_replaced(rt: HostRuntime) -> Result<(), Fail> {
     Ok(())
 }
 
-// Whether a watcher that looks a thousand times never sees a generation fall, nor another ruleset
-// than that of its generation.
+// Whether a watcher that looks a thousand times never gets a lower generation, or another
+// generation's ruleset.
 fn watch(mut watcher: Watcher) -> (Watcher, bool) {
     let mut last = 1;
     let mut rises = true;
@@ -164,7 +164,7 @@ fn watch(mut watcher: Watcher) -> (Watcher, bool) {
     (watcher, rises)
 }
 
-// Installs the rulesets 2 to 101, and says how many were refused.
+// Installs the rulesets 2 to 101, and returns how many installs failed.
 fn install_all<R: Wait>(rt: &R, alloc: Global, publisher: &mut Publisher) -> Result<u64, Fail> {
     let mut refused = 0u64;
     for number in 2..102 {
@@ -176,7 +176,7 @@ fn install_all<R: Wait>(rt: &R, alloc: Global, publisher: &mut Publisher) -> Res
     Ok(refused)
 }
 
-// What two watchers saw while a third thread installed, and after it.
+// What two watchers get while a third thread installs, and afterwards.
 #[derive(Clone, Copy, Debug, PartialEq, Eq)]
 struct Watched {
     first_rises: bool,

@@ -1,4 +1,4 @@
-//! A watcher, which sees the newest ruleset and waits for nobody.
+//! A watcher, which reads the newest ruleset without waiting.
 
 ghost use Rattle.std.specs.Prelude.{◌≡◌, ◌⊎◌, Some, IfOk, IfErr, IfSome};
 ghost use Rattle.std.specs.Arc.{arc_value};
@@ -17,10 +17,10 @@ use ruleset::Ruleset;
 use std::marker::Model;
 use std::sync::Arc;
 
-/// A reader of what is shown.
+/// A reader of what is published.
 pub(crate) type ShownReader = Reader<Shown, Option<PublisherId>, OnePublisher>;
 
-/// What sees the rulesets that a publisher installs.
+/// Reads the rulesets that a publisher installs.
 #[derive(Drop)]
 pub struct Watcher {
     reader: ShownReader,
@@ -42,7 +42,7 @@ impl Model for Watcher {
 impl Watcher {
     ghost use Rattle.hot_swap.specs.Published.{IsLatest};
 
-    /// A watcher that has seen this.
+    /// A watcher that knows this list.
     pub(crate) fn new(reader: ShownReader, known: Beginning) -> Watcher
         requires { view reader.place ≡ Some known.publisher }
         ensures { result ≡ known }
@@ -50,11 +50,11 @@ impl Watcher {
         Watcher { reader, known }
     }
 
-    /// The newest ruleset with its generation, which never goes back. H2 where the ruleset has no
-    /// room for one more owner, after which the watcher may have seen more, or where nothing is
-    /// shown any more.
-    // open: how new the ruleset is, unless the watcher was told, and that H2 doesn't always come:
-    // tests.
+    /// The newest ruleset with its generation, which never goes back. Returns H2 if the ruleset
+    /// can't have another owner (the watcher may still have advanced) or nothing is published any
+    /// more.
+    // open: how new the ruleset is, unless the watcher learned a notice, and that H2 isn't always
+    // returned: tests.
     pub fn current(&mut self) -> Result<(Generation, Arc<Ruleset>), SwapFault>
         ensures onwards { GoesOnwards self.old self.new }
         ensures newest { IfOk result (λ r. IsLatest self.new r.0 (arc_value r.1)) }
@@ -71,7 +71,7 @@ impl Watcher {
         }
     }
 
-    /// Learns a notice of its publisher: from then on it sees nothing older.
+    /// Learns a notice of its publisher: from then on it returns nothing older.
     pub fn learn(&mut self, notice: &Notice)
         requires { notice.now.publisher ≡ self.old.publisher }
         ensures onwards { GoesOnwards self.old self.new }
@@ -83,7 +83,7 @@ impl Watcher {
     }
 }
 
-// Looks once at what is shown.
+// Reads once what is published.
 fn look(reader: ShownReader, known: Beginning) -> (ShownReader, (Beginning, Option<Arc<Ruleset>>))
     requires { view reader.place ≡ Some known.publisher }
     ensures same { view result.0.place ≡ Some known.publisher }

@@ -1,4 +1,4 @@
--- A number only grows by further digits.
+-- Further digits never make a number smaller.
 use Rattle.std.proofs.Common.{◌≡◌, ◌≤◌, ◌<◌, ℕ, ◌+◌, ◌-◌, ◌*◌, suc, length, get_or}
 use Rattle.std.proofs.Common.{List, [], ◌∷◌, drop, None, ap, ◌∙◌, sym, arith}
 use Rattle.std.proofs.lemmas.Bool.Decides.{nat_tests}
@@ -12,7 +12,7 @@ grows n (d ∷ ds) = omega (arith, grows (n * 10 + (d - 48)) ds)
 over : (n : ℕ) → body_limit < n → within_limit n ≡ None
 over n h = grind (arith, nat_tests)
 
--- too large a number stays so, whatever digits follow
+-- a number that is too large stays too large, whatever digits follow
 pub too_large : (n i : ℕ) (ds : List ℕ) → i < length ds
     → number_after n (drop i ds) ≡ number_after 0 ds
     → body_limit < n * 10 + (get_or ds i 0 - 48) → number_within ds ≡ None

@@ -1,6 +1,5 @@
--- From what stands in a buffer to what the reader's bytes have for an answer. `a` are the bytes
--- that the reader gives from the beginning on, `b` those that it has left, where they are known;
--- `seen` are the bytes between.
+-- From the contents of a buffer to the results that the reader's bytes have. `a` are all bytes of
+-- the reader, `b` those that are left, if they are known; `seen` are the bytes between.
 use Rattle.std.proofs.Common.{◌≡◌, ◌≤◌, ◌<◌, ℕ, length, length-take, length-append, map}
 use Rattle.std.proofs.Common.{List, [], ◌∷◌, ◌++◌, take, drop, append_assoc, append-nil}
 use Rattle.std.proofs.Common.{Option, Some, None, MatchOption, Result, Ok, Err, IfErr}
@@ -48,7 +47,7 @@ nothing_more a b c seen [] e f g =
     subst P (append-nil seen) (Consumes-trans a b c seen [] f g)
 nothing_more a b c seen (x ∷ gained) e f g = absurd (omega arith)
 
--- the head can't be one, or has too many lines
+-- the bytes can't become a head, or have too many lines
 pub head_fault : (a b : Option (List ℕ)) (seen : List ℕ) (e : PostFault)
     → Consumes a b seen → length seen ≤ head_limit → IsHeadFault seen e → AnswersPost a (Err e)
 head_fault None b seen e f short h = tt
@@ -86,7 +85,7 @@ head_ended (Some xs) (Some ys) seen f short end h =
     let all : xs ≡ seen = f ∙ ap (λ (z : List ℕ). seen ++ z) end ∙ append-nil seen in
     ended (omega (arith, ap length all)) (subst P (sym all) h)
 
--- the head stands at the front of all bytes, and is within its limits
+-- the head is at the front of all bytes, and is within its limits
 has_head : (xs ys seen : List ℕ) (headers : List HeaderSpan) (r : RequestSpans) (h : RequestHead)
     → xs ≡ seen ++ ys → length seen ≤ head_limit → length headers ≡ field_limit
     → IsRequestWithin seen headers r → IsRequestAt seen headers r h
@@ -122,7 +121,7 @@ body_answer xs rest h n (Err fault.Device) head e b = tt
 body_answer xs rest h n (Err fault.Memory) head e b = tt
 body_answer xs rest h n (Err x) head e b = absurd b
 
--- a whole head stands at the front of what was seen
+-- a whole head is at the front of the bytes read
 pub record Stands
     (a b : Option (List ℕ)) (seen : List ℕ) (headers : List HeaderSpan) (r : RequestSpans)
     : Type 0 where
@@ -156,7 +155,7 @@ told : {a b : Option (List ℕ)} {seen : List ℕ} {headers : List HeaderSpan} {
 told {seen = seen} {headers = headers} {r = r} s =
     sym (asked_same seen headers r s.head.0 s.head.1)
 
--- the body that follows the head is the answer
+-- the body that follows the head is the result
 pub body_at : (a b : Option (List ℕ)) (seen : List ℕ) (headers : List HeaderSpan)
     (r : RequestSpans) (n : ℕ) (first : List ℕ) (answer : Result (List ℕ) PostFault)
     → Stands a b seen headers r → asked_at seen headers r ≡ Ok n → first ≡ drop r.len seen
@@ -168,7 +167,7 @@ body_at (Some xs) (Some ys) seen headers r n first answer s e split h =
     let rest = drop r.len seen ++ ys in
     body_answer xs rest s.head.0 n answer (known_head s) (told s ∙ e) (subst P split h)
 
--- a rule that the head breaks is the answer
+-- a rule that the head breaks is the result
 pub refused_at : (a b : Option (List ℕ)) (seen : List ℕ) (headers : List HeaderSpan)
     (r : RequestSpans) (x : PostFault)
     → Stands a b seen headers r → asked_at seen headers r ≡ Err x → AnswersPost a (Err x)
@@ -178,7 +177,7 @@ refused_at (Some xs) (Some ys) seen headers r fault.Device s e = tt
 refused_at (Some xs) (Some ys) seen headers r fault.Memory s e = tt
 refused_at (Some xs) (Some ys) seen headers r x s e = refused (known_head s) (told s ∙ e)
 
--- ---- the faults of a head that isn't whole, at what a buffer holds
+-- ---- the faults of a head that isn't whole, from the contents of a buffer
 
 pub fault_at : {a b : Option (List ℕ)} {buf : List ℕ} {filled : ℕ}
     → IsFilled a b buf filled → length buf ≡ head_limit → (e : PostFault)
@@ -213,7 +212,7 @@ frugal t fault.Device = tt
 frugal t fault.Memory = tt
 frugal t e = t
 
--- a fault of what stands in a buffer as large as a head may be
+-- a fault of the contents of a buffer as large as a head may be
 pub frugal_at : {a b : Option (List ℕ)} {buf : List ℕ} {filled : ℕ}
     → IsFilled a b buf filled → length buf ≡ head_limit → (e : PostFault) → IsFrugal a b e
 frugal_at {a = a} {b = b} {buf = buf} {filled = filled} f room e =
@@ -225,7 +224,7 @@ frugal_at {a = a} {b = b} {buf = buf} {filled = filled} f room e =
       short = omega (arith, size, fits);
     }) e
 
--- no fault of a body is one of a head
+-- a fault of a body isn't one of a head
 pub frugal_behind : {A : Type 0} (a b : Option (List ℕ)) (seen : List ℕ)
     (headers : List HeaderSpan) (r : RequestSpans) (c : Option (List ℕ)) (n : ℕ) (first : List ℕ)
     (result : Result A PostFault) (body_of : A → List ℕ) → Stands a b seen headers r
@@ -239,7 +238,7 @@ frugal_behind (Some xs) (Some ys) seen headers r c n first (Err fault.Device) bo
 frugal_behind (Some xs) (Some ys) seen headers r c n first (Err fault.Memory) body_of s h = tt
 frugal_behind (Some xs) (Some ys) seen headers r c n first (Err e) body_of s h = absurd h
 
--- ---- a rule that a head breaks is no failure
+-- ---- a rule that a head breaks isn't a failure
 
 pub counts_asked : (A : Type 0) (old new : ℕ) (e : PostFault) → IsAskedFault e → new ≡ old
     → CountsDevice {A = A} old new (Err e)

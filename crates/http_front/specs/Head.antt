@@ -1,5 +1,5 @@
--- What a whole head asks for: one target is served, by POST, with a body of a length that is told
--- (RFC 9112, sections 3 and 6).
+-- What a whole head requests: one target is served, by POST, with a body whose length is given (RFC
+-- 9112, sections 3 and 6).
 use Rattle.std.specs.Prelude.{ℕ, List, ◌++◌, map, filter, codes, nat_eq}
 use Rattle.std.specs.Prelude.{Result, Err, Bool, not, ◌||◌, if◌then◌else◌}
 use Rattle.std.specs.List.{starts_with, list_any}
@@ -10,11 +10,11 @@ use Rattle.http_front.specs.declared.fault.PostFault.{PostFault}
 use Rattle.http_front.specs.declared.fault.PostFault.TheVariants as fault
 use Rattle.http_front.specs.Length.{told_length}
 
--- a header line: its name, and its value without the blanks round it
+-- a header line: its name, and its value without the blanks around it
 abbrev pub HeaderLine : Type 0
 HeaderLine = List ℕ × List ℕ
 
--- names are compared without regard to ASCII case
+-- names are compared ignoring ASCII case
 abbrev pub is_named : List ℕ → HeaderLine → Bool
 is_named name line = str_eq_ignore_ascii_case line.0 name
 
@@ -28,11 +28,11 @@ values_of name lines = map (λ (l : HeaderLine). l.1) (filter (is_named name) li
 abbrev pub service : List ℕ
 service = codes "/service/update2/json"
 
--- the target, alone or with a query behind it
+-- the target, with or without a query
 abbrev pub is_served : List ℕ → Bool
 is_served target = bytes_eq target service || starts_with nat_eq target (service ++ codes "?")
 
--- the length of the body, or the first rule that the head breaks; a body in chunks tells no length
+-- the length of the body, or the first rule that the head breaks; a body in chunks gives no length
 abbrev pub asked_length : List ℕ → List ℕ → List HeaderLine → Result ℕ PostFault
 asked_length target method lines =
     if not (is_served target) then Err fault.Path

@@ -1,9 +1,9 @@
--- Which answer a reader's bytes have: a body, or why there is none (RFC 9112, sections 2 to 6).
+-- Which results a reader's bytes have: a body, or why there is none (RFC 9112, sections 2 to 6).
 --
--- A head is judged as its bytes come, and at most 16,384 of them, so `take k xs` is what was
--- judged. Where httparse leaves two answers right, so does this relation, and nowhere else: a head
--- of more than 64 header lines that is malformed or cut short, and a target that isn't UTF-8 and is
--- cut short.
+-- A head is checked as its bytes arrive, and at most 16,384 of them, so `take k xs` are the bytes
+-- that were checked. This relation allows two results only if httparse does. That is for a head of
+-- more than 64 header lines that is malformed or cut short, and for a target that isn't UTF-8 and
+-- is cut short.
 use Rattle.std.specs.Prelude.{◌≡◌, ℕ, ◌+◌, ◌<◌, ◌≤◌, List, length, take}
 use Rattle.std.specs.Prelude.{Option, Some, None, Result, Ok, Err, IfErr}
 use Rattle.std.specs.Io.KnownBytes.{Consumes}
@@ -21,7 +21,7 @@ head_limit = 16384
 abbrev pub field_limit : ℕ
 field_limit = 64
 
--- a whole head within its limits stands at the front of the bytes, and the rest behind it
+-- a whole head within its limits is at the front of the bytes, followed by the rest
 pub record HasHead (xs : List ℕ) (h : RequestHead) (rest : List ℕ) : Type 0 where
   pub reads : ReadsRequest xs h rest
   pub short : length (print_request h) ≤ head_limit
@@ -32,9 +32,9 @@ pub record IsBegun (xs : List ℕ) : Type 0 where
   pub not_yet : HasNoRequest xs
   pub may_become : MayBecomeRequest xs
 
--- which answers bytes have: a body, or why there is none
+-- which results bytes have: a body, or why there is none
 pub data Posts (xs : List ℕ) : Result (List ℕ) PostFault → Type 0 where
-  -- the body, as long as the head tells; bytes behind it are ignored
+  -- the body, of the length that the head gives; bytes after it are ignored
   whole : {h : RequestHead} {rest : List ℕ} {n : ℕ}
       → HasHead xs h rest → asked_length_by h ≡ Ok n → n ≤ length rest
       → Posts xs (Ok (take n rest))
@@ -55,53 +55,52 @@ pub data Posts (xs : List ℕ) : Result (List ℕ) PostFault → Type 0 where
   -- the input ends before the head does
   ended : length xs < head_limit → IsBegun xs → Posts xs (Err fault.Ended)
 
--- nobody knows when a device fails or memory is refused
+-- it is unspecified when a device or an allocation fails
 abbrev pub IsPostAnswer : List ℕ → Result (List ℕ) PostFault → Type 0
 IsPostAnswer xs (Err fault.Device) = Unit {0}
 IsPostAnswer xs (Err fault.Memory) = Unit {0}
 IsPostAnswer xs answer = Posts xs answer
 
--- of a reader that doesn't tell its bytes nothing is said
+-- nothing is said of a reader whose bytes are unknown
 abbrev pub AnswersPost : Option (List ℕ) → Result (List ℕ) PostFault → Type 0
 AnswersPost None answer = Unit {0}
 AnswersPost (Some xs) answer = IsPostAnswer xs answer
 
--- no more than so many bytes were taken of a reader; of one that doesn't tell its bytes nothing is
--- said
+-- at most `limit` bytes were taken from a reader; nothing is said if its bytes are unknown
 pub record TakesAtMost (limit : ℕ) (old new : Option (List ℕ)) : Type 0 where
   pub taken : List ℕ
   pub consumed : Consumes old new taken
   pub short : length taken ≤ limit
 
--- what a head refuses is refused without reading on: no more was taken than a head may have
+-- if the head is refused, nothing more was read: no more was taken than a head may have
 abbrev pub IsFrugal : Option (List ℕ) → Option (List ℕ) → PostFault → Type 0
 IsFrugal old new fault.Ended = Unit {0}
 IsFrugal old new fault.Device = Unit {0}
 IsFrugal old new fault.Memory = Unit {0}
 IsFrugal old new e = TakesAtMost head_limit old new
 
--- a failure is counted where it is the answer, and nowhere else
+-- a failure is counted if it is the result, and only then
 abbrev pub CountsDevice : {A : Type 0} → ℕ → ℕ → Result A PostFault → Type 0
 CountsDevice old new (Err fault.Device) = new ≡ old + 1
 CountsDevice old new answer = new ≡ old
 
--- the answer of a call that has this body where it succeeds
+-- the result of a call, with this body if it succeeds
 abbrev pub post_answer : {A : Type 0}
     → Result A PostFault → (A → List ℕ) → Result (List ℕ) PostFault
 post_answer (Ok a) body_of = Ok (body_of a)
 post_answer (Err e) body_of = Err e
 
--- what it comes to that a request is read of a reader, as it was before and as it is after
+-- the effect of reading a request from a reader, given the reader before and after
 pub record ReadsPost {R A : Type 0} (remaining : R → Option (List ℕ)) (old new : Counted R)
     (result : Result A PostFault) (body_of : A → List ℕ) : Type 0 where
-  -- the answer is one that the reader's bytes have
+  -- the result is one that the reader's bytes have
   pub answers : AnswersPost (remaining old.inner) (post_answer result body_of)
-  -- what a head refuses took no more of them than a head may have
+  -- if the head is refused, no more of them was taken than a head may have
   pub frugal : IfErr result (IsFrugal (remaining old.inner) (remaining new.inner))
-  -- and a failure was counted where it is the answer
+  -- and a failure was counted if it is the result
   pub count : CountsDevice old.failures new.failures result
 
--- what is wrong with the bytes of a head that came
+-- what is wrong with the bytes of a head so far
 abbrev pub IsHeadFault : List ℕ → PostFault → Type 0
 IsHeadFault buf fault.Head = NeverHasRequest buf
 IsHeadFault buf fault.HeadTooLarge = RequestExceeds field_limit buf

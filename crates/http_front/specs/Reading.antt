@@ -1,4 +1,4 @@
--- What stands in a buffer while a request is read, and what a whole head in it asks for.
+-- The contents of a buffer while a request is read, and what a whole head in it requests.
 use Rattle.std.specs.Prelude.{◌≡◌, ℕ, ◌+◌, ◌<◌, ◌≤◌, List, ◌++◌, length, map, take}
 use Rattle.std.specs.Prelude.{Option, Some, None, Result, Ok, Err}
 use Rattle.std.specs.Io.KnownBytes.{Consumes, Keeps, prepend_known}
@@ -10,7 +10,7 @@ use Rattle.http_front.specs.declared.fault.PostFault.TheVariants as fault
 use Rattle.http_front.specs.declared.head.Found.{Found}
 use Rattle.http_front.specs.Head.{asked_length, values_of}
 
--- some bytes came behind the first ones of a buffer
+-- some bytes were stored after the first ones of a buffer
 abbrev pub GainsBytes :
     {E : Type 0} → Option (List ℕ) → Option (List ℕ) → List ℕ → List ℕ → ℕ
     → Result ℕ E → Type 0
@@ -19,12 +19,12 @@ GainsBytes old new first buf filled (Ok n) =
     × (take (filled + n) buf ≡ first ++ gained)
 GainsBytes old new first buf filled (Err e) = Keeps old new
 
--- the bytes that a reader gave are the first ones of the buffer
+-- the bytes from a reader are the first ones of the buffer
 pub record IsFilled (old new : Option (List ℕ)) (buf : List ℕ) (filled : ℕ) : Type 0 where
   pub fits : filled ≤ length buf
   pub bytes : Consumes old new (take filled buf)
 
--- a whole head stands in the part of the buffer that is filled
+-- a whole head is in the filled part of the buffer
 pub record IsFound
     (old new : Option (List ℕ)) (buf : List ℕ) (headers : List HeaderSpan) (f : Found)
     : Type 0 where
@@ -36,7 +36,7 @@ pub record IsFound
 abbrev pub values_at : List ℕ → List HeaderSpan → List ℕ → List (List ℕ)
 values_at buf headers name = values_of name (map (header_bytes buf) headers)
 
--- what the head whose parts the spans cover asks for
+-- what the head whose parts the spans cover requests
 abbrev pub asked_at : List ℕ → List HeaderSpan → RequestSpans → Result ℕ PostFault
 asked_at buf headers r =
     asked_length (span_bytes buf r.path) (span_bytes buf r.method)
@@ -50,12 +50,12 @@ IsBody rest n (Err fault.Device) = Unit {0}
 IsBody rest n (Err fault.Memory) = Unit {0}
 IsBody rest n (Err e) = ⊥
 
--- of a reader that doesn't tell its bytes nothing is said
+-- nothing is said of a reader whose bytes are unknown
 abbrev pub IsBodyOf : Option (List ℕ) → ℕ → Result (List ℕ) PostFault → Type 0
 IsBodyOf None n r = Unit {0}
 IsBodyOf (Some rest) n r = IsBody rest n r
 
--- the body that follows whatever was there before
+-- the body that follows, whatever was there before
 abbrev pub FillsBody : Option (List ℕ) → List ℕ → ℕ → Result (List ℕ) PostFault → Type 0
 FillsBody old buf filled r =
     (all : Option (List ℕ)) → IsFilled all old buf filled → IsBodyOf all (length buf) r

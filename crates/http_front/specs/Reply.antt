@@ -32,7 +32,7 @@ abbrev pub type_of : Status → List ℕ
 type_of status.Success = codes "application/json; charset=utf-8"
 type_of s = codes "text/plain"
 
--- the methods of the target that is served, which 405 tells
+-- the allowed methods of the target, in a reply of 405
 abbrev pub allow_line : Status → List ℕ
 allow_line status.MethodNotAllowed = codes "Allow: POST" ++ crlf
 allow_line s = []

@@ -1,4 +1,4 @@
-//! What a whole head asks for.
+//! What a whole head requests.
 
 ghost use Rattle.std.specs.Prelude.{◌≡◌, length, IfErr};
 ghost use Rattle.httparse.specs.Spans.{IsRequestWithin};
@@ -9,7 +9,7 @@ use crate::fault::PostFault;
 use crate::lines::{has_line, told_length};
 use httparse::spans::{HeaderSpan, RequestSpans};
 
-// Whether the target is the one that is served, alone or with a query behind it.
+// Whether the target is the one that is served, with or without a query.
 fn is_served(target: &[u8]) -> bool
     ensures { result ≡ is_served target.now }
 {

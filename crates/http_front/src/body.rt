@@ -1,4 +1,4 @@
-//! The body is read: into room that is made once, as much as the head's length says.
+//! Reads the body into a buffer that is allocated once, of the length that the head gives.
 
 ghost use Rattle.std.specs.Prelude.{◌+◌, ◌-◌, ◌^◌, ◌<◌, ◌≤◌, length};
 ghost use Rattle.std.specs.Prelude.{Ok, Err};
@@ -11,7 +11,7 @@ use crate::room::{begin_body, put_body};
 use net_io::Counted;
 use std::io::Read;
 
-// Reads until the body is whole; its first bytes stand there already.
+// Reads until the body is whole; its first bytes are there already.
 fn fill<R: Read>(reader: &mut Counted<R>, body: &mut [u8], known: usize) -> Result<(), PostFault>
     requires count { reader.old.failures < 2 ^ 64 - 1 }
     requires room { known ≤ length body.old }
@@ -30,7 +30,7 @@ fn fill<R: Read>(reader: &mut Counted<R>, body: &mut [u8], known: usize) -> Resu
     Ok(())
 }
 
-/// Reads a body whose first bytes came with the head, into room that it makes for it.
+/// Reads a body whose first bytes came with the head, into a buffer that it allocates.
 pub fn read_body<R: Read>(
     reader: &mut Counted<R>,
     body: &mut Vec<u8>,

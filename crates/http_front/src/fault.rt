@@ -1,4 +1,4 @@
-//! Why a connection has no request to read.
+//! Why a connection has no request.
 
 ghost use Rattle.std.specs.Prelude.{◌≡◌, ◌≢◌, IfSome};
 ghost use Rattle.http_front.specs.Faults.{post_line, status_of};
@@ -8,11 +8,11 @@ use std::error::Error;
 use std::fmt::{self, Display};
 
 /// What is wrong, with the numbers P1 to P9 that are sent and logged. They are found in this order:
-/// P1, P6 and P7 while the head comes, then P2, P3, P4, P1 and P5 of a whole head, then P7.
+/// P1, P6 and P7 while the head arrives, then P2, P3, P4, P1 and P5 of a whole head, then P7.
 #[derive(Clone, Copy, Debug, PartialEq, Eq, Drop)]
 pub enum PostFault {
-    /// P1: no bytes can follow that make a head (RFC 9112, sections 2 to 5); or a Content-Length is
-    /// no number, or two tell different numbers.
+    /// P1: no bytes can follow that make a head (RFC 9112, sections 2 to 5); or a Content-Length
+    /// isn't a number, or two give different numbers.
     Head,
     /// P2: the target is not the one that is served.
     Path,
@@ -28,7 +28,7 @@ pub enum PostFault {
     Ended,
     /// P8: the reader failed.
     Device,
-    /// P9: memory was refused.
+    /// P9: an allocation failed.
     Memory,
 }
 
@@ -50,7 +50,7 @@ impl PostFault {
         }
     }
 
-    /// The number and the name, as the line that is sent, with its line feed.
+    /// The number and the name as the line that is sent, with its line feed.
     pub fn line(self) -> &'static str
         ensures { result.now ≡ post_line self }
     {

@@ -1,4 +1,4 @@
-//! How a head is read: as its bytes come, and no more of them than a head may have.
+//! Reads a head, with a check as bytes arrive, and at most as many bytes as a head may have.
 
 ghost use Rattle.std.specs.Prelude.{◌≡◌, ◌+◌, ◌-◌, ◌^◌, ◌<◌, ◌≤◌, length, take};
 ghost use Rattle.std.specs.Prelude.{Err, IfOk, IfErr, MatchOption};
@@ -14,14 +14,14 @@ use httparse::{Error, Status};
 use net_io::{Counted, Failed};
 use std::io::Read;
 
-/// A head at the front of the bytes that were read so far.
+/// A head at the front of the bytes read so far.
 #[derive(Clone, Copy, Drop)]
 pub struct Found {
     pub head: RequestSpans,
     pub filled: usize,
 }
 
-// A whole head, or `None` where more bytes can make one.
+// A whole head, or `None` if more bytes can make one.
 fn judge(buf: &[u8], headers: &mut [HeaderSpan]) -> Result<Option<RequestSpans>, PostFault>
     requires { length headers.old ≡ 64 }
     ensures room { length headers.new ≡ 64 }
@@ -39,7 +39,7 @@ fn judge(buf: &[u8], headers: &mut [HeaderSpan]) -> Result<Option<RequestSpans>,
     }
 }
 
-/// Reads some bytes behind the first ones.
+/// Reads some bytes and stores them after the first ones.
 pub fn read_more<R: Read>(
     reader: &mut Counted<R>,
     buf: &mut [u8],
@@ -57,7 +57,7 @@ pub fn read_more<R: Read>(
     Ok(gained)
 }
 
-/// Reads until a whole head is there, or a fault.
+/// Reads until a head is whole, or has a fault.
 pub fn read_head<R: Read>(
     reader: &mut Counted<R>,
     buf: &mut [u8],

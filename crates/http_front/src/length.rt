@@ -1,5 +1,5 @@
-//! The length of a body, from the values that tell it. Numbers are compared by their significant
-//! digits, so that those of any length can be.
+//! The length of a body, from the values that give it. Numbers of any length are compared by their
+//! significant digits.
 
 ghost use Rattle.std.specs.Prelude.{◌≡◌};
 ghost use Rattle.std.specs.List.{list_all};
@@ -9,7 +9,7 @@ ghost use Rattle.http_front.specs.Length.{is_decimal, significant, writes, numbe
 /// The most bytes that a body may have.
 const BODY_LIMIT: usize = 1_048_576;
 
-/// The digits from the first on that isn't 0.
+/// The digits from the first nonzero digit on.
 pub fn significant(mut text: &[u8]) -> &[u8]
     ensures { result.now ≡ significant text.now }
 {
@@ -19,7 +19,7 @@ pub fn significant(mut text: &[u8]) -> &[u8]
     text
 }
 
-// Digits alone.
+// Whether all bytes are digits.
 fn has_only_digits(text: &[u8]) -> bool
     ensures { result ≡ list_all is_ascii_digit text.now }
 {
@@ -33,14 +33,14 @@ fn is_decimal(text: &[u8]) -> bool
     0 < text.len() && has_only_digits(text)
 }
 
-/// Whether the text writes the number whose significant digits these are.
+/// Whether the text is a number with these significant digits.
 pub fn writes(digits: &[u8], text: &[u8]) -> bool
     ensures { result ≡ writes digits.now text.now }
 {
     is_decimal(text) && significant(text) == digits
 }
 
-/// The number that the digits write, if a body may have as many bytes.
+/// The number with these digits, if a body may be that long.
 pub fn number_of(digits: &[u8]) -> Option<usize>
     ensures { result ≡ number_within digits.now }
 {

@@ -1,10 +1,10 @@
 //! The front of the server: reads the one POST of a connection, and writes the reply. HTTP/1.0 and
 //! HTTP/1.1 (RFC 9112), one request a connection.
 //!
-//! A head is what the crate `httparse` takes as one: lines may end in LF alone, and empty lines may
-//! come first. It is judged as its bytes come, so that a client hears of a malformed head as soon
-//! as no bytes can mend it, and never more is read than a head may have. Only then are the target,
-//! the method and the length looked at, in this order, and room is made for the body, once.
+//! A head is what the crate `httparse` accepts: lines may end in LF only, and empty lines may come
+//! first. It is checked as its bytes arrive, so that a malformed head is refused as early as
+//! possible, and no more than a head's limit is read. Only then are the target, the method and the
+//! length checked, in this order, and the buffer for the body is allocated, once.
 //!
 //! See docs/DECISIONS.md, "The front".
 #![tactic(auto)]
@@ -26,7 +26,7 @@ pub use reply::write_reply;
 pub use room::PostRoom;
 pub use status::Status;
 
-// The words of the contracts here come with them.
+// These are named in the contracts of this crate.
 pub use net_io::{Counted, FailAt, Failed, WriteFault};
 
 #[cfg(test)]

@@ -1,4 +1,4 @@
-//! The header lines of a name, and the length of the body that they tell.
+//! The header lines of a name, and the length of the body that they give.
 
 ghost use Rattle.std.specs.Prelude.{◌≡◌, length, map, All, IfErr, option_copied};
 ghost use Rattle.std.specs.List.{list_all};
@@ -11,7 +11,7 @@ use crate::fault::PostFault;
 use crate::length::{number_of, significant, writes};
 use httparse::spans::HeaderSpan;
 
-// Whether the line has the name; names are compared without regard to ASCII case.
+// Whether the line has the name, ignoring ASCII case.
 fn is_named(buf: &[u8], line: &HeaderSpan, name: &[u8]) -> bool
     requires { IsHeaderWithin (length buf.now) line.now }
     ensures { result ≡ is_named name.now (header_bytes buf.now line.now) }
@@ -47,7 +47,7 @@ fn first_value<'b>(buf: &'b [u8], mut lines: &[HeaderSpan], name: &[u8]) -> Opti
     None
 }
 
-// Whether the value of each line that has the name writes the number with these digits.
+// Whether the value of each line that has the name is the number with these digits.
 fn all_write(buf: &[u8], mut lines: &[HeaderSpan], name: &[u8], digits: &[u8]) -> bool
     requires { All (IsHeaderWithin (length buf.now)) lines.now }
     ensures { result ≡ list_all (writes digits.now) (values_at buf.now lines.now name.now) }
@@ -61,7 +61,7 @@ fn all_write(buf: &[u8], mut lines: &[HeaderSpan], name: &[u8], digits: &[u8]) -
     true
 }
 
-/// The length that the lines of the name tell.
+/// The length of the body that the lines of the name give.
 pub fn told_length(buf: &[u8], lines: &[HeaderSpan], name: &[u8]) -> Result<usize, PostFault>
     requires { All (IsHeaderWithin (length buf.now)) lines.now }
     ensures length { result ≡ told_length (values_at buf.now lines.now name.now) }

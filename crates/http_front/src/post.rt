@@ -1,4 +1,4 @@
-//! A request is read: its head, and then its body.
+//! Reads a request: its head, and then its body.
 
 ghost use Rattle.std.specs.Prelude.{◌≡◌, ◌-◌, ◌^◌, ◌<◌, length};
 ghost use Rattle.http_front.specs.Post.{ReadsPost};
@@ -13,13 +13,13 @@ use net_io::Counted;
 use std::alloc::Global;
 use std::io::Read;
 
-/// Reads the one POST of a connection, and gives its body. Never more than 16,384 bytes are read
-/// while no head is whole, and of a body that is refused no more than came with its head. The
-/// reader may have given more bytes than the request has; they are lost.
-// open: whether memory is refused (P9). At which of these bytes a head that no bytes can make good
-// is refused: tests. Which of two answers comes where `httparse` leaves both right: P6 beside P1,
-// P7 or P8 of a head with over 64 lines, P1 beside P6, P7 or P8 where the input stops within the
-// target.
+/// Reads the one POST of a connection, and returns its body. At most 16,384 bytes are read until a
+/// head is whole, and of a refused body no more than came with its head. The reader may have
+/// returned more bytes than the request has; they are lost.
+// open: whether an allocation fails (P9). At which of these bytes a head is refused that no bytes
+// can complete: tests. Which of two faults is returned if `httparse` allows both. For a head with
+// over 64 lines these are P6 and one of P1, P7 and P8; if the input stops within the target, P1 and
+// one of P6, P7 and P8.
 pub fn read_post<R: Read>(alloc: Global, reader: &mut Counted<R>) -> Result<Vec<u8>, PostFault>
     requires { reader.old.failures < 2 ^ 64 - 1 }
     ensures { ReadsPost R.remaining reader.old reader.new result (λ v. v.items) }
@@ -29,7 +29,7 @@ pub fn read_post<R: Read>(alloc: Global, reader: &mut Counted<R>) -> Result<Vec<
     Ok(room.into_body())
 }
 
-/// Reads a request by a buffer for its head, and puts its body in the place of the last one.
+/// Reads a request with a buffer for its head, and replaces the last body by its body.
 pub(crate) fn read_by<R: Read>(
     reader: &mut Counted<R>,
     buf: &mut [u8],

@@ -1,5 +1,5 @@
-//! A reply is written. Its head is put into a fixed buffer, since a reply has to be made even if
-//! memory is refused. A body that fits another fixed buffer after the head is sent with it in one
+//! Writes a reply. Its head is put into a fixed buffer, since a reply must be possible even if
+//! allocations fail. A body that fits another fixed buffer after the head is sent with it in one
 //! piece, since each piece is a system call; any other is sent after the head. This second buffer
 //! is a plain array, which is cleared at once; an `ArrayVec` clears itself byte by byte.
 
@@ -16,10 +16,10 @@ use std::io::Write;
 /// More bytes than the head of any reply has.
 const HEAD_ROOM: usize = 256;
 
-/// Room for the whole reply to a request of an app or two.
+/// Enough bytes for the whole reply to a request of an app or two.
 const PIECE_ROOM: usize = 2048;
 
-// Puts the text behind what the head has.
+// Appends the text to the head.
 fn put(head: &mut ArrayVec<u8, HEAD_ROOM>, text: &[u8])
     requires { array_vec_len head.old + length text.now ≤ 256 }
     ensures items { head.new.items ≡ head.old.items ++ text.now }
@@ -28,7 +28,7 @@ fn put(head: &mut ArrayVec<u8, HEAD_ROOM>, text: &[u8])
     let _fits = head.try_extend_from_slice(text);
 }
 
-// Puts a line behind what the head has.
+// Appends a line to the head.
 fn put_line(head: &mut ArrayVec<u8, HEAD_ROOM>, name: &[u8], value: &[u8])
     requires { array_vec_len head.old + (length name.now + length value.now + 2) ≤ 256 }
     ensures items { head.new.items ≡ head.old.items ++ (name.now ++ value.now ++ crlf) }
@@ -40,7 +40,7 @@ fn put_line(head: &mut ArrayVec<u8, HEAD_ROOM>, name: &[u8], value: &[u8])
     put(head, b"\r\n");
 }
 
-// The head of a reply with a body of so many bytes.
+// The head of a reply with a body of `size` bytes.
 fn head_of(status: Status, size: usize) -> ArrayVec<u8, HEAD_ROOM>
     ensures { result.items ≡ reply_head status size }
 {
@@ -58,7 +58,7 @@ fn head_of(status: Status, size: usize) -> ArrayVec<u8, HEAD_ROOM>
     head
 }
 
-// Puts the two texts one behind the other to the front of the room, if both fit there.
+// Puts the two texts, one after the other, at the front of the buffer, if both fit.
 fn fits(room: &mut [u8], head: &[u8], body: &[u8]) -> bool
     ensures len { length room.new ≡ length room.old }
     ensures size { IsTrue result → length head.now + length body.now ≤ length room.old }
@@ -90,7 +90,7 @@ fn write_both<W: Write>(writer: &mut Counted<W>, head: &[u8], body: &[u8]) -> Re
     }
 }
 
-/// Writes a whole reply, or its beginning up to the first failure; no memory is taken.
+/// Writes a whole reply, or a prefix of it up to the first failure; nothing is allocated.
 // open: when a device fails.
 pub fn write_reply<W: Write>(
     writer: &mut Counted<W>,

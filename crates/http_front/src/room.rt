@@ -1,4 +1,4 @@
-//! Room in which requests are read, so that a worker can keep it from one to the next.
+//! The buffers in which requests are read, so that a worker thread can reuse them.
 
 ghost use Rattle.std.specs.Prelude.{◌≡◌, ◌-◌, ◌^◌, ◌<◌, ◌≤◌, OnOk, length, take, []};
 ghost use Rattle.http_front.specs.Post.{ReadsPost};
@@ -17,15 +17,15 @@ const HEAD_LIMIT: usize = 16_384;
 /// The most header lines that a head may have.
 const FIELD_LIMIT: usize = 64;
 
-/// The most room for a body that is kept for the next one.
+/// The largest buffer of a body that is kept for the next one.
 const KEPT_BODY: usize = 65_536;
 
-/// A block of bytes that nothing was written to yet.
+/// A block of zeros, to fill a buffer with.
 static BLANK: [u8; HEAD_LIMIT] = [0; HEAD_LIMIT];
 
-/// Room for a head, and for a body of any length. It takes memory as requests need it, and keeps
-/// it: 16,384 bytes for a head, and up to 65,536 for a body; a longer body gives its room back
-/// before the next request is read. A contract sees the body that was read last.
+/// Buffers for a head, and for a body of any length. They are allocated as requests need them, and
+/// kept: 16,384 bytes for a head, and up to 65,536 for a body. The buffer of a longer body is freed
+/// before the next request is read. In contracts, a `PostRoom` is the body that was read last.
 #[derive(Drop)]
 pub struct PostRoom {
     head: Vec<u8>,
@@ -41,7 +41,7 @@ impl Model for PostRoom {
 }
 
 impl PostRoom {
-    /// Room without a body; it takes no memory yet.
+    /// No body, and no allocation yet.
     pub fn new(alloc: Global) -> PostRoom
         ensures { result ≡ [] }
     {
@@ -58,7 +58,7 @@ impl PostRoom {
         self.body.as_slice()
     }
 
-    /// The body that was read last, without the room for a head.
+    /// The body that was read last, without the head's buffer.
     pub fn into_body(self) -> Vec<u8>
         ensures { result.items ≡ self }
     {
@@ -66,8 +66,8 @@ impl PostRoom {
         body
     }
 
-    /// Reads the one POST of a connection, and keeps its body. What the room has after a refusal
-    /// isn't specified.
+    /// Reads the one POST of a connection, and keeps its body. The body after a refusal isn't
+    /// specified.
     // open: what `read_post` leaves open.
     pub fn read_post<R: Read>(&mut self, reader: &mut Counted<R>) -> Result<(), PostFault>
         requires { reader.old.failures < 2 ^ 64 - 1 }
@@ -86,7 +86,7 @@ impl PostRoom {
     }
 }
 
-// Makes the room for a head, if it isn't there.
+// Allocates the buffer for a head, if it isn't there.
 fn make_head_room(head: &mut Vec<u8>) -> Result<(), AllocError>
     ensures { OnOk result (length head.new.items ≡ 16384) }
 {
@@ -97,7 +97,7 @@ fn make_head_room(head: &mut Vec<u8>) -> Result<(), AllocError>
     head.extend_from_slice(&BLANK)
 }
 
-/// Puts the whole of a body in the place of the last one.
+/// Replaces the last body by a whole one.
 pub fn put_body(body: &mut Vec<u8>, bytes: &[u8]) -> Result<(), AllocError>
     ensures { OnOk result (body.new.items ≡ bytes.now) }
 {
@@ -105,8 +105,7 @@ pub fn put_body(body: &mut Vec<u8>, bytes: &[u8]) -> Result<(), AllocError>
     body.extend_from_slice(bytes)
 }
 
-/// Makes room for a body of so many bytes in the place of the last one, and puts its first ones
-/// there.
+/// Replaces the last body by one of `size` bytes that begins with `first`.
 pub fn begin_body(body: &mut Vec<u8>, first: &[u8], size: usize) -> Result<(), AllocError>
     requires { length first.now ≤ size }
     ensures first { OnOk result (take (length first.now) body.new.items ≡ first.now) }
@@ -120,7 +119,7 @@ pub fn begin_body(body: &mut Vec<u8>, first: &[u8], size: usize) -> Result<(), A
     Ok(())
 }
 
-// Takes out the last body, and of the room what isn't to be kept.
+// Removes the last body, and frees its buffer if it is too large to be kept.
 fn empty(body: &mut Vec<u8>)
     ensures { body.new.items ≡ [] }
 {

@@ -3,7 +3,7 @@
 ghost use Rattle.std.specs.Prelude.{◌≡◌, ◌≤◌, length};
 ghost use Rattle.http_front.specs.Reply.{code_of, reason_of, type_of, allow_line};
 
-/// The statuses that are answered (RFC 9110, section 15; 431 is of RFC 6585, section 5).
+/// The statuses of replies (RFC 9110, section 15; 431 is of RFC 6585, section 5).
 #[derive(Clone, Copy, Debug, PartialEq, Eq, Drop)]
 pub enum Status {
     /// 200
@@ -69,7 +69,7 @@ impl Status {
         }
     }
 
-    // The line that tells the methods that are allowed, if the reply has one.
+    // The line with the allowed methods, if the reply has one.
     pub(crate) fn allow_line(self) -> &'static [u8]
         ensures text { result.now ≡ allow_line self }
         ensures short { length result.now ≤ 13 }

@@ -17,13 +17,13 @@ type Row = (
     Result<&'static [u8], PostFault>,
 );
 
-/// Reads a post that comes in pieces of so many bytes; the device doesn't fail.
+/// Reads a post that arrives in pieces of `piece` bytes; the device doesn't fail.
 fn posted(alloc: Global, input: &[u8], piece: usize) -> Result<Vec<u8>, PostFault> {
     let mut reader = Counted::new(FailAt::new(input, piece, 0));
     read_post(alloc, &mut reader)
 }
 
-/// Whole, in small pieces, and one byte a read: the answer is the same.
+/// The result is the same for one piece, small pieces, and one byte a read.
 fn check<A: Abort>(rt: &A, alloc: Global, rows: &[Row]) {
     for (name, input, wanted) in rows {
         for piece in [1, 7, 1_000_000] {

@@ -1,5 +1,5 @@
-//! The values of all cells stand under a lock, so an operation waits for those of other threads. No
-//! contract can name what a lock holds: of an operation it says which event it is, and that the
+//! The values of all cells are under a lock, so an operation waits for those of other threads. No
+//! contract can name what a lock holds. It says only which event an operation is, and that the
 //! reply fits the cell.
 
 ghost use Rattle.std.specs.Prelude.{◌≡◌, IfErr};
@@ -17,13 +17,13 @@ pub struct LockedCells<R: Wait + Drop> {
     rt: R,
 }
 
-/// A thread's leave to act on locked cells. It keeps nothing.
+/// A thread's right to act on locked cells. It keeps nothing.
 #[derive(Clone, Copy, Debug, PartialEq, Eq)]
 pub struct LockedPass;
 
 impl<R: Wait + Drop> LockedCells<R> {
-    /// Cells that are all 0. N3 where memory is refused.
-    // open: whether memory is refused (N3).
+    /// Cells that are all 0. Returns N3 if an allocation fails.
+    // open: whether an allocation fails (N3).
     pub fn new(alloc: Global, rt: R) -> Result<LockedCells<R>, CellsFault>
         ensures { IfErr result (λ e. e ≡ CellsFault.Memory) }
     {
@@ -34,7 +34,7 @@ impl<R: Wait + Drop> LockedCells<R> {
         })
     }
 
-    /// A pass to these cells; any number of them may be about.
+    /// A pass to these cells. Any number of passes may exist.
     pub fn pass(&self) -> LockedPass {
         LockedPass
     }
@@ -48,7 +48,7 @@ impl<R: Wait + Drop> CellSteps for LockedCells<R> {
     ghost grew = { λ _ e _. CanReply e.cell e.op e.reply };
 
     /// Waits until no other thread acts on the cells.
-    // open: which reply comes, and that cells are 0 at first: no contract can name what stands
+    // open: which reply is returned, and that cells are 0 at first: no contract can name what is
     // under a lock that other threads take.
     fn act(&self, _pass: &mut LockedPass, cell: CellNo, op: CellOp) -> u64 {
         let mut values = self.values.lock(&self.rt);

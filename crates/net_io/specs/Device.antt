@@ -8,7 +8,7 @@ abbrev pub CountsFailure : {A E : Type 0} → ℕ → ℕ → Result A E → Typ
 CountsFailure old new (Ok a) = new ≡ old
 CountsFailure old new (Err e) = new ≡ old + 1
 
--- all bytes were taken, or as many as the fault says, from their beginning on
+-- all bytes were taken, or the prefix of the length that the fault says
 abbrev pub WritesBeginning :
     {A : Type 0} → Option (List ℕ) → Option (List ℕ) → List ℕ → Result A WriteFault → Type 0
 WritesBeginning old new bytes (Ok a) = Appends old new bytes

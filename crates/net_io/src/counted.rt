@@ -1,4 +1,5 @@
-//! A device that counts its failures, so that what says that a device failed can be held to it.
+//! A device that counts its failures, so that an error that blames the device can be checked
+//! against the count.
 
 ghost use Rattle.std.specs.Prelude.{◌≡◌, ◌-◌, ◌^◌, ◌<◌, ◌≤◌, length, MatchResult};
 ghost use Rattle.std.specs.Io.KnownBytes.{ReadConsumes};
@@ -18,7 +19,7 @@ pub struct Counted<T> {
 #[derive(Clone, Copy, Debug, PartialEq, Eq, Drop)]
 pub struct Failed;
 
-/// The device failed after it took so many bytes, which are a beginning of what was to be written.
+/// The device failed after it took `written` bytes, which are a prefix of what was to be written.
 #[derive(Clone, Copy, Debug, PartialEq, Eq, Drop)]
 pub struct WriteFault {
     pub written: usize,
@@ -49,7 +50,7 @@ impl<T> Counted<T> {
 }
 
 impl<R: Read> Counted<R> {
-    /// Reads some bytes to the front of `buf`; no byte is the end of the input.
+    /// Reads some bytes to the front of `buf`. No byte means the end of the input.
     // open: when a device fails.
     pub fn read_some(&mut self, buf: &mut [u8]) -> Result<usize, Failed>
         requires { self.old.failures < 2 ^ 64 - 1 }

@@ -4,8 +4,8 @@ ghost use Rattle.std.specs.Prelude.{◌≡◌, ◌<◌};
 
 use std::io::{self, ErrorKind, Read, Write};
 
-/// A reader or a writer that takes at most `piece` bytes a call and fails at one of its calls.
-/// What it reads and writes is what the inner one does.
+/// A reader or a writer that takes at most `piece` bytes a call and fails at one of its calls. It
+/// reads and writes through the inner one.
 #[derive(Drop)]
 pub struct FailAt<T> {
     inner: T,
@@ -15,7 +15,7 @@ pub struct FailAt<T> {
 }
 
 impl<T> FailAt<T> {
-    /// The call that fails is counted from 1; at 0 none does. A piece of 0 counts as one of 1.
+    /// The call that fails is counted from 1; with 0 none fails. A piece of 0 counts as 1.
     pub fn new(inner: T, piece: usize, call: u64) -> FailAt<T>
         ensures { result.inner ≡ inner }
     {
@@ -33,7 +33,7 @@ impl<T> FailAt<T> {
         self.inner
     }
 
-    // Counts a call, and says whether it is the one that fails.
+    // Counts a call, and returns whether it is the one that fails.
     fn is_failing(&mut self) -> bool
         ensures inner { self.new.inner ≡ self.old.inner }
         ensures piece { self.new.piece ≡ self.old.piece }

@@ -1,10 +1,10 @@
-//! The devices that requests come from and replies go to: readers and writers, and what is done
-//! with them before a protocol is read.
+//! The devices that requests come from and replies go to: readers and writers, before a protocol is
+//! read.
 //!
-//! `Counted` counts the failures of any reader or writer, so that what says that a device failed
-//! can be held to it. `Timed` is a connection that has to be done by a time: before each read and
-//! write the socket's time-out is set to what is left until then, so that a client that sends a
-//! byte now and then is dropped as one that sends none. `FailAt` is for tests.
+//! `Counted` counts the failures of any reader or writer, so that an error that blames the device
+//! can be checked against the count. `Timed` is a connection with a deadline: before each read and
+//! write the socket's time-out is set to the time that is left. So a client that sends a byte now
+//! and then is dropped like a silent one. `FailAt` is for tests.
 //!
 //! See docs/DECISIONS.md, "The front".
 #![tactic(auto)]

@@ -1,8 +1,8 @@
-//! One direction of a connection, with its time limit, and what is read at a connection's end. A
-//! call that a signal interrupts is made again, within the same time.
+//! One direction of a connection, with its time limit, and reads at a connection's end. A call that
+//! a signal interrupts is made again, within the same time.
 //!
-//! At its end what a client sent beyond its request is read and dropped, since a socket that is
-//! closed with bytes unread is reset, and the reply may be lost with it (RFC 9112, section 9.6).
+//! At the end, bytes that a client sent after its request are read and dropped. A socket that is
+//! closed with unread bytes is reset, and the reply may be lost with it (RFC 9112, section 9.6).
 
 ghost use Rattle.std.specs.Prelude.{◌≡◌};
 
@@ -10,10 +10,10 @@ use std::io::{self, ErrorKind, Read, Write};
 use std::net::{Shutdown, TcpStream};
 use std::time::{Clock, Duration, Instant};
 
-/// How long a client may go on sending after a refusal.
+/// How long a client may continue to send after a refusal.
 const DRAIN_SECONDS: u64 = 1;
 
-/// Room for what a client sends behind its request.
+/// The size of the buffer for what a client sends after its request.
 const REST_ROOM: usize = 512;
 
 /// One direction of a connection.
@@ -26,7 +26,7 @@ pub struct Timed<'a, R: Clock> {
 }
 
 impl<'a, R: Clock> Timed<'a, R> {
-    /// A direction that ends at that time.
+    /// A direction that ends at the time `until`.
     // open: that it counts the bytes of each call, and keeps to its time: tests.
     pub fn new(stream: &'a TcpStream, clock: &'a R, until: Instant) -> Timed<'a, R>
         ensures until { result.until ≡ until }
@@ -47,7 +47,7 @@ impl<'a, R: Clock> Timed<'a, R> {
         self.bytes
     }
 
-    // How long it is until the end.
+    // The time left until the end.
     fn left(&self) -> io::Result<Duration> {
         let now = Instant::now(self.clock)?;
         match self.until.checked_duration_since(now) {
@@ -102,8 +102,8 @@ impl<R: Clock> Write for Timed<'_, R> {
     }
 }
 
-/// Reads what a client goes on to send after its reply, for at most a second.
-// open: what is taken at a connection's end: tests.
+/// Reads what a client sends after its reply, for at most a second.
+// open: what is read at a connection's end: tests.
 pub fn drain<R: Clock>(stream: &TcpStream, clock: &R) -> io::Result<()> {
     stream.shutdown(Shutdown::Write)?;
     let now = Instant::now(clock)?;
@@ -120,10 +120,10 @@ pub fn drain<R: Clock>(stream: &TcpStream, clock: &R) -> io::Result<()> {
     Ok(())
 }
 
-/// Takes what has come behind the request, up to 512 bytes, and doesn't wait for more: clients are
-/// known that end a body with a line's end that they don't count (RFC 9112, section 2.2). Where
-/// nothing has come it fails with `WouldBlock`. The stream doesn't wait from then on.
-// open: what is taken at a connection's end: tests.
+/// Reads what has come after the request, up to 512 bytes, and doesn't wait for more. Some clients
+/// end a body with a line end that its length doesn't count (RFC 9112, section 2.2). Fails with
+/// `WouldBlock` if nothing has come. From then on the stream doesn't block.
+// open: what is read at a connection's end: tests.
 pub fn take_rest(stream: &TcpStream) -> io::Result<()> {
     stream.set_nonblocking(true)?;
     let mut rest = stream;

@@ -12,7 +12,7 @@ then_adds {a} {b} {c} {xs} {ys} first last = record {
   tokens = last.tokens ∙ ap (λ ts. ts ++ ys) first.tokens ∙ append_assoc a.tokens xs ys;
 }
 
--- one item more of a list, of which the rest is to be written
+-- one more item of a list whose rest is still to be written
 pub then_item : (old new total : List Token) (d : Data) (left rest : Items)
     → new ≡ old ++ tokens_of d → left ≡ item d rest → old ++ item_tokens left ≡ total
     → new ++ item_tokens rest ≡ total

@@ -1,4 +1,4 @@
--- What is found of apps, and the tokens of apps, one app more at a time.
+-- What is found for apps, and the tokens of apps, one app more at a time.
 use Rattle.std.proofs.Common.{◌≡◌, ◌∷◌, ◌<◌, ◌+◌, ℕ, length, get_or, drop, add-one, drop-cons}
 use Rattle.std.proofs.Common.{List, [], ◌++◌, append_assoc, sym, ap, ap₂, ◌∙◌}
 use Rattle.std.proofs.Common.{Option, Some, option_map}
@@ -19,7 +19,7 @@ found_is rules facts app choice known text bucket found named knows hashed is =
     ap Some (is ∙ ap (found_with known choice) hashed)
     ∙ ap (option_map (known_app facts app choice)) (knows ∙ ap (app_of rules) named)
 
--- what is left of a list at a place begins with what stands there
+-- the part of a list from place i on begins with the element at i
 left_from : {A : Type 0} (xs : List A) (i : ℕ) (x : A) → i < length xs → x ≡ get_or xs i x
     → drop i xs ≡ x ∷ drop (i + 1) xs
 left_from {A} xs i x within is =

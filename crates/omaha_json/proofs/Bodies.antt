@@ -37,7 +37,7 @@ one_more : (each : List AppFacts) (facts : AppFacts) (rest : Option (List AppFac
 one_more each facts None = refl
 one_more each facts (Some xs) = ap Some (append_assoc each (facts ∷ []) xs)
 
--- what the apps that were read and those that are left come to
+-- the facts of the apps that were read, followed by those of the apps that are left
 abbrev pub all_with : List AppFacts → List Value → Option (List AppFacts)
 all_with each left = option_map (λ rest. each ++ rest) (all_facts (items_view left))
 
@@ -61,7 +61,7 @@ one_read each each' said shared old left app total taken says same pushed so_far
     ∙ ap (λ o. option_map (λ xs. each ++ xs) (joined o (all_facts (items_view left)))) says
     ∙ ap (all_with each) (sym taken) ∙ so_far
 
--- an app that is none
+-- a value that isn't an app
 pub none_said : (each : List AppFacts) (old left : List Value) (app : Value)
     (total : Option (List AppFacts))
     → old ≡ app ∷ left → None ≡ app_facts (view app) → all_with each old ≡ total → total ≡ None

@@ -1,4 +1,4 @@
--- A cohort that is told is ASCII, and so a text.
+-- A cohort in a reply is ASCII, and so a text.
 use Rattle.std.proofs.Common.{ℕ, zero, suc, ◌/◌, ◌<◌, List, [], ◌∷◌, arith}
 use Rattle.std.specs.Str.{IsAscii, IsUtf8}
 use Rattle.std.proofs.lemmas.Str.{IsUtf8-from_ascii}

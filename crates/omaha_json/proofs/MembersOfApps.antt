@@ -1,4 +1,4 @@
--- What is found of an app's members, one member more at a time, from the last one on.
+-- What is found in an app's members, one member more at a time, from the last one on.
 use Rattle.std.proofs.Common.{◌≡◌, ℕ, List, [], ◌∷◌, ◌++◌, codes, Bool, true, false, refl}
 use Rattle.std.proofs.Common.{Option, Some, None, sym, ap, subst, ◌∙◌, append_assoc}
 use Rattle.std.proofs.Common.{bytes_eq, string_bytes}
@@ -54,7 +54,7 @@ module _ (name : List ℕ) (d : Data) (ms : Members) where
       → f (get_member wanted ms) ≡ f (get_member wanted (member name d ms))
   kept f wanted other = sym (ap f (passed wanted name d ms other))
 
-  -- it is none of them
+  -- it is another one
   others : bytes_eq name (codes "appid") ≡ false → bytes_eq name (codes "version") ≡ false
       → bytes_eq name (codes "brand") ≡ false → bytes_eq name (codes "ap") ≡ false
       → bytes_eq name (codes "lang") ≡ false → bytes_eq name (codes "cohort") ≡ false
@@ -90,7 +90,7 @@ module _ (name : List ℕ) (d : Data) (ms : Members) where
       choose Grows _ app.Event _ (λ t. here (codes "event") app.Event t refl) (λ k.
       others a b c e f g h i j k))))))))))
 
--- of the entries of a map, one more
+-- one more entry of a map
 pub app_next : (all left left' done : List Entry) (e : Entry) (found found' : AppMembers)
     → all ≡ left ++ done → left ≡ left' ++ e ∷ [] → found ≡ app_members (members_view done)
     → found' ≡ app_with (app_member (string_bytes e.0)) (view e.1) found

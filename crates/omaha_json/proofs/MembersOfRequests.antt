@@ -1,4 +1,4 @@
--- What is found of a request's members, one member more at a time, from the last one on.
+-- What is found in a request's members, one member more at a time, from the last one on.
 use Rattle.std.proofs.Common.{◌≡◌, ℕ, List, [], ◌∷◌, ◌++◌, codes, Bool, true, false, refl}
 use Rattle.std.proofs.Common.{Option, Some, None, option_map, sym, ap, subst, ◌∙◌, append_assoc}
 use Rattle.std.proofs.Common.{bytes_eq, string_bytes}

@@ -1,4 +1,4 @@
--- A value by a name: members that are put in front of others, and values that may be objects.
+-- A value by a name: members that are prepended to others, and values that may be objects.
 use Rattle.std.proofs.Common.{◌≡◌, ◌<◌, ℕ, List, [], ◌∷◌, ◌++◌, Bool, true, false, refl, length}
 use Rattle.std.proofs.Common.{arith}
 use Rattle.std.proofs.Common.{Option, Some, None, option_map, sym, ap, ◌∙◌}
@@ -21,7 +21,7 @@ use Rattle.serde_json.proofs.Views.{view-lookup}
 abbrev pub Entry : Type 0
 Entry = String Global × Value
 
--- ---- a member that is put in front of others
+-- ---- a member that is prepended to others
 
 either : (o : Ordering) (found before : Option Data) → is_eq o ≡ false
     → match_ordering o before found before ≡ before
@@ -34,14 +34,14 @@ differ xs ys true e f =
     sym ((bytes_eq-Decides ys xs).1 (sym ((bytes_eq-Decides xs ys).0 e))) ∙ f
 differ xs ys false e f = refl
 
--- one of another name is passed over
+-- a member of another name is skipped
 pub passed : (wanted name : List ℕ) (d : Data) (ms : Members) → bytes_eq name wanted ≡ false
     → get_member wanted (member name d ms) ≡ get_member wanted ms
 passed wanted name d ms other =
     either (slice_cmp nat_cmp wanted name) (Some d) (get_member wanted ms)
     (is_eq-slice_cmp wanted name ∙ differ wanted name (bytes_eq wanted name) refl other)
 
--- where one of two is so, whichever it is
+-- what is true in both cases is true of the chosen one
 pub choose : {M : Type 0} (Goal : Option M → Type 0) (b : Bool) (m : M) (rest : Option M)
     → (b ≡ true → Goal (Some m)) → (b ≡ false → Goal rest) → Goal (if b then Some m else rest)
 choose Goal true m rest holds fails = holds refl
@@ -50,13 +50,13 @@ choose Goal false m rest holds fails = fails refl
 pub same : (name wanted : List ℕ) → bytes_eq name wanted ≡ true → wanted ≡ name
 same name wanted e = sym ((bytes_eq-Decides name wanted).0 e)
 
--- where none is left, all are found
+-- if none is left, all are found
 pub all_found : (all left done : List Entry) → all ≡ left ++ done → (0 < length left → ⊥)
     → done ≡ all
 all_found all [] done is none = sym is
 all_found all (e ∷ es) done is none = absurd (none (omega arith))
 
--- ---- of a value that may be an object
+-- ---- a value that may be an object
 
 pub no_member : (name : List ℕ) (d : Data) → as_object d ≡ None → get name d ≡ None
 no_member name null none = refl

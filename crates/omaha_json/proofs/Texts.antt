@@ -1,4 +1,4 @@
--- The bytes of a writer that has written a value behind the guard.
+-- The bytes of a writer that has written a value after the guard.
 use Rattle.std.proofs.Common.{◌≡◌, ℕ, List, [], ◌++◌, ap, ap₂, ◌∙◌}
 use Rattle.json.specs.Print.{print}
 use Rattle.json.specs.Written.{Written}

@@ -6,16 +6,16 @@ use Rattle.serde_json.specs.Find.{get, as_null}
 use Rattle.serde_json.specs.Read.{read, max_depth}
 use Rattle.serde_json.specs.Written.{compact_text, has_float}
 
--- a value, where it isn't null
+-- a value, if it isn't null
 abbrev pub unless_null : Data → Option Data
 unless_null d = if is_some (as_null d) then None else Some d
 
--- the member, where it is there and isn't null
+-- the member, if it exists and isn't null
 abbrev pub event_in : Data → Option Data
 event_in app = option_and_then unless_null (get (codes "event") app)
 
--- a JSON text of a value: it reads as the value, where that is no deeper than is read, and is
--- compact where no number is a float
+-- a JSON text of a value: it reads as the value if that isn't nested too deeply, and is compact if
+-- no number is a float
 pub record IsJsonOf (d : Data) (text : List ℕ) : Type 0 where
   pub reads_back : depth d ≤ max_depth → read text ≡ Some d
   pub compact : has_float d ≡ false → text ≡ compact_text d

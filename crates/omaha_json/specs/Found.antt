@@ -6,8 +6,7 @@ use Rattle.attrs.specs.declared.facts.RequestFacts.{RequestFacts}
 use Rattle.releases.specs.Release.{Release}
 use Rattle.ruleset.specs.Rules.{AppRule, Rules, app_of}
 
--- of an app that the ruleset knows: its releases, its bucket, and the choice of its run, if it had
--- one
+-- for an app in the ruleset: its releases, its bucket, and the choice of its run, if it had one
 pub record FoundApp : Type 0 where
   pub releases : List Release
   pub bucket : ℕ
@@ -21,12 +20,12 @@ found_with known choice bucket =
 abbrev pub known_app : RequestFacts → AppFacts → Option ℕ → AppRule → FoundApp
 known_app facts app choice known = found_with known choice (app_bucket app facts)
 
--- of an app: nothing where the ruleset doesn't know it
+-- for an app; nothing if it isn't in the ruleset
 abbrev pub found_app : Rules → RequestFacts → AppFacts → Option ℕ → Option FoundApp
 found_app rules facts app choice =
     option_map (known_app facts app choice) (app_of rules app.appid)
 
--- of each app with the choice of its run
+-- for each app with the choice of its run
 abbrev pub found_apps
     : Rules → RequestFacts → List AppFacts → List (Option ℕ) → List (Option FoundApp)
 found_apps rules facts (app ∷ apps) (choice ∷ choices) =

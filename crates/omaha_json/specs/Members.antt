@@ -19,7 +19,7 @@ use Rattle.omaha_json.specs.declared.request_members.RequestMember.{RequestMembe
 use Rattle.omaha_json.specs.declared.request_members.RequestMember.TheVariants as request
 use Rattle.omaha_json.specs.declared.request_members.RequestMembers.{RequestMembers}
 
--- ---- of an app
+-- ---- the members of an app
 
 -- the member of a name
 abbrev pub app_member : List ℕ → Option AppMember
@@ -36,7 +36,7 @@ app_member name =
     else if bytes_eq name (codes "event") then Some app.Event
     else None
 
--- one more, of a value
+-- one more member, with its value
 abbrev pub app_with : Option AppMember → Data → AppMembers → AppMembers
 app_with (Some app.Appid) d m = record m { appid = as_str d }
 app_with (Some app.Version) d m = record m { version = as_str d }
@@ -66,7 +66,7 @@ app_members members = record {
   event = has_value (codes "event") (object members);
 }
 
--- what they say, if there is an appid
+-- the facts, if there is an appid
 abbrev pub facts_of : AppMembers → Option AppFacts
 facts_of m = option_map (λ appid. record {
   appid = appid;
@@ -81,7 +81,7 @@ facts_of m = option_map (λ appid. record {
   event = m.event;
 }) m.appid
 
--- ---- of a request
+-- ---- the members of a request
 
 -- the member of a name
 abbrev pub request_member : List ℕ → Option RequestMember
@@ -93,7 +93,7 @@ request_member name =
     else if bytes_eq name (codes "os") then Some request.Os
     else None
 
--- one more, of a value
+-- one more member, with its value
 abbrev pub request_with : Option RequestMember → Value → RequestMembers → RequestMembers
 request_with (Some request.Protocol) v m =
     record m { is_version_3_1 = is_protocol (as_str (view v)) }
@@ -117,7 +117,7 @@ abbrev pub request_facts_of : RequestMembers → RequestFacts
 request_facts_of m =
     record { requestid = m.requestid; sessionid = m.sessionid; platform = m.platform }
 
--- the request that they come to, or its fault
+-- the request of these members, or its fault
 abbrev pub request_found : RequestMembers → Result Request OmahaFault
 request_found m =
     if m.is_version_3_1

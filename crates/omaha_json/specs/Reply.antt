@@ -14,7 +14,7 @@ use Rattle.omaha_json.specs.Found.{FoundApp, found_apps}
 use Rattle.omaha_json.specs.Request.{Request}
 use Rattle.omaha_json.specs.Update.{only, told_status, update_value, release_at}
 
--- that the app is known, and where a run was made the answer to its `updatecheck`
+-- that the app is known, and, if a run was made, the reply to its `updatecheck`
 abbrev pub answered : List Release → Option ℕ → Members
 answered releases (Some choice) =
     member (codes "status") (string (codes "ok")) (
@@ -22,26 +22,26 @@ answered releases (Some choice) =
     no_members)
 answered releases None = member (codes "status") (string (codes "ok")) no_members
 
--- before it the answer to `ping`, where the request had one
+-- before it the reply to `ping`, if the request had one
 abbrev pub pinged : Bool → Members → Members
 pinged true rest = member (codes "ping") (told_status (codes "ok")) rest
 pinged false rest = rest
 
--- an app that the ruleset knows
+-- an app that is in the ruleset
 abbrev pub known_value : AppFacts → FoundApp → Data
 known_value app found = object (
     member (codes "appid") (string app.appid) (
     member (codes "cohort") (string (told_cohort found.bucket)) (
     pinged app.ping (answered found.releases found.choice))))
 
--- one that it doesn't know
+-- an app that isn't in the ruleset
 abbrev pub unknown_value : List ℕ → Data
 unknown_value appid = object (
     member (codes "appid") (string appid) (
     member (codes "status") (string (codes "error-unknownApplication"))
     no_members))
 
--- what is told of an app: one that the ruleset knows, or not
+-- the object of an app, in the ruleset or not
 abbrev pub app_value : AppFacts → Option FoundApp → Data
 app_value app (Some found) = known_value app found
 app_value app None = unknown_value app.appid
@@ -72,16 +72,16 @@ abbrev pub reply_value : List ℕ → List AppFacts → List (Option FoundApp) �
 reply_value server apps found moment =
     only (codes "response") (response_value server apps found moment)
 
--- what stands before the value, so that no script can read it as one of its own
+-- what precedes the value, so that no script can read it as its own
 abbrev pub guard : List ℕ
 guard = codes ")]}'" ++ 10 ∷ []
 
--- by what was found of each app
+-- by what was found for each app
 unfoldable pub found_text : List ℕ → List AppFacts → List (Option FoundApp) → ℤ → List ℕ
 found_text server apps found moment =
     guard ++ compact_text (reply_value server apps found moment)
 
--- under a ruleset. Each app's choice is that of its run, where one was made.
+-- under a ruleset. Each app's choice is that of its run, if one was made.
 abbrev pub reply_text : Request → Rules → List (Option ℕ) → ℤ → List ℕ
 reply_text request rules choices moment =
     found_text rules.server request.apps

@@ -1,4 +1,4 @@
--- Which request a body is, by this project's profile of Omaha 3.1, or what is wrong with it first.
+-- Which request a body is, by this project's profile of Omaha 3.1, or its first fault.
 use Rattle.std.specs.Prelude.{ℕ, suc, List, [], ◌∷◌, codes, Bool, false, nat_lt, Option, Some, None}
 use Rattle.std.specs.Prelude.{is_none, option_map, option_and_then, if◌then◌else◌, Result, Ok, Err}
 use Rattle.std.specs.Str.{is_utf8, bytes_eq}
@@ -11,7 +11,7 @@ use Rattle.omaha_json.specs.declared.fault.OmahaFault.{OmahaFault}
 use Rattle.omaha_json.specs.declared.fault.OmahaFault.TheVariants.{Json, Shape}
 use Rattle.omaha_json.specs.declared.fault.OmahaFault.TheVariants.{Protocol, TooManyApps}
 
--- what it says of itself, and of each app, in order
+-- the facts of the request itself, and of each app, in order
 pub record Request : Type 0 where
   pub facts : RequestFacts
   pub apps : List AppFacts
@@ -30,11 +30,11 @@ abbrev pub is_value : Option Data → Bool
 is_value (Some d) = is_none (as_null d)
 is_value None = false
 
--- it is there, and isn't null
+-- it exists, and isn't null
 abbrev pub has_value : List ℕ → Data → Bool
 has_value name d = is_value (get name d)
 
--- what an app says, if it is an object with an appid
+-- the facts of an app, if it is an object with an appid
 abbrev pub app_facts : Data → Option AppFacts
 app_facts app = option_map (λ appid. record {
   appid = appid;
@@ -56,7 +56,7 @@ request_facts request = record {
   platform = option_and_then (text_in (codes "platform")) (get (codes "os") request);
 }
 
--- what is made of a value, or the fault that it isn't there
+-- the result for a value, or the fault if there is none
 abbrev pub or_fault : {A B : Type 0}
     → OmahaFault → (A → Result B OmahaFault) → Option A → Result B OmahaFault
 or_fault fault made (Some a) = made a
@@ -66,7 +66,7 @@ or_fault fault made None = Err fault
 abbrev pub joined : {A : Type 0} → Option A → Option (List A) → Option (List A)
 joined first rest = option_and_then (λ a. option_map (λ others. a ∷ others) rest) first
 
--- the facts of all apps, if each is one
+-- the facts of all apps, if each has some
 abbrev pub all_facts : Items → Option (List AppFacts)
 all_facts no_items = Some []
 all_facts (item app apps) = joined (app_facts app) (all_facts apps)
@@ -75,7 +75,7 @@ abbrev pub count_of : Items → ℕ
 count_of no_items = 0
 count_of (item d ds) = suc (count_of ds)
 
--- the list of apps: none where there is no such member
+-- the list of apps, which is empty if there is no such member
 abbrev pub listed : Option Data → Option Items
 listed (Some apps) = as_array apps
 listed None = Some no_items
@@ -90,7 +90,7 @@ abbrev pub is_protocol : Option (List ℕ) → Bool
 is_protocol (Some text) = bytes_eq text (codes "3.1")
 is_protocol None = false
 
--- of the member `request`
+-- for the member `request`
 abbrev pub of_request : Data → Result Request OmahaFault
 of_request request =
     if is_protocol (text_in (codes "protocol") request)

@@ -18,7 +18,7 @@ item_tokens ds = items_tokens (items_outline ds)
 abbrev pub member_tokens : Members → List Token
 member_tokens ms = members_tokens (members_outline ms)
 
--- the writer stands behind these tokens more
+-- the writer has appended these tokens
 pub record Adds (old new : Written) (more : List Token) : Type 0 where
   pub before : new.before ≡ old.before
   pub tokens : new.tokens ≡ old.tokens ++ more

@@ -1,4 +1,4 @@
--- What an `updatecheck` of Omaha 3.1 is answered: a release of the app to fetch, or none.
+-- The reply to an `updatecheck` of Omaha 3.1: a release of the app to fetch, or none.
 use Rattle.std.specs.Prelude.{ℕ, ◌-◌, ◌==◌, List, codes, map, slice_get}
 use Rattle.std.specs.Prelude.{Option, Some, None, if◌then◌else◌}
 use Rattle.serde_json.specs.Data.{Data, boolean, number, string, array, object, unsigned}
@@ -35,7 +35,7 @@ abbrev pub urls_value : List ℕ → Data
 urls_value codebase =
     only (codes "url") (array (item (only (codes "codebase") (string codebase)) no_items))
 
--- what an `updatecheck` is answered: a release to fetch, or none
+-- the reply to an `updatecheck`: a release to fetch, or none
 abbrev pub update_value : Option Release → Data
 update_value (Some release) = object (
     member (codes "manifest") (manifest_value release) (

@@ -13,7 +13,7 @@ use json::{Token, Writer};
 use releases::Release;
 use std::alloc::AllocError;
 
-/// The apps of a request, each by what the ruleset has for it, and the bracket that closes their
+/// The apps of a request, each with what the ruleset has for it, and the bracket that closes their
 /// list.
 pub fn write_apps(
     writer: &mut Writer,
@@ -44,7 +44,7 @@ fn write_app(
     }
 }
 
-// An app that the ruleset doesn't know.
+// An app that isn't in the ruleset.
 fn write_unknown(writer: &mut Writer, appid: &str) -> Result<(), AllocError>
     ensures { OnOk result (Adds writer.old writer.new
         (tokens_of (specs.unknown_value appid.now))) }
@@ -62,7 +62,7 @@ fn write_unknown(writer: &mut Writer, appid: &str) -> Result<(), AllocError>
     )
 }
 
-// One that it knows.
+// An app that is in the ruleset.
 fn write_known(
     writer: &mut Writer,
     app: &SharedFacts,
@@ -86,7 +86,7 @@ fn write_known(
     Ok(())
 }
 
-// The members from `ping` on, and the brace behind them.
+// The members from `ping` on, and the closing brace.
 fn write_pinged(
     writer: &mut Writer,
     ping: bool,
@@ -105,7 +105,7 @@ fn write_pinged(
     Ok(())
 }
 
-// The members from `status` on, and the brace behind them.
+// The members from `status` on, and the closing brace.
 fn write_answered(
     writer: &mut Writer,
     releases: &[Release],

@@ -1,5 +1,5 @@
 //! The members of an app of a request, taken out of its JSON object one after another, so that no
-//! text is copied and none is looked for.
+//! text is copied and no member is searched for.
 
 ghost use Rattle.std.specs.Prelude.{◌≡◌};
 ghost use Rattle.serde_json.specs.Data.{no_members};
@@ -11,7 +11,7 @@ use crate::value::{is_value, members_of, text_of};
 use attrs::{AppFacts, Text};
 use serde_json::{Map, Value};
 
-/// A member of an app that says something.
+/// A member of an app that is used.
 #[derive(Clone, Copy)]
 enum AppMember {
     Appid,
@@ -45,7 +45,7 @@ fn app_member(name: &str) -> Option<AppMember>
     }
 }
 
-/// What was found of an app. Each member is as in `AppFacts`, but that the appid may be missing.
+/// What was found of an app. Each member is as in `AppFacts`, except that the appid may be missing.
 #[derive(Drop)]
 struct AppMembers {
     appid: Option<Text>,
@@ -79,7 +79,7 @@ impl AppMembers {
         }
     }
 
-    // One member more, of a value.
+    // Adds one member, with its value.
     fn add(&mut self, member: Option<AppMember>, value: Value)
         ensures { self.new ≡ specs.app_with member (view value) self.old }
     {
@@ -98,7 +98,7 @@ impl AppMembers {
         }
     }
 
-    // What it says, if it has an appid.
+    // The facts, if there is an appid.
     fn facts(self) -> Option<AppFacts>
         ensures { result ≡ specs.facts_of self }
     {
@@ -132,7 +132,7 @@ impl AppMembers {
     }
 }
 
-// What all members of an app come to, from the last one on.
+// What is found in all members of an app, from the last one on.
 fn app_members(members: Map<String, Value>) -> AppMembers
     ensures { result ≡ specs.app_members (members_view members.entries) }
 {
@@ -144,7 +144,8 @@ fn app_members(members: Map<String, Value>) -> AppMembers
     found
 }
 
-/// What an app says, if it is an object with an appid. Its texts are moved, and it takes no memory.
+/// The facts of an app, if it is an object with an appid. Its texts are moved, and nothing is
+/// allocated.
 pub fn app_facts(app: Value) -> Option<AppFacts>
     ensures { result ≡ app_facts (view app) }
 {

@@ -1,4 +1,4 @@
-//! The cohort that an app is told, which names its bucket.
+//! The cohort in an app's reply, which names its bucket.
 
 ghost use Rattle.std.specs.Prelude.{◌≡◌};
 ghost use Rattle.std.specs.Str.{IsAscii};

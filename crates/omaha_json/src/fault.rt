@@ -6,20 +6,22 @@ ghost use Rattle.omaha_json.specs.Faults.{omaha_line};
 use std::error::Error;
 use std::fmt::{self, Display};
 
-/// Why a body is no request. Where several hold, the first is told: that it is JSON, that `request`
-/// is an object, the protocol, that `app` is a list, how long it is, and then its items.
+/// Why a body isn't a request. If there are several faults, the first is returned. The checks are,
+/// in order: that it is JSON, that `request` is an object, the protocol, that `app` is a list, how
+/// long it is, and then its items.
 #[derive(Clone, Copy, Debug, Drop, PartialEq, Eq)]
 pub enum OmahaFault {
-    /// O1: it is no JSON text, nests deeper than 127 levels, or has a number too large for a float.
+    /// O1: it isn't a JSON text, nests deeper than 127 levels, or has a number too large for a
+    /// float.
     Json,
-    /// O2: `request` or an `appid` is missing or of another kind, `app` is no list, or an app is no
-    /// object.
+    /// O2: `request` or an `appid` is missing or of another kind, `app` isn't a list, or an app
+    /// isn't an object.
     Shape,
     /// O3: `protocol` isn't the text `3.1`.
     Protocol,
     /// O4: there are more than 256 apps.
     TooManyApps,
-    /// O5: memory was refused; of the reply too.
+    /// O5: an allocation failed, also one for the reply.
     Memory,
 }
 

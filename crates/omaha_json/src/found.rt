@@ -1,4 +1,4 @@
-//! What a ruleset has for the apps of a request, so that each is looked up once an answer.
+//! What a ruleset has for the apps of a request, so that each is looked up once a reply.
 
 ghost use Rattle.std.specs.Prelude.{◌≡◌, ◌<◌, length, slice_index_or, IfOk};
 ghost use Rattle.attrs.specs.Bucket.{hashed_bucket};
@@ -10,8 +10,7 @@ use ruleset::{App, Ruleset};
 use std::alloc::{AllocError, Global};
 use std::marker::Model;
 
-/// What a reply tells of an app that the ruleset knows: the release that was chosen, and the
-/// bucket.
+/// What a reply says of an app that is in the ruleset: the release that was chosen, and the bucket.
 #[derive(Drop)]
 pub struct FoundApp<'a> {
     releases: &'a [Release],
@@ -33,7 +32,7 @@ impl<'a> Model for FoundApp<'a> {
 
 impl<'a> FoundApp<'a> {
     /// The app that a ruleset has for an appid, the bucket of the request's app, and the choice of
-    /// its run: `None` where none was made, since it asked for none.
+    /// its run. The choice is `None` if no run was made, since the app requested no update.
     pub fn new(known: &'a App, bucket: Bucket, choice: Option<u8>) -> FoundApp<'a>
         ensures { result ≡ specs.found_with known.now choice bucket }
     {
@@ -58,7 +57,7 @@ impl<'a> FoundApp<'a> {
         self.bucket
     }
 
-    /// The choice of its run: `None` where none was made.
+    /// The choice of its run; `None` if no run was made.
     pub fn choice(&self) -> Option<u8>
         ensures { result ≡ self.now.choice }
     {

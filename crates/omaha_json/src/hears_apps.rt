@@ -1,5 +1,5 @@
-//! Who is shown the apps of a request as their client wrote them, before their facts are taken out
-//! of the JSON value: a log, which tells more of an app than its facts.
+//! Observers of the raw JSON of a request's apps, such as a log, which has more of an app than its
+//! facts.
 
 ghost use Rattle.std.specs.Prelude.{◌≡◌, IfOk, option_map, string_bytes};
 ghost use Rattle.serde_json.specs.View.{view};
@@ -23,10 +23,9 @@ impl<'a> WrittenApp<'a> {
         WrittenApp { value }
     }
 
-    /// The text of its member `event`, where that is there and isn't null: JSON without blanks,
-    /// each object by the order of its members' names, and numbers and escapes as this writer
-    /// spells them.
-    // open: whether memory is refused; how a float is spelled.
+    /// The text of its member `event`, if that exists and isn't null. It is JSON without blanks,
+    /// with members ordered by name, and numbers and escapes as this writer prints them.
+    // open: whether an allocation fails; how a float is printed.
     pub fn event_text(&self, alloc: Global) -> Result<Option<String>, AllocError>
         ensures { IfOk result (λ t.
             IsEventText (event_in (view self.now.value.now)) (option_map string_bytes t)) }
@@ -37,7 +36,7 @@ impl<'a> WrittenApp<'a> {
         }
     }
 
-    /// Whether its member of this name is there and counts as absent, since it is no text.
+    /// Whether its member of this name exists and counts as absent, since it isn't a text.
     pub fn ignores_text(&self, name: &str) -> bool
         ensures { result ≡ ignores_text name.now (view self.now.value.now) }
     {
@@ -47,7 +46,8 @@ impl<'a> WrittenApp<'a> {
         }
     }
 
-    /// Whether `installdate` is ignored, since it is no whole number from 0 on that fits 64 bits.
+    /// Whether `installdate` is ignored, since it isn't a whole number of at least 0 that fits 64
+    /// bits.
     pub fn ignores_installdate(&self) -> bool
         ensures { result ≡ ignores_installdate (view self.now.value.now) }
     {
@@ -58,7 +58,7 @@ impl<'a> WrittenApp<'a> {
     }
 }
 
-// The member `event` of an app, where it is there and isn't null.
+// The member `event` of an app, if it exists and isn't null.
 fn event_of(app: &Value) -> Option<&Value>
     ensures { option_map (λ v. view v.now) result ≡ event_in (view app.now) }
 {
@@ -68,8 +68,7 @@ fn event_of(app: &Value) -> Option<&Value>
     }
 }
 
-/// Who is shown each app of a request, in its order. What it does with that changes nothing of what
-/// is read.
+/// Observes each app of a request, in its order. It can't change what is read.
 pub trait HearsApps {
     /// The next app was read.
     fn hear_app(&mut self, app: WrittenApp<'_>);

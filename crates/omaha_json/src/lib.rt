@@ -1,6 +1,6 @@
 //! Requests and replies of Omaha 3.1 in JSON, by this project's profile of it: from the bytes of a
-//! body to a request, or the first fault; and from a request, a ruleset and the choices that its
-//! runs came to, to the bytes of the reply.
+//! body to a request, or the first fault; and from a request, a ruleset and the choices of its runs
+//! to the bytes of the reply.
 //!
 //! See docs/DECISIONS.md, "Requests".
 #![tactic(auto)]

@@ -18,10 +18,10 @@ use releases::MOST_APPS;
 use serde_json::{Map, Value};
 use std::alloc::Global;
 
-/// The request that a body is. A member that stands twice has its last value, and members that the
-/// profile doesn't name are ignored. The witness is shown the apps; where the request is refused,
-/// some of them.
-// open: whether memory is refused (O5); which apps the witness is shown: tests.
+/// The request that a body is. A duplicate member has its last value, and members that the profile
+/// doesn't name are ignored. The witness is passed the apps; if the request is refused, some of
+/// them.
+// open: whether an allocation fails (O5); which apps the witness is passed: tests.
 pub fn read_request<H: HearsApps>(
     alloc: Global,
     body: &[u8],
@@ -62,7 +62,7 @@ fn of_request<H: HearsApps>(
     of_members(alloc, request_members(request), witness)
 }
 
-// The request of which these members were found.
+// The request with these members.
 #[tactic(auto, using(crate::proofs::Bodies::count_of_view))]
 fn of_members<H: HearsApps>(
     alloc: Global,
@@ -98,7 +98,7 @@ fn of_members<H: HearsApps>(
     }
 }
 
-// The list of apps: none where there is no such member.
+// The list of apps, which is empty if there is no such member.
 fn listed(alloc: Global, apps: Option<Value>) -> Option<Vec<Value>>
     ensures { option_map (λ apps. items_view apps.items) result
         ≡ listed (option_map view apps) }

@@ -16,15 +16,16 @@ use json::{Token, Writer};
 use ruleset::Ruleset;
 use std::alloc::{AllocError, Global};
 
-/// What stands before the JSON text, so that no script can read it as one of its own.
+/// What precedes the JSON text, so that no script can read it as its own.
 const GUARD: &[u8] = b")]}'\n";
 
-/// Room that most replies of a few apps fit in.
+/// Enough bytes for most replies of a few apps.
 const USUAL_LENGTH: usize = 512;
 
 /// The reply to a request under a ruleset at a moment, with the choice of each app's run, in the
-/// apps' order: `None` where no run was made, since the app asked for none or isn't known.
-// open: whether memory is refused (O5).
+/// apps' order. The choice is `None` if no run was made, since the app requested no update or isn't
+/// in the ruleset.
+// open: whether an allocation fails (O5).
 pub fn reply_text(
     alloc: Global,
     request: &Request,
@@ -48,9 +49,9 @@ pub fn reply_text(
     }
 }
 
-/// The reply by what was found of each app, in the room of an earlier text. `None` stands for an
-/// app that the ruleset doesn't know; the name is the server's.
-// open: whether memory is refused (O5).
+/// The reply by what was found for each app, in the buffer of an earlier text. `None` is an app
+/// that isn't in the ruleset; the name is the server's.
+// open: whether an allocation fails (O5).
 pub fn found_text(
     mut text: Vec<u8>,
     server: &str,
@@ -119,7 +120,7 @@ fn write_response(
     Ok(())
 }
 
-// The day and the second of it that have begun.
+// The current day and its current second.
 fn write_daystart(writer: &mut Writer, moment: &Moment) -> Result<(), AllocError>
     ensures { OnOk result (Adds writer.old writer.new
         (tokens_of (specs.daystart_value moment.now))) }

@@ -1,4 +1,4 @@
-//! A request as it was read.
+//! A request after it was read.
 
 ghost use Rattle.std.specs.Prelude.{◌≡◌};
 
@@ -30,14 +30,14 @@ impl Request {
         Request { facts, apps }
     }
 
-    /// What it says of itself.
+    /// The facts of the request itself.
     pub fn facts(&self) -> &RequestFacts
         ensures { result.now ≡ self.now.facts }
     {
         &self.facts
     }
 
-    /// What it says of each of its apps, in its order.
+    /// The facts of each of its apps, in its order.
     pub fn apps(&self) -> &[SharedFacts]
         ensures { result.now ≡ self.now.apps }
     {

@@ -1,5 +1,5 @@
 //! The members of a request, taken out of its JSON object one after another, so that no text is
-//! copied and none is looked for.
+//! copied and no member is searched for.
 
 ghost use Rattle.std.specs.Prelude.{◌≡◌};
 ghost use Rattle.serde_json.specs.Data.{no_members};
@@ -12,7 +12,7 @@ use crate::value::{text_in, text_of};
 use attrs::Text;
 use serde_json::{Map, Value};
 
-/// A member of a request that says something.
+/// A member of a request that is used.
 #[derive(Clone, Copy)]
 enum RequestMember {
     Protocol,
@@ -63,7 +63,7 @@ impl RequestMembers {
         }
     }
 
-    // One member more, of a value.
+    // Adds one member, with its value.
     fn add(&mut self, member: Option<RequestMember>, value: Value)
         ensures { self.new ≡ specs.request_with member value self.old }
     {
@@ -78,7 +78,7 @@ impl RequestMembers {
     }
 }
 
-/// What all members of a request come to, from the last one on.
+/// What is found in all members of a request, from the last one on.
 pub(crate) fn request_members(members: Map<String, Value>) -> RequestMembers
     ensures { specs.AreMembersOf (members_view members.entries) result }
 {

@@ -1,5 +1,5 @@
-//! What an `updatecheck` is answered: the release that a choice names, or none. Each function
-//! writes one object, with its members in the order of their names.
+//! The reply to an `updatecheck`: the release that a choice names, or none. Each function writes
+//! one object, with its members in the order of their names.
 
 ghost use Rattle.std.specs.Prelude.{◌≡◌, map, option_copied, OnOk};
 ghost use Rattle.serde_json.specs.View.{items_of};
@@ -11,7 +11,7 @@ use json::{Token, Writer};
 use releases::{Package, Release};
 use std::alloc::AllocError;
 
-/// An object that has a status alone.
+/// An object with only a status.
 pub fn write_status(writer: &mut Writer, word: &str) -> Result<(), AllocError>
     ensures { OnOk result (Adds writer.old writer.new (tokens_of (specs.told_status word.now))) }
 {
@@ -26,7 +26,7 @@ pub fn write_status(writer: &mut Writer, word: &str) -> Result<(), AllocError>
     )
 }
 
-/// The answer to an `updatecheck`: this release, or none.
+/// The reply to an `updatecheck`: this release, or none.
 pub fn write_update(writer: &mut Writer, release: Option<&Release>) -> Result<(), AllocError>
     ensures { OnOk result (Adds writer.old writer.new
         (tokens_of (specs.update_value (option_copied release.entry)))) }
@@ -67,7 +67,7 @@ fn write_offer(writer: &mut Writer, release: &Release) -> Result<(), AllocError>
     Ok(())
 }
 
-// What the release is.
+// The release's version and packages.
 fn write_manifest(writer: &mut Writer, release: &Release) -> Result<(), AllocError>
     ensures { OnOk result (Adds writer.old writer.new
         (tokens_of (specs.manifest_value release.now))) }
@@ -129,7 +129,7 @@ fn write_package(writer: &mut Writer, file: &Package) -> Result<(), AllocError>
     Ok(())
 }
 
-// Where its files are.
+// The address of its files.
 fn write_urls(writer: &mut Writer, codebase: &str) -> Result<(), AllocError>
     ensures { OnOk result (Adds writer.old writer.new (tokens_of (specs.urls_value codebase.now))) }
 {

@@ -1,5 +1,5 @@
-//! What a JSON value is, taken out of it: so a text of a request is moved, and not copied. A value
-//! of another kind counts as absent.
+//! The contents of a JSON value, moved out of it: so a text of a request isn't copied. A value of
+//! another kind counts as absent.
 
 ghost use Rattle.std.specs.Prelude.{◌≡◌, Some, option_map};
 ghost use Rattle.serde_json.specs.Data.{object};
@@ -10,7 +10,7 @@ ghost use Rattle.omaha_json.specs.Request as specs;
 use attrs::Text;
 use serde_json::{Map, Value};
 
-/// The text, if it is one.
+/// The text, if the value is one.
 pub(crate) fn text_of(value: Value) -> Option<Text>
     ensures { result ≡ as_str (view value) }
 {

@@ -1,4 +1,4 @@
--- What an operator asks a server, and the lines that spell it.
+-- An operator's requests to a server, and the lines that spell them.
 use Rattle.std.specs.Prelude.{◌≡◌, ◌≢◌, ℕ, ◌≤◌, List, [], ◌++◌, length, codes}
 use Rattle.std.specs.Prelude.{Bool, ◌==◌, IsFalse}
 use Rattle.std.specs.List.{list_any}
@@ -41,7 +41,7 @@ SpellsNoRequest line = (request : OperatorRequest) → ¬ SpellsRequest line req
 abbrev pub IsSendable : OperatorRequest → Type 0
 IsSendable request = SpellsRequest (request_words request) request
 
--- a path that stands in a line behind `load `
+-- a path that can follow `load ` in a line
 pub record IsPath (path : List ℕ) : Type 0 where
   pub some : path ≢ []
   pub short : length path ≤ 4091

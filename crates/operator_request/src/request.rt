@@ -1,4 +1,4 @@
-//! `load PATH`, `show`, `cells` and `stop`. A line that is none of them is refused as B1.
+//! `load PATH`, `show`, `cells` and `stop`. Any other line is refused as B1.
 
 ghost use Rattle.std.specs.Prelude.{◌≡◌, ◌↔◌, IfOk, IfSome, IfNone, IsTrue, string_bytes};
 ghost use Rattle.operator_request.specs.Requests.{IsPath, IsSendable, request_words};
@@ -13,24 +13,24 @@ pub const LINE_LIMIT: usize = 4096;
 /// The most bytes of a path, so that `load PATH` is a line.
 const PATH_LIMIT: usize = LINE_LIMIT - 5;
 
-/// What a server is asked at its operator's port.
+/// A request at a server's operator's port.
 #[derive(Clone, Copy, Debug, PartialEq, Eq)]
 pub enum OperatorRequest<'a> {
-    /// `load PATH`: install the ruleset of the manifest at this path, as the server sees it.
+    /// `load PATH`: install the ruleset of the manifest at this path in the server's file system.
     Load(&'a str),
-    /// `show`: tell the generation and the apps.
+    /// `show`: reply with the generation and the apps.
     Show,
-    /// `cells`: tell the counters that aren't 0.
+    /// `cells`: reply with the counters that aren't 0.
     Cells,
     /// `stop`: end the server.
     Stop,
 }
 
 impl<'a> OperatorRequest<'a> {
-    /// The request of a line, which is passed without its line feed. None if the line has more than
-    /// 4096 bytes or a line feed, is none of the words, or is `load` without a path or with one
-    /// that isn't UTF-8.
-    // open: whether memory is refused.
+    /// The request of a line, which is passed without its line feed. Returns `None` if the line has
+    /// more than 4096 bytes or a line feed, or isn't one of the words. Also for `load` without a
+    /// path or with a path that isn't UTF-8.
+    // open: whether an allocation fails.
     pub fn of(line: &'a [u8]) -> Option<OperatorRequest<'a>>
         ensures some { IfSome result (SpellsRequest line.now) }
         ensures none { IfNone result (SpellsNoRequest line.now) }
@@ -65,7 +65,7 @@ impl<'a> OperatorRequest<'a> {
     }
 
     /// The words of its line, without the line feed.
-    // open: whether memory is refused.
+    // open: whether an allocation fails.
     pub fn words(self, alloc: Global) -> Result<String, AllocError>
         ensures { IfOk result (λ words. string_bytes words ≡ request_words self.entry) }
     {

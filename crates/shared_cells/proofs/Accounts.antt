@@ -1,4 +1,4 @@
--- What the seats know, counted.
+-- What the seats, which are ghost tokens, know, counted.
 use Rattle.std.proofs.Common.{◌≡◌, ◌≢◌, ℕ, zero, suc, ◌+◌, ◌<◌, ◌≤◌, Bool, true, false}
 use Rattle.std.proofs.Common.{List, [], ◌∷◌, ◌++◌, length, get_or, set, sym}
 use Rattle.std.proofs.Common.{ap, ◌∙◌, arith, length-set, get_or-set_other}
@@ -10,7 +10,7 @@ use lib.ListN.{get_elem?}
 use Rattle.shared_cells.specs.declared.rule.Account.{Account}
 use Rattle.shared_cells.specs.Rule.{accounts_of, one_if}
 
--- an element that is there
+-- an element that exists
 pub found : {A : Type 0} (l : List A) (i : ℕ) (a d : A) → get_elem? l i ≡ some a
     → (get_or l i d ≡ a) × (i < length l)
 found [] i a d e = absurd (some-ne-none a (sym e))
@@ -25,7 +25,7 @@ module _ (f : List Account → ℕ) where
       let t = found vs i v [] at in
       ap (λ (u : List Account). sum_by f (set vs i w) + f u) (sym t.0) ∙ sum_by-set f vs i w [] t.1
 
-  -- what two seats know is at most what all know
+  -- two seats know at most what all know
   pub two_seats : (vs : List (List Account)) (i j : ℕ) (u v : List Account) → j ≢ i → f [] ≡ 0
       → get_elem? vs i ≡ some u → get_elem? vs j ≡ some v → f u + f v ≤ sum_by f vs
   two_seats vs i j u v ne none here there =

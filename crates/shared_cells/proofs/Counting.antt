@@ -1,5 +1,5 @@
--- A cell that is only loaded and counted up by 1 counts the Adds, and each limit lets as many
--- through.
+-- A cell with only Loads and Adds of 1 counts the Adds, and each limit is passed by exactly as
+-- many.
 use Rattle.std.proofs.Common.{◌≡◌, ◌≢◌, ℕ, ◌+◌, ◌%◌, ◌^◌, ◌<◌, Bool, true, false, min}
 use Rattle.std.proofs.Common.{List, [], ◌∷◌, length, sym, ap, ◌∙◌, subst, arith}
 use Rattle.std.proofs.Common.{add-zero, get_or-set_same, get_or-set_other, length-set}
@@ -70,7 +70,7 @@ is_same a = grind (arith, nat_tests)
 is_other : (a b : ℕ) → a ≢ b → (a == b) ≡ false
 is_other a b ne = grind (arith, nat_tests)
 
--- an event on cells, seen from a counter
+-- an event on cells, and a counter among them
 counts_event : (c top : ℕ) (old : List ℕ) (e : CellEvent) (new : List ℕ) → c < 4096
     → length old ≡ 8192
     → IsEvent old e new → (e.cell ≡ c → OnlyCounts e.op)
@@ -157,7 +157,7 @@ from_none y a v top none along = at_zero
     at_zero : y + min top 0 ≡ min top (0 + a) → y ≡ min top a
     at_zero first = omega arith
 
--- what the quotas promise, of cells that are closed
+-- what the quotas promise, for closed cells
 pub exact : (passes : List PassView) (values : List ℕ) → AreLeftBy passes values
     → QuotasAreExact passes values
 exact passes values closed c counter =

@@ -1,4 +1,4 @@
--- The rule holds at first, and while seats are cut and joined.
+-- The rule is true at first, and while seats, which are ghost tokens, are split and joined.
 use Rattle.std.proofs.Common.{◌≡◌, ◌≢◌, ℕ, zero, suc, ◌+◌, ◌-◌, ◌<◌}
 use Rattle.std.proofs.Common.{List, [], ◌∷◌, ◌++◌, length, set, refl, sym, ap, ◌∙◌}
 use Rattle.std.proofs.Common.{subst, ⊎_elim, arith, length-append, zero-add, add-zero}
@@ -57,7 +57,7 @@ new_once n p =
 one_seat : (f : List Account → ℕ) (v : List Account) → sum_by f (v ∷ []) ≡ f v
 one_seat f v = sum_by-cons f v [] ∙ add-zero (f v)
 
--- the rule at first: nothing has happened
+-- the rule at first: there are no events
 pub begins : {S : Type 0} (n : ℕ) (ws : List ℕ) → AreZeros 8192 ws
     → HasHistory {S = S} n (opening ws [] (new_accounts 0 n))
 begins n ws zeros = record {
@@ -98,12 +98,12 @@ first_agrees history (x ∷ xs) h =
     All-cons (AgreesWith history) x [] (All-head (AgreesWith history) x xs h)
     (All-nil (AgreesWith history))
 
--- what is counted of one account and of others adds up
+-- the counts of one account and of others add up
 count_adds : (p : ℕ) (x : Account) (xs : List Account)
     → accounts_of p (x ∷ xs) ≡ accounts_of p (x ∷ []) + accounts_of p xs
 count_adds p x xs = let a = count-cons p x xs in let b = count-cons p x [] in omega arith
 
--- the first account goes to a seat of its own
+-- the first account goes to a new seat
 pub splits : {S : Type 0} (n id : ℕ) (v : List Account)
     → Splits (HasHistory {S = S} n) id v (all_but_first v) (first_only v)
 splits n id v s rule at =
@@ -139,7 +139,7 @@ splits n id v s rule at =
       known = rule.known;
     }
 
--- one seat takes in what another knows
+-- one seat takes over what another knows
 pub joins : {S : Type 0} (n id : ℕ) (v : List Account) (other : ℕ) (w : List Account)
     → Joins (HasHistory {S = S} n) id v other w (w ++ v) []
 joins n id v other w s rule at two there =

@@ -17,7 +17,7 @@ use Rattle.shared_cells.proofs.Accounts.{found, sum_set, counts-le, at_most_one}
 use Rattle.shared_cells.proofs.Places.{by_place, same_events, own_by_place, length_known}
 use Rattle.shared_cells.proofs.Words.{stored_value-stored_word}
 
--- where one seat has as many accounts as there are, it has them all
+-- if one seat (a ghost token) has as many accounts as there are, it has them all
 all_in : (p : ℕ) (vs : List (List Account)) (id : ℕ) (v : List Account) → get_elem? vs id ≡ some v
     → sum_by (λ (u : List Account). length u) vs ≡ length v
     → sum_by (accounts_of p) vs ≡ accounts_of p v
@@ -52,7 +52,7 @@ length_stored : (c : ℕ) (ws : List ℕ) → length (stored_values c ws) ≡ le
 length_stored c [] = refl
 length_stored c (w ∷ ws) = ap suc (length_stored (suc c) ws)
 
--- two lists that are as long and agree at each place are one
+-- two lists of the same length that agree at each place are equal
 same_lists : (xs ys : List ℕ) → length xs ≡ length ys
     → ((i : ℕ) → i < length ys → slice_index xs i ≡ slice_index ys i) → xs ≡ ys
 same_lists [] [] long same = refl
@@ -104,7 +104,7 @@ closes n id v passes ws xs all same final =
           ∙ ap (λ (l : List (List CellEvent)). get_or l p []) same;
     }
 
--- a pass that is taken from the end goes before those that are known
+-- a pass that is removed from the end goes before those that are known
 pub absorbed : (xs ys : List PassView) (x : PassView) (mine seen : List Account)
     (all : List (List CellEvent))
     → xs ≡ ys ++ x ∷ [] → events_known mine ≡ x.events ∷ []

@@ -1,5 +1,5 @@
--- A legal history stays legal when the Loads of one pass are taken out, and the other passes keep
--- their events.
+-- A legal history stays legal without the Loads of one pass, and the other passes keep their
+-- events.
 use Rattle.std.proofs.Common.{◌≡◌, ◌≢◌, ℕ, Bool, true, false, not, ◌&&◌}
 use Rattle.std.proofs.Common.{List, [], ◌∷◌, refl, subst, ◌∙◌, ap, cond, arith}
 use Rattle.std.specs.Prelude.{◌==◌, if◌then◌else◌, slice_index, slice_set}

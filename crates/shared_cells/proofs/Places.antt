@@ -1,4 +1,4 @@
--- A history whose passes have numbers, told by their places in a list of accounts.
+-- A history whose passes are renumbered by their places in a list of accounts.
 use Rattle.std.proofs.Common.{◌≡◌, ◌≢◌, ℕ, zero, suc, ◌+◌, ◌<◌, ◌≤◌}
 use Rattle.std.proofs.Common.{Bool, true, false, List, [], ◌∷◌, length, get_or}
 use Rattle.std.proofs.Common.{zero-add, refl, sym, ap, ◌∙◌, arith, inl, inr, ◌⊎◌}
@@ -26,7 +26,7 @@ pub same_events : (v : List Account) (history : List Entry)
 same_events v [] = refl
 same_events v (x ∷ history) = ap (λ (es : List CellEvent). x.event ∷ es) (same_events v history)
 
--- where a place is that of one number alone, its events are those of the number
+-- if only one number has a place, the events of the place are those of the number
 moved : (v : List Account) (p k : ℕ) (history : List Entry)
     → ((m : ℕ) → (place v m == p) ≡ (m == k))
     → events_by p (by_place v history) ≡ events_by k history
@@ -70,7 +70,7 @@ counted (x ∷ v) zero d lt = let c = count-cons x.number x v in let s = one_its
 counted (x ∷ v) (suc p) d lt = let c = count-cons (get_or v p d).number x v in let h =
     counted v p d (omega arith) in omega arith
 
--- the place of a number that stands once
+-- the place of a number that occurs once
 place_is : (v : List Account) (p : ℕ) (d : Account) → p < length v
     → accounts_of (get_or v p d).number v ≤ 1
     → (m : ℕ) → (place v m == p) ≡ (m == (get_or v p d).number)
@@ -86,7 +86,7 @@ place_is (x ∷ v) (suc p) d lt once m =
     (λ same. differ x.number k m (accounts_of k v) le some same)
     (place_is v p d (omega arith) (omega arith) m)
 
--- a number that has no place stands in no account
+-- a number without a place occurs in no account
 missing : (v : List Account) (m : ℕ) → length v ≤ place v m → accounts_of m v ≡ 0
 missing [] m le = refl
 missing (x ∷ v) m le = by (x.number == m) (count-cons m x v)
@@ -98,7 +98,7 @@ missing (x ∷ v) m le = by (x.number == m) (count-cons m x v)
     by true is rest le = absurd (omega arith)
     by false is rest le = is ∙ zero-add (accounts_of m v) ∙ rest (omega arith)
 
--- an entry is either dropped or stands at the head of its pass's events
+-- an entry is either dropped or is the first of its pass's events
 dropped : (b : Bool) (x : CellEvent) (es : List CellEvent) → (if b then x ∷ es else es) ≡ []
     → es ≡ []
 dropped true x es e = absurd (cc)
@@ -114,7 +114,7 @@ not_itself m x es e = by (m == m) (same m) e
     by true is e = absurd (cc)
     by false is e = absurd (cc)
 
--- past the accounts there is no event, where each that is there has its account
+-- past the accounts there are no events, if each pass with events has an account
 none_past : (v : List Account) (p : ℕ) (history : List Entry) → length v ≤ p
     → ((m : ℕ) → accounts_of m v ≡ 0 → events_by m history ≡ [])
     → events_by p (by_place v history) ≡ []
@@ -151,8 +151,8 @@ pub length_known : (v : List Account) → length (events_known v) ≡ length v
 length_known [] = refl
 length_known (x ∷ v) = ap suc (length_known v)
 
--- accounts that agree, each number once at most and none left out, are what the history by places
--- has
+-- accounts that agree, each number at most once and none left out, are the lists of the renumbered
+-- history
 pub own_by_place : (v : List Account) (history : List Entry) → All (AgreesWith history) v
     → ((m : ℕ) → accounts_of m v ≤ 1)
     → ((m : ℕ) → accounts_of m v ≡ 0 → events_by m history ≡ [])

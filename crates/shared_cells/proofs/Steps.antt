@@ -29,7 +29,7 @@ use Rattle.shared_cells.proofs.Words.{stored_value-stored_word}
 abbrev pub DoesTo : ℕ → (ℕ → ℕ) → CellOp → Type 0
 DoesTo cell f op = (v : ℕ) → f (stored_word cell v) ≡ stored_word cell (after (limit cell) v op)
 
--- the words stand for the values after the step, too
+-- the words also have the values after the step
 stored_after : (words values : List ℕ) (cell : ℕ) (op : CellOp) (f : ℕ → ℕ)
     → length words ≡ 8192 → length values ≡ 8192 → cell < 8192
     → ((c : ℕ) → c < 8192 → slice_index words c ≡ stored_word c (slice_index values c))
@@ -60,7 +60,7 @@ stored_after words values cell op f size count room stored does c lt =
 apart : (a p : ℕ) (n : ℕ) → one_if (a == p) + n ≡ 0 → p ≢ a
 apart a p n none same = grind (arith, nat_tests)
 
--- accounts of other passes go on agreeing
+-- accounts of other passes still agree
 others_agree : (p : ℕ) (history : List Entry) (e : CellEvent) (v : List Account)
     → accounts_of p v ≡ 0 → All (AgreesWith history) v
     → All (AgreesWith (history ++ by_pass p e ∷ [])) v
@@ -82,7 +82,7 @@ itself p made =
 below : (p n : ℕ) → one_if (nat_lt p n) ≢ 0 → p < n
 below p n counted = grind (arith, nat_tests)
 
--- a seat that knows the account of one pass acts on a cell
+-- a seat (a ghost token) that knows the account of one pass acts on a cell
 one_acts : {S : Type 0} (n slots id p : ℕ) (made : List CellEvent) (held : List (ℕ × S))
     (cell : ℕ) (op : CellOp) (f : ℕ → ℕ) → cell < 8192 → DoesTo cell f op
     → Allows (HasHistory n) slots id (account p made ∷ [], held) cell f
@@ -148,7 +148,7 @@ one_acts {S} n slots id p made held cell op f room does s rule homes at small =
       refl,
     )
 
--- the same of a seat of which it is known that it knows one pass
+-- as above, for a seat with the premise that it knows one pass
 acts : {S : Type 0} (n slots id : ℕ) (me : Me S (List Account)) (cell : ℕ) (op : CellOp) (f : ℕ → ℕ)
     → KnowsOne me → cell < 8192 → DoesTo cell f op
     → Allows (HasHistory n) slots id me cell f (Gains cell op me)
@@ -158,7 +158,7 @@ acts {S} n slots id me cell op f is room does =
     (Gains cell op (v, me.1)))
     (sym is) (one_acts n slots id (first_number me.0) (first_events me.0) me.1 cell op f room does)
 
--- ---- what a call on the table asks: that the seat is at it, that the word is there, and the step
+-- ---- premises of a call on the table: that the seat is at it, that the word exists, and the step
 
 at_table : {cells now : CellsView} {seat pass : PassView}
     → cells ≡ now → seat ≡ pass → IsPassOf now pass → seat.table ≡ cells.table
@@ -169,7 +169,7 @@ module _ {S : Type 0} {cells now : CellsView} {seat pass : PassView} {n slots id
     {op : CellOp} (me : Me S (List Account)) (at : ℕ) (cells_are : cells ≡ now)
     (seat_is : seat ≡ pass) (belongs : IsPassOf now pass) (many : cells.table.words ≡ 8192)
     (room : at < 8192) (one : KnowsOne me) (here : cell ≡ at) where
-  -- the step of an operation that was asked
+  -- the step of the call's operation
   pub allowed : {asked : CellOp} (f : ℕ → ℕ) → op ≡ asked → DoesTo at f asked
       → (seat.table ≡ cells.table) × (at < cells.table.words)
       × Allows (HasHistory n) slots id me at f (Gains cell op me)

@@ -25,7 +25,7 @@ add-mod_second v x m =
     sym (add-mul-mod_self_right (v + x % m) (x / m) m)
     ∙ ap (λ (n : ℕ). n % m) (omega (arith, parts))
 
--- in the upper half, a number of 32 bits is taken as in a word of its own
+-- a number in the upper half wraps as in a word of 32 bits
 upper-mod : (n : ℕ) → n * 2 ^ 32 % 2 ^ 64 ≡ n % 2 ^ 32 * 2 ^ 32
 upper-mod n =
     let high = shl-shr n 32 in
@@ -99,7 +99,7 @@ exchanges c old new v j k was is =
     ap (λ (p : ℕ × ℕ). either (stored_word c v == p.0) p.1 (stored_word c v)) (λ i. (was i, is i))
     ∙ exchange_by (nat_lt c 4096) (old % limit c) (new % limit c) v
 
--- a cell's word tells its value
+-- a cell's word determines its value
 pub stored_value-stored_word : (c v : ℕ) → stored_value c (stored_word c v) ≡ v
 stored_value-stored_word c v = by_width (nat_lt c 4096)
   where

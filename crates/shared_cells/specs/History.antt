@@ -1,5 +1,5 @@
--- What one thread could have done in the place of many: events one after the other, each with the
--- number of the pass that made it.
+-- What one thread could have done instead of many: events one after the other, each with the number
+-- of the pass that made it.
 use Rattle.std.specs.Prelude.{ℕ, ◌==◌, if◌then◌else◌, List, [], ◌∷◌}
 use Rattle.cells.specs.declared.event.CellEvent.{CellEvent}
 use Rattle.cells.specs.Events.{IsEvent, AreZeros}
@@ -22,7 +22,8 @@ events_by p (x ∷ history) =
     if x.pass == p then x.event ∷ events_by p history else events_by p history
 
 -- the events are legal from cells that are all 0, and leave these values: each replies by the
--- values that those before it left, and leaves the next ones
+-- values that earlier events left, and leaves the next ones. With the order of each pass, this is a
+-- linearization without real-time order
 pub record IsLegal (made : List CellEvent) (values : List ℕ) : Type 0 where
   pub opening : List ℕ
   pub zeros : AreZeros 8192 opening

@@ -1,4 +1,4 @@
--- A history without what one pass only read.
+-- A history without the Loads of one pass.
 use Rattle.std.specs.Prelude.{ℕ, Bool, true, false, not, ◌&&◌, ◌==◌, ◌≡◌, ◌≢◌, List, filter}
 use Rattle.cells.specs.declared.event.CellOp.{CellOp}
 use Rattle.cells.specs.declared.event.CellOp.TheVariants.{Load}
@@ -12,7 +12,7 @@ is_load _ = false
 abbrev pub without_loads : ℕ → List Entry → List Entry
 without_loads p = filter (λ x. not (x.pass == p && is_load x.event.op))
 
--- it is as legal as the whole, and leaves the cells the same values
+-- it is as legal as the whole, and leaves the same values in the cells
 abbrev pub LoadsCanGo : Type 0
 LoadsCanGo = (p : ℕ) (history : List Entry) (values : List ℕ)
     → IsLegal (all_events history) values → IsLegal (all_events (without_loads p history)) values

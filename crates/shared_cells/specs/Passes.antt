@@ -1,4 +1,5 @@
--- What contracts see of the cells and of a pass, and what is known once the cells are closed.
+-- The cells and a pass, which is a ghost token, in contracts, and what is known once the cells are
+-- closed.
 use Rattle.std.specs.Prelude.{◌≡◌, ℕ, List, [], ◌∷◌, ◌++◌, All, length, map, flat_map, get_or}
 use Rattle.atomic_table.specs.Seated.{TableId}
 use Rattle.cells.specs.declared.event.CellEvent.{CellEvent}
@@ -10,17 +11,17 @@ pub record CellsView : Type 0 where
   pub table : TableId
   pub passes : ℕ
 
--- a pass: the table of the cells that it is to, and the events that it made, oldest first
+-- a pass: the table of its cells, and the events that it made, oldest first
 pub record PassView : Type 0 where
   pub table : TableId
   pub events : List CellEvent
 
--- the pass is to these cells
+-- the pass belongs to these cells
 abbrev pub IsPassOf : CellsView → PassView → Type 0
 IsPassOf cells pass = pass.table ≡ cells.table
 
--- cells on which nobody acts any more: which they were, the passes that they were closed with, and
--- the last value of each cell
+-- cells that are closed: which they were, the passes that they were closed with, and the last value
+-- of each cell
 pub record ClosedView : Type 0 where
   pub cells : CellsView
   pub passes : List PassView
@@ -32,7 +33,7 @@ pub record AreClosed (cells : CellsView) (closed : ClosedView) : Type 0 where
   pub all : length closed.passes ≡ cells.passes
   pub own : All (IsPassOf cells) closed.passes
 
--- the pass is to the cells of this table, and has made no event
+-- the pass belongs to the cells of this table, and has made no event
 pub record IsNewPass (table : TableId) (pass : PassView) : Type 0 where
   pub of : pass.table ≡ table
   pub none : pass.events ≡ []
@@ -41,7 +42,7 @@ pub record IsNewPass (table : TableId) (pass : PassView) : Type 0 where
 abbrev pub Gained : PassView → CellEvent → PassView → Type 0
 Gained old e new = new ≡ record { table = old.table; events = old.events ++ e ∷ [] }
 
--- so a pass that gained one event after the other has them behind those that it had
+-- so a pass that gained several events has them after its earlier ones
 abbrev pub PassesGainLists : Type 0
 PassesGainLists = (old : PassView) (made : List CellEvent) (new : PassView)
     → GrewBy Gained old made new
@@ -51,13 +52,13 @@ PassesGainLists = (old : PassView) (made : List CellEvent) (new : PassView)
 abbrev pub lists_of : List PassView → List (List CellEvent)
 lists_of = map (λ pass. pass.events)
 
--- all that the passes did, one list behind the other
+-- all that the passes did, one list after the other
 abbrev pub events_made : List PassView → List CellEvent
 events_made = flat_map (λ pass. pass.events)
 
--- The values are those after one legal history, in which the events of a pass are those that the
--- pass made, each once and in their order, and no others are. Passes have the numbers of their
--- places in the list here.
+-- The values are those after one legal history. In it the events of a pass are those that the pass
+-- made, each once and in their order, and there are no others. Passes are numbered by their places
+-- in this list.
 pub record AreLeftBy (passes : List PassView) (values : List ℕ) : Type 0 where
   pub history : List Entry
   pub legal : IsLegal (all_events history) values

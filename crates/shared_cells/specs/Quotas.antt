@@ -1,4 +1,4 @@
--- Quotas. Who asks for one of a limited number of places adds 1 to a cell, and has a place where
+-- Quotas. To take one of a limited number of places, a thread adds 1 to a cell, and has a place if
 -- the reply is below the quota.
 use Rattle.std.specs.Prelude.{◌≡◌, ℕ, ◌<◌, ◌^◌, ◌==◌, nat_lt, min, Bool, false, ◌&&◌}
 use Rattle.std.specs.Prelude.{List, All, slice_index, count_by}
@@ -15,7 +15,7 @@ adds_one _ = false
 abbrev pub add_count : ℕ → List CellEvent → ℕ
 add_count cell = count_by (λ e. e.cell == cell && adds_one e.op)
 
--- to how many of them the answer is yes: the reply is below the quota
+-- how many of them take a place: their reply is below the quota
 abbrev pub yes_count : ℕ → ℕ → List CellEvent → ℕ
 yes_count cell quota = count_by (λ e. e.cell == cell && adds_one e.op && nat_lt e.reply quota)
 
@@ -25,18 +25,18 @@ OnlyCounts Load = Unit {0}
 OnlyCounts (Add number) = number ≡ 1
 OnlyCounts _ = ⊥
 
--- nothing else is done to the cell, which is 64 bits wide and has room for what is added
+-- nothing else is done to the cell, which is 64 bits wide and doesn't overflow
 pub record IsCounter (cell : ℕ) (made : List CellEvent) : Type 0 where
   pub wide : cell < 4096
   pub counts : All (λ e. e.cell ≡ cell → OnlyCounts e.op) made
   pub room : add_count cell made < 2 ^ 64
 
--- the value is the number of Adds, and of these as many as the quota allows are answered yes
+-- the value is the number of Adds, of which as many as the quota allows take a place
 pub record CountsExactly (cell value : ℕ) (made : List CellEvent) : Type 0 where
   pub value_is : value ≡ add_count cell made
   pub yes_is : (quota : ℕ) → yes_count cell quota made ≡ min quota (add_count cell made)
 
--- so it is of each counter, over all that the passes made
+-- this is true of each counter, over all that the passes made
 abbrev pub QuotasAreExact : List PassView → List ℕ → Type 0
 QuotasAreExact passes values =
     (cell : ℕ) → IsCounter cell (events_made passes)

@@ -1,5 +1,6 @@
--- The rule that the table keeps: there is a legal history, the words stand for the values after it,
--- and what the seats know of the passes is what the history says of them.
+-- The rule of the table. There is a legal history (a linearization without real-time order), and
+-- the words have the values after it. What the seats, which are ghost tokens, know of the passes
+-- agrees with the history.
 use Rattle.std.specs.Prelude.{◌≡◌, ℕ, zero, suc, ◌<◌, ◌≤◌, ◌==◌, nat_lt, Bool, if◌then◌else◌}
 use Rattle.std.specs.Prelude.{List, [], ◌∷◌, ◌++◌, All, length, slice_index, map, count_by, sum_by}
 use mathlib.Core.Option.{some}
@@ -17,7 +18,7 @@ use Rattle.shared_cells.specs.Words.{stored_word, stored_value}
 abbrev pub account : ℕ → List CellEvent → Account
 account p made = record { number = p; events = made }
 
--- n passes that made nothing, from the number p on
+-- n passes without events, numbered from p on
 abbrev pub new_accounts : ℕ → ℕ → List Account
 new_accounts p zero = []
 new_accounts p (suc n) = account p [] ∷ new_accounts (suc p) n
@@ -43,14 +44,14 @@ abbrev pub first_events : List Account → List CellEvent
 first_events [] = []
 first_events (x ∷ rest) = x.events
 
--- a seat that knows one pass alone: that of a thread
+-- a seat that knows only one pass: that of a thread
 abbrev pub KnowsOne : {S : Type 0} → Me S (List Account) → Type 0
 KnowsOne me = me.0 ≡ account (first_number me.0) (first_events me.0) ∷ []
 
 abbrev pub events_known : List Account → List (List CellEvent)
 events_known = map (λ x. x.events)
 
--- what a step tells: the seat's pass gained the event, which replies by the word that was found
+-- the result of a step: the seat's pass gained the event, which replies by the word that was found
 abbrev pub Gains : {S : Type 0} → ℕ → CellOp → Me S (List Account) → ℕ → Me S (List Account)
     → Type 0
 Gains cell op old found new =
@@ -58,7 +59,7 @@ Gains cell op old found new =
 
 -- ---- the rule
 
--- the account is what the history says of its pass
+-- the account is the history's list of its pass
 abbrev pub AgreesWith : List Entry → Account → Type 0
 AgreesWith history x = events_by x.number history ≡ x.events
 
@@ -74,14 +75,14 @@ pub record HasHistory {S : Type 0} (n : ℕ) (s : State S (List Account)) : Type
   pub history : List Entry
   pub values : List ℕ
   pub legal : IsLegal (all_events history) values
-  -- (follows from `legal`; the proofs count by it)
+  -- (follows from `legal`; the proofs use it)
   pub cells : length values ≡ 8192
   pub words : length s.words ≡ 8192
   pub stored : (c : ℕ) → c < 8192 → slice_index s.words c ≡ stored_word c (slice_index values c)
   pub told : (id : ℕ) (v : List Account)
       → get_elem? s.views id ≡ some v → All (AgreesWith history) v
-  -- of each pass there is one account over all seats, and there are no others
+  -- over all seats there is one account of each pass, and there are no others
   pub once : (p : ℕ) → sum_by (accounts_of p) s.views ≡ one_if (nat_lt p n)
-  -- (follows from `once`; the proofs count by it)
+  -- (follows from `once`; the proofs use it)
   pub whole : sum_by length s.views ≡ n
   pub known : (p : ℕ) → n ≤ p → events_by p history ≡ []

@@ -1,5 +1,5 @@
-//! How the cells are closed: one seat takes in the accounts of all passes, and the table is closed
-//! with it.
+//! Closes the cells: one seat, which is a ghost token, takes over the accounts of all passes, and
+//! the table is closed with it.
 
 ghost use Rattle.std.specs.Prelude.{◌≡◌, All, length, slice_index, IfOk, IsOk};
 ghost use Rattle.shared_cells.specs.Passes.{AreClosed, AreLeftBy, IsPassOf};
@@ -15,8 +15,8 @@ use std::alloc::Global;
 use std::marker::Model;
 use std::snapshot::Snapshot;
 
-/// Cells on which nobody acts any more. Contracts see which they were, the passes that they were
-/// closed with, and the list of their values.
+/// Cells that are closed. In contracts they have the cells and the passes that were closed, and the
+/// list of their values.
 pub struct Closed {
     table: atomic_table::Closed<(), Global>,
     cells: Snapshot<SharedCells>,
@@ -42,8 +42,8 @@ impl Model for Closed {
 }
 
 impl SharedCells {
-    /// Ends all work on the cells, and returns what the passes left. All passes that `new` made
-    /// have to be passed in, in any order. It takes no memory, so S1 never comes.
+    /// Ends all work on the cells, and returns their last values. All passes that `new` made must
+    /// be passed in, in any order. It allocates nothing, so S1 is never returned.
     pub fn close(self, mut passes: Vec<SharedPass>) -> Result<Closed, SharedFault>
         requires all { length passes.items ≡ self.passes }
         requires own { All (IsPassOf self) passes.items }

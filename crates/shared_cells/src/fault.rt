@@ -1,4 +1,4 @@
-//! Why there are no shared cells.
+//! The fault of shared cells.
 
 ghost use Rattle.std.specs.Prelude.{◌≡◌, Some};
 ghost use Rattle.shared_cells.specs.Texts.{shared_text};
@@ -8,11 +8,11 @@ use std::alloc::{AllocError, AllocFailed};
 use std::error::Error;
 use std::fmt::{self, Display};
 
-/// The refusal of `SharedCells::new`, with the number that is printed; `close` has it in its type
-/// alone.
+/// The fault of `SharedCells::new`, with the number that is printed; `close` has it only in its
+/// type.
 #[derive(Clone, Copy, Debug, PartialEq, Eq)]
 pub enum SharedFault {
-    /// S1: memory was refused.
+    /// S1: an allocation failed.
     Memory,
 }
 

@@ -1,5 +1,5 @@
-//! How the cells and their passes are made: one seat that knows the accounts of all passes is cut
-//! into a seat for each.
+//! Makes the cells and their passes: one seat that knows the accounts of all passes, a ghost token,
+//! is split into a seat for each.
 
 ghost use Rattle.std.specs.Prelude.{◌≡◌, ◌+◌, ◌<◌, ◌≤◌, ◌∷◌, [], All, length, IfOk, IfErr, OnOk};
 ghost use Rattle.cells.specs.Events.{AreZeros};
@@ -15,8 +15,8 @@ use cells::CellNo;
 use std::alloc::{AllocError, Global};
 
 impl SharedCells {
-    /// Cells that are all 0, and 1 to 65 passes to them. S1 where memory is refused.
-    // open: whether memory is refused (S1).
+    /// Cells that are all 0, and 1 to 65 passes to them. Returns S1 if an allocation fails.
+    // open: whether an allocation fails (S1).
     pub fn new(alloc: Global, passes: usize) -> Result<(SharedCells, Vec<SharedPass>), SharedFault>
         requires { (0 < passes) × (passes ≤ 65) }
         ensures many { IfOk result (λ made. made.0.passes ≡ passes) }
@@ -32,14 +32,14 @@ impl SharedCells {
     }
 }
 
-// So many zeros.
+// `count` zeros.
 fn zeros(alloc: Global, count: usize) -> Result<Vec<u64>, AllocError>
     ensures { IfOk result (λ v. AreZeros count v.items) }
 {
     Vec::from_elem(alloc, 0, count)
 }
 
-// So many passes, cut off a seat that is left with one more.
+// `count` passes, split off a seat that keeps one more.
 fn cut_passes(
     alloc: Global,
     words: &Shared<(), View, usize, OneHistory>,

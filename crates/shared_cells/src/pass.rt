@@ -1,4 +1,4 @@
-//! A pass: a seat at the table that knows one account, which is its own.
+//! A pass: a ghost token, which is a seat at the table that knows one account, its own.
 
 ghost use Rattle.std.specs.Prelude.{◌≡◌, [], ◌∷◌};
 ghost use Rattle.shared_cells.specs.Rule.{KnowsOne, first_events, events_known};
@@ -7,7 +7,8 @@ use crate::rule::View;
 use atomic_table::Seat;
 use std::marker::Model;
 
-/// A thread's leave to act on shared cells. Contracts see the events that it made; it has no bytes.
+/// A thread's right to act on shared cells. In contracts it has the events that it made; it has no
+/// bytes.
 #[derive(Drop)]
 pub struct SharedPass {
     pub(crate) seat: Seat<(), View>,
@@ -36,7 +37,7 @@ impl SharedPass {
         SharedPass { seat }
     }
 
-    // The seat, which knows the pass's events and nothing else.
+    // The seat, which knows only the pass's events.
     pub(crate) fn into_seat(self) -> Seat<(), View>
         ensures table { result.table_id ≡ self.table }
         ensures events { events_known result.me.0 ≡ self.events ∷ [] }

@@ -1,5 +1,5 @@
-//! What the table of words keeps, and how what its seats know is told, cut and joined. No value of
-//! these types is made; they are names for definitions.
+//! The rule of the table of words, and how the knowledge of its seats, which are ghost tokens, is
+//! gained, split and joined. No value of these types is made; they are names for definitions.
 
 use atomic_table::{Join, Play, Split, TableRule};
 use cells::{CellEvent, CellOp};
@@ -15,7 +15,7 @@ pub struct Account {
 /// What a seat knows: the accounts of passes.
 pub type View = LinkedList<Account>;
 
-/// The rule of the table, which knows how many passes there are.
+/// The rule of the table, in which the number of passes is fixed.
 pub struct OneHistory;
 
 impl TableRule<(), View, usize> for OneHistory {
@@ -26,7 +26,7 @@ impl TableRule<(), View, usize> for OneHistory {
     ghost first = { new_accounts 0 };
 }
 
-/// The cell and the operation that a step was asked, which its call names.
+/// The cell and the operation of a step, which its call names.
 pub trait Asked {
     ghost use Rattle.std.specs.Prelude.{ℕ};
     ghost use Rattle.cells.specs.declared.event.CellOp.{CellOp};
@@ -36,8 +36,8 @@ pub trait Asked {
     ghost op: { CellOp };
 }
 
-// What a call names by itself. `act` names its own cell and operation in its proof, so these two
-// stand for nothing.
+// The default of a call. `act` names its own cell and operation in its proof, so these two mean
+// nothing.
 impl Asked for Brand {
     ghost use Rattle.cells.specs.declared.event.CellOp.TheVariants.{Load};
 
@@ -46,7 +46,7 @@ impl Asked for Brand {
     ghost op = { Load };
 }
 
-/// A step by which a pass gains the event that was asked.
+/// A step by which a pass gains its event.
 pub struct OneEvent<J: Asked> {
     asked: PhantomData<J>,
 }
@@ -57,7 +57,7 @@ impl<J: Asked> Play<(), View> for OneEvent<J> {
     ghost then = { λ s old found new. Gains J.cell J.op old found new };
 }
 
-/// The first account goes to a seat of its own.
+/// The first account goes to a new seat.
 pub struct CutFirst;
 
 impl Split<View> for CutFirst {
@@ -68,7 +68,7 @@ impl Split<View> for CutFirst {
     ghost right = { first_only };
 }
 
-/// One seat takes in the accounts of another, before its own.
+/// One seat takes over the accounts of another, before its own.
 pub struct TakeIn;
 
 impl Join<View> for TakeIn {

@@ -12,7 +12,7 @@ use cells::{CellNo, CellOp, CellSteps};
 use std::alloc::Global;
 use std::marker::{Brand, Model};
 
-/// Counters that threads share. Contracts see which they are, and how many passes were made.
+/// Counters that threads share. In contracts they have their table, and the number of their passes.
 #[derive(Drop)]
 pub struct SharedCells {
     pub(crate) table: Table<(), View, usize, OneHistory, Global>,
@@ -37,8 +37,8 @@ impl CellSteps for SharedCells {
 
     ghost grew = { Gained };
 
-    /// One atomic step, which takes no lock and waits for no other thread's work.
-    // open: that a Load sees what another thread stored a moment ago: tests.
+    /// One atomic step, without a lock or a wait for another thread's work.
+    // open: that a Load returns what another thread stored a moment ago: tests.
     fn act(&self, pass: &mut SharedPass, cell: CellNo, op: CellOp) -> u64 {
         self.act_as::<Brand>(pass, cell, op)
     }

@@ -1,4 +1,4 @@
-//! What passes see of one another, and what two threads leave.
+//! What passes read of one another's operations, and what two threads leave.
 
 ghost use Rattle.std.specs.Prelude.{◌<◌, ◌≤◌};
 ghost use Rattle.shared_cells.specs.Passes.{IsPassOf};
@@ -19,7 +19,7 @@ fn add_often(cells: &SharedCells, pass: &mut SharedPass, cell: CellNo, by: u64, 
     }
 }
 
-// What each of the threads does.
+// The work of each thread.
 fn add_to_both(cells: &SharedCells, mut pass: SharedPass) -> SharedPass
     requires { IsPassOf cells.now pass }
     ensures { IsPassOf cells.now result }

@@ -1,12 +1,11 @@
-//! Requests of many apps: how many of them stand in a line, what is left out, and which events have
-//! room.
+//! Requests of many apps: how many apps are in a line, what is left out, and which events fit.
 
 use crate::given::{AT, NO_MORE, NOTES, answered, line_at, repeated};
 use access_log::{AskedApp, AskedMore, Connection, Excerpt, LogEvent, Outcome};
 use std::alloc::Global;
 use std::test::Fail;
 
-// The line of a request that asks of an app so often.
+// The line of a request that has an app `count` times.
 fn line_of(alloc: Global, app: AskedApp<'_>, count: usize) -> Result<String, Fail> {
     let mut apps = Vec::new(alloc);
     for _ in 0..count {
@@ -15,13 +14,13 @@ fn line_of(alloc: Global, app: AskedApp<'_>, count: usize) -> Result<String, Fai
     Ok(line_at(alloc, &AT, &answered(&apps))?)
 }
 
-// How often a line has this.
+// How often a text occurs in a line.
 fn times(line: &str, part: &str) -> usize {
     line.split(part).count().saturating_sub(1)
 }
 
-/// How many bytes an appid of as many `a` has, how many such apps ask, and how many of them the
-/// line tells: 3660 bytes have room for so many of 72 and the appid's, which has at most 91.
+/// How many `a` an appid has, how many such apps there are, and how many of them the line has. Each
+/// app takes 72 bytes and its appid's, at most 91 by a brief excerpt. All apps together have 3660.
 const APPS: &[(usize, usize, usize)] = &[
     (0, 1, 1),
     (5, 47, 47),
@@ -57,8 +56,8 @@ fn as_many_apps_are_told_as_have_room(rt: HostRuntime) -> Result<(), Fail> {
     Ok(())
 }
 
-/// Eleven apps stand, whatever a client wrote of them and a manifest has: all texts are cut, and no
-/// event has room.
+/// At least eleven apps are in a line, whatever a client wrote of them and a manifest has: all
+/// texts are cut, and no event fits.
 #[test]
 fn eleven_apps_stand_at_least(rt: HostRuntime) -> Result<(), Fail> {
     let long = repeated(rt.alloc(), 1000, "")?;
@@ -82,7 +81,7 @@ fn eleven_apps_stand_at_least(rt: HostRuntime) -> Result<(), Fail> {
     Ok(())
 }
 
-/// Thirty apps have room, and behind them one event of 512 bytes.
+/// Thirty apps fit, and after them one event of 512 bytes.
 #[test]
 fn events_take_no_room_of_apps(rt: HostRuntime) -> Result<(), Fail> {
     let event = repeated(rt.alloc(), 512, "")?;
@@ -99,8 +98,8 @@ fn events_take_no_room_of_apps(rt: HostRuntime) -> Result<(), Fail> {
     Ok(())
 }
 
-/// How many apps of one letter are offered the release 1.1, how many ask for no update behind them,
-/// how many are unknown, and how the line ends. They take 87, 58 and 73 bytes.
+/// How many apps of one letter are offered the release 1.1, how many after them request no update,
+/// how many are unknown, and the line's end. They take 87, 58 and 73 bytes.
 const KINDS: &[(usize, usize, usize, &str)] = &[
     (42, 0, 0, "]}\n"),
     (42, 1, 0, "],\"left_out\":1}\n"),
@@ -139,8 +138,8 @@ fn what_is_left_out_is_counted_by_kind(rt: HostRuntime) -> Result<(), Fail> {
     Ok(())
 }
 
-/// What stands round the apps of a connection at most: a peer with a scope, the longest address of
-/// a proxy, a failure behind the answer, and numbers of twenty digits.
+/// The longest line around the apps of a connection. It has a peer with a scope, the longest
+/// address of a proxy, a refusal with a cause, and numbers of twenty digits.
 fn long<'a>(apps: &'a [AskedApp<'a>]) -> LogEvent<'a> {
     LogEvent::Connection(Connection {
         peer: "[ffff:ffff:ffff:ffff:ffff:ffff:ffff:ffff%4294967295]:65535",
@@ -156,8 +155,8 @@ fn long<'a>(apps: &'a [AskedApp<'a>]) -> LogEvent<'a> {
     })
 }
 
-/// 256 apps that take as much as they may: 26 with 64 bytes and one with 52 fill 3660 bytes, but
-/// for the comma before the first, and 431 stand round them.
+/// 256 apps that take as much as they may. 26 with 64 bytes and one with 52 fill 3660 bytes, except
+/// the comma before the first; the rest of the line has 431.
 #[test]
 fn no_line_of_a_connection_is_too_long(rt: HostRuntime) -> Result<(), Fail> {
     let texts = [repeated(rt.alloc(), 64, "")?, repeated(rt.alloc(), 52, "")?];
@@ -184,7 +183,7 @@ fn no_line_of_a_connection_is_too_long(rt: HostRuntime) -> Result<(), Fail> {
     Ok(())
 }
 
-/// What an app says beside, which takes 145 bytes.
+/// The further members of an app, which take 145 bytes.
 fn beside<'a>(text: &'a str) -> AskedMore<'a> {
     AskedMore {
         ap: Some(Excerpt::short(text)),
@@ -195,11 +194,11 @@ fn beside<'a>(text: &'a str) -> AskedMore<'a> {
     }
 }
 
-/// How that stands in a line.
+/// These members in a line.
 const BESIDE: &str = "\"release\":\"1.1\",\"ap\":\"aaaaaaaaaaaaaaaaaaaaaaaaaaaaaaaa\",\
     \"ap_left_out\":8,\"lang\":\"de\\u009b\",\"installdate\":0,\"ignored\":\"brand cohort\"}";
 
-/// It takes no room of apps or of events: thirty apps leave room for that of six, and eight apps
+/// They take no bytes from apps or events: thirty apps leave enough for six of them, and eight apps
 /// with five events for none.
 #[test]
 fn what_stands_beside_has_what_is_left(rt: HostRuntime) -> Result<(), Fail> {

@@ -5,8 +5,8 @@ use access_log::{AskedApp, Connection, Counter, Excerpt, Load, LogEvent, Outcome
 use std::alloc::Global;
 use std::test::Fail;
 
-/// The lines at 2026-11-24T12:19:16.042Z, each behind its time and up to its line feed. A line is
-/// broken where it is too wide for this page.
+/// The lines at 2026-11-24T12:19:16.042Z, each after its time and up to its line feed. A line that
+/// is too wide for this page is broken.
 const LINES: &str = r##"
 "kind":"start","path":"m.toml","port":8080,"operator":8081}
 
@@ -77,13 +77,13 @@ const LINES: &str = r##"
 "release":"2.0"}]}
 "##;
 
-/// An array that stands otherwise.
+/// An array that exists with other values.
 const REDEFINED: &str = "M7 Cells N2 Redefined in array 1";
 
 /// A digest: SHA-256 of no bytes.
 const DIGEST: &str = "e3b0c44298fc1c149afbf4c8996fb92427ae41e4649b934ca495991b7852b855";
 
-/// Another number each.
+/// Each has another number.
 const TOTALS: Totals = Totals {
     success: 1,
     bad_request: 2,
@@ -102,7 +102,7 @@ fn whole(text: &str) -> Excerpt<'_> {
     cut(text, 0)
 }
 
-// A text behind which so many bytes are left out.
+// A text, after which `left_out` bytes are left out.
 fn cut(text: &str, left_out: u64) -> Excerpt<'_> {
     let length = left_out.saturating_add(text.len() as u64);
     Excerpt { text, length }
@@ -232,7 +232,7 @@ fn told(alloc: Global) -> Result<String, Fail> {
     Ok(lines)
 }
 
-// Those of connections whose requests were answered.
+// Those of connections whose requests got replies.
 fn answers(alloc: Global) -> Result<String, Fail> {
     let apps = [
         app(
@@ -267,7 +267,7 @@ fn answers(alloc: Global) -> Result<String, Fail> {
     Ok(lines)
 }
 
-// The lines as they stand in the table.
+// The lines in the table's form.
 fn as_rows(alloc: Global, lines: &str) -> Result<String, Fail> {
     let mut rows = String::new(alloc);
     for line in lines.lines() {

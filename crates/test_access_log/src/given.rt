@@ -1,4 +1,4 @@
-//! What the tests are given: a time, an app, a connection, and the line of an event.
+//! What the tests use: a time, an app, a connection, and the line of an event.
 
 use access_log::{AskedApp, AskedMore, Connection, Excerpt, LogEvent, Outcome, Utc, log_line};
 use std::alloc::{AllocError, Global};
@@ -15,7 +15,7 @@ pub(crate) const AT: Utc = Utc {
     millis: 42,
 };
 
-/// Nothing beside an id and a version.
+/// No members except an id and a version.
 pub(crate) const NO_MORE: AskedMore<'static> = AskedMore {
     ap: None,
     lang: None,
@@ -42,7 +42,7 @@ pub(crate) const NOTES: AskedApp<'static> = AskedApp {
     more: NO_MORE,
 };
 
-/// A connection by way of a proxy, whose request was answered.
+/// A connection through a proxy, whose request got a reply.
 pub(crate) fn answered<'a>(apps: &'a [AskedApp<'a>]) -> LogEvent<'a> {
     LogEvent::Connection(Connection {
         peer: "127.0.0.1:41248",
@@ -64,7 +64,7 @@ pub(crate) fn line_at(alloc: Global, at: &Utc, event: &LogEvent<'_>) -> io::Resu
     String::from_utf8(line).map_err(|_| io::Error::from(ErrorKind::InvalidData))
 }
 
-/// So many bytes `a`, and a text behind them.
+/// `count` times `a`, followed by a text.
 pub(crate) fn repeated(alloc: Global, count: usize, end: &str) -> Result<String, AllocError> {
     let mut text = String::new(alloc);
     for _ in 0..count {

@@ -1,5 +1,5 @@
-//! Tests of the lines of a log: each kind of event, times, texts with escapes and texts that are
-//! cut, requests of many apps, and lines that would be too long. The lines were written by hand.
+//! Tests of the lines of a log: each kind of event, times, texts with escapes, texts that are cut,
+//! requests of many apps, and lines that would be too long. The lines were written by hand.
 #![tactic(auto)]
 
 #[cfg(test)]

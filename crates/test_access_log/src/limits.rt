@@ -1,10 +1,10 @@
-//! How much of a text stands in a line, and how long a line is.
+//! How much of a text is in a line, and how long a line is.
 
 use crate::given::{AT, line_at, repeated};
 use access_log::{Excerpt, LogEvent};
 use std::test::Fail;
 
-/// So many bytes `a`, and a text behind them; how many bytes the excerpt has, and how many the
+/// How many `a`, and the text after them; how many bytes the excerpt has, and how many the whole
 /// text.
 const EXCERPTS: &[(usize, &str, usize, u64)] = &[
     (0, "", 0, 0),
@@ -17,7 +17,7 @@ const EXCERPTS: &[(usize, &str, usize, u64)] = &[
     (508, "\u{1f600}", 512, 512),
 ];
 
-/// The same of a brief excerpt, whose escapes count.
+/// The same for a brief excerpt, whose escapes count.
 const BRIEF: &[(usize, &str, usize, u64)] = &[
     (0, "", 0, 0),
     (64, "", 64, 64),
@@ -62,7 +62,7 @@ fn brief_excerpts_take_64_bytes(rt: HostRuntime) -> Result<(), Fail> {
     Ok(())
 }
 
-/// The same of a short one.
+/// The same for a short one.
 const SHORT: &[(usize, &str, usize, u64)] = &[
     (32, "", 32, 32),
     (33, "", 32, 33),
@@ -84,7 +84,7 @@ fn short_excerpts_take_32_bytes(rt: HostRuntime) -> Result<(), Fail> {
     Ok(())
 }
 
-/// How long a reason of as many `a` is, and the line: of the first 4096 bytes are the line's.
+/// How many `a` a reason has, and the line; empty for a line with the reason and 4096 bytes.
 const REASONS: &[(usize, &str)] = &[
     (4028, ""),
     (

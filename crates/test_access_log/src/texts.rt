@@ -1,13 +1,12 @@
-//! Texts, and how they stand in a line: no character of a client reaches a terminal by which it
-//! could change it.
+//! Texts in a line: no character of a client that could control a terminal reaches it.
 
 use crate::given::{AT, line_at};
 use access_log::LogEvent;
 use printing::{has_control, is_control};
 use std::test::Fail;
 
-/// A text, and what stands between its quotes. Beside each range of what is escaped stand the last
-/// character before it and the first one behind it.
+/// A text, and what is between its quotes. The rows also have the last character before each range
+/// that is escaped and the first one after it.
 const TEXTS: &[(&str, &str)] = &[
     ("", ""),
     (
@@ -53,7 +52,7 @@ const TEXTS: &[(&str, &str)] = &[
 const CONTROLS: &str =
     "\u{0}\u{1f}\u{7f}\u{9f}\u{61c}\u{200e}\u{200f}\u{2028}\u{202e}\u{2066}\u{2069}";
 
-/// The last one before each, and the first one behind it.
+/// The last character before each, and the first one after it.
 const OTHERS: &str =
     " ~\u{a0}\u{61b}\u{61d}\u{200d}\u{2010}\u{2027}\u{202f}\u{2065}\u{206a}\u{10ffff}";
 

@@ -1,4 +1,4 @@
-//! Moments by the second after 1970 began, as RFC 3339 has them.
+//! Moments by the second after 1970 began, in the form of RFC 3339.
 
 use crate::given::line_at;
 use access_log::{LogEvent, Utc};

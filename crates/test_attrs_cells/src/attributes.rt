@@ -1,5 +1,5 @@
-//! What no clause says: that the definitions give the protocol's values, and that memory suffices.
-//! The calls have no clauses here: a proof would compute with the texts.
+//! Tests of what no clause says: that the definitions have the protocol's values, and that memory
+//! suffices. The calls have no clauses here: a proof would compute with the texts.
 
 use attrs::{AttrFault, Attrs, read_version};
 use std::alloc::Global;

@@ -1,13 +1,13 @@
-//! The context of an app by its request. What no clause says is that the definitions give the
-//! protocol's values, and that memory suffices.
+//! The context of an app by its request. No clause says that the definitions have the protocol's
+//! values, and that memory suffices.
 
 use crate::facts::{app_of, attributes_at, request_of};
 use attrs::{Context, Elapsed, fnv1a, hashed_bucket, named_or_hashed};
 use std::alloc::Global;
 use std::test::Fail;
 
-/// A cohort that names no bucket leaves that of the empty text, 6037. A row is the app's and the
-/// request's facts, and what the context has then.
+/// A cohort that names no bucket leaves that of the empty text, 6037. A row has the facts of the
+/// app and the request, and the context's values.
 const COHORTS: &str = r#"
 cohort=b:0042 => bucket=42 flags=16
 cohort=b:0000 => bucket=0 flags=16
@@ -39,7 +39,7 @@ version=1.2.3.4.5 => version=0.0.0.0 flags=0
 version= => version=0.0.0.0 flags=0
 "#;
 
-/// What the app asks.
+/// What the app requests.
 const FLAGS: &str = r#"
 updatecheck= => flags=2
 ping= => flags=4
@@ -47,7 +47,7 @@ event= => flags=8
 updatecheck= & ping= & event= => flags=14
 "#;
 
-/// Of day 7000, an hour after midnight.
+/// Day 7000, an hour after midnight.
 const MOMENT: i64 = 1772413200;
 
 const TODAY: &str = r#"
@@ -58,7 +58,7 @@ fn context_of(alloc: Global, facts: &str) -> Result<Context, Fail> {
     Ok(attributes_at(alloc, facts, MOMENT)?.context())
 }
 
-/// What the context of the facts has, word by word.
+/// The context of the facts, as words.
 fn told(alloc: Global, facts: &str) -> Result<String, Fail> {
     let context = context_of(alloc, facts)?;
     let [first, second, third, fourth] = context.version;
@@ -74,7 +74,7 @@ fn told(alloc: Global, facts: &str) -> Result<String, Fail> {
     )?)
 }
 
-/// Whether each word that is wanted is one of those that are told.
+/// Whether each of the expected words is one of the context's.
 fn has_words(told: &str, wanted: &str) -> bool {
     let mut has = true;
     for word in wanted.split(' ') {
@@ -104,7 +104,7 @@ fn contexts(rt: HostRuntime) -> Result<(), Fail> {
     Ok(())
 }
 
-/// The request's ids, and the bucket of an app that names none.
+/// The request's ids, and the bucket of an app that names no bucket.
 const REQUESTS: [(&str, u16); 6] = [
     ("none=", 6037),
     ("requestid= & sessionid=", 6037),

@@ -1,6 +1,5 @@
-//! Counters: what the definitions give, worked out by hand, and that each call with ample memory
-//! succeeds. Each call that takes memory is asked again where it answered its own refusal of
-//! memory.
+//! Counters: the results of the definitions, worked out by hand, and that each call succeeds with
+//! ample memory. Each call that allocates is repeated if it reports that an allocation failed.
 
 ghost use Rattle.std.specs.Prelude.{None};
 ghost use Rattle.cells.specs.Directory.{declaration, IsDeclaration};
@@ -14,7 +13,7 @@ use std::test::Fail;
 
 const HALF: u64 = 4294967295;
 
-/// The answer of a call, or of a second one where memory was refused.
+/// The result of a call, or of a second one if an allocation failed.
 macro_rules! again {
     ($call:expr) => {
         match $call {
@@ -33,7 +32,7 @@ struct Act {
     value: u64,
 }
 
-/// The acts in turn, from cells that are 0.
+/// Does these operations in turn, from cells that are 0. Returns the first wrong one.
 fn acts_in_turn(alloc: Global, acts: &[Act]) -> Result<Option<usize>, CellsFault> {
     let (cells, mut pass): (PlainCells, PlainPass) = again!(PlainCells::new(alloc))?;
     for (place, act) in acts.iter().enumerate() {
@@ -105,7 +104,7 @@ fn wide_counters(rt: HostRuntime) {
     assert!(rt; acts_in_turn(rt.alloc(), &acts) == Ok(None));
 }
 
-/// What a declaration without a quota gives, asked again where memory was refused.
+/// The result of a declaration without a quota, which is repeated if an allocation failed.
 fn declare(
     directory: &mut Directory,
     alloc: Global,
@@ -118,7 +117,7 @@ fn declare(
     again!(directory.declare(alloc, name, width, length, None))
 }
 
-/// The answers to five declarations in turn, and how many arrays there are after them.
+/// The results of five declarations in turn, and how many arrays there are after them.
 fn declared(alloc: Global) -> ([Result<ArrayNo, CellsFault>; 5], usize) {
     let mut all = Directory::new(alloc);
     let answers = [

@@ -1,5 +1,5 @@
-//! An app and its request as a text of facts, `KEY=VALUE`, divided by ` & `: a key that isn't there
-//! is a fact that isn't known.
+//! An app and its request as a text of facts, `KEY=VALUE`, divided by ` & `. A missing key is an
+//! unknown fact.
 
 use attrs::{AppFacts, AttrFault, Attrs, RequestFacts, Text};
 use std::alloc::{AllocError, Global};
@@ -15,8 +15,8 @@ pub(crate) fn value<'a>(facts: &'a str, key: &str) -> Option<&'a str> {
     None
 }
 
-/// Makes the texts of facts, and keeps whether memory was refused: so a struct of many texts is
-/// made in one go.
+/// Makes the texts of facts, and records whether an allocation failed: so a struct of many texts is
+/// made at once.
 #[derive(Clone, Copy)]
 struct Texts<'a> {
     alloc: Global,
@@ -33,7 +33,7 @@ impl<'a> Texts<'a> {
         }
     }
 
-    /// The text with this key, if it is there and memory was left.
+    /// The text with this key, if there is one and no allocation failed.
     fn text(&mut self, key: &str) -> Option<Text> {
         let value = value(self.facts, key)?;
         match String::from_str(self.alloc, value) {

@@ -1,7 +1,7 @@
-//! Memory that is refused once. Each call is asked for its answer. Where that is its own refusal of
-//! memory, the test prints it, what was lent to the call is as it was, and the call is asked again:
-//! the second answer is the untroubled one. So these tests pass with ample memory, and wherever one
-//! growth of theirs is refused, which `bench/refused` does for each in turn.
+//! Out of memory, once. If a call reports that an allocation failed, the test prints it, and the
+//! call's arguments are as they were. Then the call is repeated, with the usual result. So these
+//! tests pass with ample memory, and if any single allocation fails, which `bench/refused` tries
+//! for each in turn.
 
 ghost use Rattle.std.specs.Prelude.{◌<◌, ◌≤◌};
 
@@ -10,8 +10,8 @@ use shared_cells::{SharedCells, SharedFault};
 use std::alloc::Global;
 use std::test::Fail;
 
-/// The answer of a call, or of a second one where the first is this refusal of memory. With a
-/// runtime and a line, that is printed in between.
+/// The result of a call, or of a second one if the first reports this failed allocation. With a
+/// runtime and a line, the line is printed in between.
 macro_rules! again {
     ($memory:pat, $call:expr) => {
         match $call {
@@ -40,7 +40,7 @@ fn declare_quota(all: &mut Directory, alloc: Global) -> Result<ArrayNo, CellsFau
     all.declare(alloc, "quota", CellWidth::Bits64, 10, Some(5))
 }
 
-/// The second one: 32 bits.
+/// The second array: 32 bits.
 fn declare_counts(all: &mut Directory, alloc: Global) -> Result<ArrayNo, CellsFault> {
     all.declare(alloc, "counts", CellWidth::Bits32, 20, None)
 }
@@ -71,14 +71,14 @@ fn are_both(arrays: &[CellArray]) -> bool {
     }
 }
 
-/// A directory of the first array.
+/// A directory of only the first array.
 fn first_alone(alloc: Global) -> Result<Directory, CellsFault> {
     let mut all = Directory::new(alloc);
     let _number = declare_quota(&mut all, alloc)?;
     Ok(all)
 }
 
-/// A declaration that is refused leaves the directory as it was.
+/// A failed declaration leaves the directory as it was.
 fn declared_again<R: Print>(rt: &R, alloc: Global, all: &mut Directory) -> Result<ArrayNo, Fail> {
     match declare_counts(all, alloc) {
         Err(CellsFault::Memory) if is_first_alone(all) => {
@@ -115,7 +115,7 @@ fn shape_of(alloc: Global, all: &Directory) -> Result<Shape, CellsFault> {
     )
 }
 
-/// What is copied stays as it was.
+/// The copied value stays as it was.
 #[test]
 fn shapes(rt: HostRuntime) -> Result<(), Fail> {
     let alloc = rt.alloc();

@@ -43,7 +43,7 @@ fn owners_see_the_same(rt: HostRuntime) -> Result<(), Fail> {
     Ok(())
 }
 
-// The facts outlive the request that they were read of.
+// The facts outlive the request from which they were read.
 #[test]
 fn attributes_share_texts(rt: HostRuntime) -> Result<(), Fail> {
     let app = shared(rt.alloc(), FULL)?;
@@ -54,7 +54,7 @@ fn attributes_share_texts(rt: HostRuntime) -> Result<(), Fail> {
     Ok(())
 }
 
-// Texts over 1024 bytes: none is seen, and the version has its numbers.
+// Texts over 1024 bytes count as empty, but the version has its numbers.
 #[test]
 fn long_shared_texts_are_not_seen(rt: HostRuntime) -> Result<(), Fail> {
     let zeros = "0".repeat(rt.alloc(), 1025)?;

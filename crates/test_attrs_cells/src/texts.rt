@@ -22,7 +22,7 @@ fn is_text(attrs: &Attrs, number: u64, text: &str) -> u64 {
     helper_attr_is(attrs, number, text.as_bytes())
 }
 
-/// Whether the attribute has this text and length, and is no other text.
+/// Whether the attribute has this text and length, and no other text.
 fn is_attribute(alloc: Global, number: u64, text: &str, length: u64) -> Result<bool, AttrFault> {
     let attrs = full(alloc)?;
     let has = attrs.text(number) == text && length_of(&attrs, number) == length;
@@ -46,14 +46,14 @@ fn texts_have_numbers(rt: HostRuntime) {
     }
 }
 
-/// Whether no text is that of the attribute, not even an empty one.
+/// Whether the attribute has no text, not even an empty one.
 fn is_unknown(alloc: Global, number: u64) -> Result<bool, AttrFault> {
     let attrs = full(alloc)?;
     let is_empty = attrs.text(number) == "" && length_of(&attrs, number) == 0;
     Ok(is_empty && is_text(&attrs, number, "") == 0 && is_text(&attrs, number, "x") == 0)
 }
 
-// A number is compared whole.
+// All 64 bits of a number are compared.
 #[test]
 fn unknown_numbers_have_no_text(rt: HostRuntime) {
     for number in [7, 256, 4294967296, u64::MAX] {
@@ -64,7 +64,7 @@ fn unknown_numbers_have_no_text(rt: HostRuntime) {
     }
 }
 
-/// The lengths of a brand of so many bytes and a version of so many zeros, whether the brand is
+/// The lengths of a brand of `brand` bytes and a version of `zeros` zeros, whether the brand is
 /// empty, and the flags.
 fn kept(alloc: Global, brand: usize, zeros: usize) -> Result<(u64, u64, u64, u8), Fail> {
     let brand = "b".repeat(alloc, brand)?;
@@ -117,7 +117,7 @@ fn is_full(alloc: Global) -> Result<bool, AttrFault> {
     Ok(has_context && attrs.text(0) == "x" && attrs.text(6) == "linux")
 }
 
-// Memory that is refused once: the second answer is the untroubled one.
+// Out of memory, once: the second result is the usual one.
 #[test]
 fn refused_memory_is_told(rt: HostRuntime) {
     let answer = match is_full(rt.alloc()) {

@@ -38,8 +38,8 @@ fn accepted(alloc: Global, text: &str, releases: u8) -> Result<Verified, Fail> {
     Ok(accept(alloc, &bytes, &Shape::plain(alloc, releases.min(64)))?)
 }
 
-/// One step of both, each over its own counters; none where they have not done the same number of
-/// instructions.
+/// One step of both, each over its own counters. They differ also if they have done different
+/// numbers of instructions.
 fn step_both(
     run: &mut Run,
     interpreter: &mut Interpreter,
@@ -58,7 +58,7 @@ fn step_both(
 }
 
 /// The choice and the number of instructions of both runs of a program, for the app of a version;
-/// none where they differ at some step.
+/// `None` if they differ at some step.
 fn run_both(
     alloc: Global,
     text: &str,
@@ -86,7 +86,7 @@ fn run_both(
     Ok(None)
 }
 
-/// The choice, and the instructions, EXIT among them.
+/// The choice, and the instructions, including EXIT.
 const ENDS: &str = r#"
 - 0 after 2
   mov r0, 0 / exit

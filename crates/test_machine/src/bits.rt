@@ -1,14 +1,14 @@
-//! Programs that are accepted by what is known of bits, for apps that take their edges in turn:
-//! step by step on the machine and on the interpreter.
+//! Programs that are accepted because of known bits, for apps that take their edges in turn: step
+//! by step on the machine and on the interpreter.
 
 use crate::beside::told;
 use crate::row::row_of;
 use std::alloc::Global;
 use std::test::Fail;
 
-/// What is tested; the number of releases; the versions of the apps, of which the first two numbers
-/// are at the places 0 and 4 of the context, and the flags, 3 or of no version 2, at 18; and each
-/// choice with the instructions, EXIT among them.
+/// What is tested; the number of releases; the versions of the apps; and each choice with the
+/// instructions, including EXIT. The first two numbers of a version are at the places 0 and 4 of
+/// the context. The flags are at 18: 3, or 2 without a version.
 const RUNS: &str = r#"
 - a bit is tested and taken away | 1 | 1.0 x | 0 after 5, 0 after 5
   ldxb r0, [r1+18] / and r0, 3 / jset r0, 2, +1 / exit / mov r0, 0 / exit

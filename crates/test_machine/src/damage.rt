@@ -1,6 +1,6 @@
 //! Three programs: a lookup in an array of four counters, atomic operations on a counter of 32
-//! bits, and a take of a quota. Each beginning of their bytes and each change of one byte is
-//! judged, and run where it is accepted.
+//! bits, and a take from a quota. Each prefix of their bytes and each change of one byte is
+//! verified, and run if it is accepted.
 
 use crate::given::{attributes, shape_over};
 use crate::runs::runs_alike;
@@ -47,8 +47,9 @@ mov r0, 0
 exit
 "#;
 
-/// The app for which texts are judged, and so far: how many were judged, how many of them are
-/// accepted, and how many of those run otherwise on the machine than on the interpreter.
+/// The app for which programs are verified, and the counts so far: the verified programs, the
+/// accepted ones, and those of the latter that run differently on the machine and on the
+/// interpreter.
 #[derive(Drop)]
 struct Judge {
     shape: Shape,
@@ -59,7 +60,7 @@ struct Judge {
 }
 
 impl Judge {
-    /// For an app of so many releases, over the array that is declared.
+    /// For an app of `releases` releases, over the array that is declared.
     fn over(alloc: Global, array: &str, releases: u8) -> Result<Judge, Fail> {
         Ok(Judge {
             shape: shape_over(alloc, releases, array)?,
@@ -70,7 +71,7 @@ impl Judge {
         })
     }
 
-    /// Judges one text.
+    /// Verifies one program, and runs it if it is accepted.
     fn judge(&mut self, alloc: Global, bytes: &[u8]) -> Result<(), Fail> {
         self.judged = self.judged.wrapping_add(1);
         let Ok(program) = accept(alloc, bytes, &self.shape) else {
@@ -84,7 +85,7 @@ impl Judge {
     }
 }
 
-/// Each beginning of a program's bytes.
+/// Each prefix of a program's bytes.
 fn beginnings(alloc: Global, judge: &mut Judge, bytes: &[u8]) -> Result<(), Fail> {
     for length in 0..bytes.len() {
         judge.judge(alloc, &bytes[..length])?;
@@ -108,7 +109,7 @@ fn changes(alloc: Global, judge: &mut Judge, bytes: &[u8]) -> Result<(), Fail> {
     Ok(())
 }
 
-/// What all texts of a program come to.
+/// The counts for all variants of a program.
 fn found(alloc: Global, text: &str, array: &str, releases: u8) -> Result<String, Fail> {
     let bytes = assemble(alloc, text)?;
     let mut judge = Judge::over(alloc, array, releases)?;
@@ -121,8 +122,8 @@ fn found(alloc: Global, text: &str, array: &str, releases: u8) -> Result<String,
     )?)
 }
 
-/// Judged are all beginnings and changes: of n bytes, n + 255 n. How many are accepted was counted:
-/// a change of the verifier's rules changes it.
+/// All prefixes and changes are verified: for n bytes, n + 255 n. How many are accepted was
+/// counted: a change of the verifier's rules changes it.
 #[test]
 fn damaged_programs(rt: HostRuntime) -> Result<(), Fail> {
     let rows = [

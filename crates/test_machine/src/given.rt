@@ -1,5 +1,5 @@
-//! What a program is run for: a shape, and an app's attributes; and its instructions, as the
-//! interpreter takes them.
+//! What a program is run for: a shape, and an app's attributes; and its instructions, in the
+//! interpreter's form.
 
 use attrs::Attrs;
 use bpf_insn::Insn;
@@ -11,7 +11,7 @@ use std::alloc::Global;
 use std::sync::Arc;
 use std::test::Fail;
 
-/// So many releases, over the arrays that the text declares.
+/// The shape of `releases` releases, over the arrays that the text declares.
 pub(crate) fn shape_over(alloc: Global, releases: u8, arrays: &str) -> Result<Shape, Fail> {
     let mut directory = Directory::new(alloc);
     let declared = declare_all(alloc, &mut directory, &read_spec(alloc, arrays)?);

@@ -1,4 +1,4 @@
-//! Worked programs, each with the answer that the rules of a program's graph give it.
+//! Worked programs, each with the result of the rules for a program's graph.
 
 use crate::row::row_of;
 use bpf_insn::{AluOp, Bits, Insn, Operand, Reg};
@@ -7,7 +7,7 @@ use flow_check::{Flow, FlowFault};
 use std::alloc::Global;
 use std::test::Fail;
 
-/// The answer, and what is tested.
+/// The result, and what is tested.
 const TEXTS: &str = r#"
 - F6 Empty at slot 0 | no bytes
 - F1 BackJump at slot 0 | a jump onto itself
@@ -34,7 +34,7 @@ const TEXTS: &str = r#"
   jeq r0, 0, +2 / lddw r0, 0 / exit
 "#;
 
-/// Bytes that no text spells: what is tested, the bytes, and the answer.
+/// Bytes that no text spells: what is tested, the bytes, and the result.
 const BYTES: [(&str, &[u8], &str); 5] = [
     (
         "seven bytes of a mov",
@@ -72,7 +72,7 @@ fn answer(alloc: Global, bytes: &[u8]) -> Result<String, Fail> {
     Ok(text)
 }
 
-/// The answer to the bytes of a text.
+/// The result for the bytes of a text.
 fn answer_of(alloc: Global, text: &str) -> Result<String, Fail> {
     let bytes = assemble(alloc, text)?;
     answer(alloc, &bytes)

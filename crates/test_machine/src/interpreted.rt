@@ -1,6 +1,6 @@
-//! Worked programs on the reference interpreter, each with the end that the standard's machine
-//! comes to, worked out by hand: a choice, or a step that isn't defined. No program is verified
-//! here, so those that are never accepted run too.
+//! Worked programs on the reference interpreter, each with its end on the standard's machine,
+//! worked out by hand: a choice, or a step that isn't defined. No program is verified here, so
+//! programs that would be refused also run.
 
 ghost use Rattle.std.specs.Prelude.{◌≤◌, length};
 
@@ -18,8 +18,8 @@ use std::test::Fail;
 const LIMIT: u64 = 100;
 
 /// Programs over one array of four counters: their width; the versions of the apps for which the
-/// program runs in turn; how each run ends, after so many instructions, of which the one that traps
-/// isn't one; and the first counter's value after them.
+/// program runs in turn; how each run ends, after how many instructions, without the one that
+/// traps; and the first counter's value after them.
 const ENDS: &str = r#"
 - 64 | 1.0 | choice 3 after 2 | 0
   mov r0, 3 / exit
@@ -130,7 +130,7 @@ fn code(alloc: Global, text: &str) -> Result<Vec<Option<Insn>>, Fail> {
     decoded(alloc, &bytes)
 }
 
-/// A run from the opening state: its end, and how many instructions were done, an EXIT among them.
+/// A run from the opening state: its end, and how many instructions were done, including EXIT.
 fn run(
     attrs: Arc<Attrs>,
     code: &[Option<Insn>],

@@ -1,6 +1,6 @@
 //! Tests of a program's graph, the machine and the interpreter: programs with the fault, choice and
-//! count that were worked out by hand; and of damaged programs, of three each beginning and each
-//! change of one byte. What the verifier still accepts of them runs alike on the machine and on the
+//! count that were worked out by hand; and damaged programs, each prefix and each change of one
+//! byte of three programs. Those that are still accepted run alike on the machine and on the
 //! interpreter, whose steps are the semantics', whatever the counters reply.
 #![tactic(auto)]
 

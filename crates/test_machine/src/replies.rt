@@ -1,13 +1,13 @@
-//! Cells that always reply the same, and keep what they were asked.
+//! Cells that always reply the same, and record their events.
 
 ghost use Rattle.cells.specs.Events.{CanReply};
 
 use cells::{CellEvent, CellNo, CellOp, CellSteps};
 
-/// As many events as a program of so many slots can ask.
+/// More events than the tested programs make.
 pub(crate) const MOST_EVENTS: usize = 16;
 
-/// Each cell replies this number, or its greatest where that is less; to a Store it replies 0.
+/// Each cell replies this number, or its greatest value if that is less; to a Store it replies 0.
 #[derive(Clone, Copy)]
 pub(crate) struct Replies {
     pub(crate) number: u64,
@@ -35,7 +35,7 @@ impl Events {
         }
     }
 
-    /// Whether there was room for all of them.
+    /// Whether all events were recorded.
     pub(crate) fn are_all(&self) -> bool {
         self.count < MOST_EVENTS
     }

@@ -1,6 +1,6 @@
-//! Tables of programs. A row opens with `- ` and a line that says what is wanted of a program; the
-//! program is on the lines below it, its own lines divided by ` / `, which is no text of the
-//! assembler.
+//! Tables of programs. A row opens with `- ` and a line that says what is expected of a program.
+//! The program is on the lines below it, its own lines divided by ` / `, which no assembly text
+//! has.
 
 use std::alloc::{AllocError, Global};
 

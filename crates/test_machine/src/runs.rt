@@ -25,7 +25,7 @@ struct Came {
 /// What counters reply: 0, 1, and the greatest number of their width.
 const REPLIES: [u64; 3] = [0, 1, u64::MAX];
 
-/// The interpreter's run; none where it traps, or has no end.
+/// The interpreter's run; `None` if it traps, or has no end.
 fn interpreted(code: &[Option<Insn>], shape: &Shape, attrs: Arc<Attrs>, number: u64) -> Option<Came>
     requires { length code.now ≤ 4096 }
 {

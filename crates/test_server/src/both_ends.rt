@@ -14,7 +14,7 @@ use std::time::Clock;
 use std::{io, thread};
 use workers::{Gate, Service, serve};
 
-/// Serves with these 1 to 64 workers, until it is told to stop, and says whether it could.
+/// Serves with these 1 to 64 workers until the server is stopped. Returns whether it could.
 pub(crate) fn serves<H, G>(
     rt: &H,
     gate: &G,
@@ -46,7 +46,7 @@ enum Clients {
     Ended,
 }
 
-/// Whether the clients heard what they should, after which the server is told to stop.
+/// Whether the clients got the replies that they should. Then the server is stopped.
 fn heard<H>(
     rt: &H,
     place: SocketAddr,
@@ -70,9 +70,8 @@ where
     heard
 }
 
-/// Whether the clients heard what they should, the gate didn't run out, and the server ended: one
-/// of these workers, whose gate holds so many calls, and each connection of which may last so many
-/// seconds.
+/// Whether the clients got their replies, the gate didn't run out, and the server ended. It has
+/// these workers; its gate holds `holds` calls, and a connection may last `seconds`.
 fn is_served_by<H>(
     rt: &H,
     crew: Crew,
@@ -102,7 +101,7 @@ where
     Ok(is_heard && ended && !gate.ran_out.load(Ordering::SeqCst))
 }
 
-/// The same of a server that offers nothing, with so many workers.
+/// As above, for a server that offers nothing, with `workers` workers.
 fn is_served<H>(
     rt: &H,
     clients: Clients,
@@ -127,14 +126,14 @@ where
     is_served
 }
 
-/// Two workers answer at once: the first call is held until the second was answered.
+/// Two workers serve at once: the first call is held until the second has its reply.
 #[test]
 fn two_answers_at_once(rt: HostRuntime) -> Result<(), Fail> {
     assert!(rt; is_served(&rt, Clients::Two, 1, 2, 30)?);
     Ok(())
 }
 
-/// A client that has sent its head alone holds up nobody else.
+/// A client that has sent only its head delays no other client.
 #[test]
 fn head_held(rt: HostRuntime) -> Result<(), Fail> {
     assert!(rt; is_served(&rt, Clients::Held, 0, 2, 30)?);

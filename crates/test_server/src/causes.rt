@@ -1,4 +1,4 @@
-//! What is told of a load from files that is refused, beside the refusal.
+//! The details of the refusals of loads from files.
 
 use crate::exchange::is_printed;
 use cells::Directory;
@@ -9,8 +9,8 @@ use std::fs;
 use std::rt::Files;
 use std::test::Fail;
 
-/// What a manifest has behind the server's text, in which `;` stands for the line feed, why it is
-/// refused where the array `q:64:1:3` stands, and what is told beside. `-` stands for nothing.
+/// Rows: what follows the server's text in a manifest, with `;` for the line feed; its refusal on a
+/// server with the array `q:64:1:3`; and the cause, or `-` if there is none.
 const CAUSES: &str = "[[array]];name = \"q\";width = 64;length = 1;quota = 2\
     |M7 Cells N2 Redefined in array 1|q:64:1:3 to q:64:1:2
 [[array]];name = \"p\";width = 32;length = 1;[[array]];name = \"q\";width = 32;length = 3\
@@ -51,7 +51,7 @@ where
     Ok(refused.ok_or("a refusal")?)
 }
 
-/// Whether this is told of it.
+/// Whether the row's refusal and cause are returned.
 fn is_told<R>(rt: &R, row: &str) -> Result<bool, Fail>
 where
     R: Files + AllocGlobal,

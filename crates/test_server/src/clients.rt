@@ -1,4 +1,4 @@
-//! Clients of a server over loopback, and what they hear.
+//! Clients of a server over loopback, and the replies that they get.
 
 use crate::exchange::post;
 use crate::loopback::{reply, send, sent};
@@ -35,7 +35,7 @@ where
     Ok(streams)
 }
 
-/// Whether each of them hears that reply.
+/// Whether each connection gets that reply.
 fn are_replied<H: AllocGlobal>(rt: &H, streams: &[TcpStream]) -> io::Result<bool> {
     for stream in streams.iter() {
         if !is_replied(rt, stream)? {
@@ -51,7 +51,7 @@ pub(crate) fn halt<H: Net<Stream = TcpStream>>(rt: &H, place: SocketAddr, stop: 
     let _last = TcpStream::connect(rt, place);
 }
 
-/// Two requests at once, of which the first is held until the second was answered.
+/// Two requests at once. The first is held until the second has its reply.
 pub(crate) fn two<H>(rt: &H, place: SocketAddr) -> io::Result<bool>
 where
     H: Net<Stream = TcpStream> + AllocGlobal,
@@ -60,7 +60,7 @@ where
     are_replied(rt, &streams)
 }
 
-/// A request whose body comes once another one was answered.
+/// A request whose body is sent after the reply to another request.
 pub(crate) fn held<H>(rt: &H, place: SocketAddr, gate: &Meeting) -> io::Result<bool>
 where
     H: Net<Stream = TcpStream> + AllocGlobal,
@@ -76,7 +76,7 @@ where
     Ok(came && answered && later && is_replied(rt, &first)?)
 }
 
-/// A client that sends nothing, and whether a second one is answered beside it.
+/// A client that sends nothing, and whether a second one gets its reply meanwhile.
 fn beside_silent<H>(rt: &H, place: SocketAddr) -> io::Result<(TcpStream, bool)>
 where
     H: Net<Stream = TcpStream> + AllocGlobal,
@@ -87,7 +87,7 @@ where
     Ok((first, heard))
 }
 
-/// A client that sends nothing until a second one was answered, and is answered then.
+/// A client that sends nothing until a second one got its reply, and gets its own then.
 pub(crate) fn at_once<H>(rt: &H, place: SocketAddr) -> io::Result<bool>
 where
     H: Net<Stream = TcpStream> + AllocGlobal,
@@ -97,7 +97,7 @@ where
     Ok(is_replied(rt, &first)? && heard)
 }
 
-/// A client that sends nothing, and a second one that asks the one worker.
+/// A client that sends nothing, and a second one that needs the only worker.
 pub(crate) fn silent<H>(rt: &H, place: SocketAddr) -> io::Result<bool>
 where
     H: Net<Stream = TcpStream> + AllocGlobal,
@@ -107,8 +107,8 @@ where
     Ok(heard && none.is_empty())
 }
 
-/// A client that sends a byte now and then for three seconds, and a second one that asks the one
-/// worker. It is answered by then, as the limit is one second of the whole connection.
+/// A client that sends a byte now and then for three seconds, and a second one that needs the only
+/// worker. The second has its reply by then, since a whole connection may last only one second.
 pub(crate) fn slow<H>(rt: &H, place: SocketAddr) -> io::Result<bool>
 where
     H: Net<Stream = TcpStream> + AllocGlobal + Clock,
@@ -123,8 +123,8 @@ where
     is_replied(rt, &second)
 }
 
-/// Three requests at once, of which as many as the gate holds wait at it until the server was told
-/// to stop. Where it doesn't hold them all the listener has half a second to take the others.
+/// Three requests at once. As many as the gate holds wait at it until the server is stopped. If it
+/// holds fewer than three, the listener has half a second to accept the others.
 pub(crate) fn waiting<H>(
     rt: &H,
     place: SocketAddr,
@@ -144,8 +144,9 @@ where
     Ok(are_replied(rt, &streams)? && came)
 }
 
-/// A client that ends its body with a line's end that it doesn't count, and hears the whole reply.
-/// The body is longer than what is read with a head, so that the line's end isn't read with it.
+/// A client that sends a line end after its body, not counted in the body's length, and gets the
+/// whole reply. The body is longer than what is read with a head, so the line end isn't read with
+/// it.
 pub(crate) fn ended<H>(rt: &H, place: SocketAddr) -> io::Result<bool>
 where
     H: Net<Stream = TcpStream> + AllocGlobal,
@@ -158,7 +159,7 @@ where
     is_replied(rt, &stream)
 }
 
-/// A client that sends more than is read of it, and hears the whole refusal.
+/// A client that sends more than the server reads, and gets the whole refusal.
 pub(crate) fn refused<H>(rt: &H, place: SocketAddr) -> io::Result<bool>
 where
     H: Net<Stream = TcpStream> + AllocGlobal,

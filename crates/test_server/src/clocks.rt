@@ -1,4 +1,4 @@
-//! What the log of a server tells of a connection where the clock can't be read.
+//! What a server logs of a connection if the clock can't be read.
 
 use crate::both_ends::serves;
 use crate::clients::halt;
@@ -19,7 +19,7 @@ use std::thread::{self, Threads};
 use std::time::{Clock, Duration};
 use workers::Open;
 
-/// A runtime whose clock tells nothing.
+/// A runtime whose clock can't be read.
 #[derive(Drop)]
 struct Clockless<'a, R> {
     rt: &'a R,
@@ -51,7 +51,7 @@ impl<R: Clock> Clock for Clockless<'_, R> {
     }
 }
 
-/// What a client hears that asks, and its address.
+/// What a client gets for a request, and its address.
 fn heard<H>(rt: &H, place: SocketAddr) -> io::Result<(Vec<u8>, SocketAddr)>
 where
     H: Net<Stream = TcpStream> + AllocGlobal,
@@ -62,7 +62,7 @@ where
     Ok((bytes, client))
 }
 
-/// The address of a client that asks and hears nothing. Then the server is told to stop.
+/// The address of a client that sends a request and gets nothing. Then the server is stopped.
 fn unheard<H>(rt: &H, place: SocketAddr, stop: &AtomicBool) -> Result<SocketAddr, Fail>
 where
     H: Net<Stream = TcpStream> + AllocGlobal,
@@ -76,7 +76,7 @@ where
     Ok(client)
 }
 
-/// Whether the log of a server with this worker has a line of that connection, and no other.
+/// Whether the log of a server with this worker has a line of that connection, and no other line.
 fn is_told_by<H>(rt: &H, crew: Crew) -> Result<bool, Fail>
 where
     H: Threads + Wait + AllocGlobal + Clock + Sync,

@@ -1,5 +1,5 @@
-//! A program with a counter behind a quota: which apps of a request get the release, and that no
-//! refused request takes of it.
+//! A program with a counter that has a quota: which apps of a request get the release, and that no
+//! refused request takes from it.
 
 use crate::exchange::{Answering, WHOLE, exchange, post, server_of, times};
 use crate::refusals::head_of;
@@ -8,7 +8,7 @@ use std::alloc::Global;
 use std::sync::Wait;
 use std::test::Fail;
 
-/// An app that asks for an update.
+/// An app that requests an update.
 const ASKS: &str = "{\"appid\":\"x\",\"updatecheck\":{}}";
 
 const PINGS: &str = "{\"appid\":\"x\",\"ping\":{}}";
@@ -19,7 +19,7 @@ fn request(alloc: Global, apps: &str) -> Result<Vec<u8>, Fail> {
     Ok(post(alloc, body.as_str())?)
 }
 
-/// A request of an app that asks for an update.
+/// A request of an app that requests an update.
 pub(crate) fn asking(alloc: Global) -> Result<Vec<u8>, Fail> {
     request(alloc, ASKS)
 }
@@ -29,8 +29,8 @@ pub(crate) const OFFER: &str = "\"version\":\"2.0.0.0\"";
 
 const NONE: &str = "\"noupdate\"";
 
-/// What a request takes: the status of the reply, how many apps are offered the release and how
-/// many none, whether the offer stands first, and the counter after it.
+/// What a request does: the status of its reply, how many apps are offered the release and how many
+/// none, whether the offer is first, and the counter afterwards.
 #[derive(Clone, Copy, PartialEq, Eq)]
 struct RequestTake {
     status: u16,
@@ -40,7 +40,7 @@ struct RequestTake {
     count: u64,
 }
 
-/// What is taken by the request of another path, which is none.
+/// A request of another path, which takes nothing.
 const NOTHING: RequestTake = RequestTake {
     status: 404,
     offers: 0,
@@ -49,7 +49,7 @@ const NOTHING: RequestTake = RequestTake {
     count: 0,
 };
 
-/// What is taken by two apps that ask, and then by one that pings.
+/// Two apps that request an update; after it, an app that pings.
 const TWO: RequestTake = RequestTake {
     status: 200,
     offers: 1,
@@ -64,7 +64,7 @@ const PINGED: RequestTake = RequestTake {
     ..NOTHING
 };
 
-/// What is taken by 256 apps that ask.
+/// 256 apps that request an update.
 const MOST: RequestTake = RequestTake {
     nones: 255,
     count: 256,
@@ -83,7 +83,7 @@ fn taken(alloc: Global, server: &mut Answering, input: &[u8]) -> RequestTake {
     }
 }
 
-/// Whether this is taken by a request of these apps.
+/// Whether a request of these apps does this.
 fn is_taken(
     alloc: Global,
     server: &mut Answering,
@@ -94,14 +94,14 @@ fn is_taken(
     Ok(taken(alloc, server, &input) == want)
 }
 
-/// Whether these apps take in order, and one that pings takes none.
+/// Whether these apps take in order, and one that pings takes nothing.
 fn take_in_order(alloc: Global, server: &mut Answering, apps: &str) -> Result<bool, Fail> {
     let is_first = is_taken(alloc, server, apps, TWO)?;
     let is_second = is_taken(alloc, server, PINGS, PINGED)?;
     Ok(is_first && is_second)
 }
 
-/// The same of two apps that ask and one that pings, by a server of their own.
+/// As above, for two apps that request an update and one that pings, on a server of their own.
 fn is_in_order<H: Wait>(rt: &H, alloc: Global) -> Result<bool, Fail> {
     let apps = format!(in alloc; "{ASKS},{ASKS},{PINGS}")?;
     let mut server = server_of(rt, alloc, "one")?;
@@ -110,7 +110,7 @@ fn is_in_order<H: Wait>(rt: &H, alloc: Global) -> Result<bool, Fail> {
     is_in_order
 }
 
-/// Whether this is taken by a request, the first of a server of its own.
+/// Whether the first request of a new server does this.
 fn is_first<H: Wait>(rt: &H, alloc: Global, input: &[u8], want: RequestTake) -> Result<bool, Fail> {
     let mut server = server_of(rt, alloc, "one")?;
     let found = taken(alloc, &mut server, input);

@@ -1,4 +1,4 @@
-//! Shared cells with workers that have a pass to them each.
+//! Shared cells, and workers that have a pass to them each.
 
 ghost use Rattle.std.specs.Prelude.{All, IfOk};
 ghost use Rattle.shared_cells.specs.Passes.{IsNewPass, IsPassOf};
@@ -16,7 +16,7 @@ pub(crate) struct Crew {
     ghost own: { All (λ worker. IsPassOf cells worker.0) workers.items },
 }
 
-/// So many workers that watch a publisher, 1 to 65.
+/// `count` workers that watch a publisher, 1 to 65.
 pub(crate) fn crew_of(
     alloc: Global,
     publisher: &mut Publisher,
@@ -43,7 +43,7 @@ fn workers_of(
     Ok(workers)
 }
 
-// A worker with this pass to the cells, which the clauses name.
+// A worker with this pass, which belongs to the cells.
 fn worker_of(
     cells: &SharedCells,
     pass: SharedPass,

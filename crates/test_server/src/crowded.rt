@@ -1,30 +1,30 @@
-//! The log of requests by which a client would keep itself out of it, or change the terminal of who
-//! reads it.
+//! The log of requests by which a client tries to keep itself out of the log, or to change the
+//! terminal of its reader.
 
 use crate::logged::is_logged;
 use std::alloc::{AllocError, Global};
 use std::test::Fail;
 
-/// Apps of a client that writes controls and marks of direction, by their escapes and as they are.
+/// Apps of a client that writes controls and marks of direction, escaped and unescaped.
 const STRANGE: &str = "{\"appid\":\"\\u009b31m\\u202e\",\"version\":\"\\u2028\\u007f\"},\
     {\"appid\":\"\u{9b}\u{e9}\",\"event\":[\"\u{7f}\"]}";
 
-/// How they stand in the log.
+/// These apps in the log.
 const STRANGE_TOLD: &str = "{\"appid\":\"\\u009b31m\\u202e\",\"version\":\"\\u2028\\u007f\",\
     \"bucket\":6037,\"named\":false,\"unknown\":true},\
     {\"appid\":\"\\u009b\u{e9}\",\"bucket\":6037,\"named\":false,\"unknown\":true,\
     \"event\":\"[\\\"\\u007f\\\"]\"}]";
 
-/// An app that is offered a release, and how it stands in the log.
+/// An app that is offered a release; after it, the same app in the log.
 const ASKED: &str = ",{\"appid\":\"x\",\"updatecheck\":{}}";
 
 const ASKED_TOLD: &str =
     "{\"appid\":\"x\",\"bucket\":6037,\"named\":false,\"choice\":1,\"release\":\"2.0.0.0\"}";
 
-/// What is left out of 256 apps, of which 48 stand in the line.
+/// What is left out of 256 apps, of which 48 are in the line.
 const LEFT_OUT: &str = "],\"left_out\":208,\"offers_left_out\":207,\"unknown_left_out\":1";
 
-/// So many of a text.
+/// A text, `count` times.
 fn repeated(alloc: Global, text: &str, count: usize) -> Result<String, AllocError> {
     let mut all = String::new(alloc);
     for _ in 0..count {
@@ -33,8 +33,7 @@ fn repeated(alloc: Global, text: &str, count: usize) -> Result<String, AllocErro
     Ok(all)
 }
 
-/// A row of a request with these apps, and blanks behind it up to so many bytes, and how the apps
-/// stand in the log.
+/// A row: a request of these apps, padded with blanks to `size` bytes, and the apps in the log.
 fn row(alloc: Global, apps: &str, size: usize, told: &str) -> Result<String, Fail> {
     let mut body = format!(in alloc; "{{\"request\":{{\"protocol\":\"3.1\",\"app\":[{apps}]}}}}")?;
     let blanks = repeated(alloc, " ", size.saturating_sub(body.len()))?;
@@ -48,7 +47,7 @@ fn row(alloc: Global, apps: &str, size: usize, told: &str) -> Result<String, Fai
     Ok(row)
 }
 
-/// An unknown app with a long appid in front of 255 that are offered a release.
+/// An unknown app with a long appid before 255 that are offered a release.
 fn crowd(alloc: Global) -> Result<String, Fail> {
     let long = repeated(alloc, "a", 3300)?;
     let mut apps = format!(in alloc; "{{\"appid\":\"{long}\",\"updatecheck\":{{}}}}")?;

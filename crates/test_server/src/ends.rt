@@ -1,4 +1,5 @@
-//! What ends an operator's port beside a request to stop, and what ends a reply that has no end.
+//! What ends an operator's port, apart from a request to stop; and what ends a reply without an
+//! end.
 
 use crate::loopback::{reply, send, sent};
 use crate::session::is_asked;
@@ -18,8 +19,8 @@ use std::thread::Threads;
 use std::time::Clock;
 use workers::{OperatorSeat, operate};
 
-/// Serves an operator's port of a server that offers nothing, of which a connection may last so
-/// many seconds. Says whether it could.
+/// Serves the operator's port of a server that offers nothing, with `seconds` for a connection.
+/// Returns whether it could.
 fn operates<H>(rt: &H, listener: &TcpListener, stop: &AtomicBool, seconds: u64) -> bool
 where
     H: Wait + AllocGlobal + Clock,
@@ -52,11 +53,11 @@ where
     true
 }
 
-/// What the server tells of what it serves.
+/// The server's reply to `show`.
 const SHOWN: &str = "generation 1\napp x releases 1 slots 2\n";
 
-/// Whether the next connection is answered while one that sends nothing is open; then the port is
-/// told to stop.
+/// Whether the next connection gets its reply while one that sends nothing is open. Then the port
+/// is stopped.
 fn is_shown<H>(rt: &H, place: SocketAddr) -> io::Result<bool>
 where
     H: Net<Stream = TcpStream> + AllocGlobal,
@@ -66,7 +67,7 @@ where
     Ok(shown && is_asked(rt, place.port(), "stop", "stopping\n")?)
 }
 
-/// Whether a connection that sends nothing is given up at its limit of time.
+/// Whether a connection that sends nothing is closed at its time limit.
 fn is_given_up<H>(rt: &H) -> Result<bool, Fail>
 where
     H: Threads + Wait + AllocGlobal + Clock + Sync,
@@ -83,7 +84,7 @@ where
     Ok(operated && shown?)
 }
 
-/// Whether a port that is told to stop ends at the next connection, which isn't answered.
+/// Whether a port that is stopped ends at the next connection, which gets no reply.
 fn is_stopped<H>(rt: &H) -> Result<bool, Fail>
 where
     H: Wait + AllocGlobal + Clock,
@@ -98,7 +99,7 @@ where
     Ok(operated && heard.is_empty())
 }
 
-/// Reads the line of who connects, and sends these bytes, or as many as are taken.
+/// Reads a client's line, and sends these bytes, or as many as the client reads.
 fn sends(alloc: Global, listener: &TcpListener, line: &str, bytes: &[u8]) -> io::Result<()> {
     let (stream, _client) = listener.accept()?;
     let mut asked = Vec::new(alloc);
@@ -107,7 +108,7 @@ fn sends(alloc: Global, listener: &TcpListener, line: &str, bytes: &[u8]) -> io:
     send(&stream, bytes)
 }
 
-/// Whether the operator's side tells this of a line where these bytes are sent.
+/// Whether the operator's side returns this for a line to which these bytes are sent.
 fn is_taken<H>(rt: &H, line: &str, bytes: &[u8], want: &str) -> Result<bool, Fail>
 where
     H: Threads + AllocGlobal + Net<Listener = TcpListener, Stream = TcpStream> + Sync,
@@ -123,7 +124,7 @@ where
     Ok(is_taken?)
 }
 
-/// Whether a port that sends seven million bytes, more than a reply may have, gives none.
+/// Whether seven million bytes, more than a reply may have, are refused.
 fn is_flood_refused<H>(rt: &H) -> Result<bool, Fail>
 where
     H: Threads + AllocGlobal + Net<Listener = TcpListener, Stream = TcpStream> + Sync,
@@ -132,7 +133,7 @@ where
     is_taken(rt, "cells", lines.as_bytes(), "B5 Connect")
 }
 
-/// A line, what a port sends, and what the operator's side tells. `;` stands for the line feed.
+/// A line, what a port sends, and what the operator's side returns, with `;` for the line feed.
 const SENT: &str = "cells|a[0] 1;b_2[4095] 18446744073709551615;\
     |a[0] 1;b_2[4095] 18446744073709551615;
 cells||
@@ -146,7 +147,7 @@ show|generation 1;app x releases 1 slots 2;|generation 1;app x releases 1 slots 
 show|generations;|B5 Connect
 show|refused no;|refused no;";
 
-/// Whether the operator's side tells of a row what the row says.
+/// Whether the operator's side returns what the row has.
 fn is_row_taken<H>(rt: &H, row: &str) -> Result<bool, Fail>
 where
     H: Threads + AllocGlobal + Net<Listener = TcpListener, Stream = TcpStream> + Sync,

@@ -58,8 +58,8 @@ impl Answering {
     }
 }
 
-/// How a device behaves: how many bytes it takes a call, which call fails, if any (from 1), and how
-/// many bytes it takes in all, behind which a call takes none.
+/// How a device behaves: how many bytes it takes in a call; which call fails, if any (counted from
+/// 1); and how many bytes it takes in all, after which a call takes none.
 #[derive(Clone, Copy)]
 pub(crate) struct DeviceBehavior {
     pub(crate) piece: usize,
@@ -74,7 +74,7 @@ pub(crate) const WHOLE: DeviceBehavior = DeviceBehavior {
     room: 1_000_000_000,
 };
 
-/// A writer that takes no byte beyond its room.
+/// A writer that takes at most `room` bytes.
 #[derive(Drop)]
 struct Bounded {
     taken: Vec<u8>,
@@ -94,8 +94,8 @@ impl Write for Bounded {
     }
 }
 
-/// What came of a request, how often its reader and its writer failed, what the log tells of it,
-/// and what was written.
+/// The outcome of a request, the failures of its reader and its writer, what is logged of it, and
+/// what was written.
 #[derive(Drop)]
 pub(crate) struct Exchanged {
     pub(crate) outcome: Result<u16, AnswerFault>,
@@ -166,7 +166,7 @@ pub(crate) fn exchange(
     )
 }
 
-/// One request to a server of its own, by a manifest of the shelf.
+/// One request to a new server, by a manifest of the shelf.
 pub(crate) fn answered<H: Wait>(
     rt: &H,
     alloc: Global,
@@ -200,7 +200,7 @@ pub(crate) fn success(alloc: Global, text: &str) -> Result<Vec<u8>, AllocError> 
     Ok(reply.into_bytes())
 }
 
-/// Whether a fault is printed so. It is generic, so that no proof reads how a fault is printed.
+/// Whether a fault is printed like this. It is generic, so no proof reads how a fault is printed.
 pub(crate) fn is_printed<F: Display>(
     alloc: Global,
     fault: &F,
@@ -209,7 +209,7 @@ pub(crate) fn is_printed<F: Display>(
     Ok(format!(in alloc; "{fault}")?.as_str() == want)
 }
 
-/// How often a text stands in the bytes.
+/// How often a text occurs in the bytes.
 pub(crate) fn times(bytes: &[u8], part: &str) -> usize {
     let text = str::from_utf8(bytes).unwrap_or("");
     text.split(part).count().saturating_sub(1)

@@ -1,4 +1,4 @@
-//! A server whose manifests are files, with their programs in a folder of their own.
+//! A server whose manifests are files, with their programs in a separate folder.
 
 use crate::exchange::is_printed;
 use crate::session::first_wrong;
@@ -32,8 +32,8 @@ fn write_manifest<R: Files>(rt: &R, alloc: Global, name: &str) -> io::Result<()>
     fs::write(rt, path.as_str(), text.as_bytes())
 }
 
-/// Writes the folder `staged`: two manifests with their programs, and one each whose program isn't
-/// there, has 16 MiB, or has a byte more.
+/// Writes the folder `staged`: two manifests with their programs, and three others, whose program
+/// doesn't exist, has 16 MiB, or has a byte more.
 fn write_folder<R: Files>(rt: &R, alloc: Global) -> io::Result<()> {
     let mut program = PROGRAM;
     fs::create_dir(rt, "staged")?;
@@ -48,7 +48,7 @@ fn write_folder<R: Files>(rt: &R, alloc: Global) -> io::Result<()> {
     Ok(())
 }
 
-/// What is sent, and the reply, as in the other session.
+/// What is sent, and the reply, as in `session.rt`.
 const SESSION: &str = "show;|generation 1;app x releases 1 slots 2;
 post|4
 load staged/no.toml;|generation 2;
@@ -63,7 +63,7 @@ load staged/yes.toml;|generation 3;
 post|4
 stop;|stopping;";
 
-/// A server of the manifest at a path, whose clients ask at this port.
+/// A server of the manifest at a path, which serves clients at this port.
 fn prepared<H>(rt: &H, path: &str, port: u16) -> Result<Server, ServingFault>
 where
     H: Files + AllocGlobal + Net<Listener = TcpListener, Stream = TcpStream>,
@@ -71,8 +71,8 @@ where
     prepare(rt, &Device::new(rt), path, port, 0)
 }
 
-/// SHA-256 of `staged/yes.toml` and `staged/yes.bin`, each behind its length in eight bytes, by the
-/// `hashlib` of Python.
+/// SHA-256 of `staged/yes.toml` and `staged/yes.bin`, each after its length in eight bytes,
+/// computed by Python's `hashlib`.
 const DIGEST: &str = "d09ffd242ce4b1b5aba3c27752ddd3df9543d7af6f6972ed30fc5e8590e16c16";
 
 /// Whether a server's digest is that of its files.
@@ -85,7 +85,7 @@ where
     Ok(told.as_deref() == Some(DIGEST))
 }
 
-/// Why no server is ready, if none is.
+/// The fault if the server isn't ready.
 fn fault_of<H>(rt: &H, path: &str, port: u16) -> Option<ServingFault>
 where
     H: Files + AllocGlobal + Net<Listener = TcpListener, Stream = TcpStream>,
@@ -96,7 +96,7 @@ where
     }
 }
 
-/// Whether no server is ready, and this is printed of it.
+/// Whether the server isn't ready, and its fault is printed like this.
 fn is_refused<H>(rt: &H, path: &str, port: u16, want: &str) -> Result<bool, AllocError>
 where
     H: Files + AllocGlobal + Net<Listener = TcpListener, Stream = TcpStream>,
@@ -107,7 +107,7 @@ where
     }
 }
 
-/// Whether no server is ready at a port that is taken.
+/// Whether a server isn't ready if its port is in use.
 fn is_taken<H>(rt: &H) -> io::Result<bool>
 where
     H: Files + AllocGlobal + Net<Listener = TcpListener, Stream = TcpStream>,
@@ -134,7 +134,7 @@ where
     }
 }
 
-/// The first row of the session whose reply is another one.
+/// The first row of the session with a wrong reply.
 fn served_wrong<H>(rt: &H) -> Result<Option<&'static str>, Fail>
 where
     H: Files + Threads + Wait + AllocGlobal + Clock + Sync,
@@ -153,8 +153,8 @@ where
     Ok(wrong)
 }
 
-/// Serves a manifest, answers the rows of the session, and is stopped. No server is ready without
-/// its manifest, its program, or its ports. One that is has the digest of its files.
+/// Serves a manifest, replies to the session's rows, and is stopped. A server isn't ready without
+/// its manifest, its program, or its ports. A ready one has the digest of its files.
 #[test]
 fn server_over_files(rt: HostRuntime) -> Result<(), Fail> {
     write_folder(&rt, rt.alloc())?;

@@ -1,5 +1,5 @@
-//! Whole answers of a server: requests and an operator's lines over memory, byte for byte, and both
-//! ends of a server over loopback. They stand in a crate of their own, since a crate with tests is
+//! Whole replies of a server: requests and an operator's lines over memory, byte for byte, and both
+//! ends of a server over loopback. They are in a crate of their own, since a crate with tests is
 //! proved twice.
 #![tactic(auto)]
 

@@ -1,4 +1,4 @@
-//! An operator's lines over memory, and what each is answered, before the next on one server.
+//! An operator's lines over memory on one server, and the reply to each.
 
 use crate::shelf::{Shelf, ruleset};
 use cells::{Directory, PlainCells, PlainPass};
@@ -9,7 +9,7 @@ use std::alloc::{AllocError, Global};
 use std::sync::{Arc, Wait};
 use std::test::Fail;
 
-/// A server on the manifest `quota`, whose cells are one thread's. It is ended by `close`.
+/// A server on the manifest `quota`, whose cells belong to one thread. It is ended by `close`.
 struct Operated {
     control: Control,
     cells: PlainCells,
@@ -38,8 +38,8 @@ fn close<H: Wait>(rt: &H, server: Operated) {
     control.close(rt);
 }
 
-/// What is written in reply to a line, if it is heard: over a reader that takes so many bytes a
-/// call and fails at this one (from 1; 0 is none).
+/// The reply to a line, if there is one. The reader takes `piece` bytes in a call, and its call
+/// `fails` fails (counted from 1; 0 means none).
 fn replied<H: Wait>(
     rt: &H,
     alloc: Global,
@@ -93,7 +93,7 @@ fn is_right<H: Wait>(
     Ok(is_replied(rt, alloc, server, line.as_bytes(), piece, want.as_bytes()))
 }
 
-/// The first row of a session whose reply is another one, where so many bytes are read a call.
+/// The first row of a session with a wrong reply; the reader takes `piece` bytes in a call.
 fn first_wrong_of<H: Wait>(
     rt: &H,
     alloc: Global,
@@ -108,7 +108,7 @@ fn first_wrong_of<H: Wait>(
     Ok(None)
 }
 
-/// The same of a server of its own.
+/// As above, on a new server.
 fn first_wrong<H: Wait>(rt: &H, alloc: Global, piece: usize) -> Result<Option<&'static str>, Fail> {
     let mut server = server_of(rt, alloc)?;
     let found = first_wrong_of(rt, alloc, &mut server, piece);
@@ -116,7 +116,7 @@ fn first_wrong<H: Wait>(rt: &H, alloc: Global, piece: usize) -> Result<Option<&'
     Ok(found?)
 }
 
-/// A line, and its reply. In both `;` stands for the line feed.
+/// A line, and its reply, with `;` for the line feed.
 const LINES: &str = "show|generation 1;app x releases 1 slots 9;
 show;|generation 1;app x releases 1 slots 9;
 show;stop;|generation 1;app x releases 1 slots 9;
@@ -161,7 +161,7 @@ fn is_first_replied<H: Wait>(
     Ok(is_replied)
 }
 
-/// Whether a line that asks to load a path of so many bytes has this reply.
+/// Whether a line that requests to load a path of `count` bytes has this reply.
 fn is_long_replied<H: Wait>(
     rt: &H,
     alloc: Global,
@@ -172,8 +172,7 @@ fn is_long_replied<H: Wait>(
     is_first_replied(rt, alloc, line.as_bytes(), want)
 }
 
-/// Whether a reader that fails at its first, second or third call gets no reply, and nothing is
-/// done.
+/// Whether there is no reply, and nothing is done, if the first, second or third read fails.
 fn is_unheard<H: Wait>(rt: &H, alloc: Global) -> Result<bool, Fail> {
     let mut server = server_of(rt, alloc)?;
     let mut is_none = true;
@@ -186,7 +185,7 @@ fn is_unheard<H: Wait>(rt: &H, alloc: Global) -> Result<bool, Fail> {
     Ok(is_none && is_first)
 }
 
-/// A line of 4096 bytes is a request, and one of 4097 isn't; one whose path isn't UTF-8 is none.
+/// A line of 4096 bytes is a request, and one of 4097 isn't; nor is one whose path isn't UTF-8.
 #[test]
 fn other_lines(rt: HostRuntime) -> Result<(), Fail> {
     let path = b"refused no such manifest\n";

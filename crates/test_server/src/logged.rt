@@ -1,5 +1,5 @@
-//! The log of a server over loopback, by a runtime whose clock stands still: the pieces that stand
-//! in the log's queue once the server has ended.
+//! The log of a server over loopback, with a runtime whose clock doesn't advance: the pieces in the
+//! log's queue once the server has ended.
 
 use crate::both_ends::serves;
 use crate::clients::halt;
@@ -51,8 +51,8 @@ impl<R: Clock> Clock for Still<'_, R> {
     }
 }
 
-/// The headers that a client sends, in which `;` stands for the end of a line, and the body; and
-/// what the log tells of it before the bytes and behind the microseconds. `-` stands for nothing.
+/// Rows: a client's headers, with `;` for the end of a line, and the body; and what is logged of it
+/// before `bytes` and after `waited`. `-` means nothing.
 const ROWS: &str = r#"
 Content-Length: 69
 {"request":{"protocol":"3.1","app":[{"appid":"x","updatecheck":{}}]}}
@@ -90,15 +90,15 @@ Content-Length: 2
 -
 "#;
 
-/// What the log tells of a connection that couldn't be accepted, as of none that waits at a port
-/// that doesn't wait.
+/// The line of a connection that couldn't be accepted. A nonblocking port without waiting
+/// connections causes it.
 const UNACCEPTED: &str = "{\"time\":\"2026-03-02T01:00:00.000Z\",\"kind\":\"unaccepted\",\
     \"reason\":\"Resource temporarily unavailable (os error 11)\"}\n";
 
-/// The clock's moment, as Omaha's reply tells it.
+/// The clock's moment in Omaha's reply.
 const DAYSTART: &str = "\"daystart\":{\"elapsed_days\":7000,\"elapsed_seconds\":3600}";
 
-/// What stands on a line of a row.
+/// A line of a row, in which `-` means nothing.
 fn part(line: &str) -> &str {
     if line == "-" { "" } else { line }
 }
@@ -118,15 +118,14 @@ where
     Ok(stream)
 }
 
-/// How many bytes are replied; of Omaha's reply none is counted that tells another moment than the
-/// clock's.
+/// How many bytes the reply has; 0 if it is Omaha's and doesn't have the clock's moment.
 fn replied_bytes(alloc: Global, stream: &TcpStream, told: &str) -> io::Result<usize> {
     let reply = reply(alloc, stream)?;
     let is_right = !told.contains("200") || times(&reply, DAYSTART) == 1;
     Ok(if is_right { reply.len() } else { 0 })
 }
 
-/// Puts the line that the log should have of a connection behind the others.
+/// Appends the line that the log should have of a connection.
 fn want_line(alloc: Global, stream: &TcpStream, told: &str, log: &mut String) -> Result<(), Fail> {
     let (before, behind) = told.split_once('\n').ok_or("a row of four lines")?;
     let size = replied_bytes(alloc, stream, before)?;
@@ -146,8 +145,8 @@ struct Lines {
     kept: String,
 }
 
-/// Asks all that the rows say before the first reply is read, and tells what the log should have of
-/// it, and what it has so far.
+/// Sends the requests of all rows before it reads the first reply. Collects the lines that the log
+/// should have, and those that it has so far.
 fn ask_rows<H>(
     rt: &H,
     place: SocketAddr,
@@ -171,7 +170,7 @@ where
     Ok(())
 }
 
-/// Asks what the rows say, stops the server, and gives both logs.
+/// Sends what the rows have, stops the server, and returns both logs.
 fn heard<H>(
     rt: &H,
     place: SocketAddr,
@@ -192,7 +191,7 @@ where
     Ok(lines)
 }
 
-/// Puts the lines of the pieces that stand in a queue behind the others.
+/// Appends the lines of the pieces that are in a queue.
 pub(crate) fn take<H: Wait>(
     rt: &H,
     pieces: &Receiver<LogPiece>,
@@ -207,14 +206,13 @@ pub(crate) fn take<H: Wait>(
     Ok(())
 }
 
-/// Whether these lines are those that were wanted, and some of connections that couldn't be
-/// accepted.
+/// Whether these lines are the expected ones, and lines of connections that couldn't be accepted.
 fn is_log(alloc: Global, kept: &str, wanted: &str) -> Result<bool, AllocError> {
     let others = kept.replace(alloc, UNACCEPTED, "")?;
     Ok(others.as_str() == wanted && kept.contains(UNACCEPTED))
 }
 
-/// Whether the log of a server with these workers is as these rows say, once the server has ended.
+/// Whether the log of a server with these workers is as these rows say, after the server has ended.
 fn is_logged_by<H>(rt: &H, crew: Crew, rows: &str) -> Result<bool, Fail>
 where
     H: Threads + Wait + AllocGlobal + Clock + Sync,
@@ -244,7 +242,7 @@ pub(crate) fn logging_to<'a>(queue: &'a LogQueue) -> Service<'a> {
     }
 }
 
-/// The same of a server of a manifest with one worker.
+/// As above, for a server of a manifest with one worker.
 pub(crate) fn is_logged<H>(rt: &H, path: &str, rows: &str) -> Result<bool, Fail>
 where
     H: Threads + Wait + AllocGlobal + Clock + Sync,

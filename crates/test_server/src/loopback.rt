@@ -1,4 +1,4 @@
-//! What a client sends over loopback, and what comes back.
+//! What a client sends over loopback, and what it gets.
 
 use std::alloc::Global;
 use std::io::{self, Read, Write};
@@ -14,7 +14,7 @@ where
     Ok(stream)
 }
 
-/// Sends the bytes.
+/// Sends these bytes over an open connection.
 pub(crate) fn send(stream: &TcpStream, bytes: &[u8]) -> io::Result<()> {
     let mut to = stream;
     to.write_all(bytes)
@@ -28,7 +28,7 @@ pub(crate) fn reply(alloc: Global, stream: &TcpStream) -> io::Result<Vec<u8>> {
     Ok(bytes)
 }
 
-/// Sends all of the bytes, and gives what comes back until the other side ends.
+/// Sends all of the bytes, and returns what the other side sends until it ends.
 pub(crate) fn told<H>(rt: &H, place: SocketAddr, bytes: &[u8]) -> io::Result<Vec<u8>>
 where
     H: Net<Stream = TcpStream> + AllocGlobal,

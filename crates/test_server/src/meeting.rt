@@ -4,10 +4,10 @@ use std::sync::atomic::{AtomicBool, AtomicU64, Ordering};
 use std::thread;
 use workers::Gate;
 
-/// How often one waits for what another thread does.
+/// How often a thread looks before it gives up waiting for another one.
 const TURNS: u32 = 10_000_000;
 
-/// Waits until it is set, and says whether it was.
+/// Waits until the flag is set, and returns whether it was.
 pub(crate) fn awaits(flag: &AtomicBool) -> bool {
     for _ in 0..TURNS {
         if flag.load(Ordering::SeqCst) {
@@ -18,8 +18,8 @@ pub(crate) fn awaits(flag: &AtomicBool) -> bool {
     false
 }
 
-/// A gate that counts the calls that are reached and tells when the second is made. It may hold the
-/// first few until then, or until another thread says that it was.
+/// A gate that counts the calls that reach it, and signals the end of the second. It may hold the
+/// first few until then, or until another thread gives that signal.
 #[derive(Drop)]
 pub(crate) struct Meeting {
     pub(crate) holds: u64,
@@ -38,7 +38,7 @@ pub(crate) fn gate_that_holds(calls: u64) -> Meeting {
 }
 
 impl Meeting {
-    /// Waits until so many calls are reached, and says whether they were.
+    /// Waits until this number of calls is reached, and returns whether it was.
     pub(crate) fn awaits_calls(&self, calls: u64) -> bool {
         for _ in 0..TURNS {
             if calls <= self.reached.load(Ordering::SeqCst) {

@@ -1,7 +1,7 @@
-//! Memory that is refused once: a request that takes of a quota gets a line that says so, which the
-//! test prints, and asked again it is answered as ever, by the count that the runs that were made
-//! left. So this passes with ample memory, and wherever one growth of it is refused, which
-//! `bench/refused` does for each in turn.
+//! Out of memory: a request that takes from a quota gets a line that says so, which the test
+//! prints. A second request is answered as usual, by the count that the completed runs left. So the
+//! test passes with ample memory, and if any single allocation fails, which `bench/refused` tries
+//! for each in turn.
 
 use crate::exchange::{Answering, Exchanged, WHOLE, exchange, post, server_of, success};
 use crate::refusals::refusal;
@@ -12,7 +12,7 @@ use std::sync::Wait;
 use std::test::Fail;
 use workers::AnswerFault;
 
-/// The answer of a call, or of a second one where the first was refused.
+/// The result of a call, or of a second one if an allocation failed in the first.
 macro_rules! again {
     ($call:expr) => {
         match $call {
@@ -22,7 +22,7 @@ macro_rules! again {
     };
 }
 
-/// The reply to `TWO_APPS` where the app that is known is offered the release.
+/// The reply to `TWO_APPS` if the known app is offered the release.
 const OFFERED: &str = ")]}'\n{\"response\":{\"app\":[{\"appid\":\"x\",\"cohort\":\"b:6037\",\
     \"status\":\"ok\",\"updatecheck\":{\"manifest\":{\"packages\":{\"package\":[{\"hash_sha256\":\
     \"ba7816bf8f01cfea414140de5dae2223b00361a396177a9cb410ff61f20015ad\",\
@@ -32,22 +32,22 @@ const OFFERED: &str = ")]}'\n{\"response\":{\"app\":[{\"appid\":\"x\",\"cohort\"
     \"daystart\":{\"elapsed_days\":7000,\"elapsed_seconds\":3600},\"protocol\":\"3.1\",\
     \"server\":\"prod\"}}";
 
-/// What came of a request that takes of a quota of one.
+/// The outcome of a request that takes from a quota of one.
 #[derive(Clone, Copy, PartialEq, Eq)]
 enum MemoryAnswer {
     /// The whole reply, after one addition to the counter.
     Replied,
-    /// A line of status 500, since memory for the head or the body was refused.
+    /// A line of status 500, since an allocation for the head or the body failed.
     ReadingRefused,
-    /// The same of memory for the reply.
+    /// A line of status 500, since an allocation for the reply failed.
     ReplyRefused,
     /// The writer failed.
     Unwritten,
-    /// Another answer, or another count.
+    /// Another reply, or another count.
     Wrong,
 }
 
-/// The lines that tell of refused memory.
+/// The lines for a failed allocation.
 const REFUSALS: [(MemoryAnswer, &str); 2] = [
     (MemoryAnswer::ReadingRefused, "P9 Memory"),
     (MemoryAnswer::ReplyRefused, "O5 Memory"),
@@ -63,7 +63,7 @@ fn is_refusal(alloc: Global, written: &[u8], name: &str) -> Result<bool, AllocEr
     Ok(written == line.as_bytes())
 }
 
-/// The refusal of memory that was written.
+/// Which of these lines was written.
 fn refusal_in(alloc: Global, written: &[u8]) -> Result<MemoryAnswer, AllocError> {
     for (answer, name) in REFUSALS {
         if is_refusal(alloc, written, name)? {
@@ -73,7 +73,7 @@ fn refusal_in(alloc: Global, written: &[u8]) -> Result<MemoryAnswer, AllocError>
     Ok(MemoryAnswer::Wrong)
 }
 
-/// What was heard of a server on whose counter so many additions were made before.
+/// The outcome of an exchange with a server whose counter was `before`.
 fn asked_of(alloc: Global, heard: &Exchanged, before: u64) -> Result<MemoryAnswer, AllocError> {
     let written = heard.written.as_slice();
     let text = if before == 0 { OFFERED } else { NO_UPDATE };
@@ -86,7 +86,7 @@ fn asked_of(alloc: Global, heard: &Exchanged, before: u64) -> Result<MemoryAnswe
     }
 }
 
-/// Asks once. The counter rises by one with a reply, and by one at most without.
+/// Sends one request. The counter rises by one with a reply, and by at most one without.
 fn asked(alloc: Global, server: &mut Answering) -> Result<MemoryAnswer, AllocError> {
     let before = server.pass.value(CellNo::new(0));
     let input = again!(post(alloc, TWO_APPS))?;
@@ -97,7 +97,7 @@ fn asked(alloc: Global, server: &mut Answering) -> Result<MemoryAnswer, AllocErr
     Ok(if is_right { asked } else { MemoryAnswer::Wrong })
 }
 
-/// Makes a server, and asks twice.
+/// Makes a server, and sends two requests.
 fn asked_twice<H: Wait>(rt: &H, alloc: Global) -> Result<[MemoryAnswer; 2], Fail> {
     let mut server = again!(server_of(rt, alloc, "one"))?;
     let first = asked(alloc, &mut server);

@@ -1,5 +1,5 @@
-//! Quotas from which several workers take at once, over shared cells: as many offers as they have,
-//! and no more.
+//! Quotas from which several workers take at once, over shared cells: they give as many offers as
+//! the quota, and no more.
 
 ghost use Rattle.shared_cells.specs.Passes.{IsPassOf};
 
@@ -16,7 +16,7 @@ use std::test::Fail;
 use std::thread;
 use std::thread::Threads;
 
-/// How many of a worker's requests are offered the release, of so many.
+/// How many of `asks` requests to a worker are offered the release.
 fn offers(
     alloc: Global,
     cells: &SharedCells,
@@ -35,8 +35,8 @@ fn offers(
     count
 }
 
-/// How many requests are offered the release where each worker but the last answers so many in a
-/// thread of its own, and the counter afterwards.
+/// How many requests are offered the release if each worker but the last serves `asks` of them in a
+/// thread of its own; and the counter afterwards.
 fn all_offers<H>(rt: &H, crew: Crew, asks: u32) -> Result<(usize, u64), Fail>
 where
     H: Threads + AllocGlobal + Sync,
@@ -60,7 +60,7 @@ where
     Ok((all, cells.act(&mut pass, CellNo::new(0), CellOp::Load)))
 }
 
-/// The same of a ruleset whose app takes of a quota, and of so many workers.
+/// As above, for `workers` workers and a ruleset whose app takes from a quota.
 fn taken<H>(rt: &H, path: &str, workers: usize, asks: u32) -> Result<(usize, u64), Fail>
 where
     H: Threads + Wait + AllocGlobal + Sync,

@@ -1,4 +1,4 @@
-//! Every refusal, by each way to get it, with its status and its line. None makes a run.
+//! Every refusal, by each way to get it, with its status and its line. None causes a run.
 
 use crate::exchange::{DeviceBehavior, Exchanged, WHOLE, answered, is_printed, post};
 use std::alloc::{AllocError, Global};
@@ -6,7 +6,7 @@ use std::sync::Wait;
 use std::test::Fail;
 use workers::AnswerFault;
 
-/// The bytes of a refusal. One of the method names the method that is allowed.
+/// The bytes of a refusal. That of the method names the method that is allowed.
 pub(crate) fn refusal(alloc: Global, status: &str, line: &str) -> Result<String, AllocError> {
     let size = line.len() + 1;
     let allow = match line {
@@ -19,7 +19,7 @@ pub(crate) fn refusal(alloc: Global, status: &str, line: &str) -> Result<String,
     )
 }
 
-/// Whether the log tells of a refusal by its status's number and its line.
+/// Whether the log has a refusal's status and line.
 fn is_told(alloc: Global, heard: &Exchanged, status: &str, line: &str) -> Result<bool, AllocError> {
     let (code, _name) = status.split_once(' ').unwrap_or((status, ""));
     let wanted = format!(in alloc; "{code} {line}")?;
@@ -42,8 +42,7 @@ fn is_refused<H: Wait>(
     Ok(is_told(alloc, &heard, status, line)? && heard.written.as_slice() == wanted.as_bytes())
 }
 
-/// The status, the line, a name, and the head that a client sends, without its last two ends of a
-/// line.
+/// The status, the line, a name, and the head that a client sends, without its last two line ends.
 const HEADS: &str = r#"
 - 400 Bad Request | P1 Head | a length that is no number
 POST /service/update2/json HTTP/1.1
@@ -131,7 +130,7 @@ fn bodies_are_refused(rt: HostRuntime) -> Result<(), Fail> {
     Ok(())
 }
 
-/// A request that knows no app, with a member of so many nested lists that nobody asks for.
+/// A request without apps, with an unused member of `depth` nested lists.
 fn nested(alloc: Global, depth: usize) -> Result<Vec<u8>, AllocError> {
     let opened = "[".repeat(alloc, depth)?;
     let closed = "]".repeat(alloc, depth)?;
@@ -153,7 +152,7 @@ fn lists_that_nest(rt: HostRuntime) -> Result<(), Fail> {
 
 const LARGE: &str = "POST /service/update2/json HTTP/1.1\nContent-Length: 1048577";
 
-/// Whether a large body is refused by its head alone: a second read would fail.
+/// Whether a large body is refused by only its head: a second read would fail.
 fn is_large_unread<H: Wait>(rt: &H, alloc: Global) -> Result<bool, Fail> {
     let head = head_of(alloc, LARGE)?;
     let input = format!(in alloc; "{head}{{}}")?;
@@ -167,7 +166,7 @@ fn is_large_unread<H: Wait>(rt: &H, alloc: Global) -> Result<bool, Fail> {
     Ok(heard.outcome == Ok(413) && heard.written.as_slice() == wanted.as_bytes())
 }
 
-/// Whether a head of so many lines behind its first one is refused.
+/// Whether a head of `count` lines after its first one is refused.
 fn are_lines_refused<H: Wait>(rt: &H, alloc: Global, count: usize) -> Result<bool, Fail> {
     let lines = "a: b\r\n".repeat(alloc, count)?;
     let input = format!(in alloc; "POST /service/update2/json HTTP/1.1\r\n{lines}\r\n")?;
@@ -183,12 +182,12 @@ fn large_bodies_and_long_heads(rt: HostRuntime) -> Result<(), Fail> {
     Ok(())
 }
 
-/// What a client sends before it ends, in which `;` stands for the end of a line.
+/// What a client sends before it ends, with `;` for the end of a line.
 const CUT: &str = "
 POST /service/update2/json HTTP/1.1;Host: h;
 POST /service/update2/json HTTP/1.1;Content-Length: 2;;{";
 
-/// Whether nothing is written where the input ends so.
+/// Whether nothing is written if the input ends like this.
 fn is_unwritten<H: Wait>(rt: &H, alloc: Global, row: &str) -> Result<bool, Fail> {
     let input = row.replace(alloc, ";", "\r\n")?;
     let heard = answered(rt, alloc, "nothing", input.as_bytes(), WHOLE, WHOLE)?;

@@ -1,17 +1,17 @@
-//! Replies to requests, and that reading in pieces changes none of them.
+//! Replies to requests. Reading in pieces doesn't change them.
 
 use crate::exchange::{DeviceBehavior, WHOLE, answered, post, success};
 use std::alloc::Global;
 use std::sync::Wait;
 use std::test::Fail;
 
-/// Two apps, of which the ruleset knows one.
+/// Two apps; only the first is in the ruleset.
 pub(crate) const TWO_APPS: &str =
     "{\"request\":{\"protocol\":\"3.1\",\"requestid\":\"\",\"sessionid\":\"\",\
     \"app\":[{\"appid\":\"x\",\"version\":\"1.0\",\"updatecheck\":{}},\
     {\"appid\":\"y\",\"version\":\"1.0\",\"updatecheck\":{}}]}}";
 
-/// The reply to it where the program offers nothing.
+/// The reply to it if the program offers nothing.
 pub(crate) const NO_UPDATE: &str =
     ")]}'\n{\"response\":{\"app\":[{\"appid\":\"x\",\"cohort\":\"b:6037\",\
     \"status\":\"ok\",\"updatecheck\":{\"status\":\"noupdate\"}},\
@@ -19,8 +19,7 @@ pub(crate) const NO_UPDATE: &str =
     \"daystart\":{\"elapsed_days\":7000,\"elapsed_seconds\":3600},\"protocol\":\"3.1\",\
     \"server\":\"prod\"}}";
 
-/// A name, the manifest, a body, and the reply behind its first line, both without the ends of
-/// their lines.
+/// A name, the manifest, a body, and the reply after its first line, both without their line ends.
 const ROWS: &str = r#"
 - an update, with a ping | below_2000
 {"request":{"protocol":"3.1","requestid":"a","sessionid":"",
@@ -45,7 +44,7 @@ const ROWS: &str = r#"
 {"response":{"app":[],
 "daystart":{"elapsed_days":7000,"elapsed_seconds":3600},"protocol":"3.1","server":"prod"}}"#;
 
-/// Whether a body is replied with this text, where both devices take 1, 7 or all bytes a call.
+/// Whether the reply to a body is this text, with devices that take 1, 7 or all bytes in a call.
 fn is_replied<H: Wait>(
     rt: &H,
     alloc: Global,
@@ -65,7 +64,7 @@ fn is_replied<H: Wait>(
     Ok(true)
 }
 
-/// Whether the body of a row is replied as the row says.
+/// Whether the reply to a row's body is as the row says.
 fn is_row_replied<H: Wait>(rt: &H, alloc: Global, row: &str) -> Result<bool, Fail> {
     let (title, texts) = row.split_once('\n').ok_or("no texts")?;
     let (_name, path) = title.split_once(" | ").ok_or("no manifest")?;

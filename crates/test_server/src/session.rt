@@ -18,11 +18,11 @@ where
     bind(rt, service, operator)
 }
 
-/// An app that asks for an update.
+/// An app that requests an update.
 pub(crate) const ONE_APP: &str =
     "{\"request\":{\"protocol\":\"3.1\",\"app\":[{\"appid\":\"x\",\"updatecheck\":{}}]}}";
 
-/// Four apps that ask for an update.
+/// Four apps that request an update.
 pub(crate) const FOUR_APPS: &str = "{\"request\":{\"protocol\":\"3.1\",\"app\":[\
     {\"appid\":\"x\",\"updatecheck\":{}},{\"appid\":\"x\",\"updatecheck\":{}},\
     {\"appid\":\"x\",\"updatecheck\":{}},{\"appid\":\"x\",\"updatecheck\":{}}]}}";
@@ -45,8 +45,7 @@ where
     Ok(format!(in rt.alloc(); "{count}")?.into_bytes())
 }
 
-/// The request of a line: of one that is none of the words a load with an empty path, which no line
-/// spells.
+/// The request of a line. Other lines give a load with an empty path, which no line spells.
 fn request_of(line: &str) -> OperatorRequest<'_> {
     match line {
         "show" => OperatorRequest::Show,
@@ -56,7 +55,7 @@ fn request_of(line: &str) -> OperatorRequest<'_> {
     }
 }
 
-/// What the operator's side of a port gives for a line, or its printed fault.
+/// What the operator's side of a port returns for a line, or its printed fault.
 pub(crate) fn asked<H>(rt: &H, port: u16, line: &str) -> io::Result<Vec<u8>>
 where
     H: Net<Stream = TcpStream> + AllocGlobal,
@@ -67,9 +66,9 @@ where
     }
 }
 
-/// What is sent to the operator's port, and the reply; `post` is a request of four apps and `one`
-/// of one, whose reply is how many of them are offered a release. Behind `ask` a line is asked by
-/// the operator's side, and behind `wrong` at the clients' port. In lines `;` stands for the line
+/// What is sent to the operator's port, and the reply. `post` is a request of four apps and `one`
+/// of one app; the reply is how many apps are offered a release. After `ask`, the operator's side
+/// sends the line; after `wrong`, it sends it to the clients' port. In lines `;` means the line
 /// feed.
 const SESSION: &str = "show;|generation 1;app x releases 1 slots 9;
 cells;|
@@ -92,7 +91,7 @@ post|0
 cells;|q[0] 12;
 stop;|stopping;";
 
-/// Requests that take of a quota of two, one after the other.
+/// Requests that take from a quota of two, one after the other.
 const TAKEN: &str = "one|1
 one|1
 one|0
@@ -101,7 +100,7 @@ show;|generation 1;app x releases 1 slots 9;
 frob;|refused B1 Word;
 stop;|stopping;";
 
-/// No line of the operator's side is answered at the clients' port.
+/// No line of the operator's side gets a reply at the clients' port.
 const ASKED: &str = "wrong stop|B5 Connect
 wrong show|B5 Connect
 wrong cells|B5 Connect
@@ -109,7 +108,7 @@ wrong load no|B5 Connect
 ask load no|generation 2;
 ask stop|stopping;";
 
-/// The first row whose reply is another one; then the server is stopped.
+/// The first row with a wrong reply. Then the server is stopped.
 pub(crate) fn first_wrong<H>(
     rt: &H,
     rows: &'static str,
@@ -138,7 +137,7 @@ where
     Ok(heard.as_slice() == want.as_bytes())
 }
 
-/// What is heard of what is sent.
+/// What is received for what is sent.
 fn heard<H>(rt: &H, service: SocketAddr, operator: SocketAddr, sent: &str) -> io::Result<Vec<u8>>
 where
     H: Net<Stream = TcpStream> + AllocGlobal,
@@ -167,7 +166,7 @@ fn sessions(rt: HostRuntime) -> Result<(), Fail> {
     Ok(())
 }
 
-/// Whether the operator's side tells this of a line.
+/// Whether the operator's side returns this for a line.
 pub(crate) fn is_asked<H>(rt: &H, port: u16, line: &str, want: &str) -> io::Result<bool>
 where
     H: Net<Stream = TcpStream> + AllocGlobal,
@@ -175,8 +174,8 @@ where
     Ok(asked(rt, port, line)?.as_slice() == want.as_bytes())
 }
 
-/// Both ports are on loopback. A port that is taken can't be bound, and where nobody listens nobody
-/// answers.
+/// Both ports are on loopback. A port in use can't be bound, and without a listener there is no
+/// reply.
 #[test]
 fn ports(rt: HostRuntime) -> Result<(), Fail> {
     let ports = ports_of(&rt, 0, 0)?;

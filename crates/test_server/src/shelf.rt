@@ -18,8 +18,8 @@ use ruleset::{App, Ruleset};
 use std::alloc::{AllocError, Global};
 use std::sync::{Arc, Wait};
 
-/// A path, the server's text, the arrays, and the program of the app, in which `;` stands for the
-/// line feed. Those that take of `q[0]` offer the release to as many as its quota. The program of
+/// A path, the server's text, the arrays, and the app's program, with `;` for the line feed.
+/// Programs that take from `q[0]` offer the release as often as its quota allows. The program of
 /// `unset` is refused after the array was declared.
 const MANIFESTS: &str = "nothing|prod||mov r0, 0;exit
 below_2000|prod||ldxh r2, [r1+16];mov r0, 0;jge r2, 2000, end;mov r0, 1;end:;exit
@@ -38,7 +38,7 @@ forty|forty|q:64:1:40|ldcell r6, 0, 0;mov r2, 1;fadddw [r6+0], r2;jge r2, 40, +2
 other_forty|other_forty|q:64:1:40|ldcell r6, 0, 0;mov r2, 1;fadddw [r6+0], r2;mov r0, 0;\
     jge r2, 40, end;mov r0, 1;end:;exit";
 
-/// The loader of these manifests. It says in words why there is no ruleset.
+/// The loader of these manifests. Its faults are words.
 pub(crate) struct Shelf;
 
 impl Loader for Shelf {
@@ -73,7 +73,7 @@ impl Loader for Shelf {
     }
 }
 
-/// The ruleset of a path, alone on a server.
+/// The ruleset of a path, the only one on its server.
 pub(crate) fn rules(alloc: Global, path: &str) -> Result<Arc<Ruleset>, &'static str> {
     let mut directory = Directory::new(alloc);
     let rules = ruleset(alloc, path, &mut directory)?;
@@ -116,7 +116,7 @@ pub(crate) fn ruleset(
     }
 }
 
-/// What stands behind a path.
+/// The rest of a path's row.
 fn row_of(path: &str) -> Option<&'static str> {
     for row in MANIFESTS.lines() {
         if let Some((name, rest)) = row.split_once('|') {
@@ -164,7 +164,7 @@ fn program(alloc: Global, text: &str, shape: &Shape) -> Result<Verified, &'stati
     }
 }
 
-/// The app `x` of a program that chooses among one release.
+/// The app `x`, with a program that chooses among one release.
 fn app_of(alloc: Global, program: Verified) -> Result<App, AllocError>
     requires { program.shape.releases ≡ 1 }
     ensures { IfOk result (λ app. app.program ≡ program) }

@@ -1,4 +1,4 @@
-//! Devices that fail at each of their calls, or take less than they are given.
+//! Devices that fail at each of their calls, or take fewer bytes than they are given.
 
 use crate::exchange::{DeviceBehavior, Exchanged, WHOLE, answered, post, success};
 use crate::refusals::{head_of, refusal};
@@ -8,7 +8,7 @@ use std::sync::Wait;
 use std::test::Fail;
 use workers::AnswerFault;
 
-/// What came of a request of two apps over these devices.
+/// The outcome of a request of two apps over these devices.
 fn heard<H: Wait>(
     rt: &H,
     alloc: Global,
@@ -19,7 +19,8 @@ fn heard<H: Wait>(
     Ok(answered(rt, alloc, "nothing", &input, reads, writes)?)
 }
 
-/// Whether nothing is written over this reader, which fails so often, and this is answered.
+/// Whether nothing is written over this reader, which fails `failures` times, and the outcome is
+/// `fault`.
 fn is_unread<H: Wait>(
     rt: &H,
     alloc: Global,
@@ -32,7 +33,7 @@ fn is_unread<H: Wait>(
     Ok(is_told && heard.written.is_empty() && heard.write_failures == 0)
 }
 
-/// The same of a reader of 20 bytes a call that fails at this call.
+/// As above, for a reader of 20 bytes a call whose call `fails` fails.
 fn is_failed<H: Wait>(rt: &H, alloc: Global, fails: u64) -> Result<bool, Fail> {
     let reads = DeviceBehavior {
         piece: 20,
@@ -42,8 +43,8 @@ fn is_failed<H: Wait>(rt: &H, alloc: Global, fails: u64) -> Result<bool, Fail> {
     is_unread(rt, alloc, reads, AnswerFault::Reading, 1)
 }
 
-/// Whether these are the first bytes of the reply, and it is told how many they are, where writes
-/// of so many bytes fail at this call.
+/// Whether the first `count` bytes of the reply are written, and the outcome says `count`. Writes
+/// take `piece` bytes, and the one of number `fails` fails.
 fn is_cut<H: Wait>(
     rt: &H,
     alloc: Global,
@@ -62,7 +63,7 @@ fn is_cut<H: Wait>(
     Ok(is_told && Some(heard.written.as_slice()) == whole.get(..count))
 }
 
-/// How many bytes the request has, and in how many pieces of 20 it is read.
+/// The bytes of the request, and the number of pieces of 20 in which it is read.
 const SIZE: usize = 231;
 
 const READS: u64 = 12;
@@ -73,8 +74,8 @@ const ENDED: DeviceBehavior = DeviceBehavior {
     ..WHOLE
 };
 
-/// Each write of up to 50, and how many bytes were written before: head and body, which go out in
-/// one piece, have 354.
+/// Each write of up to 50 bytes, and how many were written before. Head and body go out in one
+/// piece of 354 bytes.
 const WRITTEN: [(u64, usize); 8] = [
     (1, 0),
     (2, 50),
@@ -110,8 +111,8 @@ fn each_write_fails(rt: HostRuntime) -> Result<(), Fail> {
     Ok(())
 }
 
-/// How many bytes of a refusal a write takes, the write that fails, if any, how many bytes there is
-/// room for, and what is answered. The refusal has 107 bytes.
+/// For a refusal of 107 bytes: how many bytes a write takes, which write fails, if any, how many
+/// bytes are taken in all, and the outcome.
 const REFUSALS: [(usize, u64, usize, Result<u16, AnswerFault>); 9] = [
     (40, 3, 1000, Err(AnswerFault::Writing(80))),
     (40, 2, 1000, Err(AnswerFault::Writing(40))),
@@ -124,8 +125,8 @@ const REFUSALS: [(usize, u64, usize, Result<u16, AnswerFault>); 9] = [
     (40, 0, 1000, Ok(411)),
 ];
 
-/// Whether a request without a length is answered so over this writer, and as many bytes are
-/// written as is told.
+/// Whether this is the outcome of a request without a length over this writer, and as many bytes
+/// are written as it says.
 fn is_refused_over<H: Wait>(
     rt: &H,
     alloc: Global,

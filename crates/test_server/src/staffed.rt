@@ -1,4 +1,4 @@
-//! The workers of a whole server, the limit of time of its clients' connections, and its output.
+//! The workers of a whole server, the time limit of its clients' connections, and its output.
 
 use crate::clients::silent;
 use crate::exchange::is_printed;
@@ -13,8 +13,8 @@ use std::thread::Threads;
 use std::time::{Clock, Duration, Instant};
 use workers::Ports;
 
-/// Whether a client that sends nothing is given up after its second, and well before half a minute,
-/// so that the only worker answers the next one.
+/// Whether a client that sends nothing is dropped after its second, and well before half a minute,
+/// so that the only worker serves the next client.
 pub(crate) fn is_given_up<H>(rt: &H, place: SocketAddr) -> io::Result<bool>
 where
     H: Net<Stream = TcpStream> + AllocGlobal + Clock,
@@ -24,7 +24,8 @@ where
     Ok(heard && begun.elapsed(rt)? < Duration::from_secs(30))
 }
 
-/// Two workers answer at once, and the one of a server whose limit is a second drops who is silent.
+/// Two workers serve at once; the only worker of a server with a limit of one second drops a silent
+/// client.
 #[test]
 fn workers_and_limit_are_as_asked(rt: HostRuntime) -> Result<(), Fail> {
     assert_eq!(rt; wrong(&rt, "nothing", 2, 300, PortTask::AtOnce)?, None);
@@ -32,7 +33,7 @@ fn workers_and_limit_are_as_asked(rt: HostRuntime) -> Result<(), Fail> {
     Ok(())
 }
 
-/// Why a server doesn't serve whose output has room for ten bytes, if it doesn't.
+/// Why a server whose output takes only ten bytes doesn't serve.
 fn fault_of_output<H>(rt: &H, ports: Ports) -> Option<ServingFault>
 where
     H: Threads + Wait + AllocGlobal + Clock + Sync,
@@ -46,7 +47,7 @@ where
     }
 }
 
-/// A server that can't say that it serves gives that as its reason, and ends: its ports are free.
+/// If a server can't print that it serves, that is its fault, and it ends: its ports are free.
 #[test]
 fn output_is_full(rt: HostRuntime) -> Result<(), Fail> {
     let ports = ports_of(&rt, 0, 0)?;

@@ -1,4 +1,4 @@
-//! A server that ends while a client is being heard: what its operator's port is told meanwhile.
+//! A server that ends while a client's request is read: what its operator's port replies meanwhile.
 
 use crate::clients::is_replied;
 use crate::exchange::post;
@@ -10,8 +10,8 @@ use std::io;
 use std::net::{Net, SocketAddr, TcpStream};
 use std::test::Fail;
 
-/// What is asked at the operator's port from the first stop on, and what comes of it. A server that
-/// stops tells everybody so, which is no reply to anything but a stop.
+/// What is sent to the operator's port from the first stop on, and what the operator's side
+/// returns. A server that stops sends everybody `stopping`, which is a reply only to a stop.
 const ASKED: &[(&str, &str)] = &[
     ("stop", "stopping\n"),
     ("stop", "stopping\n"),
@@ -21,8 +21,8 @@ const ASKED: &[(&str, &str)] = &[
     ("stop", "stopping\n"),
 ];
 
-/// The first line whose reply is another one, if there is one, while a client that was taken is
-/// still to send its body; or that the client isn't answered.
+/// The first line with a wrong reply, if there is one, while an accepted client still has to send
+/// its body; or that the client gets no reply.
 fn wrong_meanwhile<H>(rt: &H, clients: SocketAddr, port: u16) -> io::Result<Option<&'static str>>
 where
     H: Net<Stream = TcpStream> + AllocGlobal,
@@ -45,7 +45,7 @@ where
     Ok(if is_heard { wrong } else { Some("the client") })
 }
 
-/// The same, and that it failed where it did.
+/// As above; a failed connection is also wrong.
 pub(crate) fn wrong_at_end<H>(rt: &H, clients: SocketAddr, port: u16) -> Option<&'static str>
 where
     H: Net<Stream = TcpStream> + AllocGlobal,

@@ -1,4 +1,4 @@
-//! The published ruleset: generations, watchers, and answers under the newest.
+//! The published ruleset: generations, watchers, and replies under the newest.
 
 use crate::exchange::{WHOLE, exchange, is_printed, post, server_of, success};
 use crate::replies::{NO_UPDATE, TWO_APPS};
@@ -8,7 +8,7 @@ use std::alloc::Global;
 use std::sync::Wait;
 use std::test::Fail;
 
-/// The generation of the next ruleset, or 0 where it isn't installed.
+/// The generation of the next ruleset, or 0 if it isn't installed.
 fn installed<H: Wait>(rt: &H, alloc: Global, publisher: &mut Publisher) -> u64 {
     match rules(alloc, "nothing") {
         Ok(next) => publisher.install(rt, next).unwrap_or(0),
@@ -16,7 +16,7 @@ fn installed<H: Wait>(rt: &H, alloc: Global, publisher: &mut Publisher) -> u64 {
     }
 }
 
-/// The generation that a watcher sees, or 0 where it sees none.
+/// The generation that a watcher returns, or 0 if it returns none.
 fn seen(watcher: &mut Watcher) -> u64 {
     match watcher.current() {
         Ok((generation, _rules)) => generation,
@@ -28,7 +28,7 @@ fn watcher_of(publisher: &mut Publisher) -> Result<Watcher, SwapFault> {
     publisher.watcher()
 }
 
-/// Whether generations are counted from 1, each watcher sees the last, and a third has no place.
+/// Whether generations are counted from 1, each watcher returns the last, and a third has no place.
 fn counts<H: Wait>(rt: &H, alloc: Global, publisher: &mut Publisher) -> Result<bool, SwapFault> {
     let is_one = publisher.generation() == 1;
     let mut first = watcher_of(publisher)?;
@@ -44,7 +44,7 @@ fn counts<H: Wait>(rt: &H, alloc: Global, publisher: &mut Publisher) -> Result<b
     Ok(is_one && are_two && are_three && is_full)
 }
 
-/// The same of a publisher with places for two, which is ended afterwards.
+/// As above, for a publisher with places for two watchers, which is ended afterwards.
 fn are_counted<H: Wait>(rt: &H, alloc: Global) -> Result<bool, Fail> {
     let mut publisher = publisher_of(rt, alloc, "nothing", 2)?;
     let counts = counts(rt, alloc, &mut publisher);
@@ -52,7 +52,7 @@ fn are_counted<H: Wait>(rt: &H, alloc: Global) -> Result<bool, Fail> {
     Ok(counts?)
 }
 
-/// Whether a request is answered with no update once the ruleset that offers one is replaced.
+/// Whether a request gets no update once the ruleset that offers one is replaced.
 fn is_newest<H: Wait>(rt: &H, alloc: Global) -> Result<bool, Fail> {
     let input = post(alloc, TWO_APPS)?;
     let wanted = success(alloc, NO_UPDATE)?;

@@ -1,5 +1,5 @@
-//! Rulesets are swapped while clients ask: each reply is wholly of one generation, none is lost,
-//! and of a quota that the rulesets share as many are offered a release as it has.
+//! Rulesets are swapped while clients send requests. Each reply is wholly of one generation, and
+//! none is lost. From a quota that the rulesets share, as many releases are offered as it has.
 
 use crate::exchange::times;
 use crate::meeting::awaits;
@@ -11,16 +11,17 @@ use std::test::Fail;
 use std::thread::Threads;
 use std::{io, thread};
 
-/// What clients ask while rulesets are loaded in turn.
+/// What clients request while rulesets are loaded in turn.
 #[derive(Clone, Copy)]
 struct Swaps {
     /// The manifest that is served at first, and the one that is loaded in turn with it. Each has
     /// its name as the server's text.
     served: &'static str,
     other: &'static str,
-    /// How many loads there are. They begin once a client was answered.
+    /// How many loads there are. They begin after the first reply to a client.
     loads: u64,
-    /// How often each of four clients asks, and how often before it waits until all is loaded.
+    /// How many requests each of four clients sends, and how many of them before it waits for all
+    /// loads.
     asks: u64,
     before: u64,
     /// A request, and how many apps it has.
@@ -28,8 +29,8 @@ struct Swaps {
     apps: usize,
 }
 
-/// Clients that don't wait for the loads. Of the two rulesets one offers each app the release and
-/// one none.
+/// Clients that don't wait for the loads. One of the two rulesets offers each app the release, the
+/// other offers none.
 const WHOLE: Swaps = Swaps {
     served: "yes",
     other: "no",
@@ -40,7 +41,7 @@ const WHOLE: Swaps = Swaps {
     apps: 4,
 };
 
-/// Clients that take of a quota of 40. Before all is loaded they ask 36 times at most.
+/// Clients that take from a quota of 40. Before all is loaded they send at most 36 requests.
 const QUOTA: Swaps = Swaps {
     served: "forty",
     other: "other_forty",
@@ -66,7 +67,7 @@ impl Replies {
         }
     }
 
-    /// Counts a reply to so many apps, if it is whole.
+    /// Counts a reply to `apps` apps, if it is whole.
     fn count(&self, reply: &[u8], apps: usize) {
         let offered = times(reply, "\"manifest\"");
         let refused = times(reply, "\"noupdate\"");
@@ -84,7 +85,7 @@ impl Replies {
     }
 }
 
-/// How far clients and loads are, and what was replied.
+/// Whether clients have begun and loads are done, and what was replied.
 #[derive(Drop)]
 struct Progress {
     begun: AtomicBool,
@@ -164,7 +165,7 @@ where
     );
 }
 
-/// Whether a load is answered by the next generation.
+/// Whether the reply to a load is the next generation.
 fn is_installed<H>(rt: &H, port: u16, swaps: Swaps, i: u64) -> io::Result<bool>
 where
     H: Net<Stream = TcpStream> + AllocGlobal,
@@ -179,7 +180,7 @@ where
     is_asked(rt, port, line.as_str(), want.as_str())
 }
 
-/// How many loads were answered so.
+/// How many loads got the next generation.
 fn installed<H>(rt: &H, port: u16, swaps: Swaps, progress: &Progress) -> u64
 where
     H: Net<Stream = TcpStream> + AllocGlobal,
@@ -195,7 +196,7 @@ where
     installed
 }
 
-/// Loads while clients ask, and says whether each load was answered by the next generation.
+/// Loads while clients send requests. Returns whether each load got the next generation.
 fn swapped<H>(rt: &H, place: SocketAddr, port: u16, swaps: Swaps, progress: &Progress) -> bool
 where
     H: Threads + AllocGlobal + Sync,
@@ -209,7 +210,7 @@ where
     installed == swaps.loads
 }
 
-/// Whether all loads are answered and each client gets all its replies, wholly of one ruleset.
+/// Whether all loads succeed and each client gets all its replies, wholly of one ruleset.
 pub(crate) fn are_whole<H>(rt: &H, place: SocketAddr, port: u16) -> bool
 where
     H: Threads + AllocGlobal + Sync,
@@ -222,7 +223,7 @@ where
     is_swapped && yes.saturating_add(no) == 400
 }
 
-/// Whether the first 40 of 120 that ask are offered the release, some by each ruleset.
+/// Whether 40 of 120 requests are offered the release, some by each ruleset.
 pub(crate) fn is_shared<H>(rt: &H, place: SocketAddr, port: u16) -> io::Result<bool>
 where
     H: Threads + AllocGlobal + Sync,

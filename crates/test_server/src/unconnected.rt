@@ -1,5 +1,5 @@
-//! A server that may not connect, as under a filter of its system calls or a firewall, and ends by
-//! its operator all the same.
+//! A server that may not connect, for example under a filter of its system calls or a firewall, and
+//! still ends when its operator stops it.
 
 use crate::session::ports_of;
 use crate::whole_server::{PortTask, served, service_of, wrong_at};
@@ -11,7 +11,7 @@ use std::test::Fail;
 use std::thread::{self, Threads};
 use std::time::{Clock, Duration};
 
-/// A runtime whose connections all fail so.
+/// A runtime whose connections all fail with `kind`.
 #[derive(Drop)]
 struct Unconnected<'a, R> {
     rt: &'a R,
@@ -62,8 +62,8 @@ impl<R: Net<Listener = TcpListener, Stream = TcpStream>> Net for Unconnected<'_,
     }
 }
 
-/// What goes wrong with a server whose connections fail so, if anything does, while two clients ask
-/// it and its operator stops it. It ends by itself.
+/// What goes wrong, if anything does, while two clients use a server whose connections fail with
+/// `kind` and its operator stops it. It ends by itself.
 fn wrong_unconnected<H>(rt: &H, kind: ErrorKind) -> Result<Option<&'static str>, Fail>
 where
     H: Threads + Wait + AllocGlobal + Clock + Sync,

@@ -1,4 +1,4 @@
-//! The log of a whole server: its loads and its end, and what comes of lines that nobody reads.
+//! The log of a whole server: its loads and its end, and what happens to lines that nobody reads.
 
 use crate::logged::{logging_to, take};
 use crate::whole_server::{PortTask, wrong_by};
@@ -8,7 +8,7 @@ use server_log::{LogPiece, LogQueue};
 use std::sync::Wait;
 use std::test::Fail;
 
-/// What a line tells behind its time: its kind, and what follows.
+/// The part of a line after its time: its kind, and what follows.
 fn told_of(line: &str) -> &str {
     match line.split_once("\"kind\":\"") {
         Some((_, told)) => told,
@@ -16,7 +16,7 @@ fn told_of(line: &str) -> &str {
     }
 }
 
-/// What the lines in a queue tell behind their times, but those of connections.
+/// The lines in a queue without their times and without those of connections.
 fn lines_told<H>(rt: &H, pieces: &Receiver<LogPiece>) -> Result<String, Fail>
 where
     H: Wait + AllocGlobal,
@@ -45,7 +45,7 @@ one|1
 one|0
 stop;|stopping;";
 
-/// What the log tells of that.
+/// The log of that session.
 const LOADS_TOLD: &str = r#"serving","generation":1}
 load","path":"unset","refusal":"a program"}
 load","path":"other_quota","refusal":"an array","cause":"q:64:1:2 to q:64:1:3"}
@@ -55,8 +55,8 @@ stop"}
 counter","array":"q","index":0,"value":3}
 "#;
 
-/// That the server is ready, loads, also those that are refused, the stop, and the counter that
-/// isn't 0 have a line each. What the connections came to is told once.
+/// Each of these has a line: that the server is ready, each load, even a refused one, the stop, and
+/// the counter that isn't 0. Totals of the connections have one line.
 #[test]
 fn loads_and_the_end_are_logged(rt: HostRuntime) -> Result<(), Fail> {
     let (queue, pieces) = LogQueue::new(rt.alloc())?;
@@ -80,11 +80,11 @@ one|1
 one|0
 stop;|stopping;";
 
-/// What the log tells once it is read: that the server was ready, the lines of three connections
-/// and that of the stop were lost.
+/// The log once it is read. Five lines were lost: of the ready server, of three connections, and of
+/// the stop.
 const UNREAD_TOLD: &str = "lost\",\"lines\":5}\nunaccepted\",\"reason\":\"read\"}\n";
 
-/// A server whose log nobody reads answers as ever, and ends.
+/// A server whose log nobody reads replies as usual, and ends.
 #[test]
 fn lines_that_nobody_reads_are_lost(rt: HostRuntime) -> Result<(), Fail> {
     let (queue, pieces) = LogQueue::new(rt.alloc())?;

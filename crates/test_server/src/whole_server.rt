@@ -22,19 +22,20 @@ use workers::{Ports, Service};
 pub(crate) enum PortTask {
     /// Lines and requests are sent one after another, and each has its reply; the last is a stop.
     Rows(&'static str),
-    /// A client sends nothing until another one was answered.
+    /// A client sends nothing until another one got its reply.
     AtOnce,
-    /// A client sends nothing, and another one asks the only worker.
+    /// A client sends nothing, and another one needs the only worker.
     Silent,
-    /// Rulesets are swapped while clients ask.
+    /// Rulesets are swapped while clients send requests.
     Swaps,
-    /// Rulesets that share a quota are swapped while clients take of it.
+    /// Rulesets that share a quota are swapped while clients take from it.
     Quota,
-    /// The server is stopped while a client is heard, and asked meanwhile.
+    /// The server is stopped while a client's request is read, and its operator's port is used
+    /// meanwhile.
     Ending,
 }
 
-/// Each connection may last so many seconds, and there is no log.
+/// A connection may last this number of seconds, and there is no log.
 pub(crate) fn service_of(seconds: u64) -> Service<'static> {
     Service {
         timeout: Duration::from_secs(seconds),
@@ -42,8 +43,8 @@ pub(crate) fn service_of(seconds: u64) -> Service<'static> {
     }
 }
 
-/// Serves a manifest of the shelf with 1 to 64 workers, until the server is stopped, and says to
-/// this writer that it does.
+/// Serves a manifest of the shelf with 1 to 64 workers, until the server is stopped. Prints to
+/// `out` that it does.
 pub(crate) fn served_to<H, O>(
     rt: &H,
     ports: Ports,
@@ -68,7 +69,7 @@ where
     }
 }
 
-/// What a server says once it serves its first ruleset.
+/// What a server prints once it serves its first ruleset.
 const SERVING: &[u8] = b"serving generation 1\n";
 
 /// What was written, and by how many writes.
@@ -89,7 +90,7 @@ impl Write for Said {
     }
 }
 
-/// The same, and B3 where it said anything else than that it serves, or not by one write.
+/// As above; B3 if it printed anything else, or not by one write.
 pub(crate) fn served<H>(
     rt: &H,
     ports: Ports,
@@ -141,8 +142,8 @@ where
     }
 }
 
-/// What goes wrong with a server of this manifest, if anything does, while this is done at its
-/// ports. It has 1 to 64 workers, and each connection may last so many seconds.
+/// What goes wrong with a server of this manifest, if anything does, while `work` is done at its
+/// ports. It has 1 to 64 workers, and each connection may last `seconds`.
 pub(crate) fn wrong<H>(
     rt: &H,
     path: &'static str,
@@ -157,7 +158,7 @@ where
     wrong_by(rt, path, workers, service_of(seconds), work)
 }
 
-/// The same of a server that serves so.
+/// As above, for a server with this service.
 pub(crate) fn wrong_by<H>(
     rt: &H,
     path: &'static str,

@@ -43,7 +43,7 @@ all_empty [] none k = refl
 all_empty (c ∷ cuts) none k =
     empty_runs c (joined cuts) (sym (none zero)) (all_empty cuts (λ p. none (suc p))) k
 
--- what is left of the history, and of the runs
+-- the rest of the history, and of the runs
 passes_left : (x : Entry) (history : List Entry) (cuts : List (List (List CellEvent)))
     (t : Taken cuts x.pass x.event (events_by x.pass history))
     → ((p : ℕ) → events_by p (x ∷ history) ≡ joined (get_or cuts p [])) → (p : ℕ)
@@ -57,7 +57,7 @@ passes_left x history cuts t own p = elim (cases_eq p x.pass) [
       ∙ ap (λ (c : List (List CellEvent)). joined c) (sym (t.others p other))
 ]
 
--- one event more, of the run from which it was taken
+-- one more event, of the run from which it was taken
 runs_more : (e : CellEvent) (k : ℕ) (rest : List CellEvent) (all : List (List CellEvent))
     (again : List Entry) → k < length all → get_or all k [] ≡ e ∷ rest
     → ((j : ℕ) → events_by j again ≡ get_or (set all k rest) j []) → (j : ℕ)
@@ -73,7 +73,7 @@ runs_more e k rest all again less is own j = elim (cases_eq j k) [
       others_first j (entry_by k e) again other ∙ own j ∙ get_or-set_other all k j rest [] other
 ]
 
--- the same passes did the runs of both
+-- if the same passes did the runs of both, they have the same history
 pub by_alike : {A B : Type 0} (xs : List (List A)) (ys : List (List B))
     → ((k : ℕ) → pass_of_run xs k ≡ pass_of_run ys k) → (history : List Entry)
     → by_passes xs history ≡ by_passes ys history

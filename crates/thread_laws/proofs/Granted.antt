@@ -1,4 +1,4 @@
--- The quotas of a directory, where all programs know only its arrays.
+-- The quotas of a directory, if all programs know only its arrays.
 use Rattle.std.proofs.Common.{◌≡◌, ℕ, List, All, get_or, subst}
 use Rattle.std.specs.Prelude.{Contains, IsSome}
 use Rattle.std.proofs.lemmas.List.Elements.{All-contains}

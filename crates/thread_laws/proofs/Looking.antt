@@ -1,4 +1,4 @@
--- Of a pass that made Loads alone nothing is left in a history without its Loads.
+-- Nothing is left of a pass that only made Loads in a history without its Loads.
 use Rattle.std.proofs.Common.{◌≡◌, ℕ, Bool, true, false, not, ◌&&◌, List, [], ◌∷◌, cond, refl, sym}
 use Rattle.std.proofs.Common.{ap, subst, ◌∙◌}
 use Rattle.std.specs.Prelude.{◌==◌, if◌then◌else◌}

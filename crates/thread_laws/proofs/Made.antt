@@ -1,4 +1,4 @@
--- The entries of a run of the world that are a worker's are what its Steps make.
+-- The entries of a run of the world with a worker's number are what its Steps make.
 use Rattle.std.proofs.Common.{◌≡◌, ◌≢◌, ℕ, List, [], ◌∷◌, ◌++◌, map, Bool, true, false, refl}
 use Rattle.std.proofs.Common.{ap, subst, ◌∙◌, inl, inr}
 use Rattle.std.specs.Prelude.{◌==◌, if◌then◌else◌, slice_get}

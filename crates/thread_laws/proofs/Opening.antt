@@ -1,4 +1,4 @@
--- How all runs start: ruleset after ruleset is swapped in, and of each its runs start.
+-- How all runs start: ruleset after ruleset is swapped in, and the runs of each start.
 use Rattle.std.proofs.Common.{◌≡◌, ◌≢◌, Global, ℕ, zero, suc, ◌<◌, ◌≤◌, List, [], ◌∷◌, ◌++◌}
 use Rattle.std.proofs.Common.{length, map, replicate, Bool, true, false, Some, Ok, nat_lt, refl}
 use Rattle.std.proofs.Common.{sym, ap, subst, ◌∙◌, inl, inr, arith, append-nil, append_assoc}
@@ -43,13 +43,13 @@ one_event w u v e r kind happens rest = record {
   kinds = (kind, rest.kinds);
 }
 
--- an Arc of a value; where it lies is nobody's matter here
+-- an Arc of a value; its address doesn't matter here
 abbrev arc_of : {A : Type 0} → A → Arc A Global
 arc_of a = record { ptr = null_ptr; value = a }
 
 -- ---- a Start
 
--- the worker of a run of one of the first rulesets, those of numbers below this, has at_start
+-- the workers of runs of rulesets with numbers below n have started them
 abbrev begun : ℕ → AppRun → Worker
 begun n run = if nat_lt run.number n then at_start run else Idle
 
@@ -118,7 +118,7 @@ stays_so : (n : ℕ) (run : AppRun) → run.number ≢ n → begun n run ≡ beg
 stays_so n run other =
     ap (λ (b : Bool). if b then at_start run else Idle) (other_next run.number n other)
 
--- of the newest ruleset
+-- the Starts of the newest ruleset
 starts : (done : List Rules) (cells : List ℕ) (v : WorldState) (later : List Rules) (n : ℕ)
     → n ≡ length done → (before : List Worker) (runs : List AppRun)
     → AllByRecursion (IsRunUnder (done ++ later)) runs

@@ -1,4 +1,4 @@
--- Workers that share a legal history, all of them: event after event, and then each to its end.
+-- All workers that share a legal history: event after event, and then each to its end.
 use Rattle.std.proofs.Common.{◌≡◌, ℕ, zero, suc, ◌<◌, List, [], ◌∷◌, ◌++◌, length, get_or}
 use Rattle.std.proofs.Common.{refl, sym, subst, ◌∙◌, inl, inr, arith, append_assoc}
 use Rattle.std.proofs.Common.{length-set, get_or-set_same, get_or-set_other}
@@ -16,7 +16,7 @@ use Rattle.thread_laws.proofs.Lists.{got_at, own_first, others_first}
 use Rattle.thread_laws.proofs.Works.{Works, idle_touches}
 use Rattle.thread_laws.proofs.Steps.{world_of, GoesBy, goes_nowhere, settles, reaches}
 
--- each worker goes on to its end, and no counter is touched
+-- each worker continues to its end, and no counter is touched
 all_settle : (rs : List Rules) (cells : List ℕ) (before ws ts : List Worker)
     → length ws ≡ length ts → ((k : ℕ) → Works (get_or ws k Idle) [] (get_or ts k Idle))
     → GoesBy (world_of rs cells (before ++ ws)) [] (world_of rs cells (before ++ ts))
@@ -38,7 +38,7 @@ all_settle rs cells before (x ∷ ws) (y ∷ ts) many works =
     (subst (λ (l : List Worker). GoesBy (world_of rs cells l) [] v)
     (sym (set_at before x ws y (length before) refl)) here)
 
--- a worker that is to touch a counter is there
+-- a worker that is to touch a counter exists
 within : (ws : List Worker) (k : ℕ) (y : Worker) (es : List CellEvent) (e : CellEvent)
     (next : List CellEvent) → es ≡ e ∷ next → Works (get_or ws k Idle) es y → k < length ws
 within ws k y es e next long works = elim (cases_lt k (length ws)) [
@@ -47,7 +47,7 @@ within ws k y es e next long works = elim (cases_lt k (length ws)) [
       (idle_touches (get_or ws k Idle) y es e next (get_or_past ws k Idle past) long works)
 ]
 
--- one worker has touched a counter, and what each has to do yet
+-- one worker has touched a counter, and the rest of each worker's work
 others_work : (ws ts : List Worker) (x : Entry) (history : List Entry) (m : Worker)
     → x.pass < length ws
     → ((k : ℕ) → Works (get_or ws k Idle) (events_by k (x ∷ history)) (get_or ts k Idle))

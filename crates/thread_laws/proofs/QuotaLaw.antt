@@ -1,4 +1,4 @@
--- What the passes did to a cell that the programs of all rulesets have in no array without a quota.
+-- What the passes did to a cell that no program of the rulesets has in an array without a quota.
 use Rattle.std.proofs.Common.{◌≡◌, ℕ, zero, suc, ◌<◌, List, [], ◌∷◌, get_or, inl, inr}
 use Rattle.std.proofs.Common.{sym, subst}
 use Rattle.std.specs.Prelude.{All, slice_get, Some}

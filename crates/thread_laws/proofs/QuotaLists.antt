@@ -1,4 +1,4 @@
--- What holds of each element of lists that are put together, and of the events of passes.
+-- What is true of each element of concatenated lists, and of the events of passes.
 use Rattle.std.proofs.Common.{ℕ, zero, suc, Bool, true, false, List, [], ◌∷◌, ◌++◌}
 use Rattle.std.proofs.Common.{get_or}
 use Rattle.std.specs.Prelude.{All, flat_map, ◌==◌, if◌then◌else◌}
@@ -20,7 +20,7 @@ module _ {X : Type 0} (P : X → Type 0) where
       All-contains P (xs ++ ys) (get_or ys k d) h
       (Contains-append_right xs ys (get_or ys k d) (Contains-get_or ys k d lt))
 
-  -- each list of those that are put together
+  -- each of the concatenated lists
   pub all_of_list : (lists : List (List X)) (p : ℕ) → All P (flat_map (λ xs. xs) lists)
       → All P (get_or lists p [])
   all_of_list [] p h = All-nil P
@@ -36,7 +36,7 @@ module _ (P : CellEvent → Type 0) where
   kept true e es p h = All-cons P e es p h
   kept false e es p h = h
 
-  -- those of a pass are among all events
+  -- the events of a pass are among all events
   pub all_by : (p : ℕ) (history : List Entry) → All P (all_events history)
       → All P (events_by p history)
   all_by p [] h = All-nil P

@@ -1,4 +1,4 @@
--- What a run does to a cell that its program has in no array without a quota.
+-- What a run does to a cell that its program has only in arrays with a quota.
 use Rattle.std.proofs.Common.{ℕ, List, get_or, subst}
 use Rattle.std.specs.Prelude.{All}
 use Rattle.std.proofs.lemmas.List.Elements.{All-nil, All-cons, All-head, All-tail}
@@ -20,7 +20,7 @@ use Rattle.thread_laws.specs.Runs.{Reaches, stays, goes, asks, Stage, UnderWay, 
 use Rattle.thread_laws.specs.Runs.{ComesAsFar, AppRun}
 use Rattle.thread_laws.specs.Quotas.{HasOnlyQuotasAt, OnlyCountsAt}
 
--- ---- a run asks what its shape allows
+-- ---- a run does only what its shape allows
 
 lawful_to : (p : ShapedProgram) → StepsAreSafe p → (s t : State) (es : List CellEvent)
     → Reaches p s es t → IsCovered p s → All HasPossibleReply es → AreLawful p.shape es
@@ -34,7 +34,7 @@ lawful_to p safe s t es (asks {next = next} {e = d} {es = ds} is rest) covered f
     All-cons (λ (e : CellEvent). IsLawful p.shape e.cell e.op) d ds here.0
     (lawful_to p safe (next d.reply) t ds rest then.1 (All-tail HasPossibleReply d ds fit))
 
--- one that ends comes to the state of its last step
+-- a run that ends gets to the state of its last step
 ends_at : (p : ShapedProgram) (s : State) (es : List CellEvent) (choice count : ℕ)
     → Ends p s es choice count → (t : State) × Reaches p s es t
 ends_at p s es choice count (last is counted) = (s, stays)
@@ -70,7 +70,7 @@ counts_at cell p e knows lawful same =
     let has = subst (HasCell array) same lawful.has in
     counts e.op (lawful.quota array lawful.there lawful.has (knows.quota array lawful.there has))
 
--- of a run from its opening state, as far as it came
+-- for a run from its opening state, as far as it got
 pub run_counts : (cell : ℕ) (run : AppRun) → HasOnlyQuotasAt cell run.program
     → AreShort run.attributes.texts
     → ComesAsFar run.program (opening run.attributes) run.events run.stage

@@ -62,7 +62,7 @@ module _ (rs : List Rules) (v : WorldState) (k : ℕ) where
   abbrev Goes : List ℕ → List Worker → List Entry → Type 0
   Goes cells ws made = GoesBy (world_of rs cells ws) made v
 
-  -- what the worker asks of the counters
+  -- the worker's access to the counters
   asks_so : (cells : List ℕ) (ws : List Worker) (n : ℕ) (p : ShapedProgram) (s : State)
       (o : Outcome) → slice_get ws k ≡ Some (Running n p s) → step p s ≡ o
       → entries_at (world_of rs cells ws) (Step k) ≡ map (entry_by k) (asked cells o)
@@ -70,7 +70,7 @@ module _ (rs : List Rules) (v : WorldState) (k : ℕ) where
       ap (λ (x : Option Worker). map (entry_by k) (asked_by cells x)) is
       ∙ ap (λ (x : Outcome). map (entry_by k) (asked cells x)) e
 
-  -- that touches no counter
+  -- a step that touches no counter
   quietly : (history : List Entry) (cells : List ℕ) (ws : List Worker) (n : ℕ)
       (p : ShapedProgram) (s t : State)
       → slice_get ws k ≡ Some (Running n p s) → step p s ≡ Going t
@@ -90,7 +90,7 @@ module _ (rs : List Rules) (v : WorldState) (k : ℕ) where
       })
       (asks_so cells ws n p s (Going t) is e) rest
 
-  -- by which the run ends
+  -- a step by which the run ends
   lastly : (history : List Entry) (cells : List ℕ) (ws : List Worker) (n : ℕ)
       (p : ShapedProgram) (s : State) (choice : ℕ)
       → slice_get ws k ≡ Some (Running n p s) → step p s ≡ Done choice
@@ -110,7 +110,7 @@ module _ (rs : List Rules) (v : WorldState) (k : ℕ) where
       })
       (asks_so cells ws n p s (Done choice) is e) rest
 
-  -- that touches one
+  -- a step that touches a counter
   touching : (history : List Entry) (cells new : List ℕ) (ws : List Worker) (n : ℕ)
       (p : ShapedProgram) (s : State) (f : ℕ → State) (e : CellEvent)
       → slice_get ws k ≡ Some (Running n p s) → step p s ≡ Asks e.cell e.op f

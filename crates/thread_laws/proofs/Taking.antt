@@ -10,7 +10,7 @@ use Rattle.std.proofs.lemmas.List.{set-append_right}
 use Rattle.cells.specs.declared.event.CellEvent.{CellEvent}
 use Rattle.thread_laws.specs.Passes.{pass_of_run}
 
--- lists of one run each, one behind the other
+-- lists of one run each, concatenated
 abbrev pub joined : {A : Type 0} → List (List A) → List A
 joined = flat_map (λ l. l)
 
@@ -45,7 +45,7 @@ taken_in ((d ∷ l) ∷ runs) e es is =
       left = tail;
     }
 
--- among the runs of all passes
+-- the event is the first of one of the pass's runs, which has a place among all runs
 pub record Taken (cuts : List (List (List CellEvent))) (p : ℕ) (e : CellEvent)
     (es : List CellEvent) : Type 0 where
   pub place : ℕ

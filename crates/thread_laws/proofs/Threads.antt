@@ -1,4 +1,5 @@
--- Passes that made the events of their runs, put together: one world for all.
+-- Passes, which are ghost tokens, that made the events of their runs, put together: one world for
+-- all.
 use Rattle.std.proofs.Common.{◌≡◌, ℕ, List, [], ◌∷◌, get_or, refl, sym, ap, subst, ◌∙◌}
 use Rattle.std.proofs.Common.{inl, inr}
 use Rattle.std.proofs.lemmas.Bool.{cases_eq}
@@ -21,7 +22,7 @@ pub record Laws : Type 0 where
   pub nothing : NothingIsLeft
   pub passes : PassesAreRuns
 
--- the history without the looker's Loads is one of the runs
+-- the history without the Loads of the pass that only read is one of the runs
 of_runs : Laws → (passes : List PassView) (looker : ℕ) (runs : List (List AppRun))
     (values : List ℕ) (left : AreLeftBy passes values) → DidRuns (lists_of passes) looker runs
     → IsOfRuns (without_loads looker left.history) runs

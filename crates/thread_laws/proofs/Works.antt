@@ -1,4 +1,4 @@
--- A worker's run, step by step, to where it has come.
+-- A worker's run, step by step, to its stage.
 use Rattle.std.proofs.Common.{◌≡◌, ℕ, zero, suc, ◌+◌, List, [], ◌∷◌, get_or, map, refl, sym, subst}
 use Rattle.std.proofs.Common.{◌∙◌}
 use Rattle.std.specs.List.{AllByRecursion}
@@ -16,7 +16,7 @@ use Rattle.world.specs.World.{Worker, Idle, Running, Ended}
 use Rattle.thread_laws.specs.Runs.{Reaches, stays, goes, asks, Stage, UnderWay, AtEnd, ComesAsFar}
 use Rattle.thread_laws.specs.Runs.{AppRun, IsRunUnder, at_start, at_stage, as_far}
 
--- the worker comes to another state of its run, or to its end, and makes the events on the way
+-- the worker gets to another state of its run, or to its end, and makes the events on the way
 pub data Works : Worker → List CellEvent → Worker → Type 0 where
   rests : {x : Worker} → Works x [] x
   moves : {n : ℕ} {p : ShapedProgram} {s t : State} {es : List CellEvent} {y : Worker}
@@ -62,7 +62,7 @@ stage_works law r es (UnderWay t) comes =
 stage_works law r es (AtEnd choice count) comes =
     ends_works law r.number r.program r.attributes (opening r.attributes) es choice count refl comes
 
--- each worker of a list of runs, and past its end the idle one
+-- each worker of a list of runs; past the end of the list, an idle one
 pub all_work : Counts → (published : List Rules) (runs : List AppRun)
     → AllByRecursion (IsRunUnder published) runs → (k : ℕ)
     → Works (get_or (map at_start runs) k Idle) (get_or (map (λ r. r.events) runs) k [])

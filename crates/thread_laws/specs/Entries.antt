@@ -12,7 +12,7 @@ use Rattle.world.specs.declared.event.Event.TheVariants.{Start, Step, Finish, Sw
 abbrev pub entry_by : ℕ → CellEvent → Entry
 entry_by k e = record { pass = k; event = e }
 
--- what an event of the world does to them: a Step alone does anything, by its worker
+-- the effect of an event of the world on them: only a Step has one, by its worker
 abbrev pub entries_at : WorldState → Event → List Entry
 entries_at w (Step k) = map (entry_by k) (asked_by w.cells (slice_get w.workers k))
 entries_at w (Start k attrs) = []
@@ -27,7 +27,7 @@ entries_of w v (e ∷ es) (r ∷ rs) plays = entries_at w e ++ entries_of plays.
 entries_of w v [] (r ∷ rs) plays = []
 entries_of w v (e ∷ es) [] plays = []
 
--- those of a worker's number are what the worker's Steps make
+-- the events with a worker's number are what the worker's Steps make
 abbrev pub EntriesAreMade : Type 0
 EntriesAreMade = (k : ℕ) (w v : WorldState) (events : List Event) (answers : List Answer)
     (plays : Plays w events answers v)

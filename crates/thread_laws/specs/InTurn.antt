@@ -1,4 +1,4 @@
--- Runs one after the other: what a thread has made that does one run at a time, each to its end.
+-- Runs one after the other: the work of a thread that does one run at a time, each to its end.
 use Rattle.std.specs.Prelude.{◌≡◌, List, [], ◌++◌, All, flat_map}
 use Rattle.cells.specs.declared.event.CellEvent.{CellEvent}
 use Rattle.ruleset.specs.Rules.{Rules}
@@ -14,17 +14,17 @@ pub record AreOfRuns (published : List Rules) (runs : List AppRun) (events : Lis
   pub each : All (IsWholeRun published) runs
   pub events_are : events ≡ events_in_turn runs
 
--- no events are those of no runs
+-- no runs have no events
 abbrev pub NoneAreOfRuns : Type 0
 NoneAreOfRuns = (published : List Rules) → AreOfRuns published [] []
 
--- events after events are of the runs after the runs
+-- the events of two lists of runs, one after the other
 abbrev pub OfRunsAppend : Type 0
 OfRunsAppend = (published : List Rules) (runs more : List AppRun) (first second : List CellEvent)
     → AreOfRuns published runs first → AreOfRuns published more second
     → AreOfRuns published (runs ++ more) (first ++ second)
 
--- and they stay so when more is published
+-- the same if more is published
 abbrev pub OfRunsStay : Type 0
 OfRunsStay = (published later : List Rules) (runs : List AppRun) (events : List CellEvent)
     → AreOfRuns published runs events → AreOfRuns (published ++ later) runs events

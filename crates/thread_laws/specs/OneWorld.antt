@@ -11,9 +11,9 @@ use Rattle.world.specs.declared.event.Event.TheVariants.{Start, Step, Finish, Sw
 use Rattle.thread_laws.specs.Entries.{entries_of}
 use Rattle.thread_laws.specs.Runs.{AppRun, IsRunUnder, lists_of_runs, at_start, as_far}
 
--- the history is legal from counters that are all 0, and leaves these values. Each of its events is
--- given to one of the runs, and the events of a run are those that are given to it, in their order.
--- Runs have the numbers of their places in the list
+-- the history, a linearization without real-time order, is legal from counters that are all 0, and
+-- leaves these values. Each of its events belongs to one of the runs, and the events of a run are
+-- those that belong to it, in their order. Runs are numbered by their places in the list
 pub record IsSharedBy (runs : List AppRun) (history : List Entry)
     (values : List ℕ) : Type 0 where
   pub legal : IsLegal (all_events history) values
@@ -29,7 +29,7 @@ all_at_start published runs = record {
   workers = map at_start runs;
 }
 
--- each worker has brought its run as far as it came, and the counters have these values
+-- each worker has taken its run as far as it got, and the counters have these values
 abbrev pub all_as_far : List Rules → List AppRun → List ℕ → WorldState
 all_as_far published runs values = record {
   rulesets = published;
@@ -56,9 +56,9 @@ pub record WorldRun (OfKind : Event → Type 0) (w v : WorldState) : Type 0 wher
   pub plays : Plays w events answers v
   pub of_kind : All OfKind events
 
--- A run of the world, from its opening under the first ruleset, with an idle worker for each run:
--- Starts and Swaps come first, then Steps, whose events on counters are the history, in its order
--- and each by the worker of its run.
+-- A run of the world, from its opening under the first ruleset, with an idle worker for each run.
+-- Starts and Swaps come first, then Steps. The Steps' events on counters are the history, in its
+-- order and each by the worker of its run.
 pub record HasOneWorld (first : Rules) (later : List Rules) (runs : List AppRun)
     (history : List Entry) (values : List ℕ) : Type 0 where
   pub starts :
@@ -74,8 +74,8 @@ pub record HasOneWorld (first : Rules) (later : List Rules) (runs : List AppRun)
 
 -- ---- the laws
 
--- so it is of every published list, of every list of runs under its rulesets, and of every legal
--- history that these share
+-- this is true of every published list, of every list of runs under its rulesets, and of every
+-- legal history that these share
 abbrev pub OneWorld : Type 0
 OneWorld = (first : Rules) (later : List Rules) (runs : List AppRun) (history : List Entry)
     (values : List ℕ)
@@ -83,8 +83,7 @@ OneWorld = (first : Rules) (later : List Rules) (runs : List AppRun) (history : 
     → IsSharedBy runs history values
     → HasOneWorld first later runs history values
 
--- and the world in which it begins is safe, so all that is known of runs of a safe world holds of
--- it
+-- and the opening world is safe, so all laws of safe worlds apply to it
 abbrev pub OpensSafely : Type 0
 OpensSafely = (first : Rules) (workers : ℕ) → IsRuleset first
     → IsSafeWorld (opening_world first workers)

@@ -1,5 +1,5 @@
--- Passes of threads: each made the events of runs, one run after the other, or has only looked. So
--- their history is one of these runs, and one world runs them all.
+-- Passes of threads, which are ghost tokens: each made the events of runs, one run after the other,
+-- or only read. So their history is one of these runs, and one world runs them all.
 use Rattle.std.specs.Prelude.{◌≡◌, ◌≢◌, ℕ, suc, ◌-◌, nat_lt, if◌then◌else◌}
 use Rattle.std.specs.Prelude.{List, [], ◌∷◌, All, length, map, get_or, flat_map}
 use Rattle.cells.specs.declared.event.CellEvent.{CellEvent}
@@ -13,12 +13,12 @@ use Rattle.thread_laws.specs.InTurn.{events_in_turn}
 use Rattle.thread_laws.specs.OneWorld.{IsSharedBy, HasOneWorld}
 use Rattle.thread_laws.specs.Runs.{AppRun, IsRunUnder, lists_of_runs}
 
--- ---- a pass that only looked
+-- ---- a pass that only read
 
 abbrev pub AreLoads : List CellEvent → Type 0
 AreLoads = All (λ e. e.op ≡ Load)
 
--- of such a pass nothing is left in the history without its Loads
+-- nothing is left of such a pass in the history without its Loads
 abbrev pub NothingIsLeft : Type 0
 NothingIsLeft = (p : ℕ) (history : List Entry) → AreLoads (events_by p history)
     → events_by p (without_loads p history) ≡ []
@@ -29,7 +29,7 @@ NothingIsLeft = (p : ℕ) (history : List Entry) → AreLoads (events_by p histo
 abbrev pub all_runs : List (List AppRun) → List AppRun
 all_runs = flat_map (λ runs. runs)
 
--- the pass that did the run of this number among all
+-- the pass that did the run of this number, counted over all
 abbrev pub pass_of_run : {A : Type 0} → List (List A) → ℕ → ℕ
 pass_of_run [] k = 0
 pass_of_run (runs ∷ passes) k =
@@ -43,7 +43,7 @@ by_passes runs history = map (λ x. entry_by (pass_of_run runs x.pass) x.event) 
 abbrev pub AreDoneInTurn : List Entry → List (List AppRun) → Type 0
 AreDoneInTurn history runs = (p : ℕ) → events_by p history ≡ events_in_turn (get_or runs p [])
 
--- the history, with each event by the run that made it, which is one of its pass
+-- the history, with each event by the run that made it, which is one of the event's pass
 pub record IsOfRuns (history : List Entry) (runs : List (List AppRun)) : Type 0 where
   pub by_runs : List Entry
   pub same : by_passes runs by_runs ≡ history
@@ -56,8 +56,8 @@ PassesAreRuns = (history : List Entry) (runs : List (List AppRun))
 
 -- ---- one world for all passes
 
--- what each pass did: one, if it is there, has only looked, and each other one did its runs, one
--- after the other. Passes have the numbers of their places in the list
+-- what each pass did: one, if it is in the list, only read, and each other one did its runs, one
+-- after the other. Passes are numbered by their places in the list
 pub record DidRuns (lists : List (List CellEvent)) (looker : ℕ)
     (runs : List (List AppRun)) : Type 0 where
   pub as_many : length runs ≡ length lists
@@ -67,7 +67,7 @@ pub record DidRuns (lists : List (List CellEvent)) (looker : ℕ)
       → get_or lists p [] ≡ events_in_turn (get_or runs p [])
 
 -- The passes did these runs under the published list, and one world runs them all. Its history is
--- this one of the passes, without the looks of the one that only looked, and it leaves the counters
+-- this one of the passes, without the Loads of the one that only read, and it leaves the counters
 -- these values
 pub record DidOneWorld (published : List Rules) (passes : List PassView) (looker : ℕ)
     (history : List Entry) (values : List ℕ) (runs : List (List AppRun)) : Type 0 where
@@ -81,7 +81,7 @@ pub record DidOneWorld (published : List Rules) (passes : List PassView) (looker
   pub published_are : published ≡ first ∷ later
   pub world : HasOneWorld first later (all_runs runs) by_runs values
 
--- so it is of all passes of which one only looked and each other one did runs, done or not
+-- this is true of all passes if one only read and each other one did runs, done or not
 abbrev pub PassesAreOneWorld : Type 0
 PassesAreOneWorld = (first : Rules) (later : List Rules) (passes : List PassView) (looker : ℕ)
     (values : List ℕ) (left : AreLeftBy passes values) (runs : List (List AppRun))

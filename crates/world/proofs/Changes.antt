@@ -1,4 +1,4 @@
--- A change of one seat and of the counters, in what is held and in the worlds that it stands for.
+-- A change of one seat and of the counters, in what is held and in the worlds that it represents.
 use Rattle.std.proofs.Common.{◌≡◌, ℕ, ◌<◌, List, length, get_or, set, Ok, Err, IfErr, refl}
 use Rattle.std.proofs.Common.{sym, ap, subst, ◌∙◌, arith, inl, inr, get_or-set_same}
 use Rattle.std.proofs.Common.{get_or-set_other, length-set}
@@ -34,7 +34,7 @@ seat_found parts k seat within found =
     get_or_from_slice_get parts.seats k seat Empty
     (slice_get_read parts.seats (length parts.seats) k seat refl within found)
 
--- the seat stands for the worker there
+-- the seat represents the worker of its number
 pub found_stands : (parts : Parts) (w : WorldState) (k : ℕ) (seat : Seat) → WorldStandsFor parts w
     → k < length parts.seats → seat ≡ get_or parts.seats k seat → SeatStandsFor seat (worker_at w k)
 found_stands parts w k seat stands within found =
@@ -43,7 +43,7 @@ found_stands parts w k seat stands within found =
 
 -- ---- one seat is changed
 
--- whatever holds at each place of two lists holds of them after a change of both at one place
+-- what is true at each place of two lists is true after a change of both at one place
 each_with : {A B : Type 0} (P : A → B → Type 0) (xs : List A) (ys : List B) (k : ℕ) (a d : A)
     (b e : B) → length xs ≡ length ys → k < length xs → P a b
     → ((j : ℕ) → P (get_or xs j d) (get_or ys j e)) → (j : ℕ)

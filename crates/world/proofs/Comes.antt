@@ -1,4 +1,4 @@
--- What a worker's run comes to, from the world before an event and from the one after it.
+-- The result of a worker's run, from the world before an event and from the one after it.
 use Rattle.std.proofs.Common.{◌≡◌, ◌≢◌, Global, ℕ, ◌+◌, List, [], ◌∷◌, Ok, Err, ◌⊎◌, inl, inr, refl}
 use Rattle.std.proofs.Common.{sym, subst}
 use Rattle.std.specs.Arc.{arc_value}
@@ -21,7 +21,7 @@ use Rattle.world.proofs.Workers.{same_worker, within, get_set_same, stays_other,
 use Rattle.world.proofs.During.{made_by_other, made_idle, later_end, goes_during, ends_during}
 use Rattle.world.proofs.During.{RestsDuring, later_rest}
 
--- as `ComesTo`, and a run that has ended asks nothing more
+-- as `ComesTo`, and a run that has ended makes no more events
 abbrev pub Comes : WorldState → ℕ → Worker → List Event → List Answer → ℕ → ℕ
     → ℕ → Type 0
 Comes w k Idle es rs number choice instructions = ⊥
@@ -40,7 +40,7 @@ comes_to w k (Ended n program a c m) es rs number choice instructions comes =
 
 -- ---- one event, backwards
 
--- the event is no Start of the worker that wasn't refused
+-- the event isn't an accepted Start of the worker
 abbrev pub IsNoStart : ℕ → Event → Answer → Type 0
 IsNoStart k e r = (attrs : Arc Attributes Global) → e ≡ Start k attrs → r ≢ Ok effect.Started
 
@@ -54,7 +54,7 @@ pub record IsStart (w : WorldState) (k : ℕ) (y : Worker) (e : Event) (r : Answ
   pub texts_are_short : AreShort (arc_value attrs).texts
   pub after : y ≡ Running (newest w.rulesets) program (opening (arc_value attrs))
 
--- what the worker comes to after an event it comes to from before it
+-- the result of worker y after the event is the result of worker x before it
 abbrev Carries : WorldState → WorldState → ℕ → Worker → Worker → Event → Answer → Type 0
 Carries w u k x y e r = (es : List Event) (rs : List Answer) (number choice instructions : ℕ)
     → Comes u k y es rs number choice instructions
@@ -72,7 +72,7 @@ pub record Goes (w u : WorldState) (k : ℕ) (x : Worker) (e : Event) (r : Answe
   pub is_worker : IsWorker u k worker
   pub how : IsStart w k worker e r ⊎ IsCarried w u k x worker e r
 
--- an event that asks nothing for the worker, and leaves it as it is
+-- an event that makes no counter event for the worker, and leaves it as it is
 as_is : (w u : WorldState) (k : ℕ) (x : Worker) (e : Event) (r : Answer) → Happens w e r u
     → made_at k w e ≡ [] → Carries w u k x x e r
 as_is w u k Idle e r h none es rs number choice instructions comes = absurd comes
@@ -102,7 +102,7 @@ started w u k x attrs h =
       });
     }
 
--- the worker was x, and so z
+-- the worker was x; it was also z, so the two are equal
 carried : (w u : WorldState) (k : ℕ) (x y z : Worker) (e : Event) (r : Answer) → IsWorker w k x
     → IsWorker w k z → IsWorker u k y → IsNoStart k e r → Carries w u k z y e r → Goes w u k x e r
 carried w u k x y z e r is there after none comes = record {

@@ -1,4 +1,4 @@
--- Events with their answers lead from a safe world to one world.
+-- Events with their results lead from a safe world to one world.
 use Rattle.std.proofs.Common.{◌≡◌, ℕ, List, [], ◌∷◌, Ok, Err, refl, sym, ap, subst, ◌∙◌}
 use Rattle.std.specs.Arc.{arc_value}
 use Rattle.attrs.specs.Attributes.{Attributes}

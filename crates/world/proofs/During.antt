@@ -35,7 +35,7 @@ other_test j k other = grind arith
 own_test : (k : ℕ) → (k == k) ≡ true
 own_test k = grind arith
 
--- nothing, where the event is of another worker
+-- nothing, if the event is of another worker
 pub made_by_other : (k : ℕ) (w : WorldState) (e : Event) → ¬ IsOf k e → made_at k w e ≡ []
 made_by_other k w (Step j) other =
     if_false (j == k) (asked_by w.cells (slice_get w.workers k)) (other_test j k other)
@@ -49,7 +49,7 @@ made_by_own k w x is =
     if_true (k == k) (asked_by w.cells (slice_get w.workers k)) (own_test k)
     ∙ ap (asked_by w.cells) is
 
--- nothing, where its worker doesn't run
+-- nothing, if its worker doesn't run
 idle_asks : (cells : List ℕ) (x : Worker) → ¬ IsRunning x → asked_by cells (Some x) ≡ []
 idle_asks cells Idle idle = refl
 idle_asks cells (Running number program s) idle = absurd (idle tt)
@@ -74,7 +74,7 @@ later_end w u k e r es rs p s choice count happens none during = record {
       (sym none) during.ends;
 }
 
--- a Step of the worker by which its run goes on
+-- a Step of the worker by which its run continues
 pub goes_during : (w u : WorldState) (k number : ℕ) (r : Answer) (es : List Event)
     (rs : List Answer)
     (p : ShapedProgram) (s t : State) (choice count : ℕ) → Happens w (Step k) r u
@@ -90,7 +90,7 @@ goes_during w u k number r es rs p s t choice count happens is going during = re
       (goes_from w.cells p s t (step p s) rest choice count refl going during.ends);
 }
 
--- ---- a worker that asks nothing any more
+-- ---- a worker that makes no more counter events
 
 pub record RestsDuring (w : WorldState) (k : ℕ) (es : List Event) (rs : List Answer) : Type 0 where
   pub world : WorldState

@@ -1,4 +1,4 @@
--- The worlds that a server's world stands for are safe, and there is one.
+-- The worlds that a server's world represents are safe, and there is one.
 use Rattle.std.proofs.Common.{◌≡◌, ℕ, zero, suc, ◌+◌, ◌≤◌, List, [], ◌∷◌, length, take, get_or}
 use Rattle.std.proofs.Common.{Some, None, All, refl, sym, ap, subst}
 use Rattle.std.proofs.lemmas.Option.{get_or_from_slice_get}

@@ -22,7 +22,7 @@ use Rattle.world.proofs.During.{made_by_other, later_end, goes_during, ends_duri
 
 -- ---- one event
 
--- an end that comes after the event, of a run that the event leads on to
+-- an end after the event, of a run that the event continues
 later : (w u : WorldState) (k : ℕ) (program : ShapedProgram) (s t : State) (e : Event) (r : Answer)
     (es : List Event) (rs : List Answer)
     → ((es : List Event) (rs : List Answer) (choice count : ℕ)
@@ -40,7 +40,7 @@ later w u k program s t e r es rs leads ended = record {
       ended.ends;
 }
 
--- an event that asks nothing for the worker, and leaves it as it is
+-- an event that makes no counter event for the worker, and leaves it as it is
 later_as_is : (w u : WorldState) (k : ℕ) (program : ShapedProgram) (s : State) (e : Event)
     (r : Answer)
     (es : List Event) (rs : List Answer) → Happens w e r u → made_at k w e ≡ []
@@ -56,7 +56,7 @@ record NextState (w u : WorldState) (k number : ℕ) (program : ShapedProgram)
   goes_on : answered w.cells (step program s) ≡ Going to
   running : IsWorker u k (Running number program to)
 
--- the run of a worker goes on by its step
+-- the run of a worker continues by its step
 next_state : (w u : WorldState) (k number : ℕ) (program : ShapedProgram) (s : State)
     → StepsRun w k u
     → IsWorker w k (Running number program s) → NextState w u k number program s
@@ -96,12 +96,12 @@ end_of w u k number choice program s h is =
 
 -- ---- the number of steps
 
--- what is to be shown of the rest of the events, from a state on
+-- the claim for the rest of the events, from a state on
 abbrev IsInTime : WorldState → ℕ → ℕ → ShapedProgram → List Event → List Answer → Type 0
 IsInTime u k number program es rs = (t : State) → IsWorker u k (Running number program t)
     → length program.code ≤ t.count + steps_of k es → HasEnded u k program t es rs
 
--- a Step of this worker, whose run goes on or ends here
+-- a Step of this worker, whose run continues or ends here
 own_step : Laws → (w u : WorldState) (k number : ℕ) (program : ShapedProgram) (s : State)
     (es : List Event) (r : Answer) (rs : List Answer) → IsWorker w k (Running number program s)
     → Happens w (Step k) r u → length program.code ≤ s.count + suc (steps_of k es)

@@ -39,7 +39,7 @@ newest_found rulesets n found long ruled is =
     (get_or-map (λ r. arc_value r) rulesets (n - 1) found (arc_value found)
     (omega (arith, long, some))))
 
--- ---- where a server begins
+-- ---- the world in which a server begins
 
 empty_at : (n k : ℕ) → get_or (replicate n Empty) k Empty ≡ Empty
 empty_at zero k = refl

@@ -1,4 +1,4 @@
--- A Finish answers its own run: backwards from the Finish to the Start of its run.
+-- The result of a Finish is of its own run: backwards from the Finish to the Start of its run.
 use Rattle.std.proofs.Common.{◌≡◌, ◌≢◌, Global, ℕ, zero, suc, ◌<◌, ◌≤◌, List, [], ◌∷◌, take, Some}
 use Rattle.std.proofs.Common.{Ok, ◌⊎◌, inl, inr, refl, sym, ap, subst, arith}
 use Rattle.std.specs.Prelude.{slice_get}
@@ -70,7 +70,7 @@ first_latest k e r es rs place attrs event answer none = record {
 
 -- ---- a run of the world, backwards
 
--- no run of the worker is started on the way, and its own comes to what the Finish answers
+-- no run of the worker is started on the way, and its own has the result of the Finish
 record IsOfWorker (w : WorldState) (k : ℕ) (x : Worker) (es : List Event) (rs : List Answer)
     (place number choice instructions : ℕ) : Type 0 where
   none : HasNoStart k es rs place
@@ -177,7 +177,7 @@ finished_there w u k e r n c m event answer happens =
     (subst (λ (f : Event). Happens w f r u) event happens) in
     (Ended n h.program h.attributes c m, h.ended)
 
--- a worker that a Finish names is there
+-- a worker that a Finish names exists
 worker_there : (w v : WorldState) (k : ℕ) (es : List Event) (rs : List Answer) (place n c m : ℕ)
     → Plays w es rs v → slice_get es place ≡ Some (Finish k)
     → slice_get rs place ≡ Some (Ok (effect.Finished c m n)) → (x : Worker) × IsWorker w k x

@@ -1,4 +1,4 @@
--- What a Finish answers is of its worker's run.
+-- The result of a Finish is of its worker's run.
 use Rattle.std.proofs.Common.{Ok, Err}
 use Rattle.world.specs.World.{WorldState}
 use Rattle.world.specs.Happens.{Answer, Happens}

@@ -1,4 +1,5 @@
--- One ruleset more: each number names what it named, and the newest number the new one.
+-- With one more ruleset, each number refers to the same one as before, and the newest number to the
+-- new one.
 use Rattle.std.proofs.Common.{◌≡◌, ℕ, zero, suc, ◌<◌, List, [], ◌∷◌, ◌++◌, length, Option, Some}
 use Rattle.std.proofs.Common.{lit<, All, sym, ap, subst, ◌∙◌, arith}
 use Rattle.std.proofs.lemmas.List.Elements.{All-append, All-cons, All-contains, All-nil}

@@ -29,7 +29,7 @@ pub record Laws : Type 0 where
 pub same_state : (s t : State) → Going s ≡ Going t → s ≡ t
 same_state s t same = cc
 
--- the state after a step that goes on has one instruction more, and the same attributes
+-- the state after a step that continues has one instruction more, and the same attributes
 pub follows : (cells : List ℕ) (s t : State) (o : Outcome) → IsNext s o → answered cells o ≡ Going t
     → Follows s t
 follows cells s t (Going u) next going = subst (Follows s) (same_state u t going) next
@@ -39,7 +39,7 @@ follows cells s t (Asks cell op f) next going =
 follows cells s t (Done choice) next going = absurd cc
 follows cells s t Trap next going = absurd cc
 
--- the event of a step that asks
+-- the event of a step that accesses a counter
 event_fits : Laws → (cells : List ℕ) (cell : ℕ) (op : CellOp) → AreCells cells
     → FitsWidths (record { cell = cell; op = op; reply = reply_of (slice_index cells cell) op })
     (slice_set cells cell (after (limit cell) (slice_index cells cell) op))
@@ -90,7 +90,7 @@ is_short law p s (asks {cell = cell} {op = op} {next = next} e rest) =
     let count = (all 0).count in
     omega (arith, later, count)
 
--- it goes on so
+-- it continues so
 pub goes_well : Laws → (cells : List ℕ) (p : ShapedProgram) (s t : State) → AreCells cells
     → EndsWell p s → answered cells (step p s) ≡ Going t → EndsWell p t
 goes_well law cells p s t fit (ends {choice = choice} e release short) going =
@@ -102,7 +102,7 @@ goes_well law cells p s t fit (asks {cell = cell} {op = op} {next = next} e rest
     subst (EndsWell p) (same_state (next reply) t (sym (ap (answered cells) e) ∙ going))
     (rest reply (reply_fits law cells cell op fit))
 
--- where it ends, it ends with none or a release, in time
+-- if it ends, it ends with none or a release, in time
 pub ends_here : (p : ShapedProgram) (s : State) (chosen : ℕ) → EndsWell p s → step p s ≡ Done chosen
     → (chosen ≤ p.shape.releases) × (s.count + 1 ≤ length p.code)
 ends_here p s chosen (ends {choice = choice} e release short) done =
@@ -155,7 +155,7 @@ ends_well p s es choice count fit (asks {cell = cell} {op = op} {next = next} e 
 
 -- ---- a run of the semantics, one step longer at its beginning
 
--- a step that goes on, with its event
+-- a step that continues, with its event
 pub goes_from : (cells : List ℕ) (p : ShapedProgram) (s t : State) (o : Outcome)
     (es : List CellEvent)
     (choice count : ℕ) → step p s ≡ o → answered cells o ≡ Going t → Ends p t es choice count

@@ -1,4 +1,4 @@
--- A step of a seat's run is a step of each worker that the seat stands for.
+-- A step of a seat's run is a step of each worker that the seat represents.
 use Rattle.std.proofs.Common.{◌≡◌, ℕ, ◌+◌, List, [], ◌∷◌, Option, Some, None, Ok, refl, sym, ap}
 use Rattle.std.proofs.Common.{subst, ◌∙◌}
 use Rattle.std.specs.Prelude.{slice_index}
@@ -18,9 +18,9 @@ use Rattle.world.specs.declared.seat.Seat.{Seat}
 use Rattle.world.specs.declared.seat.Seat.TheVariants.{Taken}
 use Rattle.world.specs.declared.event.Effect.TheVariants as effect
 
--- ---- what a step on plain cells comes to
+-- ---- the results of a step on plain cells
 
--- it went on, with the reply of the cell's value if it asked one
+-- the run continues, with the reply of the cell's value if it accessed one
 record HasGone (old new : List ℕ) (o : Outcome) (run : Held) : Type 0 where
   to : State
   goes_on : answered old o ≡ Going to
@@ -51,7 +51,7 @@ gone_at old new (Done n) (e ∷ es) run grown agrees = absurd agrees
 gone_at old new Trap [] run grown agrees = absurd agrees
 gone_at old new Trap (e ∷ es) run grown agrees = absurd agrees
 
--- it ended, and touched no cell
+-- the run ended, and touched no cell
 record HasStopped (old new : List ℕ) (o : Outcome) (choice : ℕ) : Type 0 where
   done : o ≡ Done choice
   cells_are : new ≡ old
@@ -120,7 +120,7 @@ ends_from old new run after n choice (Running number program s) stepped same att
       },
     )
 
--- so for a seat that is known by equations
+-- the same for a seat that is known by equations
 pub goes_on : (old new : List ℕ) (seat : Seat) (run after : Held) (n : ℕ) (o : Option ℕ)
     → seat ≡ Taken run n o → o ≡ None → Steps IsEvent run after old new progress.Going
     → after.program ≡ run.program → SeatSteps old seat (Ok effect.Stepped) new (Taken after n o)

@@ -1,4 +1,4 @@
--- A Swap, in what is held and in the worlds that it stands for; and that no ruleset goes.
+-- A Swap, in what is held and in the worlds that it represents; and that it removes no ruleset.
 use Rattle.std.proofs.Common.{◌≡◌, Global, ℕ, List, [], ◌∷◌, ◌++◌, length, Some, Ok, Err, refl}
 use Rattle.std.proofs.Common.{sym, ap, map, ◌∙◌}
 use Rattle.std.proofs.lemmas.List.{length-map, map_push}
@@ -69,7 +69,7 @@ kept_with_rules parts rules sound kept = record {
   offered = λ k. seat_offered parts.rulesets rules (seat_at parts k) (kept.offered k);
 }
 
--- ---- whatever is played, the ruleset of a number stays
+-- ---- events never change the ruleset of a number
 
 stays_at : (w u : WorldState) (e : Event) (r : Answer) (number : ℕ) (rules : Rules)
     → Happens w e r u

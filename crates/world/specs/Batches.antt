@@ -1,5 +1,5 @@
--- A run of the world in two parts is one, and each run can be cut in two, so batches of events
--- compose.
+-- Two runs of the world, one after the other, are one, and each run can be cut in two, so batches
+-- of events compose.
 use Rattle.std.specs.Prelude.{List, ◌++◌, length, take, drop}
 use Rattle.world.specs.World.{WorldState}
 use Rattle.world.specs.Happens.{Answer, Plays}

@@ -1,11 +1,12 @@
--- A step of the machine on shared counters: what it asks of them, how it goes on with the reply,
--- and what it leaves.
+-- A step of the machine on shared counters: its access, how it continues with the reply, and the
+-- counters afterwards.
 use Rattle.std.specs.Prelude.{ℕ, List, [], ◌∷◌, slice_index, slice_set}
 use Rattle.bpf_semantics.specs.Outcome.{Outcome, Going, Asks, Done, Trap}
 use Rattle.cells.specs.declared.event.CellEvent.{CellEvent}
 use Rattle.cells.specs.Events.{limit, after, reply_of}
 
--- the counter that is asked replies by its value; a step that asks none has no event
+-- the event of a step: its access to a counter, with the reply that the counter's value gives;
+-- other steps have none
 abbrev pub asked : List ℕ → Outcome → List CellEvent
 asked cells (Asks cell op next) =
     record { cell = cell; op = op; reply = reply_of (slice_index cells cell) op } ∷ []
@@ -13,7 +14,7 @@ asked cells (Going t) = []
 asked cells (Done choice) = []
 asked cells Trap = []
 
--- with that reply the step goes on
+-- with that reply the step continues
 abbrev pub answered : List ℕ → Outcome → Outcome
 answered cells (Asks cell op next) = Going (next (reply_of (slice_index cells cell) op))
 answered cells (Going t) = Going t

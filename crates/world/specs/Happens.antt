@@ -1,4 +1,4 @@
--- An event of the world and what comes of it, and a run of the world: events one after the other.
+-- An event of the world and its result, and a run of the world: events one after the other.
 use Rattle.std.specs.Prelude.{◌≡◌, ℕ, ◌+◌, ◌≤◌, List, [], ◌∷◌, length, Result, Ok, Err}
 use Rattle.std.specs.Arc.{arc_value}
 use Rattle.attrs.specs.Attributes.{Attributes, AreShort}
@@ -17,19 +17,19 @@ use Rattle.world.specs.declared.event.Effect.TheVariants as effect
 use Rattle.world.specs.declared.event.WorldFault.{WorldFault}
 use Rattle.world.specs.declared.event.WorldFault.TheVariants as fault
 
--- what an event is answered with
+-- the result of an event
 abbrev pub Answer : Type 0
 Answer = Result Effect WorldFault
 
 -- ---- one event
 
--- a worker and the counters after its step, and nothing else changed
+-- one worker and the counters change by its step, and nothing else
 abbrev pub with_step : WorldState → ℕ → Outcome → Worker → WorldState
 with_step w k outcome worker =
     record (with_worker w k worker) { cells = cells_after w.cells outcome }
 
--- a Start: the newest ruleset's program for the app, from its opening state. A Start can't fail for
--- its texts: each `Attrs` keeps that they are short
+-- a Start: the newest ruleset's program for the app, from its opening state. A Start can't fail
+-- because of its texts: each `Attrs` keeps that they are short
 pub record StartsRun (w : WorldState) (k : ℕ) (a : Attributes) (v : WorldState) : Type 0 where
   pub program : ShapedProgram
   pub texts_are_short : AreShort a.texts
@@ -37,8 +37,8 @@ pub record StartsRun (w : WorldState) (k : ℕ) (a : Attributes) (v : WorldState
   pub offered : HasProgram w.rulesets (newest w.rulesets) (appid_of a) program
   pub after : v ≡ with_worker w k (Running (newest w.rulesets) program (opening a))
 
--- a Step: one step of the machine, with the reply of the world's counter if it asks one, after
--- which the run goes on
+-- a Step: one step of the machine, with the reply of the world's counter if it accesses one, after
+-- which the run continues
 pub record StepsRun (w : WorldState) (k : ℕ) (v : WorldState) : Type 0 where
   pub number : ℕ
   pub program : ShapedProgram
@@ -57,7 +57,7 @@ pub record EndsRun (w : WorldState) (k choice : ℕ) (v : WorldState) : Type 0 w
   pub ends : step program from ≡ Done choice
   pub after : v ≡ with_worker w k (Ended number program from.attributes choice (from.count + 1))
 
--- a Finish: the worker gives what its run ended with, and is idle
+-- a Finish: the worker returns the result of its run, and is idle
 pub record FinishesRun (w : WorldState) (k choice instructions number : ℕ)
     (v : WorldState) : Type 0 where
   pub program : ShapedProgram
@@ -65,8 +65,8 @@ pub record FinishesRun (w : WorldState) (k choice instructions number : ℕ)
   pub ended : IsWorker w k (Ended number program attributes choice instructions)
   pub after : v ≡ with_worker w k Idle
 
--- a Swap: one ruleset more. No worker and no counter is changed. A Swap can't fail for its ruleset:
--- each `Ruleset` keeps that it is sound
+-- a Swap appends a ruleset. No worker and no counter changes. A Swap can't fail because of its
+-- ruleset: each `Ruleset` keeps that it is sound
 pub record SwapsRules (w : WorldState) (rules : Rules) (number : ℕ) (v : WorldState) : Type 0 where
   pub sound : IsRuleset rules
   pub after : v ≡ with_ruleset w rules
@@ -90,7 +90,7 @@ pub record HasNoApp (w : WorldState) (k : ℕ) (a : Attributes) : Type 0 where
   pub none : (program : ShapedProgram) → ¬ HasProgram w.rulesets (newest w.rulesets)
       (appid_of a) program
 
--- an event is refused by its fault alone, and of several by the lowest
+-- an event is refused only for its fault; if it has several, for the lowest
 abbrev pub IsRefusedEvent : WorldState → Event → WorldFault → Type 0
 IsRefusedEvent w event fault.NoWorker = LacksWorker w event
 IsRefusedEvent w (Start k attrs) fault.Busy = (x : Worker) × IsWorker w k x × ¬ IsIdle x
@@ -102,7 +102,7 @@ IsRefusedEvent w (Start k attrs) fault.Memory = CanStart w k (arc_value attrs)
 IsRefusedEvent w (Swap rules) fault.Memory = Unit {0}
 IsRefusedEvent w event e = ⊥
 
--- from one world an event with its answer leads to another; a refused one changes nothing
+-- an event with its result leads from one world to another; a refused one changes nothing
 abbrev pub Happens : WorldState → Event → Answer → WorldState → Type 0
 Happens w (Start k attrs) (Ok effect.Started) v = StartsRun w k (arc_value attrs) v
 Happens w (Step k) (Ok effect.Stepped) v = StepsRun w k v
@@ -113,9 +113,9 @@ Happens w (Swap rules) (Ok (effect.Swapped number)) v = SwapsRules w (arc_value 
 Happens w event (Ok e) v = ⊥
 Happens w event (Err e) v = IsRefusedEvent w event e × (v ≡ w)
 
--- ---- a run of the world: a list of events with their answers
+-- ---- a run of the world: a list of events with their results
 
--- a list of events with their answers is a run of the world
+-- a list of events with their results is a run of the world
 abbrev pub Plays : WorldState → List Event → List Answer → WorldState → Type 0
 Plays w [] [] v = v ≡ w
 Plays w (e ∷ es) (r ∷ rs) v = (u : WorldState) × Happens w e r u × Plays u es rs v

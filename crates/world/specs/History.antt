@@ -12,14 +12,14 @@ use Rattle.world.specs.Happens.{Answer, Plays}
 use Rattle.world.specs.declared.event.Event.{Event}
 use Rattle.world.specs.declared.event.Event.TheVariants.{Start, Step, Finish, Swap}
 
--- what a worker's next step asks of the counters
+-- the counter access of a worker's next step, if it has one
 abbrev pub asked_by : List ℕ → Option Worker → List CellEvent
 asked_by cells (Some (Running number program s)) = asked cells (step program s)
 asked_by cells (Some Idle) = []
 asked_by cells (Some (Ended number program a choice instructions)) = []
 asked_by cells None = []
 
--- what an event does to the counters for a worker: its own Step alone
+-- the counter access of an event for a worker: that of its own Step
 abbrev pub made_at : ℕ → WorldState → Event → List CellEvent
 made_at k w (Step j) = if j == k then asked_by w.cells (slice_get w.workers k) else []
 made_at k w (Start j attrs) = []
@@ -35,7 +35,7 @@ made_by k w v [] (r ∷ rs) plays = []
 made_by k w v (e ∷ es) [] plays = []
 
 -- from this world on, the machine's run from a state makes the events that the worker's Steps make,
--- and ends with the choice, after so many instructions in all
+-- and ends with `choice` after `instructions` in all
 pub record EndsDuring (w : WorldState) (k : ℕ) (events : List Event) (answers : List Answer)
     (program : ShapedProgram) (s : State) (choice instructions : ℕ) : Type 0 where
   pub world : WorldState

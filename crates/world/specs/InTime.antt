@@ -1,4 +1,5 @@
--- How long a run takes: it goes on by each Step, and ends within as many as its program has slots.
+-- How long a run takes: each Step continues it, and it ends within as many as its program has
+-- slots.
 use Rattle.std.specs.Prelude.{◌≡◌, ℕ, ◌+◌, suc, ◌≤◌, List, [], ◌∷◌, length, Some, Ok, IsOk, take}
 use Rattle.std.specs.Prelude.{slice_get, ◌==◌, if◌then◌else◌}
 use Rattle.bpf_semantics.specs.State.{State}
@@ -22,8 +23,8 @@ steps_of k [] = 0
 steps_of k (Step j ∷ events) = if j == k then suc (steps_of k events) else steps_of k events
 steps_of k (event ∷ events) = steps_of k events
 
--- one of the worker's Steps was answered with the end of its run: with the choice that the machine
--- comes to from the state, after so many instructions in all, on the replies that its Steps got
+-- one of the worker's Steps has the end of its run as its result. Its choice and the number of
+-- instructions are the machine's from the state, on the replies that the worker's Steps got
 pub record HasEnded (w : WorldState) (k : ℕ) (program : ShapedProgram) (s : State)
     (events : List Event)
     (answers : List Answer) : Type 0 where
@@ -35,7 +36,7 @@ pub record HasEnded (w : WorldState) (k : ℕ) (program : ShapedProgram) (s : St
   pub ends : EndsDuring w k (take (suc place) events) (take (suc place) answers)
       program s choice instructions
 
--- after as many Steps of its worker as its program has slots a run has ended
+-- a run has ended after as many Steps of its worker as its program has slots
 abbrev pub EndsInTime : Type 0
 EndsInTime = (w v : WorldState) (k number : ℕ) (program : ShapedProgram) (s : State)
     (events : List Event) (answers : List Answer)

@@ -1,4 +1,4 @@
--- What a Finish answers: its worker's own run, and nothing of the other workers' runs.
+-- The result of a Finish: that of its worker's own run, independent of other workers' runs.
 use Rattle.std.specs.Prelude.{◌≡◌, ◌≢◌, ℕ, ◌<◌, ◌≤◌, List, length, take, drop, slice_get, Some, Ok}
 use Rattle.std.specs.Prelude.{◌⊎◌}
 use Rattle.std.specs.declared.alloc.Global.{Global}
@@ -17,13 +17,13 @@ use Rattle.world.specs.declared.event.Event.{Event}
 use Rattle.world.specs.declared.event.Event.TheVariants.{Start, Finish}
 use Rattle.world.specs.declared.event.Effect.TheVariants as effect
 
--- the event of a place is a Finish of the worker, which answered this
+-- the event at `place` is a Finish of the worker with this result
 pub record IsFinished (k : ℕ) (events : List Event) (answers : List Answer)
     (place number choice instructions : ℕ) : Type 0 where
   pub event_is : slice_get events place ≡ Some (Finish k)
   pub answer_is : slice_get answers place ≡ Some (Ok (effect.Finished choice instructions number))
 
--- no Start of the worker before the place but refused ones
+-- before the place, all Starts of the worker were refused
 abbrev pub HasNoStart : ℕ → List Event → List Answer → ℕ → Type 0
 HasNoStart k events answers place = (j : ℕ) (attrs : Arc Attributes Global)
     → j < place → slice_get events j ≡ Some (Start k attrs)
@@ -38,13 +38,13 @@ pub record IsLatestStart (k : ℕ) (events : List Event) (answers : List Answer)
   pub latest : (j : ℕ) (other : Arc Attributes Global) → start < j → j < place
       → slice_get events j ≡ Some (Start k other) → slice_get answers j ≢ Some (Ok effect.Started)
 
--- what comes before a place, from another place on
+-- the part of a list before a place, from `start` on
 abbrev pub since : {A : Type 0} → ℕ → ℕ → List A → List A
 since start place xs = drop start (take place xs)
 
--- the number, the choice and the instructions are those of the latest Start's run: of the program
--- that the ruleset that was then the newest has for its app, on its attributes, and on the replies
--- that its Steps got since
+-- the number, the choice and the instructions are those of the latest Start's run. It is of the
+-- program that the newest ruleset had for the app, on the Start's attributes, and on the replies
+-- since
 pub record IsOwnRun (w : WorldState) (k : ℕ) (events : List Event) (answers : List Answer)
     (place number choice instructions : ℕ) : Type 0 where
   pub start : ℕ
@@ -59,7 +59,7 @@ pub record IsOwnRun (w : WorldState) (k : ℕ) (events : List Event) (answers : 
   pub ends : EndsDuring world k (since start place events) (since start place answers)
       program (opening (arc_value attrs)) choice instructions
 
--- what a worker's run comes to by these events
+-- the result of a worker's run by these events
 abbrev pub ComesTo : WorldState → ℕ → Worker → List Event → List Answer → ℕ → ℕ → ℕ
     → Type 0
 ComesTo w k Idle events answers number choice instructions = ⊥
@@ -68,8 +68,7 @@ ComesTo w k (Running n program s) events answers number choice instructions =
 ComesTo w k (Ended n program a c m) events answers number choice instructions =
     (number ≡ n) × (choice ≡ c) × (instructions ≡ m)
 
--- they are those of the run that the worker has where the events begin: none is started before the
--- place
+-- they are those of the run that the worker has before the events: none is started before the place
 pub record IsEarlierRun (w : WorldState) (k : ℕ) (events : List Event) (answers : List Answer)
     (place number choice instructions : ℕ) : Type 0 where
   pub worker : Worker
@@ -78,7 +77,7 @@ pub record IsEarlierRun (w : WorldState) (k : ℕ) (events : List Event) (answer
   pub comes : ComesTo w k worker (take place events) (take place answers)
       number choice instructions
 
--- a Finish answers its worker's own run: that of the latest Start, or the one of before
+-- the result of a Finish is that of its worker's own run: of the latest Start, or the earlier one
 abbrev pub FinishesItsRun : Type 0
 FinishesItsRun = (w v : WorldState) (k place number choice instructions : ℕ)
     (events : List Event) (answers : List Answer)
@@ -86,7 +85,7 @@ FinishesItsRun = (w v : WorldState) (k place number choice instructions : ℕ)
     → IsOwnRun w k events answers place number choice instructions
     ⊎ IsEarlierRun w k events answers place number choice instructions
 
--- so that of the latest Start, where the worker is idle as the events begin
+-- so of the latest Start, if the worker is idle before the events
 abbrev pub FinishesStartedRun : Type 0
 FinishesStartedRun = (w v : WorldState) (k place number choice instructions : ℕ)
     (events : List Event) (answers : List Answer)

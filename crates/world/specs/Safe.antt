@@ -15,7 +15,7 @@ use Rattle.world.specs.declared.event.Event.{Event}
 use Rattle.world.specs.declared.event.Event.TheVariants.{Finish}
 use Rattle.world.specs.declared.event.Effect.TheVariants as effect
 
--- a run is of the program that its ruleset has for the app; its next step is no trap, it has done
+-- a run is of the program that its ruleset has for the app. Its next step isn't a trap, it has done
 -- fewer instructions than the program has slots, and it ends well
 pub record IsSafeRun (w : WorldState) (number : ℕ) (program : ShapedProgram)
     (s : State) : Type 0 where
@@ -24,16 +24,16 @@ pub record IsSafeRun (w : WorldState) (number : ℕ) (program : ShapedProgram)
   pub short : s.count < length program.code
   pub ends : EndsWell program s
 
--- so was one that has ended: its choice is 0, or a number up to the releases of the app that its
--- ruleset has, after at most as many instructions as the program has slots
+-- the same after its end. Its choice is 0, or a number up to the releases of its ruleset's app,
+-- after at most as many instructions as the program has slots
 pub record IsSafeEnd (rulesets : List Rules) (number : ℕ) (program : ShapedProgram)
     (a : Attributes) (choice instructions : ℕ) : Type 0 where
   pub offered : HasProgram rulesets number (appid_of a) program
   pub release : choice ≤ length offered.app.releases
   pub short : instructions ≤ length program.code
 
--- each run that is there is so; each ruleset is sound, so that a run that is started will be so;
--- and each counter's value is within its width
+-- each run is safe; each ruleset is sound, so that new runs will be safe; and each counter's value
+-- is within its width
 pub record IsSafeWorld (w : WorldState) : Type 0 where
   pub cells : AreCells w.cells
   pub rulesets : All IsRuleset w.rulesets
@@ -43,15 +43,15 @@ pub record IsSafeWorld (w : WorldState) : Type 0 where
       → IsWorker w k (Ended number program a choice instructions)
       → IsSafeEnd w.rulesets number program a choice instructions
 
--- the worker's run has ended so, and was safe
+-- the worker's run has ended with this result, and was safe
 pub record HasSafeEnd (w : WorldState) (k number choice instructions : ℕ) : Type 0 where
   pub program : ShapedProgram
   pub attributes : Attributes
   pub ended : IsWorker w k (Ended number program attributes choice instructions)
   pub safe : IsSafeEnd w.rulesets number program attributes choice instructions
 
--- what a Finish answers is of the worker's own run, which has ended: none or a release of its app,
--- in the ruleset of the number that is answered
+-- the result of a Finish is of the worker's own run, which has ended. It has the number of a
+-- ruleset, and none or a release of the app there
 abbrev pub IsOfItsRun : WorldState → Event → Answer → Type 0
 IsOfItsRun w (Finish k) (Ok (effect.Finished choice instructions number)) =
     HasSafeEnd w k number choice instructions

@@ -1,4 +1,4 @@
--- What a seat stands for, what it keeps, and what a step and a finish make of it.
+-- What a seat represents, what it keeps, and what a step and a finish do to it.
 use Rattle.std.specs.Prelude.{◌≡◌, ℕ, ◌+◌, ◌≤◌, List, length, Some, None, false, Result, Ok, Err}
 use Rattle.attrs.specs.Attributes.{Attributes, AreShort}
 use Rattle.bpf_semantics.specs.State.{State, opening}
@@ -18,15 +18,15 @@ use Rattle.world.specs.declared.event.Effect.TheVariants as effect
 use Rattle.world.specs.declared.event.WorldFault.{WorldFault}
 use Rattle.world.specs.declared.event.WorldFault.TheVariants as fault
 
--- a seat's run stands for a worker's that goes on
+-- a seat's run represents a worker's that continues
 pub record GoesAs (run : Held) (held number : ℕ) (program : ShapedProgram)
     (s : State) : Type 0 where
   pub number_is : held ≡ number
   pub program_is : run.program ≡ program
   pub stands : machine.RunStandsFor run s
 
--- a seat's run, and what it chose, stand for a worker's that has ended: the last instruction counts
--- too
+-- a seat's run, and its choice, represent a worker's that has ended; the last instruction also
+-- counts
 pub record EndedAs (run : Held) (held chosen number : ℕ) (program : ShapedProgram) (a : Attributes)
     (choice instructions : ℕ) : Type 0 where
   pub number_is : held ≡ number
@@ -42,7 +42,7 @@ SeatStandsFor (Taken run held (Some chosen)) (Ended number program a choice inst
     EndedAs run held chosen number program a choice instructions
 SeatStandsFor seat worker = ⊥
 
--- a run that goes on and stands for a state, from each of which it ends well
+-- a run that continues, represents a state, and ends well from each state that it represents
 pub record GoesWell (run : Held) : Type 0 where
   pub going : run.is_done ≡ false
   pub stands : (s : State) × machine.RunStandsFor run s
@@ -64,9 +64,9 @@ SeatIsOffered rulesets Empty = Unit {0}
 SeatIsOffered rulesets (Taken run number choice) =
     HasProgram rulesets number (appid_of run.attributes) run.program
 
--- ---- what a worker comes to, and with which answer
+-- ---- the worker after an event, and the event's result
 
--- its run goes on, with the reply of a counter if it asks one
+-- its run continues, with the reply of a counter if it accesses one
 pub record WorkerGoesOn (old new : List ℕ) (number : ℕ) (program : ShapedProgram) (s : State)
     (y : Worker) : Type 0 where
   pub to : State
@@ -89,7 +89,7 @@ WorkerSteps old (Running number program s) (Ok (effect.Ended choice)) new y =
 WorkerSteps old x (Err fault.Idle) new y = (¬ IsRunning x) × (new ≡ old) × (y ≡ x)
 WorkerSteps old x answer new y = ⊥
 
--- it gives what its run ended with, and is idle
+-- it returns the result of its run, and is idle
 pub record WorkerGives (number choice instructions answered chosen counted : ℕ)
     (y : Worker) : Type 0 where
   pub number_is : answered ≡ number
@@ -105,7 +105,7 @@ WorkerFinishes x (Err fault.Idle) y = IsIdle x × (y ≡ x)
 WorkerFinishes x (Err fault.NotDone) y = IsRunning x × (y ≡ x)
 WorkerFinishes x answer y = ⊥
 
--- ---- so for a seat, from every worker that it stands for
+-- ---- the same for a seat, from every worker that it represents
 
 -- the counters had the values `old`, and have the values `new`
 abbrev pub SeatSteps : List ℕ → Seat → Answer → List ℕ → Seat → Type 0
@@ -116,17 +116,17 @@ abbrev pub SeatFinishes : Seat → Answer → Seat → Type 0
 SeatFinishes before answer after = (x : Worker) → SeatStandsFor before x
     → (y : Worker) × WorkerFinishes x answer y × SeatStandsFor after y
 
--- what a finish is answered with: then the worker is idle, or as it was
+-- the result of a finish: then the worker is idle, or as it was
 abbrev pub SeatGives : Seat → Answer → Type 0
 SeatGives seat (Ok e) = (x : Worker) → SeatStandsFor seat x → WorkerFinishes x (Ok e) Idle
 SeatGives seat (Err e) = (x : Worker) → SeatStandsFor seat x → WorkerFinishes x (Err e) x
 
--- what is kept of a seat's run by whatever rulesets there are
+-- what stays true of a seat's run for all rulesets
 abbrev pub StaysOffered : Seat → Seat → Type 0
 StaysOffered before after = (rulesets : List Rules)
     → SeatIsOffered rulesets before → SeatIsOffered rulesets after
 
--- ---- how a run comes about
+-- ---- how a run is opened
 
 -- the ruleset's program for the app, at its opening state
 pub record IsOpened (rules : Rules) (a : Attributes) (run : Held) : Type 0 where
@@ -136,7 +136,7 @@ pub record IsOpened (rules : Rules) (a : Attributes) (run : Held) : Type 0 where
   pub stands : machine.RunStandsFor run (opening a)
   pub goes : GoesWell run
 
--- refused where the ruleset hasn't the app, or for memory
+-- refused if the ruleset doesn't have the app, or if an allocation fails
 abbrev pub Opens : Rules → Attributes → Result Held WorldFault → Type 0
 Opens rules a (Ok run) = IsOpened rules a run
 Opens rules a (Err fault.NoApp) = OffersNone rules (appid_of a)

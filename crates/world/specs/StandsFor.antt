@@ -1,4 +1,5 @@
--- What a server's world is held as, which worlds that stands for, and what the type keeps of it.
+-- The parts in which a server's world is held, which worlds they represent, and what the type keeps
+-- of them.
 use Rattle.std.specs.Prelude.{◌≡◌, ℕ, ◌<◌, All, List, length, map, slice_index_or}
 use Rattle.std.specs.Arc.{arc_value}
 use Rattle.std.specs.declared.alloc.Global.{Global}
@@ -14,7 +15,7 @@ pub record Parts : Type 0 where
   pub cells : List ℕ
   pub seats : List Seat
 
--- what it is held in
+-- the parts in which it is held
 abbrev pub parts_of : List (Arc Rules Global) → List ℕ → List Seat → Parts
 parts_of rulesets cells seats = record {
   rulesets = map (λ r. arc_value r) rulesets;
@@ -25,14 +26,14 @@ parts_of rulesets cells seats = record {
 abbrev pub seat_at : Parts → ℕ → Seat
 seat_at parts k = slice_index_or parts.seats k Empty
 
--- rulesets and counters agree, and each seat stands for its worker
+-- rulesets and counters agree, and each seat represents its worker
 pub record WorldStandsFor (parts : Parts) (w : WorldState) : Type 0 where
   pub rulesets : parts.rulesets ≡ w.rulesets
   pub cells : parts.cells ≡ w.cells
   pub as_many : length parts.seats ≡ length w.workers
   pub each : (k : ℕ) → SeatStandsFor (seat_at parts k) (slice_index_or w.workers k Idle)
 
--- they stand for the world in which a server begins
+-- they represent the world in which a server begins
 abbrev pub IsOpening : Parts → Rules → ℕ → Type 0
 IsOpening parts rules workers = WorldStandsFor parts (opening_world rules workers)
 

@@ -8,8 +8,8 @@ use Rattle.bpf_semantics.specs.State.{State}
 use Rattle.bpf_semantics.specs.Program.{ShapedProgram}
 use Rattle.ruleset.specs.Rules.{Rules, AppRule, ListsApp}
 
--- a run stands under the ruleset that was the newest when it started, and has come to a state; one
--- that ended has its choice and the number of its instructions
+-- a run is under the ruleset that was the newest when it started, and is in a state; one that ended
+-- has its choice and the number of its instructions
 pub data Worker : Type 0 where
   Idle : Worker
   Running : (number : ℕ) → (program : ShapedProgram) → State → Worker
@@ -25,7 +25,7 @@ pub record WorldState : Type 0 where
 unfoldable pub zeros : List ℕ
 zeros = replicate cell_count 0
 
--- where a server begins: one ruleset, all counters 0, and all workers idle
+-- the world in which a server begins: one ruleset, all counters 0, and all workers idle
 abbrev pub opening_world : Rules → ℕ → WorldState
 opening_world rules count = record {
   rulesets = rules ∷ [];
@@ -43,18 +43,18 @@ ruleset_at rulesets (suc k) = slice_get rulesets k
 abbrev pub newest : List Rules → ℕ
 newest rulesets = length rulesets
 
--- one ruleset more, which is the newest, and nothing else changed
+-- one ruleset is appended, which is the newest, and nothing else changes
 abbrev pub with_ruleset : WorldState → Rules → WorldState
 with_ruleset w rules = record w { rulesets = w.rulesets ++ rules ∷ [] }
 
--- the app that the ruleset of a number has of an appid
+-- the app with an appid in the ruleset of a number
 pub record HasApp (rulesets : List Rules) (number : ℕ) (appid : List ℕ)
     (app : AppRule) : Type 0 where
   pub rules : Rules
   pub ruleset_is : ruleset_at rulesets number ≡ Some rules
   pub known : ListsApp rules appid app
 
--- the program that it has for the appid: that of its app
+-- the program of that app
 pub record HasProgram (rulesets : List Rules) (number : ℕ) (appid : List ℕ)
     (program : ShapedProgram) : Type 0 where
   pub app : AppRule
@@ -66,7 +66,7 @@ pub record HasProgram (rulesets : List Rules) (number : ℕ) (appid : List ℕ)
 abbrev pub IsWorker : WorldState → ℕ → Worker → Type 0
 IsWorker w k worker = slice_get w.workers k ≡ Some worker
 
--- one worker is changed, and nothing else
+-- one worker changes, and nothing else
 abbrev pub with_worker : WorldState → ℕ → Worker → WorldState
 with_worker w k worker = record w { workers = slice_set w.workers k worker }
 

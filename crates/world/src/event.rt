@@ -1,4 +1,4 @@
-//! What happens to a world, and what comes of it.
+//! The events of a world, and their results.
 
 ghost use Rattle.std.specs.Prelude.{Some};
 ghost use Rattle.world.specs.Texts.{fault_text};
@@ -15,17 +15,17 @@ pub enum Event {
     Start { worker: usize, attrs: Arc<Attrs> },
     /// The worker's run does one instruction.
     Step { worker: usize },
-    /// The worker gives the choice of its run, and is idle.
+    /// The worker returns the choice of its run, and is idle.
     Finish { worker: usize },
-    /// A ruleset comes after the others, and is the newest. Every run goes on under its own.
+    /// A ruleset is appended, and is the newest. Runs continue under their own rulesets.
     Swap { rules: Arc<Ruleset> },
 }
 
-/// What an event came to.
+/// The result of an event.
 #[derive(Clone, Copy, Debug, PartialEq, Eq)]
 pub enum Effect {
     Started,
-    /// The run goes on.
+    /// The run continues.
     Stepped,
     /// The run is done, with this choice: 0 for none, k for the app's k-th release.
     Ended {
@@ -38,13 +38,13 @@ pub enum Effect {
         instructions: u32,
         ruleset: usize,
     },
-    /// The number of the ruleset that is the newest now; the world's first one has 1.
+    /// The number of the ruleset that is the newest now. The world's first one has number 1.
     Swapped {
         ruleset: usize,
     },
 }
 
-/// Why an event is refused; of several the lowest number is answered.
+/// Why an event is refused; if there are several reasons, the lowest number.
 #[derive(Clone, Copy, Debug, PartialEq, Eq)]
 pub enum WorldFault {
     /// E1: there is no such worker.
@@ -57,8 +57,8 @@ pub enum WorldFault {
     NoApp,
     /// E5: a Finish, and the run isn't done.
     NotDone,
-    /// E6: memory was refused to `World::new`, to the answers of `play` or to a Swap; or an `Arc`
-    /// that a Start or a Swap copies has no room for one more owner.
+    /// E6: an allocation failed in `World::new`, in `play` or in a Swap; or an `Arc` that a Start
+    /// or a Swap copies can't have another owner.
     Memory,
 }
 

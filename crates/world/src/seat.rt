@@ -1,5 +1,5 @@
-//! The seat of a worker: empty, or taken by a run. What a step and a finish make of a seat is said
-//! for every worker that the seat stands for.
+//! The seat of a worker: empty, or taken by a run. The contracts say what a step and a finish do
+//! for every worker that the seat represents.
 
 ghost use Rattle.std.specs.Prelude.{◌≡◌, IfErr, IsTrue, IsFalse};
 
@@ -7,7 +7,7 @@ use crate::event::{Effect, WorldFault};
 use bpf_machine::{Choice, Progress, Run};
 use cells::{PlainCells, PlainPass};
 
-/// A seat, whose run has started under the ruleset of a number, and has a choice once it has ended.
+/// A seat. Its run started under the ruleset `number`, and has a choice once it has ended.
 #[derive(Drop)]
 pub enum Seat {
     Empty,
@@ -23,7 +23,7 @@ impl Seat {
     ghost use Rattle.world.specs.Seats.{SeatStandsFor, SeatKeeps, StaysOffered};
     ghost use Rattle.world.specs.Seats.{SeatSteps, SeatFinishes, SeatGives};
 
-    /// Whether a run is there, be it one that has ended.
+    /// Whether it has a run, even one that has ended.
     pub fn is_taken(&self) -> bool
         ensures taken { IsTrue result → (x : Worker) → SeatStandsFor self.now x → ¬ IsIdle x }
         ensures empty { IsFalse result → self.now ≡ Seat.Empty }
@@ -34,7 +34,8 @@ impl Seat {
         }
     }
 
-    /// One instruction, with the reply of a counter if it asks one. E3 where no run goes on.
+    /// One instruction, with the reply of a counter if it accesses one. Returns E3 if no run
+    /// continues.
     pub fn step(&mut self, cells: &PlainCells, pass: &mut PlainPass) -> Result<Effect, WorldFault>
         requires { SeatKeeps self.old }
         ensures same { IfErr result (λ e. self.new ≡ self.old) }
@@ -65,8 +66,8 @@ impl Seat {
         }
     }
 
-    /// Gives the choice of a run that has ended, and leaves the seat empty. E3 where it was empty,
-    /// and E5 where the run hasn't ended.
+    /// Returns the choice of a run that has ended, and leaves the seat empty. Returns E3 if it was
+    /// empty, and E5 if the run hasn't ended.
     pub fn finish(&mut self) -> Result<Effect, WorldFault>
         requires { SeatKeeps self.old }
         ensures same { IfErr result (λ e. self.new ≡ self.old) }
@@ -79,7 +80,7 @@ impl Seat {
         Ok(finished)
     }
 
-    // What a finish gives.
+    // The result of a finish.
     fn finished(&self) -> Result<Effect, WorldFault>
         requires { SeatKeeps self.now }
         ensures { SeatGives self.now result }

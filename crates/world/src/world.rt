@@ -1,6 +1,6 @@
-//! A world: the rulesets of a server and the seats of its workers. Each event's contract is for
-//! every world of the definitions that this one stands for; the type keeps that it stands for at
-//! least one, and that each of its runs is of the program that the ruleset of its number has for
+//! A world: the rulesets of a server and the seats of its workers. The contract of each event is
+//! for every world of the definitions that this one represents. The type keeps that it represents
+//! at least one, and that each of its runs is of the program that the ruleset of its number has for
 //! its app.
 
 ghost use Rattle.std.specs.Prelude.{◌≡◌, ◌<◌, ◌≤◌, slice_index};
@@ -46,9 +46,9 @@ impl World {
     ghost use Rattle.world.specs.Headline.{IsApplied, AllWorldsAreSafe, EachFinishIsOfItsRun};
     ghost use Rattle.world.specs.declared.event.Event.{Event};
 
-    /// A world with one ruleset, of number 1, all counters 0, and so many idle workers. E6 where
-    /// memory is refused.
-    // open: whether memory is refused (E6).
+    /// A world with one ruleset, of number 1, all counters 0, and `workers` idle workers. Returns
+    /// E6 if an allocation fails.
+    // open: whether an allocation fails (E6).
     pub fn new(alloc: Global, workers: usize, first: Arc<Ruleset>) -> Result<World, WorldFault>
         requires at_least { 1 ≤ workers }
         requires at_most { workers ≤ 64 }
@@ -72,15 +72,15 @@ impl World {
         })
     }
 
-    /// What the type keeps. It does nothing: a proof calls it for its clauses.
+    /// Law: what the type keeps.
     pub fn keeps(&self)
-        // It stands for at least one world.
+        // It represents at least one world.
         ensures stands { (w : WorldState) × WorldStandsFor self.now w }
         // In each of its rulesets an appid has one app, whose runs end with 0 or a release of it.
         ensures sound { All IsRuleset self.now.rulesets }
         // Whatever is played, each world on the way is safe,
         ensures safe { (events : List Event) → AllWorldsAreSafe self.now events }
-        // and what a Finish answers is of its worker's run.
+        // and the result of a Finish is of its worker's run.
         ensures releases { (events : List Event) → EachFinishIsOfItsRun self.now events }
     {
         self.pass.keeps();
@@ -96,9 +96,9 @@ impl World {
         self.pass.value(cell)
     }
 
-    /// One event. One that is refused changes nothing.
-    // open: whether memory is refused (E6): so which of Started and E6 is the answer, where the
-    // worker is idle and the app is there, and which of Swapped and E6.
+    /// One event. A refused event changes nothing.
+    // open: whether an allocation fails (E6): so which of Started and E6 is the result if the
+    // worker is idle and the app exists, and which of Swapped and E6.
     pub fn apply(&mut self, event: &Event) -> Result<Effect, WorldFault>
         ensures happens { IsApplied self.old event.now result self.new }
         ensures same { IfErr result (λ e. self.new ≡ self.old) }

@@ -1,4 +1,4 @@
-//! Devices that fail at each of their calls, or take less than they are given.
+//! Devices that fail at each of their calls, or take fewer bytes than they are given.
 
 use crate::{Counted, FailAt, PostFault, Status, WriteFault, read_post, write_reply};
 use std::alloc::Global;
@@ -43,7 +43,7 @@ fn write_that_fails(rt: HostRuntime) -> Result<(), Fail> {
 
 #[test]
 fn body_that_fits_goes_with_its_head(rt: HostRuntime) {
-    // The head has 99 bytes, and the piece of both has room for 2048. The call that fails.
+    // The head has 99 bytes, and one piece at most 2048. The number is that of the call that fails.
     for (size, call, wanted) in [
         (1949, 1, Err(WriteFault { written: 0 })),
         (1949, 2, Ok(())),
@@ -86,7 +86,8 @@ fn writer_with_room_for_40_bytes(rt: HostRuntime) {
 /// A body that is too large by one byte.
 const TOO_LARGE: &[u8] = b"POST /service/update2/json HTTP/1.1\r\nContent-Length: 1048577\r\n\r\n";
 
-/// Whether input that comes byte by byte, and fails at this read, has this fault before that read.
+/// Whether input that arrives byte by byte, and fails at this read, has this fault before that
+/// read.
 fn is_refused_before(alloc: Global, input: &[u8], call: u64, fault: PostFault) -> bool {
     let mut reader = Counted::new(FailAt::new(input, 1, call));
     let is_fault = match read_post(alloc, &mut reader) {

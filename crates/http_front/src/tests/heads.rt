@@ -1,4 +1,4 @@
-//! Heads that are malformed, ask for something else, or never end.
+//! Heads that are malformed, request something else, or never end.
 
 use super::{Row, check};
 use crate::PostFault;

@@ -1,4 +1,4 @@
-//! What header lines tell of a body's length, and bodies that end early or late.
+//! What header lines say of a body's length, and bodies that end early or late.
 
 use super::{Row, check};
 use crate::PostFault;

@@ -1,4 +1,4 @@
-//! The longest heads and bodies, and those past them.
+//! The longest heads and bodies, and longer ones.
 
 use super::posted;
 use crate::PostFault;
@@ -7,7 +7,7 @@ use std::test::Fail;
 
 const START: &[u8] = b"POST /service/update2/json HTTP/1.1\r\nContent-Length: 2\r\n";
 
-// A head of so many bytes, and the body.
+// A head of `size` bytes, and the body.
 fn head_of(alloc: Global, size: usize) -> Result<Vec<u8>, AllocError> {
     let mut text = Vec::from_slice(alloc, START)?;
     text.extend_from_slice(b"A: ")?;
@@ -18,7 +18,7 @@ fn head_of(alloc: Global, size: usize) -> Result<Vec<u8>, AllocError> {
     Ok(text)
 }
 
-// A head of so many header lines more, and the body.
+// A head of `lines` more header lines, and the body.
 fn lines_of(alloc: Global, lines: usize) -> Result<Vec<u8>, AllocError> {
     let mut text = Vec::from_slice(alloc, START)?;
     for _ in 0..lines {

@@ -2,7 +2,7 @@ use Rattle.std.proofs.Common.{◌≡◌, drop}
 use Rattle.access_log.specs.Room.{behind_events}
 use Rattle.access_log.proofs.room.behind_events.Given as goal
 
--- what is left behind the apps so far is to be told by those that are left
+-- what the apps so far leave is shared by the others
 abbrev pub invariant-loop-app : goal.invariant-loop-app
 invariant-loop-app l =
     behind_events l.left (drop l.app-index l.apps) ≡ behind_events l.fn.room l.apps

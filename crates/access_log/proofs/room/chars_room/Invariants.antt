@@ -3,7 +3,7 @@ use Rattle.std.specs.Str.Iter.{chars_rest}
 use Rattle.access_log.specs.Room.{chars_room}
 use Rattle.access_log.proofs.room.chars_room.Given as goal
 
--- with the characters that are left it is the whole
+-- the count so far and the characters that are left add up to the whole
 abbrev pub invariant-loop-c : goal.invariant-loop-c
 invariant-loop-c l =
     IsUtf8 (chars_rest l.c-iterator)

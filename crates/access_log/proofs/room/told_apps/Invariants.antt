@@ -2,7 +2,7 @@ use Rattle.std.proofs.Common.{◌≡◌, ◌+◌, drop}
 use Rattle.access_log.specs.Room.{count_fitting, left_behind}
 use Rattle.access_log.proofs.room.told_apps.Given as goal
 
--- those that were passed have room, of what is left as many more have, and they leave as much
+-- the apps so far fit; adding those that fit in what is left gives the same count and bytes as all
 abbrev pub invariant-loop-app : goal.invariant-loop-app
 invariant-loop-app l =
     (l.count ≡ l.app-index)

@@ -4,7 +4,7 @@ use Rattle.std.specs.Str.Iter.{chars_rest}
 use Rattle.access_log.specs.Spelled.{spelled_char, spelled_text}
 use Rattle.access_log.proofs.text.write_each_char.Given as goal
 
--- the characters that are left, behind what is written, are all
+-- what is written, followed by the characters that are left, is the whole text
 abbrev pub invariant-loop-c : goal.invariant-loop-c
 invariant-loop-c l =
     IsUtf8 (chars_rest l.c-iterator)

@@ -3,7 +3,7 @@ use Rattle.cells.specs.Grown.{Grows}
 use Rattle.answering.specs.Apps.{FindsApps}
 use Rattle.answering.proofs.apps.run_apps.Given as goal
 
--- what was found of the apps that were passed, with their runs
+-- what was found for the apps so far, with their runs
 abbrev pub invariant-loop-app : goal.invariant-loop-app
 invariant-loop-app g l =
     g.C.CellSteps.belongs l.turn.cells.now l.pass

@@ -1,5 +1,5 @@
 use Rattle.bench_answer.proofs.quotas.take_times.Given as goal
 
--- the pass goes on belonging to the cells
+-- the pass still belongs to the cells
 abbrev pub invariant-loop : goal.invariant-loop
 invariant-loop g l = g.C.CellSteps.belongs l.cells l.pass

@@ -5,7 +5,7 @@ use Rattle.http_front.specs.Length.{writes}
 use Rattle.http_front.specs.Reading.{values_at}
 use Rattle.http_front.proofs.lines.all_write.Given as goal
 
--- the lines that were passed over are no hindrance
+-- the lines that were skipped have another name, or the number
 abbrev pub invariant-loop-lines : goal.invariant-loop-lines
 invariant-loop-lines l =
     All (IsHeaderWithin (length l.buf)) l.lines

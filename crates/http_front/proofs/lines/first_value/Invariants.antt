@@ -3,7 +3,7 @@ use Rattle.httparse.specs.Spans.{IsHeaderWithin}
 use Rattle.http_front.specs.Reading.{values_at}
 use Rattle.http_front.proofs.lines.first_value.Given as goal
 
--- the lines that were passed over haven't the name
+-- the lines that were skipped don't have the name
 abbrev pub invariant-loop-lines : goal.invariant-loop-lines
 invariant-loop-lines l =
     All (IsHeaderWithin (length l.buf)) l.lines

@@ -3,7 +3,7 @@ use Rattle.httparse.specs.Spans.{header_bytes, IsHeaderWithin}
 use Rattle.http_front.specs.Head.{has_line}
 use Rattle.http_front.proofs.lines.has_line.Given as goal
 
--- the lines that were passed over haven't the name
+-- the lines that were skipped don't have the name
 abbrev pub invariant-loop-lines : goal.invariant-loop-lines
 invariant-loop-lines l =
     All (IsHeaderWithin (length l.buf)) l.lines

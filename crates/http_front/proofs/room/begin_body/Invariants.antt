@@ -1,7 +1,7 @@
 use Rattle.std.proofs.Common.{◌≡◌, ◌-◌, ◌≤◌, length, take, vec_len}
 use Rattle.http_front.proofs.room.begin_body.Given as goal
 
--- the first bytes stand there, and what is behind them isn't past the body's end
+-- the first bytes are there, and the bytes so far aren't longer than the body
 abbrev pub invariant-loop-body : goal.invariant-loop-body
 invariant-loop-body l =
     (take (length l.first) l.body.items ≡ l.first)

@@ -2,7 +2,7 @@ use Rattle.std.proofs.Common.{◌≡◌, ◌++◌, drop, length}
 use Rattle.omaha_json.specs.Found.{found_apps}
 use Rattle.omaha_json.proofs.found.find_apps.Given as goal
 
--- what was found so far, and what the apps that are left come to
+-- what was found so far, followed by what is found for the apps that are left
 abbrev pub invariant-loop-i : goal.invariant-loop-i
 invariant-loop-i l =
     (length l.found.items ≡ l.i)

@@ -20,7 +20,7 @@ split_seat-first-requires c = (
 abbrev Known : Type 0
 Known = Me (Unit {0}) (List Account)
 
--- the new seat has the first account of those that were left
+-- the new seat (a ghost token) has the first of the remaining accounts
 first_is : (before first : Known) (k n : ℕ) → k < n → before ≡ (new_accounts k (n - k), [])
     → first ≡ (first_only before.0, []) → first ≡ (account k [] ∷ [], [])
 first_is before first k n lt left is =

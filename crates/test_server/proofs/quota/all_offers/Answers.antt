@@ -5,7 +5,7 @@ use Rattle.std.specs.Prelude.{option_to_list}
 use Rattle.shared_cells.specs.Passes.{IsPassOf}
 use Rattle.test_server.proofs.quota.all_offers.Goals as goal
 
--- what all have one of those has that are left when the last is taken
+-- if all elements have P, the elements left when the last is taken have it
 at_place : {X : Type 0} (x : X) (P : X → Type 0) (all rest : List X) (r : Option X) (i : ℕ)
     → all ≡ rest ++ option_to_list r → All P all → i < length rest → x ≡ get_or rest i x → P x
 at_place x P all rest r i split own small is =

@@ -59,7 +59,7 @@ left_by c =
     (c.requires.all ∙ sym (ap (λ s. s.passes) c.self.view_is)) known
     c.close_with-table.ensures.values.2
 
--- the passes that the closed cells tell of are those that were handed over
+-- the passes of the closed cells are those that were passed in
 told : (c : After-drop-passes) → c.of-all.result.value.items ≡ c.args.passes.items
 told c = ap (λ (v : Vec PassView Global). v.items) c.of-all.ensures
 
