@@ -1,4 +1,4 @@
--- A command whose words lack something asks for nothing.
+-- A command with a missing argument makes no request.
 use Rattle.std.proofs.Common.{ℕ, List, codes}
 use Rattle.clap.specs.Words.{Text, Row}
 use Rattle.std.proofs.Common.{◌∙◌, sym, subst}
@@ -40,7 +40,7 @@ runs_nothing rows lacks (request.Run run) asks = lacks run asks.0
 runs_nothing rows lacks (request.Trace run) asks = lacks run asks.0
 runs_nothing rows lacks asked asks = asks
 
--- the cohort that the words tell has no place for any bucket
+-- the cohort of the options allows no bucket
 pub no_place : (rows : List Row) (app : ToldApp) → HasTold rows app
     → ((bucket : Option ℕ) → IsPlace rows (option_copied app.cohort) bucket → ⊥)
     → VerbAsksNothing (Some verb.Run) rows

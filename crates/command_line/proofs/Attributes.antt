@@ -20,7 +20,7 @@ use Rattle.command_line.specs.declared.told.ToldApp.{ToldApp}
 abbrev pub texts : List (Bor Text) → List Text
 texts lent = map (λ text. text.now) lent
 
--- what `strip_prefix` gives
+-- the result of `strip_prefix`
 pub stripped : (text name : List ℕ) (r : Option (Bor (List ℕ)))
     → MatchOption r (FindsTextPrefix name text None)
     (λ x. StripsPrefix (FindsTextPrefix name) text x.now)
@@ -97,7 +97,7 @@ texts_none f id r is none =
     unwrap_or (option_map (λ s. map (λ v. v.now) s.now) o) [] ≡ texts_of id (rows_of f)) none
     (texts_read f id r is)
 
--- two apps of the same attributes have as many
+-- two apps with the same attributes have equally many
 pub same_count : (rows : List Row) (a b : ToldApp) → HasAttributes rows a → HasAttributes rows b
     → count_attributes a ≡ count_attributes b
 same_count rows a b has_a has_b =
@@ -111,7 +111,7 @@ same_count rows a b has_a has_b =
     has_a.platform ∙ sym has_b.platform in
     rw (appid, brand, ap_is, lang, cohort, platform) refl
 
--- texts that are kept as they are lent
+-- stored texts equal those that were borrowed
 pub kept_texts : {V E : Type 0} (items : V → List (Bor Text)) (r : Result V E)
     (lent : List (Bor Text)) (told : List Text) → IfOk r (λ v. items v ≡ lent)
     → texts lent ≡ told → IfOk r (λ v. texts (items v) ≡ told)

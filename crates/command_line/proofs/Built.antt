@@ -1,4 +1,4 @@
--- A command with arguments added in turn.
+-- A command with its arguments added one by one.
 use Rattle.std.proofs.Common.{◌≡◌, ◌∙◌, sym, subst, ap, List, [], ◌∷◌, ◌++◌, Bool, false, ◌||◌, map}
 use Rattle.std.proofs.lemmas.List.{append-nil, append_assoc}
 use Rattle.std.specs.List.{AllByRecursion}

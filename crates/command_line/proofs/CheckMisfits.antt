@@ -1,4 +1,4 @@
--- Words of `check` of which one is ill-written ask for nothing.
+-- Words of `check` with a malformed option make no request.
 use Rattle.std.proofs.Common.{◌≡◌, ◌∙◌, sym, List, true, false}
 use Rattle.std.specs.Prelude.{Some}
 use Rattle.clap.specs.Words.{Row}

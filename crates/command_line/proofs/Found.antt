@@ -1,4 +1,4 @@
--- Rows of another name are passed over.
+-- Rows with another name are skipped.
 use Rattle.std.proofs.Common.{◌≡◌, ◌∙◌, ap, sym, arith, ◌<◌, ◌-◌, Bool, false, List, [], ◌∷◌}
 use Rattle.std.proofs.Common.{length, take, drop, get_or, Some}
 use Rattle.std.proofs.lemmas.List.{take_rest}

@@ -1,4 +1,4 @@
--- Options that are ill-written tell of no app.
+-- Malformed options describe no app.
 use Rattle.std.proofs.Common.{◌≡◌, ◌∙◌, refl, ap, sym, subst, ℕ, List, Option, Some, None, codes}
 use Rattle.std.specs.Borrow.{Bor}
 use Rattle.std.specs.Option.{option_copied}
@@ -12,7 +12,7 @@ use Rattle.command_line.specs.declared.option_misfit.MomentMisfit.TheVariants as
 use Rattle.command_line.specs.Seconds.{HasMoment, IsMomentMisfit, LacksMoment, moment_told}
 use Rattle.command_line.specs.Values.{HasBucket, LacksBucket}
 
--- what holds of a refusal, holds of it however it is answered
+-- what holds anyway also holds for each error
 pub on_any_error : {T E : Type 0} (P : Type 0) (r : Result T E) → P → OnErr r P
 on_any_error P (Ok x) p = tt
 on_any_error P (Err e) p = p
@@ -48,7 +48,7 @@ no_bucket : (rows : List Row) (place : Option ℕ) → LacksBucket rows
 no_bucket rows None lacks has = has
 no_bucket rows (Some bucket) lacks has = lacks bucket has
 
--- an option of the bucket that is no bucket, beside no cohort that names one
+-- a malformed `--bucket`, with a cohort that names no bucket
 pub no_place_told : (rows : List Row) (named : Option ℕ) (text : Option (Bor Text))
     (told : Bor Text) (place : Option ℕ) → named ≡ None → text ≡ Some told → LacksBucket rows
     → IsPlaceBeside rows named (option_copied text) place → ⊥

@@ -1,4 +1,4 @@
--- What clap's clauses of a parse say of the words.
+-- What clap's clauses about a parse say about the words.
 use Rattle.std.proofs.Common.{◌≡◌, ◌∙◌, sym, subst, ap, refl, inl, inr, List, Option, Some, None}
 use Rattle.std.proofs.Common.{true}
 use Rattle.std.specs.Box.{box_value}
@@ -73,7 +73,7 @@ asks_for_nothing words m is nothing = record {
   nothing = subst (λ (r : Option (Text × List Row)). IsNothingAsked r) is nothing;
 }
 
--- an option of which both halves are known
+-- an option with both halves known
 both_are : {B X Y : Type 0} (sub : Option B) (f : B → X) (g : B → Y) (x : X) (y : Y)
     → Some x ≡ option_map f sub
     → Some y ≡ option_map (λ (p : X × Y). p.1) (option_map {U = X × Y} (λ b. (f b, g b)) sub)

@@ -1,5 +1,5 @@
--- From clap's clauses to the words of `specs/Words`: what a getter reads of an argument, and a
--- command with subcommands in turn.
+-- From clap's clauses to the words of `specs/Words`: what a getter reads from an argument, and a
+-- command with its subcommands added one by one.
 use Rattle.std.proofs.Common.{◌≡◌, ◌∙◌, sym, subst, ap, refl, ℕ, ◌<◌, ◌^◌, Option, Some, None}
 use Rattle.std.proofs.Common.{List, [], ◌∷◌, ◌++◌, ◌+◌, map, take, get_or, length, ap₂}
 use Rattle.std.proofs.lemmas.List.{map-append, map_more}
@@ -31,7 +31,7 @@ pub text_is : (f : Found) (id : Text) (r : Option (Bor Text)) (t : Bor Text)
     → first_of id (rows_of f) ≡ Some t.now
 text_is f id r t is some = text_read f id r is ∙ ap (option_map (λ s. s.now)) some
 
--- what `from_str` of an unsigned integer gives
+-- the result of `from_str` for an unsigned integer
 abbrev pub Parses : ℕ → Text → Result ℕ ParseIntError → Type 0
 Parses k t r = ParsesUnsigned k 10 t r × ExplainsUnsignedError 10 t r × HasUnsignedDigitsIfOk t r
 
@@ -89,7 +89,7 @@ abbrev pub with_subcommands : App → List Shape → App
 with_subcommands a [] = a
 with_subcommands a (s ∷ rest) = with_subcommands (with_subcommand a s) rest
 
--- subcommands in turn, of which no argument is for all
+-- subcommands added one by one, none with a global argument
 pub with_more : (subs : List Command) (old new : Command) (a : App) → app_of old ≡ a
     → AllByRecursion (λ c. (out-Command c).has_globals ≡ false) subs
     → AddsInTurn AddsSubcommand old subs new
@@ -104,7 +104,7 @@ longer : {X : Type 0} (P : X → Type 0) (xs : List X) (x : X)
 longer P [] x _ holds = (holds, tt)
 longer P (y ∷ rest) x all holds = (all.0, longer P rest x all.1 holds)
 
--- two lists that go on alike
+-- two lists with equal images, each extended by one element
 pub one_more_alike : {X Y S : Type 0} (f : X → S) (g : Y → S) (xs new : List X) (x : X)
     (ys : List Y) (i : ℕ) (d : Y) → i < length ys → map f xs ≡ map g (take i ys)
     → f x ≡ g (get_or ys i d) → new ≡ xs ++ x ∷ [] → map f new ≡ map g (take (i + 1) ys)
@@ -112,7 +112,7 @@ one_more_alike f g xs new x ys i d within alike is more =
     ap (map f) more ∙ map-append f xs (x ∷ [])
     ∙ ap₂ (λ l e. l ++ e ∷ []) alike is ∙ sym (map_more g ys i d within)
 
--- and one more of which it holds
+-- a list extended by an element for which P holds
 pub one_more_holds : {X : Type 0} (P : X → Type 0) (xs new : List X) (x : X)
     → AllByRecursion P xs → P x → new ≡ xs ++ x ∷ [] → AllByRecursion P new
 one_more_holds P xs new x all holds more =

@@ -1,4 +1,4 @@
--- Words of `ask` of which one is ill-written ask for nothing.
+-- Words of `ask` with a malformed option make no request.
 use Rattle.std.proofs.Common.{◌≡◌, subst, List, Some, None, codes}
 use Rattle.std.specs.Prelude.{IfErr, Result, Ok, Err}
 use Rattle.clap.specs.Words.{Row, Text, first_of}
@@ -17,7 +17,7 @@ use Rattle.command_line.specs.declared.request.CommandRequest.TheVariants as req
 use Rattle.command_line.specs.declared.verb.Verb.TheVariants as verb
 use Rattle.command_line.proofs.Lacking.{no_value}
 
--- the texts of an option that tell no cells
+-- the texts of `--cells` that give no cells
 pub unasked_cells : {V : Type 0} (rows : List Row) (texts : List Text) (r : Result V Unasked)
     → texts ≡ texts_of (codes "cells") rows → IfErr r (LacksCellsTold texts)
     → IfErr r (LacksReply rows)

@@ -1,4 +1,4 @@
--- Words of `report` of which one is ill-written ask for nothing.
+-- Words of `report` with a malformed option make no request.
 use Rattle.std.proofs.Common.{◌≡◌, ◌∙◌, sym, List, Option, Some, None}
 use Rattle.std.specs.Prelude.{Ok, IsErr, Result}
 use Rattle.clap.specs.Words.{Row, Text}

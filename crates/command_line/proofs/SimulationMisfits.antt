@@ -1,4 +1,4 @@
--- Words of `simulate` that have a misfit ask for nothing.
+-- Words of `simulate` with an option error make no request.
 use Rattle.std.proofs.Common.{◌∙◌, sym, ap, inl, inr, true, false, List, codes}
 use Rattle.std.specs.Prelude.{◌≡◌, IsNone, IsSome, Option, Some}
 use Rattle.std.specs.Prelude.{is_some, option_copied}

@@ -1,4 +1,4 @@
--- What the options say of the app that asks.
+-- The app that the options describe.
 use Rattle.std.specs.Prelude.{◌≡◌, ◌≢◌, ◌⊎◌, ℕ, ◌+◌, List, [], ◌∷◌, Option, Some, None}
 use Rattle.std.specs.Prelude.{is_some}
 use Rattle.std.specs.Prelude.{length, drop, codes, nat_eq, IsNone, IsSome, IsSomeAnd}
@@ -14,16 +14,16 @@ use Rattle.command_line.specs.Values.{HasBucket, HasFlag, texts_of}
 
 -- ---- attributes
 
--- all texts NAME=TEXT that are given
+-- all texts NAME=TEXT of `--attr`
 abbrev pub given : List Row → List Text
 given rows = texts_of (codes "attr") rows
 
--- what stands behind this beginning
+-- the rest of a text after this prefix
 abbrev pub value_of : Text → (beginning : Text) → Option Text
 value_of text beginning =
     if starts_with nat_eq text beginning then Some (drop (length beginning) text) else None
 
--- the same of the first text that begins so
+-- the rest of the first text with this prefix
 abbrev pub value_in : List Text → (beginning : Text) → Option Text
 value_in [] beginning = None
 value_in (text ∷ rest) beginning = option_or (value_of text beginning) (value_in rest beginning)
@@ -47,14 +47,14 @@ pub record HasAttributes (rows : List Row) (told : ToldApp) : Type 0 where
   pub cohort : option_copied told.cohort ≡ value_in (given rows) (codes "cohort=")
   pub platform : option_copied told.platform ≡ value_in (given rows) (codes "platform=")
 
--- not each text gives one of them, or one is given twice
+-- a text gives none of them, or gives one again
 abbrev pub LacksAttributes : List Row → Type 0
 LacksAttributes rows =
     (told : ToldApp) → HasAttributes rows told → length (given rows) ≢ count_attributes told
 
 -- ---- the day of the installation
 
--- unknown where none is given
+-- unknown without the option
 abbrev pub IsInstallDay : Option Text → Option ℕ → Type 0
 IsInstallDay None day = day ≡ None
 IsInstallDay (Some text) day = IsSomeAnd day (λ d. day_in 4294967294 text ≡ Some d)
@@ -65,7 +65,7 @@ LacksInstalled (Some text) = day_in 4294967294 text ≡ None
 
 -- ---- an app
 
--- the app is told of by these options: each text gives one of its attributes, and none twice
+-- the options describe this app: each text gives one of its attributes, and no two give the same
 pub record HasTold (rows : List Row) (told : ToldApp) : Type 0 where
   pub attributes : HasAttributes rows told
   pub each : length (given rows) ≡ count_attributes told
@@ -77,15 +77,15 @@ pub record HasTold (rows : List Row) (told : ToldApp) : Type 0 where
 abbrev pub LacksTold : List Row → Type 0
 LacksTold rows = (told : ToldApp) → ¬ HasTold rows told
 
--- ---- anyone's
+-- ---- without a client
 
--- an app of which neither the appid nor the cohort is told
+-- an app without an appid and a cohort
 pub record IsAnyones (rows : List Row) (app : ToldApp) : Type 0 where
   pub told : HasTold rows app
   pub no_appid : IsNone (option_copied app.appid)
   pub no_cohort : IsNone (option_copied app.cohort)
 
--- the words tell of one client, by its appid or its cohort
+-- the options name one client, by its appid or its cohort
 abbrev pub TellsOneClient : List Row → Type 0
 TellsOneClient rows =
     IsSome (value_in (given rows) (codes "appid="))
@@ -93,8 +93,8 @@ TellsOneClient rows =
 
 -- ---- its bucket
 
--- none of its own where the cohort names one, beside which the option may not stand; else the
--- option's, or 0 without it
+-- `None` if the cohort names a bucket, and then `--bucket` is an error; else that of `--bucket`, or
+-- 0 without it
 abbrev pub IsPlaceBeside : List Row → (named : Option ℕ) → (text : Option Text) → Option ℕ
     → Type 0
 IsPlaceBeside rows (Some bucket) (Some text) place = ⊥

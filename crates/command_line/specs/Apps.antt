@@ -1,4 +1,4 @@
--- The app that the words tell of, as its request would: it asks for an update at a moment.
+-- The app that the options describe, as in its request: an update check at a moment.
 use Rattle.std.specs.Prelude.{ℕ, ℤ, [], Option, Some, None, option_copied}
 use Rattle.std.specs.Prelude.{unwrap_or, true}
 use Rattle.attrs.specs.Attributes.{Attributes}
@@ -7,7 +7,7 @@ use Rattle.attrs.specs.declared.facts.AppFacts.{AppFacts}
 use Rattle.attrs.specs.declared.facts.RequestFacts.{RequestFacts}
 use Rattle.command_line.specs.declared.told.ToldApp.{ToldApp}
 
--- what its request says of it; an appid that isn't told is empty
+-- the app's part of its request; without an appid that text is empty
 abbrev pub app_facts : ToldApp → AppFacts
 app_facts told = record {
   appid = unwrap_or (option_copied told.appid) [];
@@ -32,12 +32,12 @@ request_facts told = record {
 abbrev pub moment : ToldApp → ℤ
 moment told = told.moment
 
--- in a bucket of its own, or else where its cohort puts it
+-- in a bucket of its own, or in that of its cohort
 abbrev pub placed : Option ℕ → Attributes → Attributes
 placed None a = a
 placed (Some bucket) a = record a { context = record a.context { bucket = bucket } }
 
--- the attributes of the app that the words tell of, in its bucket: it asks for an update
+-- the attributes of the app that the options describe, in its bucket, with an update check
 abbrev pub attributes_told : ToldApp → (bucket : Option ℕ) → Attributes
 attributes_told told bucket =
     placed bucket (attributes_of (app_facts told) (request_facts told) (moment told))

@@ -1,4 +1,4 @@
--- What the words of `check` ask for.
+-- What the words of `check` request.
 use Rattle.std.specs.Prelude.{◌≡◌, List, Bool, true, false, codes, map}
 use Rattle.std.specs.List.{list_all}
 use Rattle.clap.specs.Words.{Row}
@@ -12,7 +12,7 @@ use Rattle.warnings.specs.Names.{is_warning_name}
 abbrev pub are_warning_names : List Row → Bool
 are_warning_names rows = list_all is_warning_name (texts_of (codes "allow") rows)
 
--- a check of manifests; with the flag a warning that isn't allowed counts
+-- a check of manifests; with `--strict` each warning that isn't allowed counts
 pub record AsksToCheck (rows : List Row) (asked : AskedCheck) : Type 0 where
   pub manifests : map (λ path. path.now) asked.manifests.items
       ≡ texts_of (codes "MANIFEST") rows

@@ -1,5 +1,5 @@
--- Days counted from 2007-01-01, as texts name them: by their number, or by their date, of four, two
--- and two digits with hyphens between them.
+-- Days counted from 2007-01-01. A text names one by its number, or by a date: four, two and two
+-- digits, with hyphens between them.
 use Rattle.std.specs.Prelude.{ℕ, ◌-◌, ◌==◌, ◌&&◌, nat_le, List, length, Option, None, Some}
 use Rattle.std.specs.Prelude.{option_and_then, if◌then◌else◌, pos, ◌+ℤ◌, unsigned_abs, Bool}
 use Rattle.std.specs.Prelude.{nat_lt}
@@ -12,14 +12,14 @@ use Rattle.lexing.specs.Decimal.{decimal_within, within}
 abbrev pub calendar_day : (year month day : ℕ) → ℕ
 calendar_day year month day = unsigned_abs (days_from_civil (pos year) month day +ℤ pos 4371587)
 
--- 2007-01-01 by that count
+-- 2007-01-01 in that count
 abbrev pub first_day : ℕ
 first_day = 4385101
 
 abbrev pub from_first : ℕ → Option ℕ
 from_first day = if nat_le first_day day then Some (day - first_day) else None
 
--- the day of a date, where its month has that day and it isn't before 2007
+-- the day of a date, if its month has that day and it isn't before 2007
 abbrev pub day_of_date : (year month day : ℕ) → Option ℕ
 day_of_date year month day =
     if nat_le day (days_in_month (pos year) month) then from_first (calendar_day year month day)
@@ -50,7 +50,7 @@ dated year rest =
 abbrev pub numbered : (most : ℕ) → List ℕ → Option ℕ
 numbered most text = decimal_within 0 most text
 
--- the day that a text names, at most this one
+-- the day that a text names, if at most `most`
 abbrev pub day_in : (most : ℕ) → List ℕ → Option ℕ
 day_in most text =
     if has_hyphen text

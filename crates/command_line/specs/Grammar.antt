@@ -17,14 +17,14 @@ use Rattle.command_line.specs.declared.verb_rows.VerbRow.{VerbRow}
 
 -- ---- arguments and options
 
--- a word by its place, which has to be there
+-- a required positional argument
 abbrev pub positional : Text → ArgAction → Rule
 positional id action = record (new_rule id) { required = true; action = Some action }
 
 abbrev pub file : Text → Rule
 file id = positional id Set
 
--- words by their places, of which there has to be one
+-- one or more positional arguments
 abbrev pub files : Text → Rule
 files id = positional id Append
 
@@ -40,11 +40,11 @@ taking_value name action =
 abbrev pub option : Text → Rule
 option name = taking_value name Set
 
--- any number of times
+-- a repeatable option
 abbrev pub repeated : Text → Rule
 repeated name = taking_value name Append
 
--- whose value is a number from one to another
+-- an option with a number, from the least to the most
 abbrev pub ranged : Text → ℤ → ℤ → (required : Bool) → (defaults : List Text) → Rule
 ranged name least most required defaults = record (option name) {
   required = required;
@@ -55,7 +55,7 @@ ranged name least most required defaults = record (option name) {
 abbrev pub limited : Text → NumberLimits → (required : Bool) → (defaults : List Text) → Rule
 limited name limits required defaults = ranged name limits.0 limits.1 required defaults
 
--- what clap is told of an argument
+-- an argument in clap's form
 abbrev pub rule_told : CommandArgument → Rule
 rule_told (argument.Word id help) = file id.now
 rule_told (argument.Words id help) = files id.now
@@ -70,17 +70,17 @@ rule_told (argument.NumberByDefault name value limits default help) =
 abbrev pub command : Text → List Rule → Shape
 command name arguments = record (new_shape name) { rules = arguments }
 
--- what clap is told of a command
+-- a command in clap's form
 abbrev pub shape_told : VerbRow → Shape
 shape_told row = command row.name.now (map rule_told row.arguments.now)
 
 -- ---- the commands
 
--- `--NAME N`, from one number to another
+-- `--NAME N`, from the least to the most
 abbrev pub number : Text → ℕ → ℕ → Rule
 number name least most = ranged name (pos least) (pos most) false []
 
--- which has to be there
+-- `--NAME N`, required
 abbrev pub required_number : Text → ℕ → ℕ → Rule
 required_number name least most = ranged name (pos least) (pos most) true []
 
@@ -91,7 +91,7 @@ manifest = file (codes "MANIFEST")
 abbrev pub input : Rule
 input = file (codes "IN")
 
--- `--releases N`, which has to be there
+-- `--releases N`, required
 abbrev pub releases : Rule
 releases = required_number (codes "releases") 0 64
 
@@ -107,7 +107,7 @@ operator = required_number (codes "operator") 1 65535
 abbrev pub timeout : Rule
 timeout = ranged (codes "timeout") (pos 1) (pos 3600) false (codes "30" ∷ [])
 
--- what is told of an app that asks
+-- the options that describe an app
 abbrev pub told : List Rule
 told = option (codes "version") ∷ repeated (codes "attr") ∷ flag (codes "ping")
     ∷ flag (codes "event") ∷ option (codes "today") ∷ option (codes "at")
@@ -122,7 +122,7 @@ pub record VerbRules : Type 0 where
 abbrev pub verb_rules : Text → Verb → List Rule → VerbRules
 verb_rules name verb rules = record { name = name; verb = verb; rules = rules }
 
--- all of them, in the order of their names
+-- all commands, in the order of their names
 abbrev pub verbs : List VerbRules
 verbs =
     verb_rules (codes "ask") verb.Ask (manifest ∷ file (codes "REQUEST") ∷ option (codes "at")
@@ -154,20 +154,20 @@ verbs =
     ∷ verb_rules (codes "stop") verb.Stop (operator ∷ flag (codes "wait") ∷ [])
     ∷ verb_rules (codes "verify") verb.Verify (input ∷ releases ∷ arrays ∷ []) ∷ []
 
--- ---- by their names
+-- ---- by name
 
 abbrev pub names : List (Text × Verb)
 names = map (λ r. (r.name, r.verb)) verbs
 
--- the names of a table, as it is written
+-- the names of a table of commands
 abbrev pub names_told : List VerbRow → List (Text × Verb)
 names_told rows = map (λ r. (r.name.now, r.verb)) rows
 
--- the command of the first row of a name
+-- the command of the first row with a name
 abbrev pub verb_in : Text → List (Text × Verb) → Option Verb
 verb_in name rows = option_map (λ r. r.1) (find (λ r. bytes_eq name r.0) rows)
 
--- the command of a name
+-- the command with a name
 abbrev pub verb_named : Text → Option Verb
 verb_named name = verb_in name names
 

@@ -1,6 +1,5 @@
--- Which option is ill-written, of words that ask for nothing: one of those that are. Where none is,
--- a value is missing that the command requires. Words of `simulate` that have a misfit ask for
--- nothing.
+-- Which option is malformed in words that request nothing: one of those that are. If none is, a
+-- required value is missing. Words of `simulate` with an option error request nothing.
 use Rattle.std.specs.Prelude.{List, Option, Some, None, codes}
 use Rattle.clap.specs.Words.{Row, Text, first_of}
 use Rattle.command_line.specs.AppOptions.{LacksAttributes, LacksInstalled, LacksPlace}
@@ -17,7 +16,7 @@ use Rattle.command_line.specs.declared.option_misfit.OptionMisfit.TheVariants as
 use Rattle.command_line.specs.declared.verb.Verb.{Verb}
 use Rattle.command_line.specs.declared.verb.Verb.TheVariants as verb
 
--- of `simulate`
+-- for `simulate`
 abbrev pub IsSimulationMisfit : List Row → OptionMisfit → Type 0
 IsSimulationMisfit rows misfit.Manifest = LacksText (codes "MANIFEST") rows
 IsSimulationMisfit rows (misfit.Moment wrong) = LacksMoment rows wrong
@@ -28,11 +27,11 @@ IsSimulationMisfit rows misfit.Overwritten = WritesOver rows
 IsSimulationMisfit rows misfit.Against = WantsAgainst rows
 IsSimulationMisfit rows misfit = ⊥
 
--- the cohort that the words tell
+-- the cohort of the options
 abbrev pub cohort_in : List Row → Option Text
 cohort_in rows = value_in (given rows) (codes "cohort=")
 
--- of `run`; nothing but a value is missing where each option is well written
+-- for `run`; `Missing` only if each option is well-formed
 abbrev pub IsRunMisfit : List Row → OptionMisfit → Type 0
 IsRunMisfit rows misfit.Arrays = LacksArrays rows
 IsRunMisfit rows (misfit.Moment wrong) = LacksMoment rows wrong
@@ -43,7 +42,7 @@ IsRunMisfit rows misfit.Missing =
     (¬ LacksArrays rows) × (¬ LacksTold rows) × (¬ LacksPlace rows (cohort_in rows))
 IsRunMisfit rows misfit = ⊥
 
--- of any other command, which has no other option that can be ill-written
+-- for any other command: only `--arrays` can be malformed
 abbrev pub IsAnyMisfit : List Row → OptionMisfit → Type 0
 IsAnyMisfit rows misfit.Arrays = LacksArrays rows
 IsAnyMisfit rows misfit.Missing = ¬ LacksArrays rows
@@ -57,7 +56,7 @@ IsMisfit (Some verb.Run) rows misfit = IsRunMisfit rows misfit
 IsMisfit (Some verb.Report) rows misfit = IsReportMisfit rows misfit
 IsMisfit verb rows misfit = IsAnyMisfit rows misfit
 
--- without a command it is the command that is missing
+-- without a command, the command is missing
 abbrev pub IsMisfitOf : Option (Text × List Row) → OptionMisfit → Type 0
 IsMisfitOf None misfit.Missing = Unit {0}
 IsMisfitOf None misfit = ⊥

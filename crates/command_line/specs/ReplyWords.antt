@@ -1,4 +1,4 @@
--- What the words of `ask` ask for, and which of them is ill-written.
+-- What the words of `ask` request, and which of its options is malformed.
 use Rattle.std.specs.Prelude.{◌≡◌, List, [], ◌∷◌, codes, IfNone, IfSome}
 use Rattle.std.specs.Prelude.{Option, Some, None, option_and_then, option_map}
 use Rattle.clap.specs.Words.{Row, Text, first_of}
@@ -18,7 +18,7 @@ use Rattle.command_line.specs.declared.request.AskedReply.{AskedReply}
 abbrev pub joined : Option Told → Option (List Told) → Option (List Told)
 joined first rest = option_and_then (λ c. option_map (λ cs. c ∷ cs) rest) first
 
--- all cells that texts tell, each NAME[INDEX]=VALUE
+-- the cells that all texts give, each NAME[INDEX]=VALUE
 abbrev pub cells_told : List Text → Option (List Told)
 cells_told [] = Some []
 cells_told (text ∷ more) = joined (assigned text) (cells_told more)
@@ -31,8 +31,8 @@ LacksCells rows = cells_told (texts_of (codes "cells") rows) ≡ None
 
 -- ---- all words
 
--- the reply to a request, of a manifest's server, at a moment or now, with counters as they are
--- told, or as a server has them
+-- the reply of a manifest's server to a request, at a given moment or the present one, with
+-- counters from `--cells` or from a server
 pub record AsksForReply (rows : List Row) (asked : AskedReply) : Type 0 where
   pub manifest : HasText (codes "MANIFEST") rows asked.manifest.now
   pub request : HasText (codes "REQUEST") rows asked.request.now
@@ -42,7 +42,7 @@ pub record AsksForReply (rows : List Row) (asked : AskedReply) : Type 0 where
   pub no_port : IfNone asked.operator (LacksShort (codes "operator") rows)
   pub why : HasFlag (codes "why") rows asked.why
 
--- ---- what is ill-written
+-- ---- malformed options
 
 abbrev pub IsReplyMisfit : List Row → OptionMisfit → Type 0
 IsReplyMisfit rows misfit.Manifest = LacksText (codes "MANIFEST") rows
@@ -51,13 +51,12 @@ IsReplyMisfit rows (misfit.Moment moment.At) = second_told (first_of (codes "at"
 IsReplyMisfit rows misfit.Cells = LacksCells rows
 IsReplyMisfit rows misfit = ⊥
 
--- texts that tell no cells
+-- texts that give no cells
 abbrev pub IsCellsMisfit : List Text → OptionMisfit → Type 0
 IsCellsMisfit texts misfit.Cells = cells_told texts ≡ None
 IsCellsMisfit texts misfit = ⊥
 
--- why no reply is asked for, and why no cells are told; of memory that was refused no claim is
--- made
+-- why no reply is requested, and why there are no cells; nothing is claimed if an allocation fails
 abbrev pub LacksReply : List Row → Unasked → Type 0
 LacksReply rows (unasked.Misfit misfit) = IsReplyMisfit rows misfit
 LacksReply rows unasked.Memory = Unit {0}

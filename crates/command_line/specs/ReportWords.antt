@@ -1,4 +1,4 @@
--- What the words of `report` ask for.
+-- What the words of `report` request.
 use Rattle.std.specs.Prelude.{◌≡◌, List, Option, Some, None, codes, map, option_copied}
 use Rattle.clap.specs.Words.{Row, Text, first_of}
 use Rattle.moments.specs.Moments.{Names, NamesNone}
@@ -8,7 +8,7 @@ use Rattle.command_line.specs.declared.option_misfit.OptionMisfit.{OptionMisfit}
 use Rattle.command_line.specs.declared.option_misfit.OptionMisfit.TheVariants as misfit
 use Rattle.command_line.specs.declared.request.AskedReport.{AskedReport}
 
--- the moment that an option names, if it stands
+-- the moment that an option names, if given
 abbrev pub IsNamedTime : Option Text → Option NamedTime → Type 0
 IsNamedTime None moment = moment ≡ None
 IsNamedTime (Some text) (Some moment) = Names text moment
@@ -18,7 +18,7 @@ abbrev pub LacksNamedTime : Option Text → Type 0
 LacksNamedTime None = ⊥
 LacksNamedTime (Some text) = NamesNone text
 
--- a report of logs, from one moment on and before another
+-- a report on logs, from one moment on and before another
 pub record AsksToReport (rows : List Row) (asked : AskedReport) : Type 0 where
   pub logs : map (λ log. log.now) asked.logs.items ≡ texts_of (codes "LOG") rows
   pub since : IsNamedTime (first_of (codes "since") rows) asked.since

@@ -1,4 +1,4 @@
--- What the words of a command line ask for, and why they ask for nothing.
+-- What the words of a command line request, and why they request nothing.
 use Rattle.std.specs.Prelude.{◌≡◌, ◌≢◌, List}
 use Rattle.clap.specs.declared.error.Error.{Error}
 use Rattle.clap.specs.declared.error.kind.ErrorKind.{ErrorKind}
@@ -14,38 +14,38 @@ use Rattle.command_line.specs.Grammar.{commands}
 use Rattle.command_line.specs.Misfits.{IsMisfitOf}
 use Rattle.command_line.specs.Words.{IsAsked, IsNothingAsked}
 
--- the words ask for this request
+-- the words make this request
 pub record AskFor (words : List Text) (request : CommandRequest) : Type 0 where
   pub asked : IsAsked (subcommand_of commands words) request
 
--- clap finds that they ask for help
+-- clap finds that they request help
 pub record AskForHelp (words : List Text) : Type 0 where
   pub found : IsAmong DisplayHelp (fault_of commands words)
 
--- clap finds a fault in them, and no call for help
+-- clap finds a fault in them, and no request for help
 pub record AreFaulty (words : List Text) : Type 0 where
   pub kind : ErrorKind
   pub found : IsAmong kind (fault_of commands words)
   pub no_help : kind ≢ DisplayHelp
 
--- they ask for no request at all
+-- they make no request
 pub record AskForNothing (words : List Text) : Type 0 where
   pub nothing : IsNothingAsked (subcommand_of commands words)
 
 -- ---- why there is no request
 
--- the error tells of a fault of the words, and not of memory
+-- the error is a fault of the words, and not out of memory
 pub record TellsFault (words : List Text) (error : Error) : Type 0 where
   pub fault : AreFaulty words
   pub kind_is : fault.kind ≡ kind_of error
   pub no_memory : kind_of error ≢ OutOfMemory
 
--- they ask for nothing, and this option is ill-written
+-- they make no request, and this option is malformed
 pub record TellsMisfit (words : List Text) (misfit : OptionMisfit) : Type 0 where
   pub nothing : AskForNothing words
   pub misfit_is : IsMisfitOf (subcommand_of commands words) misfit
 
--- of memory no claim is made
+-- nothing is claimed if an allocation fails
 abbrev pub IsWordsFault : List Text → WordsFault → Type 0
 IsWordsFault words (Help page) = AskForHelp words × (kind_of page ≡ DisplayHelp)
 IsWordsFault words (Usage error) = TellsFault words error

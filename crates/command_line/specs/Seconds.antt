@@ -1,4 +1,4 @@
--- The moment that the options tell, as a Unix second.
+-- The moment that the options name, as a Unix second.
 use Rattle.std.specs.Prelude.{◌≡◌, ℕ, ◌+◌, ◌*◌, ℤ, pos, List, Option, Some, None}
 use Rattle.std.specs.Prelude.{option_map, codes}
 use Rattle.std.specs.Int.{int_div_euclid}
@@ -14,13 +14,13 @@ use Rattle.command_line.specs.declared.option_misfit.MomentMisfit.TheVariants as
 
 -- ---- texts
 
--- the second in which a time lies that is written by RFC 3339
+-- the second of a time in the form of RFC 3339
 abbrev pub second_of_time : Text → Option ℤ
 second_of_time text =
     option_map (λ nanosecond. int_div_euclid nanosecond (pos 1000000000))
     (result_ok (parse_timestamp text))
 
--- a second by its number, up to the last of the year 9999
+-- a second as a decimal number, up to the last of the year 9999
 abbrev pub second_of_digits : Text → Option ℤ
 second_of_digits text = option_map (λ second. pos second) (decimal_within 0 last_second text)
 
@@ -35,14 +35,14 @@ today_told (Some text) = day_in 2919382 text
 
 -- ---- `run` and `simulate`
 
--- the second of `--at`, beside which no day may stand; without it the first one of the day
+-- the second of `--at`, without `--today`; without `--at`, the first second of the day
 abbrev pub moment_told : (at today : Option Text) → Option ℤ
 moment_told None today =
     option_map (λ day. pos (first_second + 86400 * day)) (today_told today)
 moment_told (Some text) None = second_in text
 moment_told (Some text) (Some day) = None
 
--- which of both options is ill-written
+-- the option that is malformed, or both if both are given
 abbrev pub IsMomentMisfit : (at today : Option Text) → MomentMisfit → Type 0
 IsMomentMisfit None today misfit.Today = today_told today ≡ None
 IsMomentMisfit (Some text) None misfit.At = second_in text ≡ None
@@ -59,7 +59,7 @@ LacksMoment rows misfit =
 
 -- ---- `ask`
 
--- the second of `--at`, and none of its own without it
+-- the second of `--at`, and no second without it
 abbrev pub second_told : (at : Option Text) → Option (Option ℤ)
 second_told None = Some None
 second_told (Some text) = option_map Some (second_in text)

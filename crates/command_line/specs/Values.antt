@@ -1,4 +1,4 @@
--- What the values of arguments and options are.
+-- The values of arguments and options.
 use Rattle.std.specs.Prelude.{◌≡◌, ℕ, ◌≤◌, ◌<◌, ◌^◌, List, [], Option, Some, None}
 use Rattle.std.specs.Prelude.{Bool, true, false}
 use Rattle.std.specs.Prelude.{codes, unwrap_or}
@@ -43,7 +43,7 @@ HasReleases rows n = (n ≤ 64) × HasNumber (codes "releases") rows n
 abbrev pub LacksReleases : List Row → Type 0
 LacksReleases rows = (n : ℕ) → ¬ HasReleases rows n
 
--- the arrays that a text declares, and none without a text
+-- the arrays that a text declares; no arrays without a text
 abbrev pub declared_by : Option Text → Option (List Declaration)
 declared_by None = Some []
 declared_by (Some text) = declarations_in text
@@ -60,14 +60,14 @@ HasShape rows shape = HasReleases rows shape.releases × HasArrays rows shape.ar
 abbrev pub LacksShape : List Row → Type 0
 LacksShape rows = (shape : DeclaredShape) → ¬ HasShape rows shape
 
--- the option was given this number, of 16 bits
+-- the option was given this 16-bit number
 abbrev pub HasShort : Text → List Row → ℕ → Type 0
 HasShort id rows n = (n < 2 ^ 16) × HasNumber id rows n
 
 abbrev pub LacksShort : Text → List Row → Type 0
 LacksShort id rows = (n : ℕ) → ¬ HasShort id rows n
 
--- the flag stands, or doesn't: then it has its default
+-- whether the flag is given; otherwise it has its default
 pub record HasFlag (id : Text) (rows : List Row) (flag : Bool) : Type 0 where
   pub absent : one_of id rows ≡ None → flag ≡ false
   pub unset : one_of id rows ≡ Some (codes "false") → flag ≡ false

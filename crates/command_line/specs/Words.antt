@@ -1,4 +1,4 @@
--- What the words of a command line ask for.
+-- What the words of a command line request.
 use Rattle.std.specs.Prelude.{◌≡◌, ◌⊎◌, List, Option, Some, None, true, false, codes}
 use Rattle.std.specs.Prelude.{IsNone, option_copied}
 use Rattle.clap.specs.Words.{Row, Text, first_of}
@@ -23,18 +23,18 @@ pub record AsksToRun (rows : List Row) (run : AskedRun) : Type 0 where
   pub told : HasTold rows run.app
   pub place : IsPlace rows (option_copied run.app.cohort) run.bucket
 
--- the file of the picture is one of the manifests, by the same words
+-- the picture's file is one of the manifests, by the same text
 abbrev pub WritesOver : List Row → Type 0
 WritesOver rows =
     (file : Text) × HasText (codes "svg") rows file
     × (HasText (codes "MANIFEST") rows file ⊎ HasText (codes "against") rows file)
 
--- what is lost shall make it fail, and nothing is there to compare with
+-- `--fail-on-lost` without `--against`
 abbrev pub WantsAgainst : List Row → Type 0
 WantsAgainst rows =
     HasText (codes "fail-on-lost") rows (codes "true") × IsNone (first_of (codes "against") rows)
 
--- a simulation of a manifest's ruleset, and of one that serves now
+-- a simulation of a manifest's ruleset, and perhaps of the one that is served at present
 pub record AsksToSimulate (rows : List Row) (asked : AskedSimulation) : Type 0 where
   pub file : HasText (codes "MANIFEST") rows asked.manifest.now
   pub against : option_copied asked.against ≡ first_of (codes "against") rows
@@ -46,7 +46,7 @@ pub record AsksToSimulate (rows : List Row) (asked : AskedSimulation) : Type 0 w
   pub json : HasFlag (codes "json") rows asked.json
   pub compared : ¬ WantsAgainst rows
 
--- the command, with these arguments, asks for this
+-- the command with these arguments makes this request
 abbrev pub VerbAsks : Option Verb → List Row → CommandRequest → Type 0
 VerbAsks (Some verb.Ask) rows (request.DryRun asked) = AsksForReply rows asked
 VerbAsks (Some verb.Assemble) rows (request.Assemble text out) =
@@ -83,7 +83,7 @@ VerbAsks (Some verb.Stop) rows (request.StopAndWait port) =
     HasShort (codes "operator") rows port × HasFlag (codes "wait") rows true
 VerbAsks verb rows request = ⊥
 
--- they ask for no request at all
+-- the command with these arguments makes no request
 abbrev pub VerbAsksNothing : Option Verb → List Row → Type 0
 VerbAsksNothing verb rows = (request : CommandRequest) → ¬ VerbAsks verb rows request
 

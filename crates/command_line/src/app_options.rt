@@ -1,5 +1,4 @@
-//! What the options say of the app that asks: its attributes, its bucket, and the day of its
-//! installation.
+//! The app that the options describe: its attributes, its bucket, and the day of its installation.
 
 ghost use Rattle.std.specs.Prelude.{◌≡◌, ◌≤◌, Err, IfNone, IfOk, IfSome, None, OnErr, Some};
 ghost use Rattle.std.specs.Prelude.{codes, length, map};
@@ -19,10 +18,10 @@ use crate::told::ToldApp;
 use attrs::{Bucket, Context, Moment, cohort_bucket};
 use clap::ArgMatches;
 
-/// The last day that an app can be installed on: the next number stands for an unknown one.
+/// The last day of an installation: the next number means that the day is unknown.
 const LAST_INSTALLED: u32 = Context::UNKNOWN_DAY - 1;
 
-/// The app of which the options tell.
+/// The app that the options describe.
 pub fn told_of<'a>(found: &ArgMatches<'a>) -> Result<ToldApp<'a>, NoRequest>
     ensures given { IfOk result (specs.HasTold (rows_of (found_of found.now))) }
     ensures lacking { OnErr result (specs.LacksTold (rows_of (found_of found.now))) }
@@ -37,8 +36,8 @@ pub fn told_of<'a>(found: &ArgMatches<'a>) -> Result<ToldApp<'a>, NoRequest>
     }
 }
 
-/// The app at this moment, of this day of its installation, where each text gives one of the
-/// attributes, and none is given twice.
+/// The app at this moment, installed on this day. `None` unless each text gives one of the
+/// attributes, and no two give the same.
 pub fn told_at<'a>(
     found: &ArgMatches<'a>,
     moment: &Moment,
@@ -56,7 +55,7 @@ pub fn told_at<'a>(
     if given == counted { Some(told) } else { None }
 }
 
-// The app of this moment and day, with the first text of each attribute.
+// The app with this moment and day, and the first text of each attribute.
 fn described<'a>(found: &ArgMatches<'a>, moment: &Moment, installed: Option<u32>) -> ToldApp<'a>
     ensures attributes { specs.HasAttributes (rows_of (found_of found.now)) result }
     ensures ping { HasFlag (codes "ping") (rows_of (found_of found.now)) result.ping }
@@ -81,7 +80,7 @@ fn described<'a>(found: &ArgMatches<'a>, moment: &Moment, installed: Option<u32>
 
 // ---- attributes
 
-// How many of the attributes the words give.
+// How many attributes the app has.
 fn count_attributes(told: &ToldApp<'_>) -> usize
     ensures { result ≡ specs.count_attributes told.now }
 {
@@ -100,7 +99,7 @@ fn count(text: Option<&str>) -> usize
     if text.is_some() { 1 } else { 0 }
 }
 
-// How many texts NAME=TEXT there are.
+// The number of texts NAME=TEXT.
 fn count_given(found: &ArgMatches<'_>) -> usize
     ensures { result ≡ length (specs.given (rows_of (found_of found.now))) }
 {
@@ -110,7 +109,7 @@ fn count_given(found: &ArgMatches<'_>) -> usize
     }
 }
 
-// The text behind the first NAME= of this name.
+// The rest of the first text that begins with `name`, which ends with `=`.
 fn attribute_of<'a>(found: &ArgMatches<'a>, name: &str) -> Option<&'a str>
     ensures { option_copied result
         ≡ specs.value_in (specs.given (rows_of (found_of found.now))) name.now }
@@ -141,7 +140,7 @@ fn value_of<'a>(text: &'a str, name: &str) -> Option<&'a str>
 
 // ---- the day of the installation
 
-/// The day of the installation, where the words tell one.
+/// The day of the installation, if an option gives it.
 pub fn installed_of(found: &ArgMatches<'_>) -> Result<Option<u32>, NoRequest>
     ensures given { IfOk result
         (specs.IsInstallDay (first_of (codes "installed") (rows_of (found_of found.now)))) }
@@ -174,8 +173,8 @@ fn day_told(most: u32, text: &str) -> Result<u32, NoRequest>
 
 // ---- bucket
 
-/// The bucket of an option, or 0, of an app whose cohort names none. Of one whose cohort does,
-/// none, and the option may not stand beside it.
+/// The bucket of `--bucket`, or 0 without it, if the cohort names none. If the cohort names one,
+/// `None`, and giving `--bucket` is an error.
 pub fn place_of(found: &ArgMatches<'_>, cohort: Option<&str>) -> Result<Option<Bucket>, NoRequest>
     ensures given { IfOk result
         (specs.IsPlace (rows_of (found_of found.now)) (option_copied cohort.entry)) }

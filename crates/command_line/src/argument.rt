@@ -1,4 +1,4 @@
-//! An argument of a command, or an option, and what clap is told of it.
+//! An argument or option of a command, and its form for clap.
 
 ghost use Rattle.std.specs.Prelude.{◌≡◌, ◌∷◌, [], false};
 ghost use Rattle.clap.specs.Words.{rule_of};
@@ -8,13 +8,13 @@ use clap::builder::ValueParser;
 use clap::{Arg, ArgAction};
 use std::alloc::Global;
 
-/// An argument or option: its name, of an option with a value what the value is called, of a
-/// number its limits, and last what `--help` says of it.
+/// A positional argument or an option. The fields are its name; the name of its value, if an option
+/// takes one; a number's limits, and its default; and its text in `--help`.
 #[derive(Clone, Copy)]
 pub enum CommandArgument {
-    /// A word by its place, which has to be there.
+    /// A required positional argument.
     Word(&'static str, &'static str),
-    /// Words by their places, of which there has to be one.
+    /// One or more positional arguments.
     Words(&'static str, &'static str),
     /// `--NAME`.
     Flag(&'static str, &'static str),
@@ -22,19 +22,19 @@ pub enum CommandArgument {
     Text(&'static str, &'static str, &'static str),
     /// `--NAME VALUE`, any number of times.
     Texts(&'static str, &'static str, &'static str),
-    /// `--NAME N`, which has to be there.
+    /// `--NAME N`, required.
     Number(&'static str, &'static str, NumberLimits, &'static str),
-    /// `--NAME N`, which may be left out.
+    /// `--NAME N`, optional.
     OptionalNumber(&'static str, &'static str, NumberLimits, &'static str),
-    /// `--NAME N`, and its value where it is left out.
+    /// `--NAME N`, with a default.
     NumberByDefault(&'static str, &'static str, NumberLimits, &'static str, &'static str),
 }
 
-/// The least value of a number, and its greatest.
+/// The least and the greatest value of a number.
 #[derive(Clone, Copy)]
 pub struct NumberLimits(pub i64, pub i64);
 
-/// What clap is told of an argument.
+/// The argument in clap's form.
 pub fn arg_of<'a>(alloc: Global, argument: &CommandArgument) -> Arg<'a>
     ensures rule { rule_of result ≡ grammar.rule_told argument.now }
     ensures local { result.global ≡ false }

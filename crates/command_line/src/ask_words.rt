@@ -1,4 +1,4 @@
-//! What `ask` asks for.
+//! The request of the command `ask`.
 
 ghost use Rattle.std.specs.Prelude.{◌≡◌, IfErr, IfNone, IfOk, IfSome, Err, Some, codes, map};
 ghost use Rattle.clap.specs.Words.{found_of, rows_of};
@@ -15,7 +15,7 @@ use clap::ArgMatches;
 use std::alloc::Global;
 use told_cells::ToldCell;
 
-/// What `ask` asks for.
+/// The request of `ask`.
 pub fn reply_asked<'a>(
     alloc: Global,
     found: &ArgMatches<'a>,
@@ -31,7 +31,7 @@ pub fn reply_asked<'a>(
     }
 }
 
-/// The reply that the words ask for, or one of their options that are ill-written.
+/// The reply that the words request, or an option that is malformed.
 pub fn reply_of<'a>(alloc: Global, found: &ArgMatches<'a>) -> Result<AskedReply<'a>, Unasked>
     ensures asked { IfOk result (specs.AsksForReply (rows_of (found_of found.now))) }
     ensures misfit { IfErr result (specs.LacksReply (rows_of (found_of found.now))) }
@@ -68,7 +68,7 @@ fn cells_of<'a>(alloc: Global, found: &ArgMatches<'a>) -> Result<Vec<ToldCell<'a
     }
 }
 
-// The cells that the texts tell.
+// The cells that the texts give.
 fn cells_told<'a>(alloc: Global, given: &[&'a str]) -> Result<Vec<ToldCell<'a>>, Unasked>
     ensures cells { IfOk result (λ v.
         specs.cells_told (map (λ text. text.now) given.now) ≡ Some v.items) }

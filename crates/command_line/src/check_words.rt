@@ -1,4 +1,4 @@
-//! What `check` asks for.
+//! The request of the command `check`.
 
 ghost use Rattle.std.specs.Prelude.{◌≡◌, IfOk, Err, Some, map};
 ghost use Rattle.std.specs.List.{list_all};
@@ -15,7 +15,7 @@ use clap::ArgMatches;
 use std::alloc::Global;
 use warnings::is_warning_name;
 
-/// What `check` asks for.
+/// The request of `check`.
 pub fn check_asked<'a>(
     alloc: Global,
     found: &ArgMatches<'a>,
@@ -31,7 +31,7 @@ pub fn check_asked<'a>(
     }
 }
 
-/// The check that the words ask for, or that `--allow` has a text that is no warning's name.
+/// The check that the words request. An error if a text of `--allow` isn't a warning's name.
 pub fn check_of<'a>(alloc: Global, found: &ArgMatches<'a>) -> Result<AskedCheck<'a>, Unasked>
     ensures asked { IfOk result (AsksToCheck (rows_of (found_of found.now))) }
     ensures misfit { (misfit : OptionMisfit) → result ≡ Err (Unasked.Misfit misfit)
@@ -54,7 +54,7 @@ pub fn check_of<'a>(alloc: Global, found: &ArgMatches<'a>) -> Result<AskedCheck<
     })
 }
 
-// Whether each is a warning's name.
+// Whether each text is a warning's name.
 fn are_names(texts: &[&str]) -> bool
     ensures { result ≡ list_all is_warning_name (map (λ name. name.now) texts.now) }
 {

@@ -8,7 +8,7 @@ use jiff_core::civil::Date;
 /// The day 2007-01-01 by `Date::days_since_min`.
 const FIRST_DAY: u32 = 4385101;
 
-/// The day of a date, where the calendar has it and it isn't before 2007.
+/// The day of a date, if the calendar has it and it isn't before 2007.
 pub(crate) fn day_of_date(year: u16, month: u8, day: u8) -> Option<u32>
     requires year { year ≤ 9999 }
     requires first_month { 1 ≤ month }

@@ -6,8 +6,8 @@ ghost use Rattle.command_line.specs.Day as specs;
 use crate::date::day_of_date;
 use lexing::decimal_within;
 
-/// The day of a text, counted from 2007-01-01 and at most `most`: its number in decimal digits, or
-/// its date, as `2026-12-01`, of the years 2007 to 9999.
+/// The day that a text names, counted from 2007-01-01, if at most `most`. The text is a decimal
+/// number, or a date of the years 2007 to 9999, such as `2026-12-01`.
 pub(crate) fn day_in(most: u32, text: &str) -> Option<u32>
     ensures day { result ≡ specs.day_in most text.now }
     ensures limit { IfSome result (λ day. day ≤ most) }
@@ -27,7 +27,7 @@ fn numbered(most: u32, text: &str) -> Option<u32>
     Some(day as u32)
 }
 
-// The day of a date, whose year stands before the first hyphen.
+// The day of a date with this year before the first hyphen and this rest after it.
 fn dated(year: &str, rest: &str) -> Option<u32>
     ensures { result ≡ specs.dated year.now rest.now }
 {

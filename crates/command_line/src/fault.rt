@@ -1,22 +1,21 @@
-//! Why the words of a command line are no request.
+//! Why the words of a command line make no request.
 
 use crate::option_misfit::OptionMisfit;
 use clap::Error as ClapError;
 use std::error::Error;
 use std::fmt;
 
-/// Why there is no request. What is shown of the first three is for the caller, with its line
-/// feeds.
+/// Why there is no request. `Display` writes the first three with their line feeds.
 #[derive(Debug, Drop)]
 pub enum WordsFault {
-    /// The words ask for help: its page.
+    /// The words request help: its page.
     Help(ClapError),
-    /// The grammar doesn't take the words: what is wrong, and the usage.
+    /// A usage error: the words don't fit the grammar. It has the cause and the usage.
     Usage(ClapError),
-    /// The grammar takes them, and they ask for nothing: this option isn't well written, or a value
-    /// is missing.
+    /// The words fit the grammar, but make no request: this option is malformed, or a value is
+    /// missing.
     Nothing(OptionMisfit),
-    /// Memory was refused.
+    /// Out of memory.
     Memory,
 }
 

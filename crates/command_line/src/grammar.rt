@@ -12,7 +12,7 @@ use crate::verb_rows::{VerbRow, verb_rows};
 use clap::{Arg, Command};
 use std::alloc::{AllocError, Global};
 
-// What clap is told of these arguments, in their order. None is for other commands, too.
+// The arguments in clap's form, in their order. None is global.
 fn args_of<'a>(alloc: Global, arguments: &[CommandArgument]) -> Result<Vec<Arg<'a>>, AllocError>
     ensures rules { IfOk result (λ args.
         map rule_of args.items ≡ map grammar.rule_told arguments.now) }
@@ -25,7 +25,7 @@ fn args_of<'a>(alloc: Global, arguments: &[CommandArgument]) -> Result<Vec<Arg<'
     Ok(args)
 }
 
-// A command of these arguments, each of which it has to itself.
+// A command with these arguments, none of which is global.
 fn command_with<'a>(
     alloc: Global,
     name: &'a str,
@@ -40,7 +40,6 @@ fn command_with<'a>(
     Command::new(alloc, name).about(about).args(args)
 }
 
-// The command of a row.
 fn command_of<'a>(alloc: Global, row: &VerbRow) -> Result<Command<'a>, AllocError>
     ensures shape { IfOk result (λ c. shape_of c ≡ grammar.shape_told row.now) }
     ensures local { IfOk result (λ c. (fields_of c).has_globals ≡ false) }
@@ -50,7 +49,7 @@ fn command_of<'a>(alloc: Global, row: &VerbRow) -> Result<Command<'a>, AllocErro
     Ok(with_end(command, behind(row.verb)))
 }
 
-// The command, and behind its help this text.
+// The command, with this text after its help.
 fn with_end<'a>(command: Command<'a>, end: Option<&'a str>) -> Command<'a>
     ensures shape { shape_of result ≡ shape_of command.entry }
     ensures local { (fields_of result).has_globals ≡ (fields_of command.entry).has_globals }
@@ -75,7 +74,7 @@ fn commands<'a>(alloc: Global, rows: &[VerbRow]) -> Result<Vec<Command<'a>>, All
     Ok(commands)
 }
 
-// What `--help` ends with.
+// The end of `rollout --help`.
 const PROGRAMS: &str = "\
 Programs are of RFC 9669's conformance groups base32, base64, divmul32, divmul64, atomic32 and
 atomic64.";

@@ -1,13 +1,12 @@
-//! The command line: what its words ask for.
+//! The command line, and the request that its words make.
 //!
 //! See docs/PROGRAM.md, "Status".
 #![tactic(auto)]
 
-// How words are read. `grammar` says to `clap` which commands there are, with the arguments and
-// options of each, and `clap` takes the words by it, or finds their first fault. What it gives are
-// texts by their names; `words` makes a request of them, command by command, and reads the texts of
-// `--arrays`, `--attr`, `--today`, `--installed`, `--at` and `--cells`, which the grammar leaves as
-// they are.
+// How words are read. `grammar` describes the commands to `clap`, with the arguments and options of
+// each. By it `clap` parses the words, or finds their first fault. It returns texts by name.
+// `words` makes a request of them, command by command. It reads the texts of `--arrays`, `--attr`,
+// `--today`, `--installed`, `--at` and `--cells`, which the grammar doesn't check.
 
 mod app_options;
 mod argument;

@@ -1,4 +1,4 @@
-//! Which option of a command is ill-written, where the grammar takes the words; of several one.
+//! Which option of a command is malformed, in words that fit the grammar; one if several are.
 
 ghost use Rattle.std.specs.Prelude.{IfSome, Some};
 ghost use Rattle.clap.specs.Words.{subcommand_rows_of, found_of, rows_of};
@@ -24,7 +24,7 @@ use std::alloc::Global;
 use std::error::Error;
 use std::fmt;
 
-/// The option that makes the words ask for nothing. What is shown of it is for the caller.
+/// The malformed option, for which the words make no request. The caller prints its text.
 #[derive(Clone, Copy, Debug, PartialEq, Eq)]
 pub enum OptionMisfit {
     Arrays,
@@ -45,7 +45,7 @@ pub enum OptionMisfit {
 }
 
 impl OptionMisfit {
-    // What is wanted of the option, as it is printed.
+    // What the option requires, as it is printed.
     fn text(self) -> &'static str {
         match self {
             OptionMisfit::Arrays => {
@@ -95,7 +95,7 @@ impl fmt::Display for OptionMisfit {
 
 impl Error for OptionMisfit {}
 
-/// What is wrong with the options that tell a moment.
+/// What is wrong with the options for a moment.
 #[derive(Clone, Copy, Debug, PartialEq, Eq)]
 pub enum MomentMisfit {
     Today,
@@ -115,17 +115,17 @@ fn moment_text(misfit: MomentMisfit) -> &'static str {
     }
 }
 
-/// Why words of which options may be ill-written ask for nothing.
+/// Why words whose options may be malformed make no request.
 #[derive(Clone, Copy)]
 pub enum Unasked {
-    /// This option is ill-written.
+    /// This option is malformed.
     Misfit(OptionMisfit),
-    /// Memory was refused.
+    /// Out of memory.
     Memory,
 }
 
-/// An option of the command that is ill-written, of words that ask for nothing: one of those that
-/// are, and `Missing` where none is. None where memory was refused.
+/// A malformed option of the command, if the words make no request; `Missing` if none is malformed.
+/// `None` if an allocation fails.
 pub fn misfit_of(alloc: Global, matches: &ArgMatches<'_>) -> Option<OptionMisfit>
     requires { IsNothingAsked (subcommand_rows_of matches.now) }
     ensures { IfSome result (IsMisfitOf (subcommand_rows_of matches.now)) }
@@ -203,7 +203,7 @@ fn run_misfit(alloc: Global, found: &ArgMatches<'_>) -> Option<OptionMisfit>
     }
 }
 
-// Of a run whose arrays are well written.
+// For a run with well-formed arrays.
 fn told_misfit(found: &ArgMatches<'_>) -> Option<OptionMisfit>
     requires { ¬ LacksArrays (rows_of (found_of found.now)) }
     ensures { IfSome result (IsRunMisfit (rows_of (found_of found.now))) }

@@ -1,4 +1,4 @@
-//! What the values of arguments and options are.
+//! The values of arguments and options.
 
 ghost use Rattle.std.specs.Prelude.{◌≡◌, ◌↔◌, ℕ, IfNone, IfOk, IfSome, Err};
 ghost use Rattle.std.specs.Prelude.{IsTrue, map, option_copied};
@@ -16,7 +16,7 @@ use clap::ArgMatches;
 use declarations::{ArrayDeclaration, SpecFault, read_spec};
 use std::alloc::{AllocError, Global};
 
-/// How the options say that a server serves.
+/// How a server is to serve, by the options.
 pub fn plan_of(found: &ArgMatches<'_>) -> Result<Plan, NoRequest>
     ensures given { IfOk result (HasPlan (rows_of (found_of found.now))) }
     ensures lacking { result ≡ Err NoRequest.Wrong → LacksPlan (rows_of (found_of found.now)) }
@@ -37,7 +37,7 @@ pub fn plan_of(found: &ArgMatches<'_>) -> Result<Plan, NoRequest>
     })
 }
 
-/// The number of an option, of 16 bits.
+/// The 16-bit number of an option.
 pub fn number_of(found: &ArgMatches<'_>, id: &str) -> Result<u16, NoRequest>
     ensures given { IfOk result (HasShort id.now (rows_of (found_of found.now))) }
     ensures only { IfOk result
@@ -63,7 +63,7 @@ pub fn text_of<'a>(found: &ArgMatches<'a>, id: &str) -> Result<&'a str, NoReques
     }
 }
 
-/// The text of an option, if it stands.
+/// The text of an option, if given.
 pub fn optional_text<'a>(found: &ArgMatches<'a>, id: &str) -> Option<&'a str>
     ensures { option_copied result ≡ first_of id.now (rows_of (found_of found.now)) }
 {
@@ -95,7 +95,7 @@ pub fn is_text(found: &ArgMatches<'_>, id: &str, text: &str) -> bool
     }
 }
 
-/// Whether a flag stands.
+/// Whether a flag is given.
 pub fn flag_of(found: &ArgMatches<'_>, id: &str) -> bool
     ensures { HasFlag id.now (rows_of (found_of found.now)) result }
 {
@@ -124,7 +124,7 @@ fn releases_of(found: &ArgMatches<'_>) -> Option<u8>
     }
 }
 
-/// The arrays that an option declares, none without it.
+/// The arrays that an option declares; no arrays without it.
 pub fn arrays_of(alloc: Global, found: &ArgMatches<'_>) -> Result<Vec<ArrayDeclaration>, NoRequest>
     ensures given { IfOk result (λ v. HasArrays (rows_of (found_of found.now)) v.items) }
     ensures lacking { result ≡ Err NoRequest.Wrong → LacksArrays (rows_of (found_of found.now)) }

@@ -1,4 +1,4 @@
-//! What the commands on programs ask for.
+//! The requests of the commands on programs.
 
 ghost use Rattle.std.specs.Prelude.{◌≡◌, List, codes, IfOk, Err, Some};
 ghost use Rattle.clap.specs.Words.{Row, found_of, rows_of};
@@ -12,7 +12,7 @@ use crate::verb::Verb;
 use clap::ArgMatches;
 use std::alloc::Global;
 
-/// What `asm` asks for.
+/// The request of `asm`.
 pub fn assemble_asked<'a>(found: &ArgMatches<'a>) -> Result<CommandRequest<'a>, NoRequest>
     ensures asked { IfOk result (VerbAsks (Some Verb.Assemble) (rows_of (found_of found.now))) }
     ensures nothing { result ≡ Err NoRequest.Wrong
@@ -23,7 +23,7 @@ pub fn assemble_asked<'a>(found: &ArgMatches<'a>) -> Result<CommandRequest<'a>, 
     Ok(CommandRequest::Assemble { text, out })
 }
 
-/// What `compile` asks for.
+/// The request of `compile`.
 pub fn compile_asked<'a>(
     alloc: Global,
     found: &ArgMatches<'a>,
@@ -38,7 +38,7 @@ pub fn compile_asked<'a>(
     Ok(CommandRequest::Compile { text, shape, out })
 }
 
-/// What `explain` asks for.
+/// The request of `explain`.
 pub fn explain_asked<'a>(
     alloc: Global,
     found: &ArgMatches<'a>,
@@ -52,7 +52,7 @@ pub fn explain_asked<'a>(
     Ok(CommandRequest::Explain { path, shape })
 }
 
-/// What `list` asks for.
+/// The request of `list`.
 pub fn list_asked<'a>(found: &ArgMatches<'a>) -> Result<CommandRequest<'a>, NoRequest>
     ensures asked { IfOk result (VerbAsks (Some Verb.List) (rows_of (found_of found.now))) }
     ensures nothing { result ≡ Err NoRequest.Wrong
@@ -62,7 +62,7 @@ pub fn list_asked<'a>(found: &ArgMatches<'a>) -> Result<CommandRequest<'a>, NoRe
     Ok(CommandRequest::List { path })
 }
 
-/// What `order` asks for.
+/// The request of `order`.
 pub fn order_asked<'a>(found: &ArgMatches<'a>) -> Result<CommandRequest<'a>, NoRequest>
     ensures asked { IfOk result (VerbAsks (Some Verb.Order) (rows_of (found_of found.now))) }
     ensures nothing { result ≡ Err NoRequest.Wrong
@@ -73,7 +73,7 @@ pub fn order_asked<'a>(found: &ArgMatches<'a>) -> Result<CommandRequest<'a>, NoR
     Ok(CommandRequest::Order { path, out })
 }
 
-/// What `verify` asks for.
+/// The request of `verify`.
 pub fn verify_asked<'a>(
     alloc: Global,
     found: &ArgMatches<'a>,
@@ -87,7 +87,7 @@ pub fn verify_asked<'a>(
     Ok(CommandRequest::Verify { path, shape })
 }
 
-/// What `run` asks for.
+/// The request of `run`.
 pub fn run_asked<'a>(alloc: Global, found: &ArgMatches<'a>) -> Result<CommandRequest<'a>, NoRequest>
     ensures asked { IfOk result (VerbAsks (Some Verb.Run) (rows_of (found_of found.now))) }
     ensures nothing { result ≡ Err NoRequest.Wrong
@@ -107,7 +107,7 @@ pub fn run_asked<'a>(alloc: Global, found: &ArgMatches<'a>) -> Result<CommandReq
     Ok(run_or_trace(trace, run))
 }
 
-// A run, with its trace or without it.
+// A run, with or without its trace.
 fn run_or_trace<'a>(trace: bool, run: AskedRun<'a>) -> CommandRequest<'a>
     ensures { (rows : List Row) → AsksToRun rows run.entry → HasFlag (codes "trace") rows trace
         → VerbAsks (Some Verb.Run) rows result }

@@ -1,4 +1,4 @@
-//! What `report` asks for.
+//! The request of the command `report`.
 
 ghost use Rattle.std.specs.Prelude.{◌≡◌, IfOk, Err, OnErr, Some};
 ghost use Rattle.std.specs.Option.{option_copied};
@@ -15,7 +15,7 @@ use clap::ArgMatches;
 use moments::{NamedTime, moment_in};
 use std::alloc::Global;
 
-/// What `report` asks for.
+/// The request of `report`.
 pub fn report_asked<'a>(
     alloc: Global,
     found: &ArgMatches<'a>,
@@ -31,7 +31,7 @@ pub fn report_asked<'a>(
     }
 }
 
-/// The report that the words ask for, or one of their options that are ill-written.
+/// The report that the words request, or an option that is malformed.
 pub fn report_of<'a>(alloc: Global, found: &ArgMatches<'a>) -> Result<AskedReport<'a>, Unasked>
     ensures asked { IfOk result (AsksToReport (rows_of (found_of found.now))) }
     ensures misfit { (misfit : OptionMisfit) → result ≡ Err (Unasked.Misfit misfit)
@@ -55,7 +55,7 @@ pub fn report_of<'a>(alloc: Global, found: &ArgMatches<'a>) -> Result<AskedRepor
     })
 }
 
-// The moment of an option, if it stands.
+// The moment of an option, if given.
 fn moment_of(found: &ArgMatches<'_>, id: &str) -> Result<Option<NamedTime>, NoRequest>
     ensures given { IfOk result (IsNamedTime (first_of id.now (rows_of (found_of found.now)))) }
     ensures lacking { OnErr result

@@ -1,4 +1,4 @@
-//! What a command line asks for.
+//! The request of a command line.
 
 ghost use Rattle.std.specs.Prelude.{◌≤◌};
 
@@ -9,8 +9,8 @@ use moments::NamedTime;
 use operator_request::OperatorRequest;
 use told_cells::ToldCell;
 
-/// The shape that a program is judged under, as the words declare it: how many releases the app
-/// has, and the arrays that the program may use.
+/// The shape under which a program is verified, as the words declare it: the number of the app's
+/// releases, and the arrays that the program may use.
 #[derive(Drop)]
 pub struct DeclaredShape {
     pub releases: u8,
@@ -18,8 +18,7 @@ pub struct DeclaredShape {
     pub ghost releases_in_range: { releases ≤ 64 },
 }
 
-/// A run that is asked for: of a file's program, for one app, in this bucket or the one that its
-/// cohort names.
+/// A requested run of a file's program for one app. `None` means the bucket that its cohort names.
 #[derive(Drop)]
 pub struct AskedRun<'a> {
     pub path: &'a str,
@@ -28,48 +27,48 @@ pub struct AskedRun<'a> {
     pub bucket: Option<Bucket>,
 }
 
-/// A check that is asked for: of these manifests. If it is strict, a warning counts whose name
-/// isn't among those that are allowed.
+/// A requested check of manifests. With `strict`, each warning counts unless its name is among the
+/// allowed ones.
 #[derive(Drop)]
 pub struct AskedCheck<'a> {
     pub manifests: Vec<&'a str>,
     pub strict: bool,
     pub allowed: Vec<&'a str>,
-    /// Whether it is told as JSON.
+    /// Whether the output is JSON.
     pub json: bool,
 }
 
-/// A simulation that is asked for: of a manifest's ruleset, against that of one that serves now,
-/// for clients of which this is told. A picture is written into the file that is named.
+/// A requested simulation of a manifest's ruleset, compared with `against`, the one served at
+/// present. `app` describes the clients; the picture is written into `picture`.
 #[derive(Clone, Copy)]
 pub struct AskedSimulation<'a> {
     pub manifest: &'a str,
     pub against: Option<&'a str>,
     pub picture: Option<&'a str>,
     pub app: ToldApp<'a>,
-    /// The one app of which it tells; without it all.
+    /// The only app in the output; all apps without it.
     pub appid: Option<&'a str>,
-    /// Whether a release that a bucket loses makes it fail.
+    /// Whether the command fails if a bucket loses a release.
     pub fail_on_lost: bool,
-    /// Whether it is told as JSON.
+    /// Whether the output is JSON.
     pub json: bool,
 }
 
-/// A report that is asked for: of these logs, of which `-` is standard input, from one moment on
-/// and before another.
+/// A requested report on logs, from one moment on and before another. The log `-` is standard
+/// input.
 #[derive(Drop)]
 pub struct AskedReport<'a> {
     pub logs: Vec<&'a str>,
     pub since: Option<NamedTime>,
     pub until: Option<NamedTime>,
-    /// Whether it is told as Prometheus reads it.
+    /// Whether the output is in the format of Prometheus.
     pub prometheus: bool,
-    /// The file that gets a picture of the logs' course.
+    /// The file for a chart of the logs over time.
     pub picture: Option<&'a str>,
 }
 
-/// A reply that is asked for beforehand: of a manifest's server to a request's body, at a moment or
-/// now, with counters of which these are told, or a server's.
+/// A requested dry run: the reply of a manifest's server to a request's body, at a given moment or
+/// the present one. The counters are `cells`, or those of the server at `operator`.
 #[derive(Drop)]
 pub struct AskedReply<'a> {
     pub manifest: &'a str,
@@ -77,14 +76,14 @@ pub struct AskedReply<'a> {
     pub at: Option<Moment>,
     pub cells: Vec<ToldCell<'a>>,
     pub operator: Option<u16>,
-    /// Whether in place of the reply it is told why each app gets what it gets.
+    /// Whether the output is why each app gets its offer, in place of the reply.
     pub why: bool,
 }
 
-/// One request of the command line.
+/// The request of a command line.
 #[derive(Drop)]
 pub enum CommandRequest<'a> {
-    /// Tell the reply to a request.
+    /// Print the reply to a request.
     DryRun(AskedReply<'a>),
     /// Assemble the text of one file into another.
     Assemble {
@@ -97,7 +96,7 @@ pub enum CommandRequest<'a> {
         shape: DeclaredShape,
         out: &'a str,
     },
-    /// Tell where and why manifests are refused, or what they declare.
+    /// Print where and why manifests are refused, or what they declare.
     Check(AskedCheck<'a>),
     /// List a file's program, with what is known before each instruction.
     Explain {
@@ -118,26 +117,26 @@ pub enum CommandRequest<'a> {
         path: &'a str,
         shape: DeclaredShape,
     },
-    /// Play a script on a world whose first ruleset is a manifest's.
+    /// Play a script on a world that begins with a manifest's ruleset.
     Replay {
         manifest: &'a str,
         script: &'a str,
     },
-    /// Tell what the clients in all buckets get by a manifest.
+    /// Print what the clients in all buckets get from a manifest.
     Simulate(AskedSimulation<'a>),
-    /// Tell what the lines of logs come to.
+    /// Print the totals of logs.
     Report(AskedReport<'a>),
     /// Serve the ruleset of a manifest.
     Serve {
         manifest: &'a str,
         plan: Plan,
     },
-    /// Ask a server at its operator's port.
+    /// Send a request to a server's operator port.
     Ask {
         request: OperatorRequest<'a>,
         port: u16,
     },
-    /// Ask a server to end, and wait until it has ended.
+    /// Stop a server, and wait until it has ended.
     StopAndWait {
         port: u16,
     },
@@ -147,8 +146,8 @@ pub enum CommandRequest<'a> {
     Trace(AskedRun<'a>),
 }
 
-/// How a server serves: its two ports, its workers, the seconds of a connection, and whether each
-/// connection is logged.
+/// How a server serves: its two ports, the number of its workers, the time limit of a connection in
+/// seconds, and whether it logs each connection.
 #[derive(Clone, Copy)]
 pub struct Plan {
     pub port: u16,
@@ -160,11 +159,11 @@ pub struct Plan {
     pub ghost few: { workers ≤ 64 },
 }
 
-/// Why the words ask for nothing.
+/// Why the words make no request.
 #[derive(Clone, Copy)]
 pub enum NoRequest {
-    /// They name no command, or lack something that it wants.
+    /// They name no command, or an argument is missing or malformed.
     Wrong,
-    /// Memory was refused.
+    /// Out of memory.
     Memory,
 }

@@ -1,4 +1,4 @@
-//! The moment that the options tell, as a Unix second.
+//! The moment that the options name, as a Unix second.
 
 ghost use Rattle.std.specs.Prelude.{◌≡◌, ◌≤◌, IfErr, IfOk, IfSome, Some, codes, option_copied};
 ghost use Rattle.clap.specs.Words.{first_of, found_of, rows_of};
@@ -17,7 +17,7 @@ const LAST_SECOND: u64 = 253402300799;
 
 // ---- texts
 
-// The second of a text: its number in decimal digits, or a time by RFC 3339, as
+// The second that a text names: a decimal number, or a time in the form of RFC 3339, such as
 // `2026-12-01T03:00:00Z`.
 fn second_in(text: &str) -> Option<Moment>
     ensures { result ≡ specs.second_in text.now }
@@ -50,7 +50,7 @@ fn today_told(text: Option<&str>) -> Option<u32>
 // ---- `run` and `simulate`
 
 /// The moment of an app: that of `--at`, or the first second of the day of `--today`, which is day
-/// 0 where the words tell none. Both may not stand.
+/// 0 by default. Giving both is an error.
 pub fn moment_of(found: &ArgMatches<'_>) -> Result<Moment, MomentMisfit>
     ensures given { IfOk result (specs.HasMoment (rows_of (found_of found.now))) }
     ensures misfit { IfErr result (specs.LacksMoment (rows_of (found_of found.now))) }
@@ -81,7 +81,7 @@ fn moment_told(at: Option<&str>, today: Option<&str>) -> Result<Moment, MomentMi
 
 // ---- `ask`
 
-/// The moment of `--at`, where the words tell one. None where it is ill-written.
+/// The moment of `--at`, if given. `None` if it is malformed.
 pub fn second_of(found: &ArgMatches<'_>) -> Option<Option<Moment>>
     ensures { result ≡ specs.second_told (first_of (codes "at") (rows_of (found_of found.now))) }
 {

@@ -1,4 +1,4 @@
-//! The commands to a server, and on what it logs.
+//! The commands to a server, and on its logs.
 
 use crate::argument::{CommandArgument, NumberLimits};
 use crate::shared_arguments::{MANIFEST, OPERATOR, PORTS};

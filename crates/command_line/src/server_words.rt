@@ -1,4 +1,4 @@
-//! What the commands on manifests, and those to a server, ask for.
+//! The requests of the command `replay`, and of those that start a server or are sent to one.
 
 ghost use Rattle.std.specs.Prelude.{◌≡◌, List, IfOk, Err, Some, codes};
 ghost use Rattle.clap.specs.Words.{Row, found_of, rows_of};
@@ -11,7 +11,7 @@ use crate::verb::Verb;
 use clap::ArgMatches;
 use operator_request::OperatorRequest;
 
-/// What `replay` asks for.
+/// The request of `replay`.
 pub fn replay_asked<'a>(found: &ArgMatches<'a>) -> Result<CommandRequest<'a>, NoRequest>
     ensures asked { IfOk result (VerbAsks (Some Verb.Replay) (rows_of (found_of found.now))) }
     ensures nothing { result ≡ Err NoRequest.Wrong
@@ -22,7 +22,7 @@ pub fn replay_asked<'a>(found: &ArgMatches<'a>) -> Result<CommandRequest<'a>, No
     Ok(CommandRequest::Replay { manifest, script })
 }
 
-/// What `serve` asks for.
+/// The request of `serve`.
 pub fn serve_asked<'a>(found: &ArgMatches<'a>) -> Result<CommandRequest<'a>, NoRequest>
     ensures asked { IfOk result (VerbAsks (Some Verb.Serve) (rows_of (found_of found.now))) }
     ensures nothing { result ≡ Err NoRequest.Wrong
@@ -33,7 +33,7 @@ pub fn serve_asked<'a>(found: &ArgMatches<'a>) -> Result<CommandRequest<'a>, NoR
     Ok(CommandRequest::Serve { manifest, plan })
 }
 
-/// What `load` asks for.
+/// The request of `load`.
 pub fn load_asked<'a>(found: &ArgMatches<'a>) -> Result<CommandRequest<'a>, NoRequest>
     ensures asked { IfOk result (VerbAsks (Some Verb.Load) (rows_of (found_of found.now))) }
     ensures nothing { result ≡ Err NoRequest.Wrong
@@ -45,7 +45,7 @@ pub fn load_asked<'a>(found: &ArgMatches<'a>) -> Result<CommandRequest<'a>, NoRe
     Ok(CommandRequest::Ask { request, port })
 }
 
-/// What `show` asks for.
+/// The request of `show`.
 pub fn show_asked<'a>(found: &ArgMatches<'a>) -> Result<CommandRequest<'a>, NoRequest>
     ensures asked { IfOk result (VerbAsks (Some Verb.Show) (rows_of (found_of found.now))) }
     ensures nothing { result ≡ Err NoRequest.Wrong
@@ -58,7 +58,7 @@ pub fn show_asked<'a>(found: &ArgMatches<'a>) -> Result<CommandRequest<'a>, NoRe
     })
 }
 
-/// What `cells` asks for.
+/// The request of `cells`.
 pub fn cells_asked<'a>(found: &ArgMatches<'a>) -> Result<CommandRequest<'a>, NoRequest>
     ensures asked { IfOk result (VerbAsks (Some Verb.Cells) (rows_of (found_of found.now))) }
     ensures nothing { result ≡ Err NoRequest.Wrong
@@ -71,7 +71,7 @@ pub fn cells_asked<'a>(found: &ArgMatches<'a>) -> Result<CommandRequest<'a>, NoR
     })
 }
 
-/// What `stop` asks for.
+/// The request of `stop`.
 pub fn stop_asked<'a>(found: &ArgMatches<'a>) -> Result<CommandRequest<'a>, NoRequest>
     ensures asked { IfOk result (VerbAsks (Some Verb.Stop) (rows_of (found_of found.now))) }
     ensures nothing { result ≡ Err NoRequest.Wrong
@@ -82,7 +82,7 @@ pub fn stop_asked<'a>(found: &ArgMatches<'a>) -> Result<CommandRequest<'a>, NoRe
     Ok(stop_or_wait(wait, port))
 }
 
-// A call to end, with the wait for the end or without it.
+// A request to stop, which waits for the end or doesn't.
 fn stop_or_wait<'a>(wait: bool, port: u16) -> CommandRequest<'a>
     ensures { (rows : List Row) → HasShort (codes "operator") rows port
         → HasFlag (codes "wait") rows wait → VerbAsks (Some Verb.Stop) rows result }

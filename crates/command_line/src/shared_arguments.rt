@@ -1,8 +1,8 @@
-//! The arguments and options that several commands have.
+//! Arguments and options that several commands share.
 
 use crate::argument::{CommandArgument, NumberLimits};
 
-/// The ports that a program may listen at, and be asked at.
+/// The range of a port.
 pub const PORTS: NumberLimits = NumberLimits(1, 65535);
 
 /// The file of a manifest.
@@ -14,13 +14,13 @@ pub const PROGRAM: CommandArgument = CommandArgument::Word(
     "File of the program's bytes: 8 a slot, 1 to 4096 slots",
 );
 
-/// The file that a program's bytes are written into.
+/// The output file for a program's bytes.
 pub const BYTES: CommandArgument = CommandArgument::Word(
     "OUT",
     "File that gets the program's bytes",
 );
 
-/// How many releases the app has.
+/// The number of the app's releases.
 pub const RELEASES: CommandArgument = CommandArgument::Number(
     "releases",
     "N",
@@ -44,28 +44,28 @@ pub const OPERATOR: CommandArgument = CommandArgument::Number(
     "Operator's port, on loopback, without a password: 1 to 65535",
 );
 
-/// The version of the app that asks.
+/// The version of the app.
 pub const VERSION: CommandArgument = CommandArgument::Text(
     "version",
     "T",
     "Version of the app: one to four numbers joined by dots; absent by default",
 );
 
-/// Its other texts.
+/// Its other attributes that are texts.
 pub const ATTR: CommandArgument = CommandArgument::Texts(
     "attr",
     "NAME=TEXT",
     "Attribute of the app: appid, brand, ap, lang, cohort or platform, each once at most",
 );
 
-/// The day on which it asks.
+/// The day of its request.
 pub const TODAY: CommandArgument = CommandArgument::Text(
     "today",
     "DAY",
     "Day from 2007-01-01 on, 0 to 2919382, or its date, as 2026-12-01; 0 by default",
 );
 
-/// The moment at which it asks.
+/// The moment of its request.
 pub const AT: CommandArgument = CommandArgument::Text(
     "at",
     "TIME",

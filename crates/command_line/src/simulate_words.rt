@@ -1,4 +1,4 @@
-//! What `simulate` asks for.
+//! The request of the command `simulate`.
 
 ghost use Rattle.std.specs.Prelude.{◌≡◌, ◌↔◌, IfErr, IfOk, IsNone, IsTrue, Err, Some, codes};
 ghost use Rattle.std.specs.Option.{option_copied};
@@ -18,7 +18,7 @@ use crate::told::ToldApp;
 use crate::verb::Verb;
 use clap::ArgMatches;
 
-/// What `simulate` asks for.
+/// The request of `simulate`.
 pub fn simulate_asked<'a>(found: &ArgMatches<'a>) -> Result<CommandRequest<'a>, NoRequest>
     ensures asked { IfOk result (VerbAsks (Some Verb.Simulate) (rows_of (found_of found.now))) }
     ensures nothing { result ≡ Err NoRequest.Wrong
@@ -30,7 +30,7 @@ pub fn simulate_asked<'a>(found: &ArgMatches<'a>) -> Result<CommandRequest<'a>, 
     }
 }
 
-/// The simulation that the words ask for, or one of their options that are ill-written.
+/// The simulation that the words request, or an option that is malformed.
 pub fn simulation_of<'a>(found: &ArgMatches<'a>) -> Result<AskedSimulation<'a>, OptionMisfit>
     ensures asked { IfOk result (AsksToSimulate (rows_of (found_of found.now))) }
     ensures misfit { IfErr result (IsSimulationMisfit (rows_of (found_of found.now))) }
@@ -67,8 +67,8 @@ fn simulation_of_manifest<'a>(
     })
 }
 
-// The app of which the options tell, without an appid and a cohort: each app is asked for, in each
-// bucket.
+// The app that the options describe, without an appid and a cohort, since each app is simulated in
+// each bucket.
 fn anyone_told<'a>(found: &ArgMatches<'a>) -> Result<ToldApp<'a>, OptionMisfit>
     ensures given { IfOk result (IsAnyones (rows_of (found_of found.now))) }
     ensures misfit { IfErr result (IsSimulationMisfit (rows_of (found_of found.now))) }
@@ -103,7 +103,7 @@ fn writes_over(found: &ArgMatches<'_>) -> bool
     }
 }
 
-// Whether a release that is lost shall make it fail, where nothing is there to compare with.
+// Whether `--fail-on-lost` is given without `--against`.
 fn wants_against(found: &ArgMatches<'_>) -> bool
     ensures { IsTrue result ↔ WantsAgainst (rows_of (found_of found.now)) }
 {

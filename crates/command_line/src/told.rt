@@ -1,4 +1,4 @@
-//! What the words say of the app that asks.
+//! The app that the options describe.
 
 ghost use Rattle.std.specs.Prelude.{◌≡◌, [], IfOk, false};
 ghost use Rattle.std.specs.Option.{option_copied, unwrap_or};
@@ -6,8 +6,9 @@ ghost use Rattle.std.specs.Option.{option_copied, unwrap_or};
 use attrs::{AppFacts, Attrs, Bucket, Moment, RequestFacts, Text};
 use std::alloc::{AllocError, Global};
 
-/// An app as the words tell of it: its texts, what it sends beside its call for an update, when it
-/// asks, and the day of its installation from 2007-01-01 on.
+/// An app as the options describe it: its texts, the moment of its request, and the day of its
+/// installation, counted from 2007-01-01. `ping` and `event` say what its request has besides the
+/// update check.
 #[derive(Clone, Copy)]
 pub struct ToldApp<'a> {
     pub appid: Option<&'a str>,
@@ -27,13 +28,13 @@ impl<'a> ToldApp<'a> {
     ghost use Rattle.attrs.specs.Facts.{attributes_of};
     ghost use Rattle.command_line.specs.Apps as specs;
 
-    /// What its request would say of it; it asks for an update.
-    // open: whether memory is refused.
+    /// The app's part of its request, which has an update check.
+    // open: whether an allocation fails.
     pub fn app(&self, alloc: Global) -> Result<AppFacts, AllocError>
         ensures { IfOk result (λ app. app ≡ specs.app_facts self.now) }
     {
         let appid = text_of(alloc, text_or_empty(self.appid))?;
-        // One test of the memory, at the end: each `?` would drop every text before it.
+        // Tests for memory once, at the end: each `?` would drop every text before it.
         let mut copies = Copies::new(alloc);
         let app = AppFacts {
             appid,
@@ -53,8 +54,8 @@ impl<'a> ToldApp<'a> {
         Ok(app)
     }
 
-    /// What that request would say of itself: it has no id, and names no session.
-    // open: whether memory is refused.
+    /// The rest of that request: it has no id, and names no session.
+    // open: whether an allocation fails.
     pub fn request(&self, alloc: Global) -> Result<RequestFacts, AllocError>
         ensures { IfOk result (λ request. request ≡ specs.request_facts self.now) }
     {
@@ -65,15 +66,15 @@ impl<'a> ToldApp<'a> {
         })
     }
 
-    /// When it asks.
+    /// The moment of its request.
     pub fn moment(&self) -> Moment
         ensures { result ≡ specs.moment self.now }
     {
         self.moment
     }
 
-    /// Its attributes, in this bucket, or with none in the one that its cohort names.
-    // open: whether memory is refused.
+    /// Its attributes, in this bucket, or, for `None`, in the one that its cohort names.
+    // open: whether an allocation fails.
     pub fn attributes(&self, alloc: Global, bucket: Option<Bucket>) -> Result<Attrs, AllocError>
         ensures { IfOk result (λ a. a ≡ specs.attributes_told self.now bucket) }
     {
@@ -86,7 +87,7 @@ impl<'a> ToldApp<'a> {
         }
     }
 
-    // The attributes of an app that it tells, in the bucket that its cohort names.
+    // The attributes of these facts in its request, in the bucket that its cohort names.
     fn attributes_of(&self, alloc: Global, app: &AppFacts) -> Result<Attrs, AllocError>
         ensures { IfOk result (λ a. a
             ≡ attributes_of app.now (specs.request_facts self.now) (specs.moment self.now)) }
@@ -101,7 +102,7 @@ impl<'a> ToldApp<'a> {
     }
 }
 
-// Copies texts, and keeps whether memory was refused.
+// Copies texts, and records whether an allocation failed.
 #[derive(Clone, Copy)]
 struct Copies {
     alloc: Global,

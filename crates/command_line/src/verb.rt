@@ -1,4 +1,4 @@
-//! The commands, and how one is found by its name.
+//! The commands, and finding one by its name.
 
 ghost use Rattle.std.specs.Prelude.{◌≡◌};
 ghost use Rattle.std.specs.Str.{bytes_eq};
@@ -28,7 +28,7 @@ pub enum Verb {
     Verify,
 }
 
-/// The command of a name.
+/// The command with a name.
 pub fn verb_named(name: &str) -> Option<Verb>
     ensures { result ≡ grammar.verb_named name.now }
 {

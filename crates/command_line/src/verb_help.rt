@@ -1,8 +1,8 @@
-//! What `--help` says of a command, before its arguments and behind them.
+//! What `--help` prints for a command, before and after its arguments.
 
 use crate::verb::Verb;
 
-// What `replay --help` ends with.
+// The end of `replay --help`.
 const SCRIPT: &str = "\
 A script has a line an event. Empty lines and those that begin with # are passed over.
 
@@ -21,7 +21,7 @@ A script has a line an event. Empty lines and those that begin with # are passed
 Each event prints `started`, `stepped N`, `finished K after N under R`, `swapped R`, or
 `refused CODE Name`. All lines are read, and all manifests loaded, before the first event.";
 
-/// What the command does, by one line.
+/// What the command does, in one line.
 pub fn about(verb: Verb) -> &'static str {
     match verb {
         Verb::Ask => "Print the reply that a server of a manifest would send to a request",
@@ -55,7 +55,7 @@ pub fn about(verb: Verb) -> &'static str {
     }
 }
 
-/// What stands behind its arguments, if anything does.
+/// The text after its arguments, if it has one.
 pub fn behind(verb: Verb) -> Option<&'static str> {
     match verb {
         Verb::Replay => Some(SCRIPT),

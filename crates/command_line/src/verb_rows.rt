@@ -17,13 +17,13 @@ pub struct VerbRow {
     pub arguments: &'static [CommandArgument],
 }
 
-/// Each command once, in the order of their names.
+/// Each command, in the order of their names.
 static VERBS: [VerbRow; 17] = [
     ASK, ASSEMBLE, CELLS, CHECK, COMPILE, EXPLAIN, LIST, LOAD, ORDER, REPLAY, REPORT, RUN, SERVE,
     SHOW, SIMULATE, STOP, VERIFY,
 ];
 
-/// Their rows.
+/// The row of each command.
 pub fn verb_rows() -> &'static [VerbRow]
     ensures shapes { map grammar.shape_told result.now ≡ grammar.shapes }
     ensures names { grammar.names_told result.now ≡ grammar.names }

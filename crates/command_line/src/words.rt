@@ -1,4 +1,4 @@
-//! What the words of a command line ask for.
+//! The request of a command line's words.
 
 ghost use Rattle.std.specs.Prelude.{◌≡◌, ◌↔◌, List, map, IfOk, IfErr, IsTrue, Err};
 ghost use Rattle.clap.specs.Kinds.{HasKind};
@@ -30,9 +30,9 @@ use printing::Printed;
 use std::alloc::{AllocError, Global};
 use std::convert::AsStr;
 
-/// The request of a command line's words, the first of which is the program's name.
-// open: whether memory is refused; texts of help; that the grammar leaves a request wherever it
-// takes the words: tests, command by command.
+/// Reads the request of a command line. The first word is the program's name.
+// open: whether an allocation fails; texts of help; that words that fit the grammar make a request:
+// tests, command by command.
 pub fn read_words<'a, S: AsStr>(
     alloc: Global,
     words: &'a [S],
@@ -51,7 +51,7 @@ pub fn read_words<'a, S: AsStr>(
     }
 }
 
-// What clap finds in the words. What is wrong with them is told of the words as they are printed.
+// What clap finds in the words. An error quotes the words as they are printed, escaped.
 fn matches_of<'a, S: AsStr>(alloc: Global, words: &'a [S]) -> Result<ArgMatches<'a>, WordsFault>
     ensures rows { IfOk result (λ m.
         subcommand_rows_of m ≡ subcommand_of commands (map S.text words.now)) }
@@ -69,8 +69,7 @@ fn matches_of<'a, S: AsStr>(alloc: Global, words: &'a [S]) -> Result<ArgMatches<
     }
 }
 
-// What clap finds wrong with the words as they are printed; None where it takes these, or memory is
-// refused.
+// The error that clap finds in the escaped words; `None` if it finds none, or an allocation fails.
 fn printed_error<S: AsStr>(alloc: Global, words: &[S]) -> Option<Error> {
     let Ok(words) = printed_words(alloc, words) else {
         return None;
@@ -92,7 +91,7 @@ fn printed_words<S: AsStr>(alloc: Global, words: &[S]) -> Result<Vec<String>, Al
     Ok(printed)
 }
 
-// The error that is shown in the place of another: one of the same kind.
+// The error to print in place of another, if it has the same kind.
 fn told_by(error: Error, shown: Option<Error>) -> Error
     ensures { kind_of result ≡ kind_of error }
 {
@@ -108,7 +107,7 @@ fn is_same(kind: ErrorKind, other: ErrorKind) -> bool
     kind == other
 }
 
-// Why the words have no matches, of which clap finds this error.
+// Why the words have no matches, given clap's error.
 fn words_fault(error: Error) -> WordsFault
     ensures { (words : List Text) → HasKind (fault_of commands words) error
         → IsWordsFault words result }
@@ -120,9 +119,9 @@ fn words_fault(error: Error) -> WordsFault
     }
 }
 
-// The request that the matches hold, if they hold one. Those of a parse by the grammar do where
-// arrays, attributes and days are well written, since it wants each other value and checks its
-// range: this is tested, command by command.
+// The request of the matches, if they make one. Matches by the grammar do if arrays, attributes and
+// days are well-formed, since the grammar requires each other value and checks its range. This is
+// tested, command by command.
 fn request_of<'a>(alloc: Global, matches: &ArgMatches<'a>) -> Result<CommandRequest<'a>, NoRequest>
     ensures asked { IfOk result (IsAsked (subcommand_rows_of matches.now)) }
     ensures nothing { result ≡ Err NoRequest.Wrong
@@ -134,7 +133,6 @@ fn request_of<'a>(alloc: Global, matches: &ArgMatches<'a>) -> Result<CommandRequ
     }
 }
 
-// The request of a command.
 fn request_named<'a>(
     alloc: Global,
     verb: Option<Verb>,

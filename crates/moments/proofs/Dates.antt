@@ -1,4 +1,4 @@
--- A day's date is the one that the calendar has: the only one with its number.
+-- The date of a day is that of the calendar: the only date with the day's number.
 use Rattle.std.proofs.Common.{◌≡◌, ◌∙◌, refl, sym, ℕ, zero, suc, ◌+◌, ◌<◌, ◌≤◌, inl, inr, arith}
 use Rattle.std.proofs.Common.{Bool, true, false, if◌then◌else◌, ℤ, pos, ◌-ℤ◌}
 use Rattle.std.proofs.Common.{nat_lt, subst}
@@ -16,7 +16,7 @@ use Rattle.jiff_core.specs.declared.civil.date.Date.{Date}
 use Rattle.moments.specs.Calendar.{date_of, next_day, next_month}
 use Rattle.moments.specs.declared.calendar.CivilDate.{CivilDate}
 
--- the calendar has this date, with this number
+-- a date of the calendar with this number
 record HasNumber (day : ℕ) (date : CivilDate) : Type 0 where
   civil : IsCivilDate (pos date.year) date.month date.day
   number : days_from_civil (pos date.year) date.month date.day ≡ pos day
@@ -53,7 +53,7 @@ is_less m n holds = grind arith
 is_not_less : (m n : ℕ) → nat_lt m n ≡ false → n ≤ m
 is_not_less m n fails = grind arith
 
--- no day of this year is the last of all
+-- a year whose last day isn't the last of all is before 9999
 ends_early : (year day : ℕ) → year ≤ 9999 → days_from_civil (pos year) 12 31 ≡ pos day
     → day < 2932896 → year < 9999
 ends_early year day within number early = elim (cases_order year 9999) [
@@ -68,7 +68,7 @@ ends_early year day within number early = elim (cases_order year 9999) [
   | inr (inr more) ↦ absurd (omega (arith, within, more))
 ]
 
--- the year, the month and the day of a date that has a number
+-- the year, month and day of a date with a number
 module _ (day y m d : ℕ) (early : day < 2932896) (year_in : IsYear (pos y))
     (month_in : IsInRange 1 12 m) (day_in : IsInRange 1 (days_in_month (pos y) m) d)
     (number : days_from_civil (pos y) m d ≡ pos day) where
@@ -153,7 +153,7 @@ has_number (suc day) within =
     later day (date_of day).year (date_of day).month (date_of day).day (omega (arith, within))
     before.civil.0 before.civil.1 before.civil.2 before.number
 
--- a day's date is the one that has its number
+-- the date of a day as the calendar's type
 abbrev as_date : (date : CivilDate) → IsCivilDate (pos date.year) date.month date.day → Date
 as_date date civil = record {
   year = pos date.year;

@@ -1,4 +1,4 @@
--- Days of the Gregorian calendar in UTC, counted from the beginning of 1970, and minutes.
+-- Days of the Gregorian calendar in UTC, and minutes, both counted from the beginning of 1970.
 use Rattle.std.specs.Prelude.{ℕ, zero, suc, ◌+◌, ◌/◌, List, ℤ, pos, negsuc, nat_lt}
 use Rattle.std.specs.Prelude.{Option, Some, None, Result, Ok, Err, if◌then◌else◌}
 use Rattle.std.specs.Int.{int_div_euclid}
@@ -9,27 +9,27 @@ use Rattle.moments.specs.declared.calendar.CivilDate.{CivilDate}
 
 -- ---- dates
 
--- the first day of the month behind this one
+-- the first day of the next month
 abbrev pub next_month : CivilDate → CivilDate
 next_month date =
     if nat_lt date.month 12 then record { year = date.year; month = date.month + 1; day = 1 }
     else record { year = date.year + 1; month = 1; day = 1 }
 
--- the day behind this one
+-- the next day
 abbrev pub next_day : CivilDate → CivilDate
 next_day date =
     if nat_lt date.day (days_in_month (pos date.year) date.month)
     then record { year = date.year; month = date.month; day = date.day + 1 }
     else next_month date
 
--- the date so many days after the first of January 1970
+-- the date `day` days after 1970-01-01
 unfoldable pub date_of : ℕ → CivilDate
 date_of zero = record { year = 1970; month = 1; day = 1 }
 date_of (suc day) = next_day (date_of day)
 
 -- ---- minutes
 
--- how many minutes after 1970 began a second is, if it isn't before that
+-- the minute of a second, both since 1970, unless it is before 1970
 abbrev pub minute_of_second : ℤ → Option ℕ
 minute_of_second (pos second) = Some (second / 60)
 minute_of_second (negsuc n) = None
@@ -38,6 +38,6 @@ abbrev pub minute_of : Result ℤ Error → Option ℕ
 minute_of (Ok nanosecond) = minute_of_second (int_div_euclid nanosecond (pos 1_000_000_000))
 minute_of (Err fault) = None
 
--- of a time by RFC 3339
+-- the minute of a time in the form of RFC 3339
 abbrev pub minute_in : List ℕ → Option ℕ
 minute_in text = minute_of (parse_timestamp text)

@@ -1,4 +1,5 @@
--- Moments as an operator names them: so long ago, as `10m`, or a time by RFC 3339.
+-- How an operator names moments: by how long ago, such as `10m`, or by a time in the form of RFC
+-- 3339.
 use Rattle.std.specs.Prelude.{◌≡◌, ℕ, ◌*◌, List, length, ◌&&◌, ◌==◌, nat_lt}
 use Rattle.std.specs.Prelude.{Option, Some, None, Ok, IsErr, option_map, if◌then◌else◌, Bool}
 use Rattle.std.specs.List.{after_first, before_first, position_or_len}
@@ -12,20 +13,20 @@ use Rattle.moments.specs.declared.moment.NamedTime.TheVariants.{Ago, At}
 abbrev pub is_at : ℕ → ℕ → Bool
 is_at letter b = b == letter
 
--- the letter stands at the end of the text, and nowhere before
+-- the letter occurs only at the end of the text
 abbrev pub ends_first : ℕ → List ℕ → Bool
 ends_first letter text =
     nat_lt (position_or_len (is_at letter) text) (length text)
     && (length (after_first (is_at letter) text) == 0)
 
--- a number up to 99999 and this letter, each of so many seconds
+-- a number up to 99999 followed by this letter, in units of `unit` seconds
 abbrev pub seconds_by : ℕ → ℕ → List ℕ → Option ℕ
 seconds_by letter unit text =
     if ends_first letter text
     then option_map (λ n. n * unit) (decimal_within 0 99999 (before_first (is_at letter) text))
     else None
 
--- of seconds, minutes, hours or days
+-- in seconds, minutes, hours or days
 abbrev pub seconds_ago : List ℕ → Option ℕ
 seconds_ago text =
     option_or (seconds_by (byte "s") 1 text) (option_or (seconds_by (byte "m") 60 text)

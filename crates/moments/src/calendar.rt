@@ -1,4 +1,4 @@
-//! Days of the Gregorian calendar in UTC, counted from the beginning of 1970, and minutes.
+//! Days of the Gregorian calendar in UTC, and minutes, both counted from the beginning of 1970.
 
 ghost use Rattle.std.specs.Prelude.{◌≡◌, ◌≤◌};
 ghost use Rattle.moments.specs.Calendar as specs;
@@ -6,7 +6,7 @@ ghost use Rattle.moments.specs.Calendar as specs;
 use jiff_core::civil::Date;
 use jiff_fmt::temporal::parse_timestamp;
 
-/// A date of the Gregorian calendar. `of_day` gives it.
+/// A date of the Gregorian calendar, made by `of_day`.
 #[derive(Clone, Copy)]
 pub struct CivilDate {
     pub year: u64,
@@ -17,7 +17,7 @@ pub struct CivilDate {
 }
 
 impl CivilDate {
-    /// The date so many days after the first of January 1970; the last is that of 9999.
+    /// The date `day` days after 1970-01-01; the last is 9999-12-31.
     pub fn of_day(day: u64) -> CivilDate
         requires { day ≤ 2932896 }
         ensures { result ≡ specs.date_of day }
@@ -33,8 +33,8 @@ impl CivilDate {
     }
 }
 
-/// How many minutes after 1970 began the time is that a text names by RFC 3339, as a server's log
-/// has it: `2026-11-25T08:00:00.012Z`. None of a time before 1970.
+/// The minute since 1970 of a time in the form of RFC 3339, such as `2026-11-25T08:00:00.012Z` in a
+/// server's log. `None` before 1970.
 pub fn minute_in(text: &str) -> Option<u64>
     ensures { result ≡ specs.minute_in text.now }
 {

@@ -1,5 +1,5 @@
-//! Moments as an operator names them: so long ago, or a time by RFC 3339; and as a log's lines have
-//! their times.
+//! Moments as an operator names them: by how long ago, or by a time in the form of RFC 3339. Also
+//! the times in a log.
 #![tactic(auto)]
 
 mod calendar;

@@ -1,4 +1,4 @@
-//! Moments as an operator names them, and as a log's lines have their times.
+//! Moments as an operator names them, and as times in a log.
 
 ghost use Rattle.std.specs.Prelude.{◌≡◌, ◌<◌, ◌≤◌, IfNone, IfSome};
 ghost use Rattle.moments.specs.Moments as specs;
@@ -11,19 +11,19 @@ use std::alloc::{AllocError, Global};
 
 const DAY: u64 = SECS_PER_CIVIL_DAY as u64;
 
-/// The longest time ago that is named, in each unit.
+/// The greatest number before a unit.
 const MOST: u64 = 99999;
 
-/// A moment that is named.
+/// A moment as an operator names it.
 #[derive(Clone, Copy)]
 pub enum NamedTime {
-    /// So many seconds ago.
+    /// This number of seconds ago.
     Ago(u64),
     At(Timestamp),
 }
 
-/// The moment that a text names: a number followed by `s`, `m`, `h` or `d` is so long ago, and any
-/// other text a time by RFC 3339.
+/// The moment that a text names: a number followed by `s`, `m`, `h` or `d` is how long ago; any
+/// other text must be a time in the form of RFC 3339.
 pub fn moment_in(text: &str) -> Option<NamedTime>
     ensures moment { IfSome result (specs.Names text.now) }
     ensures none { IfNone result (specs.NamesNone text.now) }
@@ -63,8 +63,8 @@ fn seconds_by(letter: char, unit: u64, text: &str) -> Option<u64>
     }
 }
 
-/// The time of a moment as a server's log has it, with milliseconds and `Z`, where it is now so.
-/// What is before all times is the first of them.
+/// The time of a moment, given the present time, in the form of a server's log, with milliseconds
+/// and `Z`. A moment before the first time becomes the first time.
 pub fn time_text(alloc: Global, moment: NamedTime, now: Timestamp) -> Result<String, AllocError> {
     let time = match moment {
         NamedTime::At(time) => time,

@@ -1,4 +1,4 @@
--- Texts that are gone through character by character.
+-- Loops over the characters of a text.
 use Rattle.std.proofs.Common.{◌≡◌, ◌∙◌, sym, ap, ℕ, List, [], ◌∷◌, ◌++◌, length}
 use Rattle.std.proofs.Common.{append_assoc, append-nil, flat_map, chars, Bool, true, false, ◌||◌}
 use Rattle.std.proofs.Common.{arith}
@@ -9,7 +9,7 @@ none_left : (rest : List ℕ) → length rest ≡ 0 → chars rest ≡ []
 none_left [] none = chars-nil
 none_left (b ∷ rest) none = absurd (omega (arith, none))
 
--- one character further, and at the end
+-- after one more character, and at the end
 pub one_further : (f : ℕ → List ℕ) (done left rest whole : List ℕ) (c : ℕ) → left ≡ c ∷ rest
     → done ++ flat_map f left ≡ whole → (done ++ f c) ++ flat_map f rest ≡ whole
 one_further f done left rest whole c next is =
@@ -21,7 +21,7 @@ pub at_end : (f : ℕ → List ℕ) (done rest whole : List ℕ) → length rest
 at_end f done rest whole none is =
     sym (ap (λ (l : List ℕ). done ++ flat_map f l) (none_left rest none) ∙ append-nil done) ∙ is
 
--- of a question to each
+-- for a test of each character
 pub not_here : (p : ℕ → Bool) (left rest : List ℕ) (c : ℕ) (b answer : Bool) → left ≡ c ∷ rest
     → b ≡ p c → b ≡ false → list_any p left ≡ answer → list_any p rest ≡ answer
 not_here p left rest c b answer next is fails all =

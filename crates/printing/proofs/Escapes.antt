@@ -1,4 +1,4 @@
--- No control is printed, and all else is printed as it is.
+-- Control characters are escaped, and all other characters are printed unchanged.
 use Rattle.std.proofs.Common.{◌≡◌, ◌∙◌, refl, sym, ap, subst, ℕ, zero, suc, ◌+◌, ◌/◌, ◌%◌, ◌<◌, ◌≤◌}
 use Rattle.std.proofs.Common.{List, [], ◌∷◌, ◌++◌, append-nil, codes, arith, chars, flat_map}
 use Rattle.std.proofs.Common.{IsUtf8}
@@ -66,7 +66,7 @@ spelled_alike (b ∷ bs) plain =
     ap (λ (l : List ℕ). l ++ encode_utf8_all bs) (encode_ascii b (plain_is_low b plain.1))
     ∙ ap (λ (l : List ℕ). b ∷ l) (spelled_alike bs plain.2)
 
--- ---- of any test that passes no more than controls
+-- ---- for any test that only control characters pass
 
 module _ (p : ℕ → Bool) (fewer : (c : ℕ) → is_control c ≡ false → p c ≡ false) where
   plain_pass_none : (bs : List ℕ) → AllPlain bs → NonePass p bs

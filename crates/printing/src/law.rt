@@ -1,9 +1,8 @@
-//! A law of the definitions: no control is printed, and all else is printed as it is.
+//! A law: control characters are escaped, and all other characters are printed unchanged.
 
 ghost use Rattle.printing.specs.Laws.{PrintsNoControl};
 
-/// A law: what is written of a text has no control, and a text without one is written as it is. It
-/// is called by nothing that runs.
+/// Law. The output has no control characters, and a text without them is printed unchanged.
 pub fn no_control_is_printed()
     ensures { PrintsNoControl }
 {}

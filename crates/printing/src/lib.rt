@@ -1,6 +1,5 @@
-//! Texts of somebody else as they are printed for a person: appids, keys, names, lines of rules,
-//! words of a command line and paths. No control of them reaches a terminal, and none begins a
-//! line.
+//! Printing untrusted text: appids, keys, names, lines of rules, words of a command line, and
+//! paths. No control character reaches the terminal, and no text can start a line.
 #![tactic(auto)]
 
 mod law;

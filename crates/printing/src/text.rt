@@ -1,4 +1,4 @@
-//! A text, shown with its controls escaped.
+//! Texts that are printed with their control characters escaped.
 
 ghost use Rattle.std.specs.Prelude.{◌≡◌, ◌<◌};
 ghost use Rattle.std.specs.Bool.{OnTrue};
@@ -8,11 +8,11 @@ ghost use Rattle.printing.specs.Printed as specs;
 use std::fmt;
 use std::fmt::{Display, Formatter, Write};
 
-/// A text that is to stand in a line: each control is shown as `\u{1b}`, a line feed among them.
+/// A text for one line: each control character, even a line feed, is escaped in the form `\u{1b}`.
 #[derive(Clone, Copy, Debug, Drop)]
 pub struct Printed<'a>(pub &'a str);
 
-/// A text of several lines, or one of these: the same, but for its line feeds and tabs.
+/// A text of one or more lines: the same, except for its line feeds and tabs.
 #[derive(Clone, Copy, Debug, Drop)]
 pub struct PrintedLines<'a>(pub &'a str);
 
@@ -38,7 +38,7 @@ impl<'a> Display for PrintedLines<'a> {
     }
 }
 
-/// Whether some character of a text isn't printed.
+/// Whether a character of the text must be escaped.
 pub fn has_control(text: &str) -> bool
     ensures { result ≡ specs.has_control text.now }
 {
@@ -50,8 +50,8 @@ pub fn has_control(text: &str) -> bool
     false
 }
 
-/// Whether a character isn't printed: a terminal may obey it, or it ends a line. The log of a
-/// server escapes the same ones.
+/// Whether a character must be escaped: a terminal may interpret it, or it ends a line. A server's
+/// log escapes the same characters.
 pub fn is_control(c: char) -> bool
     ensures value { result ≡ specs.is_control c }
     ensures small { OnTrue result (c < 65536) }

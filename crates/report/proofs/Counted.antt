@@ -1,4 +1,4 @@
--- What a line more does to what is counted of lines.
+-- What counting one more line changes.
 use Rattle.std.proofs.Common.{◌≡◌, ℕ, ◌+◌, ◌^◌, ◌-◌, List, [], ◌∷◌, ◌++◌, refl, sym, ap, ◌∙◌, arith}
 use Rattle.std.proofs.Common.{Bool, min, append-nil, subst, flat_map}
 use Rattle.std.proofs.Common.{sum_by, is_some, is_none}
@@ -25,7 +25,7 @@ capped_sum n by before n_is = rw n_is (capped_both before by)
 pub stays : (n : ℕ) → GoesUp n n 0
 stays n before n_is = omega (arith, n_is)
 
--- the sum over one line more
+-- the sum with one more line
 more_sum : (f : List ℕ → ℕ) (before : List (List ℕ)) (line : List ℕ) (old new by : ℕ)
     → GoesUp old new by → by ≡ f line → old ≡ capped (sum_by f before)
     → new ≡ capped (sum_by f (before ++ line ∷ []))
@@ -51,7 +51,7 @@ module _ (window : Window) (before : List (List ℕ)) (line : List ℕ) where
       subst (λ (all : List RowName). IsTally limit all new) (sym (more_names names))
       (notes.behind limit (all_names window before names) counted)
 
-  -- of a picture, if one is drawn
+  -- for a chart, if one is drawn
   more_course : (drawn : Bool) (limit : ℕ) (names : Data → List RowName) (was : Bool)
       (old new : Tally) → was ≡ drawn
       → Notes old new (names_if (if_drawn was names) (told window line))

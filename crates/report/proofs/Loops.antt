@@ -1,4 +1,4 @@
--- Names that are counted of one element of a list after another.
+-- Counting the names of a list, element by element.
 use Rattle.std.proofs.Common.{◌≡◌, ◌∙◌, refl, sym, ap, subst, ℕ, ◌+◌, ◌-◌, ◌<◌, arith}
 use Rattle.std.proofs.Common.{List, [], ◌∷◌, ◌++◌, length, get_or, take, drop}
 use Rattle.std.proofs.Math.Seq.{take-length}
@@ -24,7 +24,7 @@ none_left (x ∷ xs) few = absurd (omega (arith, few))
 
 module _ {X : Type 0} (names : List X → List RowName) (all : List RowName) (start old : Tally)
     (xs : List X) (so_far : (t : Tally) → Notes old t (names xs) → Notes start t all) where
-  -- the names of the first element are counted, and then those of the others
+  -- counts the names of the first element, and then those of the others
   pub more_noted : (x : X) (rest : List X) (part : List RowName) (new last : Tally)
       → xs ≡ x ∷ rest → names (x ∷ rest) ≡ part ++ names rest
       → Notes old new part → Notes new last (names rest) → Notes start last all
@@ -32,7 +32,7 @@ module _ {X : Type 0} (names : List X → List RowName) (all : List RowName) (st
       so_far last (subst (λ (ns : List RowName). Notes old last ns)
       (sym (ap names is ∙ splits)) (notes_both old new last part (names rest) first others))
 
-  -- none is left
+  -- no element is left
   pub all_noted : xs ≡ [] → names [] ≡ [] → Notes start old all
   all_noted is none =
       so_far old (subst (λ (ns : List RowName). Notes old old ns) (sym (ap names is ∙ none))

@@ -1,4 +1,4 @@
--- What is counted of bytes, one piece after another.
+-- What is counted in bytes that are read in pieces.
 use Rattle.std.proofs.Common.{◌≡◌, ◌≢◌, ℕ, suc, List, [], ◌∷◌, ◌++◌, refl, sym, ap, ◌∙◌, subst}
 use Rattle.std.proofs.Common.{append_assoc, append-nil, length, Bool, true, false, ◌==◌}
 use Rattle.std.proofs.Common.{if◌then◌else◌, arith}
@@ -108,7 +108,7 @@ last_line window (b ∷ line) old new none some =
     subst (λ (lines : List (List ℕ)). CountsLines window lines old new) (sym (some_begun b line))
     (some (λ long. absurd (omega (arith, long))))
 
--- ---- bytes of a reader
+-- ---- the bytes of a reader
 
 pub consumes_none : (a : Option (List ℕ)) → Consumes a a []
 consumes_none None = tt

@@ -1,5 +1,5 @@
--- What one name more does to a table: its row goes up, or it gets a row, or it counts among the
--- others. And what names behind names do.
+-- What counting one more name changes in a table: its row goes up, it gets a row, or it is one of
+-- the others. Then lists of names, one after another.
 use Rattle.std.proofs.Common.{◌≡◌, ℕ, ◌+◌, ◌^◌, ◌-◌, ◌<◌, ◌≤◌, List, [], ◌∷◌, ◌++◌, refl}
 use Rattle.std.proofs.Common.{sym, ap, ◌∙◌}
 use Rattle.std.proofs.Common.{Bool, true, false, cond, Option, Some, None, is_none, is_some, min}
@@ -36,7 +36,7 @@ some_is m k same = cc
 no_some : {A : Type 0} (a : A) (o : Option A) → o ≡ None → o ≡ Some a → ⊥
 no_some a o none some = cc
 
--- a number that goes up with the count, and one that stays with it
+-- a number that goes up with the count, and one that stays as the count does
 counted_up : (n m k c d : ℕ) (b : Bool) → n ≡ capped c → m ≡ min (n + 1) (2 ^ 64 - 1) → m ≡ k
     → b ≡ true → d ≡ c + cond b 1 0 → (0 < k) × (k ≡ capped d)
 counted_up n m k c d true n_is m_is k_is holds d_is = grind arith
@@ -69,7 +69,7 @@ module _ (old new : Tally) (name : RowName) (m : ℕ) (sets : Sets old new name 
   has_now : has_no_row new name ≡ false
   has_now = ap is_none (set_at name ((bytes_decides name name).1 refl))
 
-  -- what has no row now had none before
+  -- a name without a row now had none before
   had_none : (other : RowName) (b : Bool) → bytes_eq name other ≡ b
       → has_no_row new other ≡ true → has_no_row old other ≡ true
   had_none other true same none =
@@ -251,7 +251,7 @@ len_after n m None p same is =
 len_after n m (Some k) p same is =
     subst (λ (q : Option ℕ). m ≡ n + (if is_none q then 1 else 0)) same is
 
--- ---- names behind names
+-- ---- names after names
 
 pub notes_none : (t : Tally) → Notes t t []
 notes_none t = record {

@@ -1,4 +1,4 @@
--- Texts that have a JSON value, and those that have none.
+-- Texts with and without a JSON value.
 use Rattle.std.proofs.Common.{◌≡◌, ℕ, List, Bool, true, false}
 use Rattle.std.proofs.Common.{Option, Some, None, if◌then◌else◌, refl}
 use Rattle.std.specs.Str.{IsUtf8, is_utf8}

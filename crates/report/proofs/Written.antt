@@ -1,11 +1,11 @@
--- What is written part by part is written as a whole.
+-- Writing the parts one by one writes the whole.
 use Rattle.std.proofs.Common.{◌≡◌, ◌∙◌, refl, sym, ap, ℕ, List, [], ◌∷◌, ◌++◌, append_assoc}
 use Rattle.std.proofs.Common.{append-nil, arith, length}
 use Rattle.std.proofs.lemmas.Str.{chars-nil}
 use Rattle.std.specs.List.{flat_map}
 use Rattle.std.specs.Str.{chars}
 
--- one part further, and at the end
+-- after one more part, and at the end
 pub one_further : (o part rest new whole : List ℕ) → new ≡ o ++ part → o ++ (part ++ rest) ≡ whole
     → new ++ rest ≡ whole
 one_further o part rest new whole grown is =

@@ -1,4 +1,4 @@
--- What a report counts of the lines of a log.
+-- What a report counts in the lines of a log.
 use Rattle.std.specs.Prelude.{◌≡◌, ℕ, ◌+◌, List, codes, count_by, flat_map, sum_by}
 use Rattle.std.specs.Prelude.{Bool, Option, Some, None, is_some, is_none, unwrap_or}
 use Rattle.std.specs.Prelude.{if◌then◌else◌}
@@ -14,13 +14,13 @@ use Rattle.report.specs.declared.question.LineQuestion.TheVariants as of_line
 use Rattle.report.specs.declared.counting.Report.{Report}
 use Rattle.report.specs.declared.window.Window.{Window}
 
--- ---- of a line, if it is told
+-- ---- in one line, if it counts
 
 abbrev pub number_if : (Data → ℕ) → Option Data → ℕ
 number_if number (Some line) = number line
 number_if number None = 0
 
--- a number that a line has, and 0 where it has none
+-- a number of a line, or 0 without it
 abbrev pub number_or_none : List ℕ → Data → ℕ
 number_or_none name line = unwrap_or (number_in name line) 0
 
@@ -28,7 +28,7 @@ number_or_none name line = unwrap_or (number_in name line) 0
 abbrev pub lost_in : Data → ℕ
 lost_in line = if is_kind (codes "lost") line then number_or_none (codes "lines") line else 0
 
--- ---- of all lines
+-- ---- in all lines
 
 module _ (window : Window) (lines : List (List ℕ)) where
   abbrev pub all_names : (Data → List RowName) → List RowName
@@ -37,9 +37,9 @@ module _ (window : Window) (lines : List (List ℕ)) where
   abbrev pub total : (Data → ℕ) → ℕ
   total number = capped (sum_by (λ line. number_if number (told window line)) lines)
 
-  -- Of each question the table counts the names that the lines tell: those of the server's, in the
-  -- window. Of all others nothing is counted, but of those that aren't the server's how many. For a
-  -- picture something is counted if one is drawn.
+  -- The table of each question counts the names in the lines that count: the server's, in the
+  -- window. In other lines nothing is counted, but lines that aren't the server's are counted as
+  -- `foreign`. The counts for a chart are made only if one is drawn.
   pub record Counts (drawn : Bool) (r : Report) : Type 0 where
     pub drawn_is : r.course.drawn ≡ drawn
     pub lines_told : r.lines ≡ capped (count_by (λ line. is_some (told window line)) lines)
@@ -66,16 +66,16 @@ module _ (window : Window) (lines : List (List ℕ)) where
         IsTally 65536 (all_names (if_drawn drawn minute_names)) r.course.by_minute
     pub by_hour : IsTally 262144 (all_names (if_drawn drawn hour_names)) r.course.by_hour
 
--- ---- of one line more
+-- ---- one more line
 
--- whatever was counted before, so many are counted behind it
+-- for any count before, the new count is greater by this number
 abbrev pub GoesUp : ℕ → ℕ → ℕ → Type 0
 GoesUp old new by = (before : ℕ) → old ≡ capped before → new ≡ capped (before + by)
 
 abbrev pub one_if : Bool → ℕ
 one_if holds = if holds then 1 else 0
 
--- what is counted of a line that is this event, if it is one, and is told as this, if it is told
+-- the counts after a line: `event` is its event, if it is one, and `line` the same, if it counts
 pub record AddsLine (event line : Option Data) (old new : Report) : Type 0 where
   pub lines_told : GoesUp old.lines new.lines (one_if (is_some line))
   pub foreign : GoesUp old.foreign new.foreign (one_if (is_none event))

@@ -1,5 +1,5 @@
--- How installs ended, as the events of a line's apps tell it. A line has the member `event` of an
--- app as the client wrote it, or a beginning of that, so each object in it that is whole counts.
+-- How installs ended, by the events of a line's apps. The member `event` of an app is the text that
+-- the client wrote, or a prefix of it, so each whole object in it counts.
 use Rattle.std.specs.Prelude.{ℕ, List, [], ◌∷◌, ◌++◌, codes, decimal, take}
 use Rattle.std.specs.Prelude.{Bool, ◌&&◌, ◌||◌, ◌==◌, ◌+◌, if◌then◌else◌}
 use Rattle.std.specs.Prelude.{Option, Some, None, option_and_then, unwrap_or}
@@ -18,8 +18,8 @@ use Rattle.report.specs.declared.question.EventQuestion.TheVariants.{FailedAt}
 abbrev pub is_brace : ℕ → Bool
 is_brace b = (b == byte "{") || (b == byte "}")
 
--- the object that a text begins with, whose first brace behind the one that opens it stands at n in
--- the rest, if that closes it
+-- the object at the beginning of a text, if its first brace after the opening one closes it; that
+-- brace is at n in the rest
 abbrev pub closed_at : List ℕ → List ℕ → ℕ → Option (List ℕ)
 closed_at text rest n =
     if slice_index rest n == byte "}" then Some (take (n + 2) text) else None
@@ -39,17 +39,17 @@ is_install event =
     is_number 2 (number_in (codes "eventtype") event)
     || is_number 3 (number_in (codes "eventtype") event)
 
--- the version that the event tells, or else the app's
+-- the previous version in the event, or else the app's version
 abbrev pub from_version : Data → Data → List ℕ
 from_version app event =
     unwrap_or (text_in (codes "previousversion") event)
     (text_or_mark (text_in (codes "version") app))
 
--- and the one to which it was
+-- the next version in the event
 abbrev pub to_version : Data → List ℕ
 to_version event = text_or_mark (text_in (codes "nextversion") event)
 
--- from that version to the one that the event tells
+-- from the previous version to the next one
 abbrev pub install_name : Data → List ℕ → Data → RowName
 install_name app appid event = three appid (from_version app event) (to_version event)
 
@@ -75,7 +75,7 @@ install_told FailedTo app appid event = two appid (to_version event)
 install_told (FailedAt moment) app appid event =
     course_name (codes "failures") appid (to_version event) moment
 
--- whether the question is about such an event
+-- whether the question is about this event
 abbrev pub is_asked : EventQuestion → Data → Bool
 is_asked Ended event = is_install event
 is_asked Result event = is_install event
@@ -96,7 +96,7 @@ event_name_at question app appid text =
 abbrev pub event_names_at : EventQuestion → Data → List ℕ → List ℕ → List RowName
 event_names_at question app appid text = listed (event_name_at question app appid text)
 
--- at each place of the text
+-- at each position of the text
 abbrev pub names_in_text : EventQuestion → Data → List ℕ → List ℕ → List RowName
 names_in_text question app appid [] = []
 names_in_text question app appid (b ∷ text) =

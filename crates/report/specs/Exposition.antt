@@ -1,5 +1,5 @@
--- A report in the text format that Prometheus reads: of each metric what it is, and then its
--- samples, a line each, which have labels.
+-- A report in the text format of Prometheus: for each metric its help and type, and then its
+-- samples, a line each, with labels.
 use Rattle.std.specs.Prelude.{ℕ, List, [], ◌∷◌, ◌++◌, codes, decimal, encode_utf8, string_bytes}
 use Rattle.std.specs.Prelude.{◌==◌, if◌then◌else◌}
 use Rattle.std.specs.List.{after_first, before_first, flat_map}
@@ -10,7 +10,7 @@ use Rattle.report.specs.declared.labels.SampleLabels.{SampleLabels}
 use Rattle.report.specs.declared.labels.SampleLabels.TheVariants.{App, Release, Install, Rule, Kind}
 use Rattle.report.specs.declared.tally.Tally.{Tally}
 
--- in a value a quote and a backslash are escaped; names have no line feed
+-- a value's quotes and backslashes are escaped; a name has no line feed
 abbrev pub value_char : ℕ → List ℕ
 value_char c =
     if c == 34 then codes "\\\"" else if c == 92 then codes "\\\\" else encode_utf8 c
@@ -22,7 +22,7 @@ value_text text = flat_map value_char (chars text)
 abbrev pub label : List ℕ → List ℕ → List ℕ
 label name value = name ++ codes "=\"" ++ value_text value ++ codes "\""
 
--- the first text of a name, and the others
+-- the first text of a name, and the rest
 abbrev pub first : List ℕ → List ℕ
 first name = before_first is_tab name
 
@@ -73,7 +73,7 @@ samples metric labels (entry ∷ rows) =
     sample metric (labels_text labels (string_bytes entry.0)) entry.1
     ++ samples metric labels rows
 
--- those that have no row
+-- the names without a row
 abbrev pub other_sample : List ℕ → SampleLabels → ℕ → List ℕ
 other_sample metric labels n =
     if n == 0 then [] else sample metric (label (first_label labels) (codes "others")) n

@@ -1,11 +1,11 @@
--- The lines of bytes: each ends with a line feed, and behind the last one may stand another, which
--- has none. Of a line over 65536 bytes, which is none of a server's, the first 65537 are looked at.
+-- The lines of bytes. Each ends with a line feed, and a last one without a line feed may follow.
+-- Lines over 65536 bytes aren't the server's, and are cut to 65537.
 use Rattle.std.specs.Prelude.{ℕ, List, [], ◌∷◌, ◌++◌, length, nat_lt, ◌==◌, if◌then◌else◌}
 
 abbrev pub grown : List ℕ → ℕ → List ℕ
 grown line b = if nat_lt (length line) 65537 then line ++ b ∷ [] else line
 
--- the lines of these bytes, where this stands before them in the first
+-- the lines of these bytes, if the first line begins with `begun`
 unfoldable pub lines_behind : List ℕ → List ℕ → List (List ℕ)
 lines_behind begun [] = if length begun == 0 then [] else begun ∷ []
 lines_behind begun (b ∷ bytes) =

@@ -1,5 +1,5 @@
--- The names that are counted of a line, question by question. A name is one text or several, with a
--- tab between them; a control in a text is escaped, so that none of them has a tab of its own.
+-- The names that a line counts under, by question. A name is one or more texts, with tabs between
+-- them. Control characters in a text are escaped, so no text contains a tab.
 use Rattle.std.specs.Prelude.{ℕ, List, [], ◌∷◌, ◌++◌, codes, decimal, Bool, true, false, ◌&&◌}
 use Rattle.std.specs.Prelude.{Option, Some, None, is_some, option_map, option_and_then, unwrap_or}
 use Rattle.std.specs.Prelude.{◌==◌, if◌then◌else◌}
@@ -32,7 +32,7 @@ three a b c = printed a ++ codes "\t" ++ printed b ++ codes "\t" ++ printed c
 abbrev pub decimal_text : ℕ → List ℕ
 decimal_text n = decimal n
 
--- what is counted, of which app and version, and in which minute or hour
+-- the kind of count, the app, the version, and the minute or hour
 abbrev pub course_name : List ℕ → List ℕ → List ℕ → ℕ → RowName
 course_name what appid version moment =
     three what appid version ++ codes "\t" ++ decimal_text moment
@@ -44,13 +44,13 @@ abbrev pub listed : Option RowName → List RowName
 listed (Some name) = name ∷ []
 listed None = []
 
--- ---- of an app
+-- ---- in an app
 
--- the whole reply was sent
+-- the whole reply was sent, with status 200
 abbrev pub is_answered : Data → Bool
 is_answered line = is_number 200 (number_in (codes "status") line)
 
--- a known app asked for an update, and got a whole reply
+-- a known app made an update check, and the whole reply was sent
 abbrev pub has_asked : Data → Data → Bool
 has_asked line app = is_answered line && is_some (number_in (codes "choice") app)
 
@@ -69,18 +69,18 @@ is_unnamed app = is_flag false (flag_in (codes "named") app)
 abbrev pub has_no_id : Data → Bool
 has_no_id app = is_unnamed app && is_number 6037 (number_in (codes "bucket") app)
 
--- some of its event is left out
+-- a part of its event is left out
 abbrev pub has_cut_event : Data → Bool
 has_cut_event app = is_some (number_in (codes "event_left_out") app)
 
--- a text that is absent is told as a question mark
+-- a question mark for a missing text
 abbrev pub text_or_mark : Option (List ℕ) → List ℕ
 text_or_mark text = unwrap_or text (codes "?")
 
 abbrev pub is_colon : ℕ → Bool
 is_colon b = b == byte ":"
 
--- the hour of a line's time, as `2026-11-24T12`
+-- the hour of a line's time, such as `2026-11-24T12`
 abbrev pub hour_of : Data → List ℕ
 hour_of line = before_first is_colon (text_or_mark (text_in (codes "time") line))
 
@@ -103,7 +103,7 @@ bucket_name line app appid =
 abbrev pub asked_by : Data → Data → List ℕ → Option RowName
 asked_by line app appid = if_holds (has_asked line app) (two appid (version_told app))
 
--- in this minute or hour
+-- with this minute or hour
 abbrev pub asked_at : ℕ → Data → Data → List ℕ → Option RowName
 asked_at moment line app appid =
     if_holds (has_asked line app) (course_name (codes "asks") appid (version_told app) moment)
@@ -130,7 +130,7 @@ named AskedBy line app appid = asked_by line app appid
 named (AskedAt moment) line app appid = asked_at moment line app appid
 named (OfferedAt moment) line app appid = offered_at moment line app appid
 
--- one name of each app, at most
+-- at most one name for each app
 abbrev pub app_name : AppQuestion → Data → Data → Option RowName
 app_name question line app =
     option_and_then (named question line app) (text_in (codes "appid") app)
@@ -147,12 +147,12 @@ app_names_in question line None = []
 abbrev pub app_names : AppQuestion → Data → List RowName
 app_names question line = app_names_in question line (list_in (codes "apps") line)
 
--- ---- of a line
+-- ---- in a line
 
 abbrev pub is_kind : List ℕ → Data → Bool
 is_kind kind line = is_text kind (text_in (codes "kind") line)
 
--- as `400`, or `none` where no whole reply was sent
+-- such as `400`, or `none` if no whole reply was sent
 abbrev pub status_text : Option ℕ → List ℕ
 status_text (Some status) = decimal status
 status_text None = codes "none"
@@ -160,7 +160,7 @@ status_text None = codes "none"
 abbrev pub refused : Data → List ℕ → RowName
 refused line refusal = two (status_text (number_in (codes "status") line)) refusal
 
--- when, its generation, and its path
+-- the time, the generation and the path
 abbrev pub loaded : Data → ℕ → RowName
 loaded line generation =
     three (text_or_mark (text_in (codes "time") line)) (decimal generation)
@@ -169,13 +169,13 @@ loaded line generation =
 abbrev pub kind_name : Data → Option RowName
 kind_name line = option_map one (text_in (codes "kind") line)
 
--- of a connection
+-- for a connection
 abbrev pub refusal_name : Data → Option RowName
 refusal_name line =
     if is_kind (codes "connection") line
     then option_map (refused line) (text_in (codes "refusal") line) else None
 
--- of a load that was done
+-- for a load that succeeded
 abbrev pub load_name : Data → Option RowName
 load_name line =
     if is_kind (codes "load") line
@@ -189,7 +189,7 @@ line_name Load line = load_name line
 abbrev pub line_names : LineQuestion → Data → List RowName
 line_names question line = listed (line_name question line)
 
--- of a line, if it is told
+-- in a line, if it counts
 abbrev pub names_if : (Data → List RowName) → Option Data → List RowName
 names_if names (Some line) = names line
 names_if names None = []

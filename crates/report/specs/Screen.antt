@@ -1,4 +1,4 @@
--- The text of a report: numbers with what they count, a line each, by questions.
+-- The text of a report: lines of a number and what it counts, by question.
 use Rattle.std.specs.Prelude.{ℕ, ◌*◌, ◌/◌, ◌%◌, List, [], ◌∷◌, ◌++◌, codes, decimal, length}
 use Rattle.std.specs.Prelude.{Bool, ◌==◌, if◌then◌else◌, Option, Some, None, count_by}
 use Rattle.std.specs.Prelude.{String, string_bytes}
@@ -36,14 +36,14 @@ table_text title t =
 abbrev pub is_tab : ℕ → Bool
 is_tab b = b == byte "\t"
 
--- the name's first text is this one
+-- the first text of the name is `first`
 abbrev pub is_of_text : List ℕ → List ℕ → Bool
 is_of_text first name = bytes_eq (before_first is_tab name) first
 
 abbrev pub is_of : List ℕ → String Global → Bool
 is_of first name = is_of_text first (string_bytes name)
 
--- how many buckets of an app have rows
+-- the number of an app's buckets with rows
 abbrev pub buckets_of : List ℕ → Rows → ℕ
 buckets_of app rows = count_by (λ entry. is_of app entry.0) rows
 
@@ -55,7 +55,7 @@ bucket_rows buckets [] = []
 bucket_rows buckets (entry ∷ rows) =
     bucket_row buckets (string_bytes entry.0) ++ bucket_rows buckets rows
 
--- how many buckets asked of each app
+-- for each app, the number of buckets with update checks
 abbrev pub buckets_text : Report → List ℕ
 buckets_text r =
     if length r.buckets.rows.entries == 0 then []
@@ -64,18 +64,18 @@ buckets_text r =
 
 -- ---- results of installs
 
--- hundredths of a percent, as `95.22 %`
+-- hundredths of a percent, such as `95.22 %`
 abbrev pub percent : ℕ → List ℕ
 percent hundredths =
     decimal (hundredths / 100) ++ codes "." ++ decimal (hundredths / 10 % 10)
     ++ decimal (hundredths % 10) ++ codes " %"
 
--- so many of these, where it is known how many these are
+-- the share of n in the whole, or a question mark if the whole is unknown
 abbrev pub share : ℕ → Option ℕ → List ℕ
 share n (Some whole) = if whole == 0 then codes "?" else percent (n * 10000 / whole)
 share n None = codes "?"
 
--- the install of which a result's name tells: its texts but the first one
+-- the install in a result's name: all texts but the first
 abbrev pub install_of : List ℕ → List ℕ
 install_of name = after_first is_tab name
 

@@ -1,5 +1,5 @@
--- A table that counts names: how often each of them stood there. It has rows for so many names, and
--- what came behind these counts under one number.
+-- A table that counts the occurrences of names. It has at most `limit` rows; names that get no row
+-- are counted together.
 use Rattle.std.specs.Prelude.{◌≡◌, ℕ, ◌^◌, ◌-◌, ◌<◌, ◌≤◌, List, ◌++◌, min, count_by}
 use Rattle.std.specs.Prelude.{◌+◌, Bool, Some, is_none, if◌then◌else◌}
 use Rattle.std.specs.BTreeMap.{btree_map_len, get_by_text}
@@ -9,7 +9,7 @@ use Rattle.report.specs.declared.tally.Tally.{Tally}
 abbrev pub RowName : Type 0
 RowName = List ℕ
 
--- a count stops at the greatest number of 64 bits
+-- a count stops at the greatest 64-bit number
 abbrev pub capped : ℕ → ℕ
 capped n = min n (2 ^ 64 - 1)
 
@@ -19,24 +19,24 @@ occurrences_of name names = count_by (bytes_eq name) names
 abbrev pub has_no_row : Tally → RowName → Bool
 has_no_row t name = is_none (get_by_text t.rows name)
 
--- the table counts these names, and has room for so many different ones
+-- the table counts these names, and has rows for at most `limit` of them
 pub record IsTally (limit : ℕ) (names : List RowName) (t : Tally) : Type 0 where
-  -- a row tells how often its name stands there, which it does
+  -- a row has the number of its name's occurrences, of which there is at least one
   pub rows : (name : RowName) (n : ℕ) → get_by_text t.rows name ≡ Some n
       → (0 < n) × (n ≡ capped (occurrences_of name names))
-  -- and the number of the others how often a name that has no row does
+  -- and `others` is the number of occurrences of names without a row
   pub others : t.others ≡ capped (count_by (has_no_row t) names)
-  -- there are others only where no row is free
+  -- there are others only if no row is free
   pub full : 0 < t.others → limit ≤ btree_map_len t.rows
   pub within : btree_map_len t.rows ≤ limit
   pub room : t.limit ≡ limit
 
--- whatever was counted before, these names are counted behind it
+-- adds these names to any names counted before
 pub record Notes (old new : Tally) (names : List RowName) : Type 0 where
   pub behind : (limit : ℕ) (before : List RowName)
       → IsTally limit before old → IsTally limit (before ++ names) new
 
--- the name has this row, and all else is as it was
+-- the name has this row, and all else is unchanged
 pub record Sets (old new : Tally) (name : RowName) (n : ℕ) : Type 0 where
   pub row : (other : RowName) → get_by_text new.rows other
       ≡ (if bytes_eq name other then Some n else get_by_text old.rows other)

@@ -1,4 +1,4 @@
--- What a line of a log is: one of the server's, as a value of JSON, or none.
+-- Which lines of a log count: the server's, as JSON values, in the window.
 use Rattle.std.specs.Prelude.{ℕ, List, codes, length, nat_le, Bool, true, false, not, ◌&&◌, ◌==◌}
 use Rattle.std.specs.Prelude.{Option, Some, None, is_some, option_and_then, if◌then◌else◌}
 use Rattle.std.specs.Prelude.{option_copied}
@@ -10,7 +10,7 @@ use Rattle.serde_json.specs.Find.{get, as_array, as_bool, as_number, as_str, as_
 use Rattle.serde_json.specs.Read.{read}
 use Rattle.report.specs.declared.window.Window.{Window}
 
--- ---- members, of which one of another kind counts as absent
+-- ---- members; a member of another type counts as missing
 
 abbrev pub text_in : List ℕ → Data → Option (List ℕ)
 text_in name d = option_and_then as_str (get name d)
@@ -39,25 +39,25 @@ is_text text None = false
 
 -- ---- a line
 
--- it tells when, and of what kind it is
+-- it has a time and a kind
 abbrev pub is_event : Data → Bool
 is_event d = is_some (text_in (codes "time") d) && is_some (text_in (codes "kind") d)
 
 abbrev pub if_event : Data → Option Data
 if_event d = if is_event d then Some d else None
 
--- the value of JSON that a text is
+-- the JSON value of a text
 unfoldable pub value_of : List ℕ → Option Data
 value_of text = if is_utf8 text then read text else None
 
--- a line of the server's has at most 65536 bytes, and they are an object of JSON that is an event
+-- a line of the server has at most 65536 bytes, and is a JSON object that is an event
 abbrev pub event_in : List ℕ → Option Data
 event_in line =
     if nat_le (length line) 65536 then option_and_then if_event (value_of line) else None
 
 -- ---- the window
 
--- Times are compared as texts: all that a server writes have the same form, from the year down to
+-- Times are compared as texts, because a server writes all times in one form, from the year down to
 -- the millisecond.
 abbrev pub is_before : List ℕ → List ℕ → Bool
 is_before time moment = is_lt (slice_cmp nat_cmp time moment)
@@ -70,7 +70,7 @@ abbrev pub is_until : Option (List ℕ) → List ℕ → Bool
 is_until (Some until) time = is_before time until
 is_until None time = true
 
--- from its beginning on, and before its end
+-- from the window's beginning on, and before its end
 abbrev pub is_within : Window → Option (List ℕ) → Bool
 is_within window (Some time) =
     is_since (option_copied window.since) time && is_until (option_copied window.until) time
@@ -79,6 +79,6 @@ is_within window None = false
 abbrev pub if_within : Window → Data → Option Data
 if_within window d = if is_within window (text_in (codes "time") d) then Some d else None
 
--- what is counted of a line, if anything is: one of the server's, in the window
+-- the event of a line, if it is the server's and in the window
 abbrev pub told : Window → List ℕ → Option Data
 told window line = option_and_then (if_within window) (event_in line)

@@ -1,4 +1,4 @@
-//! The names that are counted of a line's apps, question by question.
+//! The names that a line's apps count under, by question.
 
 ghost use Rattle.std.specs.Prelude.{◌≡◌, IfOk, option_map};
 ghost use Rattle.std.specs.String.{string_bytes};
@@ -14,7 +14,7 @@ use std::alloc::{AllocError, Global};
 /// The bucket of an empty request id.
 const NO_ID: u64 = 6037;
 
-/// The name of an app, if the question has one.
+/// The name that an app counts under, if the question has one for it.
 pub(crate) fn app_name(
     alloc: Global,
     question: AppQuestion,
@@ -56,9 +56,9 @@ fn named(
     }
 }
 
-// ---- what an app's members say
+// ---- the members of an app
 
-// The whole reply was sent.
+// Whether the whole reply was sent, with status 200.
 fn is_answered(line: &Value) -> bool
     ensures { result ≡ specs.is_answered (view line.now) }
 {
@@ -160,7 +160,7 @@ fn bucket_name(
     }
 }
 
-// The hour of a line's time, as `2026-11-24T12`.
+// The hour of a line's time, such as `2026-11-24T12`.
 fn hour_of<'a>(line: &'a Value) -> &'a str
     ensures { result.now ≡ specs.hour_of (view line.now) }
 {
@@ -221,7 +221,7 @@ fn offered_at(
     }
 }
 
-// The version that an app told.
+// The version in an app's request.
 fn version_told<'a>(app: &'a Value) -> &'a str
     ensures { result.now ≡ specs.version_told (view app.now) }
 {

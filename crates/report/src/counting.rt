@@ -1,4 +1,4 @@
-//! All that is counted of a log, line by line.
+//! All counts of a log, line by line.
 
 ghost use Rattle.std.specs.Prelude.{◌≡◌, [], ◌∷◌, None, Some, OnOk};
 ghost use Rattle.serde_json.specs.Data.{Data};
@@ -17,14 +17,14 @@ use crate::window::Window;
 use serde_json::Value;
 use std::alloc::{AllocError, Global};
 
-/// How many names a table has rows for; the one of hours, and the one of buckets.
+/// The maximum number of rows of a table; then those of the tables of hours and of buckets.
 const NAMES: usize = 256;
 
 const HOURS: usize = 4096;
 
 const BUCKETS: usize = 65536;
 
-/// The tables of each question, and how many lines there were.
+/// The table of each question, and the numbers of lines.
 #[derive(Drop)]
 pub struct Report {
     /// Lines that are counted: the server's, in the window.
@@ -42,12 +42,12 @@ pub struct Report {
     pub refusals: Tally,
     /// Loads by time, generation and path.
     pub loads: Tally,
-    /// Asks by app.
+    /// Update checks by app.
     pub asked: Tally,
-    /// Offers by app and release, and asks that got none by app.
+    /// Offers by app and release, and by app the update checks without an offer.
     pub offered: Tally,
     pub unoffered: Tally,
-    /// Asks by app, hour and version, and by app and bucket.
+    /// Update checks by app, hour and version, and by app and bucket.
     pub hours: Tally,
     pub buckets: Tally,
     /// Apps that the server doesn't know.
@@ -55,17 +55,17 @@ pub struct Report {
     /// Clients without a cohort, and those without a request id, by app.
     pub without_cohort: Tally,
     pub without_id: Tally,
-    /// Events that are cut, by app.
+    /// Events that were cut, by app.
     pub cut_events: Tally,
-    /// Installs by app, version and next version, and by these and the result.
+    /// Installs by app, version and next version, and also by the result.
     pub ended: Tally,
     pub results: Tally,
-    /// What a picture is drawn by.
+    /// The counts for a chart.
     pub course: Course,
 }
 
 impl Report {
-    /// Nothing yet, of logs of which a picture is drawn or none.
+    /// A report on no lines; `drawn` says whether a chart will be drawn.
     pub fn new(alloc: Global, drawn: bool) -> Report
         ensures { (window : Window) → specs.Counts window [] drawn result }
     {
@@ -93,7 +93,8 @@ impl Report {
         }
     }
 
-    /// Counts a line, without its line feed. Where memory is refused, a part of it may be counted.
+    /// Counts a line, given without its line feed. If an allocation fails, the line may be partly
+    /// counted.
     #[tactic(auto, using(crate::proofs::Counted::counts_one))]
     pub fn count_line(
         &mut self,
@@ -131,7 +132,7 @@ impl Report {
         self.foreign = raised(self.foreign, 1);
     }
 
-    // Counts what an event says, if it lies in the window.
+    // Counts an event, if it is in the window.
     fn add_event(
         &mut self,
         alloc: Global,
@@ -188,7 +189,7 @@ impl Report {
     }
 }
 
-// So many more, up to the greatest number.
+// The sum, up to the greatest number.
 #[tactic(auto, using(crate::proofs::Counted::capped_sum))]
 fn raised(n: u64, by: u64) -> u64
     ensures { specs.GoesUp n result by }
@@ -196,14 +197,14 @@ fn raised(n: u64, by: u64) -> u64
     n.saturating_add(by)
 }
 
-// A number that a line has, and 0 where it has none.
+// A number of a line, or 0 without it.
 fn number_or_none(event: &Value, name: &str) -> u64
     ensures { result ≡ specs.number_or_none name.now (view event.now) }
 {
     number_in(event, name).unwrap_or(0)
 }
 
-// How many lines were lost before it.
+// The number of lines lost before this line.
 fn lost_in(event: &Value) -> u64
     ensures { result ≡ specs.lost_in (view event.now) }
 {

@@ -1,5 +1,5 @@
-//! What is counted for a picture of a log's course: how often each version asked, was offered, and
-//! failed to be installed, by the minute and by the hour.
+//! The counts for a chart of a log over time: update checks, offers and failed installs of each
+//! version, by the minute and by the hour.
 
 ghost use Rattle.std.specs.Prelude.{◌≡◌, [], None, Some, OnOk, Option, true, false};
 ghost use Rattle.serde_json.specs.Data.{Data};
@@ -15,29 +15,29 @@ use moments::minute_in;
 use serde_json::Value;
 use std::alloc::{AllocError, Global};
 
-/// How many rows the tables have: versions, by the minute, and by the hour.
+/// The maximum number of rows: of versions, by the minute, and by the hour.
 const VERSIONS: usize = 256;
 
 const MINUTE_ROWS: usize = 65536;
 
 const HOUR_ROWS: usize = 262144;
 
-/// The tables of a picture.
+/// The tables for a chart.
 #[derive(Drop)]
 pub struct Course {
-    /// Whether anything is counted.
+    /// Whether a chart will be drawn. If not, nothing is counted.
     pub drawn: bool,
-    /// The versions of each app, as `editor 2.1` with a tab between them.
+    /// The versions of each app, such as `editor` and `2.1` with a tab between them.
     pub versions: Tally,
-    /// What is counted, of which app and version, in which minute from 1970 on: `asks`, `offers` or
-    /// `failures`, with tabs between the four.
+    /// Counts by minute. A row's name is `asks`, `offers` or `failures`, then the app, the version,
+    /// and the minute since 1970, with tabs between the four.
     pub by_minute: Tally,
-    /// The same by the hour.
+    /// The same by hour.
     pub by_hour: Tally,
 }
 
 impl Course {
-    /// Nothing yet, and nothing ever where no picture is drawn.
+    /// Empty tables. If no chart is drawn, they stay empty.
     pub fn new(alloc: Global, drawn: bool) -> Course
         ensures drawn { result.drawn ≡ drawn }
         ensures versions { IsTally 256 [] result.versions }
@@ -52,7 +52,7 @@ impl Course {
         }
     }
 
-    /// Counts what a line says.
+    /// Counts a line.
     pub(crate) fn note(&mut self, alloc: Global, line: &Value) -> Result<(), AllocError>
         ensures { OnOk result (specs.AddsCourse (Some (view line.now)) self.old self.new) }
     {
@@ -81,7 +81,7 @@ impl Course {
     }
 }
 
-// The minute of a line, and its hour.
+// The minute of a line since 1970.
 fn minute_of_line(line: &Value) -> Option<u64>
     ensures { result ≡ specs.minute_of_line (view line.now) }
 {

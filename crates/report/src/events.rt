@@ -1,4 +1,4 @@
-//! How installs ended: the names of the events that a line has of an app.
+//! How installs ended, by the events in a line's apps.
 
 ghost use Rattle.std.specs.Prelude.{◌≡◌, ◌+◌, ◌<◌, IfOk, IfSome, OnOk, length, option_map};
 ghost use Rattle.std.specs.List.{position};
@@ -33,7 +33,6 @@ pub(crate) fn note_events(
     Ok(())
 }
 
-// Counts the events of an app.
 fn note_app_events(
     alloc: Global,
     tally: &mut Tally,
@@ -49,7 +48,7 @@ fn note_app_events(
     }
 }
 
-// Counts the events of a text: each object in it that is whole and has no other in it.
+// Counts the events in a text: each whole object without an inner object.
 fn note_text(
     alloc: Global,
     tally: &mut Tally,
@@ -69,7 +68,7 @@ fn note_text(
     Ok(())
 }
 
-// Counts the event that stands at the beginning of a text, if one does.
+// Counts the event at the beginning of a text, if there is one.
 fn note_object(
     alloc: Global,
     tally: &mut Tally,
@@ -104,7 +103,7 @@ fn event_name_at(
     }
 }
 
-// The object that stands at the beginning of a text, if it has no brace in it.
+// The object at the beginning of a text, if it has no brace inside.
 fn object_at<'a>(text: &'a [u8]) -> Option<&'a [u8]>
     ensures { option_copied result ≡ specs.object_at text.now }
 {
@@ -118,7 +117,7 @@ fn object_at<'a>(text: &'a [u8]) -> Option<&'a [u8]>
     }
 }
 
-// The same of a text that begins with an opening brace, with the rest behind it.
+// The same for a text that begins with an opening brace, given the rest after it.
 fn closed<'a>(text: &'a [u8], rest: &[u8]) -> Option<&'a [u8]>
     requires { length text.now ≡ length rest.now + 1 }
     ensures { option_copied result ≡ specs.closed text.now rest.now }
@@ -141,7 +140,7 @@ fn closed_at<'a>(text: &'a [u8], rest: &[u8], at: usize) -> Option<&'a [u8]>
     }
 }
 
-// Where the first brace stands.
+// The position of the first brace.
 fn brace_in(text: &[u8]) -> Option<usize>
     ensures place { result ≡ position specs.is_brace text.now }
     ensures within { IfSome result (λ at. at < length text.now) }
@@ -173,7 +172,7 @@ fn event_name(
     }
 }
 
-// Whether the question is about such an event.
+// Whether the question is about this event.
 fn is_asked(question: EventQuestion, event: &Value) -> bool
     ensures { result ≡ specs.is_asked question (view event.now) }
 {
@@ -195,7 +194,7 @@ fn is_install(event: &Value) -> bool
     is_number(2, number_in(event, "eventtype")) || is_number(3, number_in(event, "eventtype"))
 }
 
-// From the version that the event tells, or else the app's, to the one that it tells.
+// From the event's previous version, or else the app's version, to the event's next version.
 fn install_name(
     alloc: Global,
     app: &Value,

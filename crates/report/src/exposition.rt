@@ -1,4 +1,4 @@
-//! A report in the text format that Prometheus reads.
+//! A report in the text format of Prometheus.
 
 ghost use Rattle.std.specs.Prelude.{◌≡◌, IfOk, OnOk};
 ghost use Rattle.std.specs.String.{string_bytes};
@@ -12,8 +12,8 @@ use std::alloc::{AllocError, Global};
 use std::collections::BTreeMap;
 use std::fmt::Write;
 
-/// The counts of a report as samples of Prometheus (its text format, version 0.0.4): gauges, since
-/// a report of a later log may count less. The hours, the buckets and the loads aren't among them.
+/// The counts of a report in the text format of Prometheus, version 0.0.4. They are gauges, since a
+/// report on a later log may count less. Hours, buckets and loads are left out.
 pub fn exposition_text(alloc: Global, report: &Report) -> Result<String, AllocError>
     ensures { IfOk result (λ s. string_bytes s ≡ specs.exposition report.now) }
 {
@@ -170,7 +170,7 @@ fn push_number(text: &mut String, metric: &str, help: &str, n: u64) -> Result<()
     write!(text, "{metric} {n}\n")
 }
 
-// What a metric is.
+// The help and the type of a metric.
 fn push_head(text: &mut String, metric: &str, help: &str) -> Result<(), AllocError>
     ensures { OnOk result (Puts text.old text.new (specs.head metric.now help.now)) }
 {
@@ -215,7 +215,7 @@ fn push_sample(
     write!(text, "}} {n}\n")
 }
 
-// The sample of the names that have no row, if there are any.
+// The sample of the names without a row, if there are any.
 fn push_other_sample(
     text: &mut String,
     metric: &str,

@@ -1,4 +1,4 @@
-//! The labels of a sample, by the texts of its name.
+//! The labels of a sample, from the texts of its name.
 
 ghost use Rattle.std.specs.Prelude.{◌≡◌, OnOk};
 ghost use Rattle.report.specs.Exposition as specs;
@@ -6,20 +6,20 @@ ghost use Rattle.printing.specs.Pushed.{Puts};
 
 use std::alloc::AllocError;
 
-/// Which labels a name's texts have.
+/// The labels for a name's texts.
 #[derive(Clone, Copy)]
 pub(crate) enum SampleLabels {
     App,
-    /// An app, and a release.
+    /// App and release.
     Release,
-    /// A result, an app, and the versions from which and to which.
+    /// Result, app, previous version and next version.
     Install,
-    /// A status, and a rule.
+    /// Status and rule.
     Rule,
     Kind,
 }
 
-/// Puts the labels of a name behind a text.
+/// Appends the labels of a name to a text.
 pub(crate) fn push_labels(
     text: &mut String,
     labels: SampleLabels,
@@ -40,7 +40,7 @@ pub(crate) fn push_labels(
     }
 }
 
-// The labels of two texts.
+// The labels of a name with two texts.
 fn push_two(text: &mut String, one: &str, other: &str, name: &str) -> Result<(), AllocError>
     ensures { OnOk result (Puts text.old text.new (specs.two_labels one.now other.now name.now)) }
 {
@@ -69,7 +69,7 @@ pub(crate) fn first_label(labels: SampleLabels) -> &'static str
     }
 }
 
-/// Puts a label with its value.
+/// Appends a label with its value.
 pub(crate) fn push_label(text: &mut String, name: &str, value: &str) -> Result<(), AllocError>
     ensures { OnOk result (Puts text.old text.new (specs.label name.now value.now)) }
 {
@@ -110,7 +110,7 @@ fn first<'a>(name: &'a str) -> &'a str
     }
 }
 
-// The others.
+// The texts after the first.
 fn rest<'a>(name: &'a str) -> &'a str
     ensures { result.now ≡ specs.rest name.now }
 {

@@ -1,9 +1,9 @@
-//! What a server's log comes to: how often each app was asked for and offered each release, which
-//! versions ask, how installs ended, what was refused; over the lines of any log.
+//! Totals of a server's log: update checks and offers by app and release, versions in use, results
+//! of installs, and refusals. The log may have any lines.
 //!
-//! A line is one of the server's, or counts as none of it. Of those in a window of time each
-//! question has a table, which counts names; it has rows for so many of them, so that no log takes
-//! more memory than that. A log is read in blocks, and no more of it is kept than a line.
+//! Lines that aren't the server's are only counted. For the server's lines in a time window, each
+//! question has a table of names. It has a fixed maximum of rows, so memory is bounded for any log.
+//! A log is read in blocks, and at most one line of it is kept.
 #![tactic(auto)]
 
 mod app_names;

@@ -1,4 +1,4 @@
-//! The names that are counted of a line itself, question by question.
+//! The names that a line itself counts under, by question.
 
 ghost use Rattle.std.specs.Prelude.{◌≡◌, IfOk, option_map};
 ghost use Rattle.std.specs.String.{string_bytes};
@@ -11,7 +11,7 @@ use crate::told::{is_text, number_in, text_in};
 use serde_json::Value;
 use std::alloc::{AllocError, Global};
 
-/// The name of a line, if the question has one.
+/// The name that a line counts under, if the question has one for it.
 pub(crate) fn line_name(
     alloc: Global,
     question: LineQuestion,

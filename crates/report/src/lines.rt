@@ -1,5 +1,5 @@
-//! The lines of a log, read in blocks: what stands in a block behind its last line feed is kept for
-//! the next one. Of a line at most 65537 bytes are kept, which are more than any of a server's has.
+//! The lines of a log, read in blocks. The bytes after a block's last line feed are kept for the
+//! next block. At most 65537 bytes of a line are kept, which is more than a server's line has.
 
 ghost use Rattle.std.specs.Prelude.{◌≡◌, ◌≢◌, ◌<◌, ◌≤◌, [], ◌∷◌, length, take};
 ghost use Rattle.std.specs.Prelude.{IfNone, IfOk, IfSome, OnOk};
@@ -13,19 +13,19 @@ use crate::window::Window;
 use std::alloc::{AllocError, Global};
 use std::io::{self, Error, ErrorKind, Read};
 
-/// The most bytes of a line that are kept.
+/// The maximum number of bytes kept of a line.
 const KEPT: usize = LINE_LIMIT + 1;
 
-/// How many bytes are read at a time.
+/// The size of a block.
 const BLOCK: usize = 0x40000;
 
-/// Who is told how many bytes of a log have been read.
+/// An observer of how many bytes of a log have been read.
 pub trait LogOnlooker {
-    /// Is told how many bytes of the log have been read so far.
+    /// Called after each block with the number of bytes read so far.
     fn read(&mut self, bytes: u64);
 }
 
-/// Counts the lines of a log. Where it fails, a part of them may be counted.
+/// Counts the lines of a log. If it fails, some lines may be counted already.
 pub fn count_log<R: Read, O: LogOnlooker>(
     alloc: Global,
     reader: &mut R,
@@ -46,7 +46,7 @@ pub fn count_log<R: Read, O: LogOnlooker>(
     )
 }
 
-// The same, by blocks of so many bytes.
+// The same, with this buffer for blocks.
 fn count_by_blocks<R: Read, O: LogOnlooker>(
     alloc: Global,
     reader: &mut R,
@@ -77,7 +77,7 @@ fn count_by_blocks<R: Read, O: LogOnlooker>(
     Err(Error::from(ErrorKind::InvalidData))
 }
 
-// Reads so many bytes, none where a signal came; None at the end.
+// Reads a block, and returns its length: 0 after a signal, and `None` at the end.
 fn read_some<R: Read>(reader: &mut R, block: &mut [u8]) -> io::Result<Option<usize>>
     requires { 0 < length block.old }
     ensures within { IfOk result (λ r. IfSome r (λ n. n ≤ length block.old)) }
@@ -94,7 +94,7 @@ fn read_some<R: Read>(reader: &mut R, block: &mut [u8]) -> io::Result<Option<usi
     }
 }
 
-// Counts the lines that end in a block, and keeps what stands behind them.
+// Counts the lines that end in a block, and keeps the rest.
 fn count_block(
     alloc: Global,
     window: &Window<'_>,
@@ -113,7 +113,7 @@ fn count_block(
     Ok(())
 }
 
-// Counts the line that a line feed ends, and keeps another byte.
+// Counts a line if the byte is a line feed; keeps any other byte.
 fn count_byte(
     alloc: Global,
     window: &Window<'_>,
@@ -130,7 +130,7 @@ fn count_byte(
     keep_other(window, report, begun, byte)
 }
 
-// A byte that is no line feed.
+// Any byte but a line feed.
 #[tactic(auto, using(crate::proofs::Read::line_goes_on))]
 fn keep_other(
     window: &Window<'_>,
@@ -160,7 +160,7 @@ fn end_line(
     Ok(())
 }
 
-// A line goes on with a byte, which is kept where there is room.
+// Appends a byte to the line, unless the line has `KEPT` bytes.
 fn keep(begun: &mut Vec<u8>, byte: u8) -> Result<(), AllocError>
     ensures { OnOk result (begun.new.items ≡ grown begun.old.items byte) }
 {
@@ -170,7 +170,7 @@ fn keep(begun: &mut Vec<u8>, byte: u8) -> Result<(), AllocError>
     Ok(())
 }
 
-// The last line, where it has no line feed.
+// Counts the last line, if it has no line feed.
 #[tactic(auto, using(crate::proofs::Read::last_line))]
 fn count_last(
     alloc: Global,

@@ -1,5 +1,5 @@
-//! How a name is written: one text or several, with a tab between them. A control in a text is
-//! escaped, so none of them has a tab of its own.
+//! How a name is written: one or more texts, with tabs between them. Control characters in a text
+//! are escaped, so no text contains a tab.
 
 ghost use Rattle.std.specs.Prelude.{◌≡◌, IfOk, OnOk, option_map};
 ghost use Rattle.std.specs.Option.{option_copied};
@@ -11,7 +11,7 @@ use printing::Printed;
 use std::alloc::{AllocError, Global};
 use std::fmt::Write;
 
-/// One text as a name, if something holds.
+/// A name of one text, if `holds`.
 pub(crate) fn if_holds(alloc: Global, holds: bool, text: &str) -> Result<Option<String>, AllocError>
     ensures { IfOk result (λ name. option_map string_bytes name
         ≡ specs.if_holds holds (specs.one text.now)) }
@@ -22,7 +22,7 @@ pub(crate) fn if_holds(alloc: Global, holds: bool, text: &str) -> Result<Option<
     Ok(Some(one(alloc, text)?))
 }
 
-/// One text.
+/// A name of one text.
 pub(crate) fn one(alloc: Global, text: &str) -> Result<String, AllocError>
     ensures { IfOk result (λ s. string_bytes s ≡ specs.one text.now) }
 {
@@ -36,7 +36,7 @@ fn push_printed(name: &mut String, text: &str) -> Result<(), AllocError>
     write!(name, "{text}")
 }
 
-/// Two texts.
+/// A name of two texts.
 pub(crate) fn two(alloc: Global, a: &str, b: &str) -> Result<String, AllocError>
     ensures { IfOk result (λ s. string_bytes s ≡ specs.two a.now b.now) }
 {
@@ -46,7 +46,7 @@ pub(crate) fn two(alloc: Global, a: &str, b: &str) -> Result<String, AllocError>
     Ok(name)
 }
 
-/// Three texts.
+/// A name of three texts.
 pub(crate) fn three(alloc: Global, a: &str, b: &str, c: &str) -> Result<String, AllocError>
     ensures { IfOk result (λ s. string_bytes s ≡ specs.three a.now b.now c.now) }
 {
@@ -56,7 +56,7 @@ pub(crate) fn three(alloc: Global, a: &str, b: &str, c: &str) -> Result<String, 
     Ok(name)
 }
 
-/// What is counted, of which app and version, and in which minute or hour.
+/// The kind of count, the app, the version, and the minute or hour.
 pub(crate) fn course_name(
     alloc: Global,
     what: &str,
@@ -80,7 +80,7 @@ pub(crate) fn decimal(alloc: Global, n: u64) -> Result<String, AllocError>
     n.to_string(alloc)
 }
 
-/// A text, or a question mark in its place.
+/// The text, or a question mark without it.
 pub(crate) fn text_or_mark<'a>(text: Option<&'a str>) -> &'a str
     ensures { result.now ≡ specs.text_or_mark (option_copied text.entry) }
 {

@@ -1,4 +1,4 @@
-//! The names that a line's questions have, counted in their tables.
+//! Counts a line in the table of a question.
 
 ghost use Rattle.std.specs.Prelude.{OnOk};
 ghost use Rattle.serde_json.specs.View.{view, items_view};
@@ -15,7 +15,7 @@ use crate::told::list_in;
 use serde_json::Value;
 use std::alloc::{AllocError, Global};
 
-/// Counts what a line says of itself.
+/// Counts the line itself.
 pub(crate) fn note_line(
     alloc: Global,
     tally: &mut Tally,
@@ -29,7 +29,7 @@ pub(crate) fn note_line(
     note_if(tally, name)
 }
 
-/// Counts what it says of its apps.
+/// Counts the line's apps.
 pub(crate) fn note_apps(
     alloc: Global,
     tally: &mut Tally,
@@ -44,7 +44,7 @@ pub(crate) fn note_apps(
     }
 }
 
-/// Counts what it says of how installs ended.
+/// Counts the ends of installs in the line.
 pub(crate) fn note_ends(
     alloc: Global,
     tally: &mut Tally,

@@ -1,54 +1,54 @@
-//! What is counted of a line.
+//! The questions of a report about a line.
 
-/// Of an app of a connection.
+/// About an app of a connection.
 #[derive(Clone, Copy)]
 pub enum AppQuestion {
-    /// It asked for an update, and was answered.
+    /// It made an update check, which was answered.
     Asked,
-    /// It was offered a release.
+    /// The release that it was offered.
     Offered,
-    /// It was offered none.
+    /// It was offered no release.
     Unoffered,
-    /// The hour, and the version that asked.
+    /// The hour, and the app's version.
     Hour,
-    /// The bucket that asked.
+    /// The app's bucket.
     Bucket,
     /// The server knows no such app.
     Unknown,
     /// The client's cohort named no bucket.
     WithoutCohort,
-    /// The bucket is the one of an empty request id.
+    /// The bucket is that of an empty request id.
     WithoutId,
-    /// Some of its event is left out.
+    /// A part of its event is left out.
     CutEvent,
-    /// The version that asked.
+    /// The version that made an update check.
     AskedBy,
-    /// The same in this minute or hour, counted from 1970 on.
+    /// The same with this minute or hour since 1970.
     AskedAt(u64),
-    /// The release that was offered in this minute or hour.
+    /// The offered release, with this minute or hour since 1970.
     OfferedAt(u64),
 }
 
-/// Of a line.
+/// About a line.
 #[derive(Clone, Copy)]
 pub enum LineQuestion {
     /// Its kind.
     Kind,
     /// The status and the rule of a refusal.
     Refusal,
-    /// A load that was done.
+    /// A load that succeeded.
     Load,
 }
 
-/// Of an event of an app, if it is the end of an install.
+/// About an event of an app, if it is the end of an install.
 #[derive(Clone, Copy)]
 pub enum EventQuestion {
-    /// The versions from which and to which it was.
+    /// The previous and the next version.
     Ended,
-    /// These and the result.
+    /// The same and the result.
     Result,
-    /// A failure: the version to which it was.
+    /// The version to which an install failed.
     FailedTo,
-    /// The same in this minute or hour, counted from 1970 on.
+    /// The same with this minute or hour since 1970.
     FailedAt(u64),
 }

@@ -1,4 +1,4 @@
-//! The rows of a report's text: a number, and what it counts.
+//! The rows of a report's text: a number and what it counts.
 
 ghost use Rattle.std.specs.Prelude.{OnOk};
 ghost use Rattle.printing.specs.Pushed.{Puts};
@@ -9,14 +9,14 @@ use std::alloc::AllocError;
 use std::collections::BTreeMap;
 use std::fmt::Write;
 
-/// Puts a row behind a text.
+/// Appends a row to a text.
 pub(crate) fn push_row(text: &mut String, n: u64, name: &str) -> Result<(), AllocError>
     ensures { OnOk result (Puts text.old text.new (specs.row n name.now)) }
 {
     write!(text, "{n}\t{name}\n")
 }
 
-/// Puts a table with its title, unless it is empty.
+/// Appends a table with its title, unless it is empty.
 pub(crate) fn push_table(text: &mut String, title: &str, tally: &Tally) -> Result<(), AllocError>
     ensures { OnOk result (Puts text.old text.new (specs.table_text title.now tally.now)) }
 {
@@ -38,7 +38,7 @@ fn push_rows(text: &mut String, rows: &BTreeMap<String, u64>) -> Result<(), Allo
     Ok(())
 }
 
-/// Puts the row of the names that have none, if there are any.
+/// Appends the row of the names without one, if there are any.
 pub(crate) fn push_others(text: &mut String, others: u64) -> Result<(), AllocError>
     ensures { OnOk result (Puts text.old text.new (specs.others_text others)) }
 {

@@ -12,7 +12,7 @@ use std::alloc::{AllocError, Global};
 use std::collections::BTreeMap;
 use std::fmt::Write;
 
-/// The text of a report, a line a number. What a client wrote stands there with its controls
+/// The text of a report, with a line for each number. Control characters in a client's texts are
 /// escaped.
 pub fn report_text(alloc: Global, report: &Report) -> Result<String, AllocError>
     ensures { IfOk result (λ s. string_bytes s ≡ specs.screen report.now) }
@@ -124,7 +124,7 @@ fn push_bucket_row(
     push_row(text, buckets_of(app, buckets), app)
 }
 
-// How many buckets of an app have rows.
+// The number of an app's buckets with rows.
 fn buckets_of(app: &str, buckets: &BTreeMap<String, u64>) -> u64
     ensures { result ≡ specs.buckets_of app.now buckets.now.entries }
 {
@@ -137,7 +137,7 @@ fn buckets_of(app: &str, buckets: &BTreeMap<String, u64>) -> u64
     count
 }
 
-// Whether a name's first text is this one.
+// Whether the first text of a name is `first`.
 fn is_of(first: &str, name: &str) -> bool
     ensures { result ≡ specs.is_of_text first.now name.now }
 {
@@ -184,7 +184,7 @@ fn push_result(text: &mut String, ended: &Tally, n: u64, name: &str) -> Result<(
     write!(text, "\t{name}\n")
 }
 
-// The install of which a result's name tells: its texts but the first one.
+// The install in a result's name: all texts but the first.
 fn install_of<'a>(name: &'a str) -> &'a str
     ensures { result.now ≡ specs.install_of name.now }
 {
@@ -194,7 +194,7 @@ fn install_of<'a>(name: &'a str) -> &'a str
     }
 }
 
-// So many of these, in percent, where it is known how many these are.
+// The percentage of n in the whole, or a question mark if the whole is unknown.
 fn push_share(text: &mut String, n: u64, whole: Option<u64>) -> Result<(), AllocError>
     ensures { OnOk result (Puts text.old text.new (specs.share n whole)) }
 {
@@ -204,7 +204,7 @@ fn push_share(text: &mut String, n: u64, whole: Option<u64>) -> Result<(), Alloc
     }
 }
 
-// Hundredths of a percent, as `95.22 %`.
+// Hundredths of a percent, such as `95.22 %`.
 fn push_percent(text: &mut String, hundredths: u128) -> Result<(), AllocError>
     ensures { OnOk result (Puts text.old text.new (specs.percent hundredths)) }
 {

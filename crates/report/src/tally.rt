@@ -1,5 +1,5 @@
-//! A table that counts names. It has so many rows at most; what comes behind these counts under one
-//! number, so that no log takes more memory than that.
+//! A table that counts names. It has at most `limit` rows. Names that get no row are counted
+//! together, so memory is bounded for any log.
 
 ghost use Rattle.std.specs.Prelude.{◌≡◌, ◌<◌, ◌≤◌, [], ◌∷◌, None, Some, OnOk, option_map};
 ghost use Rattle.std.specs.String.{string_bytes};
@@ -10,7 +10,7 @@ ghost use Rattle.report.specs.Tallies.{IsTally, Notes, Sets};
 use std::alloc::{AllocError, Global};
 use std::collections::BTreeMap;
 
-/// Names with their counts, which stop at the greatest number of 64 bits.
+/// Names with their counts, which stop at the greatest 64-bit number.
 #[derive(Drop)]
 pub struct Tally {
     pub(crate) rows: BTreeMap<String, u64>,
@@ -19,7 +19,7 @@ pub struct Tally {
 }
 
 impl Tally {
-    /// An empty table with room for so many names.
+    /// An empty table for at most `limit` rows.
     pub fn new(alloc: Global, limit: usize) -> Tally
         ensures { IsTally limit [] result }
     {
@@ -30,28 +30,27 @@ impl Tally {
         }
     }
 
-    /// How often a name was counted, where it has a row.
+    /// How often a name was counted, if it has a row.
     pub fn count_of(&self, name: &str) -> Option<u64>
         ensures { result ≡ get_by_text self.now.rows name.now }
     {
         self.rows.get(name).copied()
     }
 
-    /// The rows, by their names.
+    /// The rows, sorted by name.
     pub fn rows(&self) -> &BTreeMap<String, u64>
         ensures { result.now ≡ self.now.rows }
     {
         &self.rows
     }
 
-    /// How often names were counted that have none.
+    /// How often names without a row were counted.
     pub fn others(&self) -> u64
         ensures { result ≡ self.now.others }
     {
         self.others
     }
 
-    // Sets the count of a name.
     fn set(&mut self, name: String, count: u64) -> Result<(), AllocError>
         ensures { OnOk result (Sets self.old self.new (string_bytes name) count) }
     {
@@ -69,7 +68,7 @@ impl Tally {
         }
     }
 
-    // Counts a name that has a row.
+    // Counts a name with a row.
     #[tactic(auto, using(crate::proofs::Tallied::goes_up))]
     fn raise(&mut self, name: String, count: u64) -> Result<(), AllocError>
         requires { get_by_text self.old.rows (string_bytes name) ≡ Some count }
@@ -78,7 +77,7 @@ impl Tally {
         self.set(name, count.saturating_add(1))
     }
 
-    // Counts a name that has none.
+    // Counts a name without a row.
     fn note_new(&mut self, name: String) -> Result<(), AllocError>
         requires { get_by_text self.old.rows (string_bytes name) ≡ None }
         ensures { OnOk result (Notes self.old self.new (string_bytes name ∷ [])) }

@@ -1,4 +1,4 @@
-//! What a line is: an event of the server's, as a value of JSON, or none.
+//! Which lines are the server's: events, as JSON values.
 
 ghost use Rattle.std.specs.Prelude.{◌≡◌, IfOk, codes, option_map};
 ghost use Rattle.std.specs.Option.{option_copied};
@@ -9,7 +9,7 @@ use crate::window::Window;
 use serde_json::Value;
 use std::alloc::{AllocError, Global};
 
-/// The most bytes of a line; a server's has 4096.
+/// The maximum number of bytes of a line; a server's lines have at most 4096.
 pub(crate) const LINE_LIMIT: usize = 65536;
 
 /// The member of this name, if it is a text.
@@ -22,7 +22,7 @@ pub(crate) fn text_in<'a>(value: &'a Value, name: &str) -> Option<&'a str>
     }
 }
 
-/// The member of this name, if it is a number from 0 on.
+/// The member of this name, if it is a number of at least 0.
 pub(crate) fn number_in(value: &Value, name: &str) -> Option<u64>
     ensures { result ≡ specs.number_in name.now (view value.now) }
 {
@@ -56,7 +56,7 @@ pub(crate) fn list_in<'a>(value: &'a Value, name: &str) -> Option<&'a [Value]>
     }
 }
 
-/// Whether there is this number.
+/// Whether the number is there, and is n.
 pub(crate) fn is_number(n: u64, found: Option<u64>) -> bool
     ensures { result ≡ specs.is_number n found }
 {
@@ -66,7 +66,7 @@ pub(crate) fn is_number(n: u64, found: Option<u64>) -> bool
     }
 }
 
-/// Whether there is this text.
+/// Whether the text is there, and is `text`.
 pub(crate) fn is_text(text: &str, found: Option<&str>) -> bool
     ensures { result ≡ specs.is_text text.now (option_copied found.entry) }
 {
@@ -76,7 +76,7 @@ pub(crate) fn is_text(text: &str, found: Option<&str>) -> bool
     }
 }
 
-/// The value of JSON that a text is.
+/// The JSON value of a text, if it is one.
 #[tactic(auto, using(crate::proofs::Values::value_found, crate::proofs::Values::value_missing))]
 pub(crate) fn value_of(alloc: Global, text: &[u8]) -> Result<Option<Value>, AllocError>
     ensures { IfOk result (λ v. option_map view v ≡ specs.value_of text.now) }
@@ -88,7 +88,7 @@ pub(crate) fn value_of(alloc: Global, text: &[u8]) -> Result<Option<Value>, Allo
     }
 }
 
-/// The event of a line, if it is one of the server's.
+/// The event of a line, if the line is the server's.
 pub(crate) fn event_in(alloc: Global, line: &[u8]) -> Result<Option<Value>, AllocError>
     ensures { IfOk result (λ v. option_map view v ≡ specs.event_in line.now) }
 {
@@ -107,14 +107,14 @@ fn if_event(value: Value) -> Option<Value>
     if is_event(&value) { Some(value) } else { None }
 }
 
-// It tells when, and of what kind it is.
+// Whether it has a time and a kind.
 fn is_event(value: &Value) -> bool
     ensures { result ≡ specs.is_event (view value.now) }
 {
     text_in(value, "time").is_some() && text_in(value, "kind").is_some()
 }
 
-/// Whether an event lies in a window.
+/// Whether an event is in the window.
 pub(crate) fn is_within(window: &Window<'_>, event: &Value) -> bool
     ensures { result ≡ specs.is_within window.now
         (specs.text_in (codes "time") (view event.now)) }

@@ -1,20 +1,21 @@
-//! From when on and up to when lines are counted.
+//! The time window of the lines that count.
 
 ghost use Rattle.std.specs.Prelude.{◌≡◌, Some};
 ghost use Rattle.std.specs.Option.{option_copied};
 ghost use Rattle.report.specs.Told as specs;
 
-/// Times as a server's log has them, in UTC with milliseconds: `2026-11-24T12:19:16.042Z`.
+/// Times in the form of a server's log, in UTC with milliseconds, such as
+/// `2026-11-24T12:19:16.042Z`.
 #[derive(Clone, Copy)]
 pub struct Window<'a> {
-    /// The first time that is counted; from the first line on where it is absent.
+    /// The first time in the window; without it, the window begins with the first line.
     pub since: Option<&'a str>,
-    /// The first time that isn't counted any more.
+    /// The first time after the window.
     pub until: Option<&'a str>,
 }
 
 impl<'a> Window<'a> {
-    /// Whether a time lies in it.
+    /// Whether a time is in the window.
     pub fn has(&self, time: &str) -> bool
         ensures { result ≡ specs.is_within self.now (Some time.now) }
     {

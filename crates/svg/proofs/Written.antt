@@ -1,11 +1,11 @@
--- What is written part by part is written as a whole.
+-- Writing the parts one by one writes the whole.
 use Rattle.std.proofs.Common.{◌≡◌, ◌∙◌, sym, refl, ap, ℕ, List, [], ◌∷◌, ◌++◌, append_assoc}
 use Rattle.std.proofs.Common.{append-nil, arith, length}
 use Rattle.std.proofs.lemmas.Str.{chars-nil}
 use Rattle.std.specs.List.{flat_map}
 use Rattle.std.specs.Str.{chars}
 
--- one part further, and at the end
+-- after one more part, and at the end
 pub one_further : (o part rest new whole : List ℕ) → new ≡ o ++ part → o ++ (part ++ rest) ≡ whole
     → new ++ rest ≡ whole
 one_further o part rest new whole grown is =
@@ -14,7 +14,7 @@ one_further o part rest new whole grown is =
 at_end : (o whole : List ℕ) → o ++ [] ≡ whole → o ≡ whole
 at_end o whole is = sym (append-nil o) ∙ is
 
--- no characters are left
+-- no text is left
 nothing : (text : List ℕ) → length text ≡ 0 → text ≡ []
 nothing [] none = refl
 nothing (b ∷ text) none = absurd (omega (arith, none))

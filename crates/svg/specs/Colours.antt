@@ -1,6 +1,6 @@
--- Colours. The first is light grey; of 64 others, four levels of red, green and blue each, those of
--- the first numbers are far apart. The shade of a number is 0 to 63, in its three digits to the
--- base 4; a level is 20, 80, 140 or 200.
+-- Colours. Colour 0 is light grey. The 64 others have four levels each of red, green and blue, and
+-- those with low numbers differ strongly. A shade is 0 to 63; its three digits in base 4 are the
+-- levels 20, 80, 140 and 200.
 use Rattle.std.specs.Prelude.{ℕ, ◌+◌, ◌*◌, ◌/◌, ◌%◌, List, ◌++◌, codes, decimal}
 use Rattle.std.specs.Prelude.{◌==◌, if◌then◌else◌}
 

@@ -1,4 +1,4 @@
--- How the file of a picture begins: its width of 880 pixels, its height, and a white ground.
+-- The beginning of an SVG file: its width of 880 pixels, its height, and a white background.
 use Rattle.std.specs.Prelude.{ℕ, List, ◌++◌, codes, decimal}
 
 unfoldable pub picture_opens : List ℕ

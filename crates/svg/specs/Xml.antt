@@ -1,15 +1,15 @@
--- A text as character data of XML 1.0 (its sections 2.2 and 2.4): markup is escaped, and what is no
--- character there, or a control, is a question mark. Texts are UTF-8.
+-- A text as character data of XML 1.0 (sections 2.2 and 2.4). Markup is escaped. Control characters
+-- and what isn't a character of XML become question marks. Texts are UTF-8.
 use Rattle.std.specs.Prelude.{ℕ, List, codes, nat_lt, encode_utf8}
 use Rattle.std.specs.Prelude.{Bool, ◌==◌, ◌||◌, if◌then◌else◌}
 use Rattle.std.specs.List.{flat_map}
 use Rattle.std.specs.Str.{chars}
 
--- controls, and the two that are no characters, of the scalar values up to 1114111
+-- control characters, and the two scalar values U+FFFE and U+FFFF that aren't characters of XML
 abbrev pub is_unprintable : ℕ → Bool
 is_unprintable c = nat_lt c 32 || (c == 127) || (c == 65534) || (c == 65535)
 
--- a character as it is written: an entity for & < > ", and itself for any other
+-- an entity for & < > ", and a question mark or the character itself for any other
 abbrev pub xml_char : ℕ → List ℕ
 xml_char c =
     if c == 38 then codes "&amp;"
@@ -19,6 +19,6 @@ xml_char c =
     else if is_unprintable c then codes "?"
     else encode_utf8 c
 
--- a text as it is written
+-- the text as character data
 abbrev pub xml_text : List ℕ → List ℕ
 xml_text text = flat_map xml_char (chars text)

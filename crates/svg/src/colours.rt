@@ -1,4 +1,4 @@
-//! Colours by their numbers.
+//! Colours by number.
 
 ghost use Rattle.std.specs.Prelude.{◌≤◌, OnOk};
 ghost use Rattle.svg.specs.Colours as specs;
@@ -7,7 +7,7 @@ ghost use Rattle.printing.specs.Pushed.{Puts};
 use std::alloc::AllocError;
 use std::fmt::Write;
 
-/// Puts the colour of a number, as SVG writes it: light grey for 0, and one of its own for each
+/// Appends the colour of a number in SVG: light grey for 0, and a different colour for each number
 /// from 1 to 64.
 pub fn push_colour(text: &mut String, number: usize) -> Result<(), AllocError>
     requires { number ≤ 64 }

@@ -1,4 +1,4 @@
-//! How the file of a picture begins.
+//! The beginning of an SVG file.
 
 ghost use Rattle.std.specs.Prelude.{◌≡◌, OnOk};
 ghost use Rattle.svg.specs.Frames as specs;
@@ -28,7 +28,8 @@ fn ground_closes() -> &'static str
     "\" fill=\"rgb(255,255,255)\"/>\n"
 }
 
-/// Puts the beginning of a picture 880 pixels wide and so high, with a white ground.
+/// Appends the beginning of an SVG file 880 pixels wide and `height` pixels high, with a white
+/// background.
 pub fn push_frame(text: &mut String, height: u64) -> Result<(), AllocError>
     ensures { OnOk result (Puts text.old text.new (specs.frame height)) }
 {

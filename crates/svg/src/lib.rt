@@ -1,5 +1,5 @@
-//! Pieces that pictures in SVG 1.1 share: texts as character data, colours that lie far apart, and
-//! how the file of a picture begins.
+//! Pieces of charts in SVG 1.1: texts as character data, easily distinguished colours, and the
+//! beginning of the file.
 #![tactic(auto)]
 
 mod colours;

@@ -6,7 +6,8 @@ ghost use Rattle.svg.specs.Xml.{xml_char, xml_text};
 
 use std::alloc::AllocError;
 
-/// Puts a text with its markup escaped, and a question mark for what XML can't have.
+/// Appends a text with its markup escaped, and a question mark for each character that XML doesn't
+/// allow.
 pub fn push_xml(text: &mut String, more: &str) -> Result<(), AllocError>
     ensures { OnOk result (Puts text.old text.new (xml_text more.now)) }
 {

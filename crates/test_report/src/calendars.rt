@@ -1,9 +1,9 @@
-//! Days of the calendar, and minutes of a log's times.
+//! Days of the calendar, and minutes of the times in a log.
 
 use moments::{CivilDate, minute_in};
 use std::test::Fail;
 
-/// A date, its year, month and day, and how many days after 1970 began it is.
+/// A date; its year, month and day; and its number of days since 1970-01-01.
 const DAYS: [(&str, u64, u64, u64, u64); 11] = [
     ("1970-01-01", 1970, 1, 1, 0),
     ("1972-02-29", 1972, 2, 29, 789),
@@ -32,7 +32,7 @@ fn days_have_dates(rt: HostRuntime) -> Result<(), Fail> {
     Ok(())
 }
 
-/// What is no time of a log.
+/// Texts that aren't times of a log.
 const NONE: [&str; 8] = [
     "",
     "2026-11-25",

@@ -1,4 +1,4 @@
-//! What the tests are given: the report of the lines of a text.
+//! Input of the tests: the report on the lines of a text.
 
 use report::{LogOnlooker, Report, Window, count_log};
 use std::alloc::Global;
@@ -10,7 +10,7 @@ const ALWAYS: Window<'static> = Window {
     until: None,
 };
 
-/// Nobody is told how far a reading is.
+/// An observer that ignores how many bytes were read.
 #[derive(Drop)]
 struct Nobody {}
 
@@ -18,12 +18,12 @@ impl LogOnlooker for Nobody {
     fn read(&mut self, _bytes: u64) {}
 }
 
-/// The report of these lines.
+/// The report on these lines.
 pub(crate) fn report_of(alloc: Global, log: &str) -> io::Result<Report> {
     report_by(alloc, log, false)
 }
 
-/// The same, by which a picture may be drawn.
+/// The same, with the counts for a chart.
 pub(crate) fn drawn_report_of(alloc: Global, log: &str) -> io::Result<Report> {
     report_by(alloc, log, true)
 }

@@ -1,5 +1,5 @@
-//! Tests of reports that no row holds: the bounds of a log, days and times, and pictures of a log.
-//! The texts of reports are rows of the program `rows`.
+//! Tests of reports that can't be rows: limits of a log, days and times, and charts. The texts of
+//! reports are tested by rows, which the program `rows` runs.
 #![tactic(auto)]
 
 #[cfg(test)]

@@ -1,13 +1,13 @@
-//! How many names of a log have a row of their own.
+//! How many names in a log have rows of their own.
 
 use crate::given::report_of;
 use std::alloc::{AllocError, Global};
 use std::test::Fail;
 
-/// The line of an ask for an unknown app, up to its id.
+/// The line of an update check for an unknown app, up to its appid.
 const STRANGER: &str = "{\"time\":\"\",\"kind\":\"connection\",\"apps\":[{\"appid\":\"";
 
-// So many apps that the server doesn't know, each asked twice.
+// Two update checks for each of `count` apps that the server doesn't know.
 fn strangers(alloc: Global, count: usize) -> Result<String, AllocError> {
     let mut log = String::new(alloc);
     for number in 0..count {
@@ -20,7 +20,7 @@ fn strangers(alloc: Global, count: usize) -> Result<String, AllocError> {
     Ok(log)
 }
 
-/// Apps, and how many asks of them have no row.
+/// The number of apps, and the number of update checks without a row.
 const COUNTS: [(usize, u64); 3] = [(255, 0), (256, 0), (258, 4)];
 
 #[test]

@@ -1,4 +1,4 @@
-//! The picture of a log's course, byte by byte: a script of its own drew those that are wanted.
+//! The chart of a log, byte by byte. The expected ones were drawn by a separate script.
 
 use crate::given::drawn_report_of;
 use std::alloc::{AllocError, Global};
@@ -6,7 +6,8 @@ use std::fmt::Write;
 use std::test::Fail;
 use timeline::draw_course;
 
-/// Asks of two versions in four minutes around a leap day's end, an offer, a failure and a load.
+/// Update checks of two versions in four minutes around the end of a leap day, an offer, a failure
+/// and a load.
 const LOG: &str =
     r##"{"time":"2024-02-29T23:58:00.012Z","kind":"connection","peer":"127.0.0.1:1","status":200,"generation":1,"bytes":1,"micros":1,"waited":7,"apps":[{"appid":"a<b","version":"1.9","bucket":7,"named":true,"choice":1,"release":"2.0"}]}
 {"time":"2024-02-29T23:59:59.999Z","kind":"load","path":"next.toml","generation":2}
@@ -68,7 +69,7 @@ const PICTURE_OF_NONE: &str =
 </svg>
 "##;
 
-/// A log, and its picture.
+/// A log, and its chart.
 const ROWS: [(&str, &str); 2] = [(LOG, PICTURE), ("", PICTURE_OF_NONE)];
 
 #[test]
@@ -81,13 +82,13 @@ fn a_course_is_drawn(rt: HostRuntime) -> Result<(), Fail> {
     Ok(())
 }
 
-/// The beginning and the end of an app's line.
+/// The beginning and the end of a line with an app.
 const OPENS: &str =
     r##"{"time":"2026-11-25T08:00:00.000Z","kind":"connection","status":200,"apps":[{"version":"1","choice":0,"appid":"app"##;
 
 const CLOSES: &str = "\"}]}\n";
 
-// A log in which so many apps ask.
+// A log with update checks of `count` apps.
 fn log_of_apps(alloc: Global, count: u64) -> Result<String, AllocError> {
     let mut log = String::new(alloc);
     for number in 0..count {
@@ -98,7 +99,7 @@ fn log_of_apps(alloc: Global, count: u64) -> Result<String, AllocError> {
     Ok(log)
 }
 
-/// How many apps ask, and what the picture has.
+/// The number of apps with update checks, and a part of the chart.
 const APPS: [(u64, &str); 2] = [
     (1, "<text x=\"20\" y=\"20\">app app0</text>"),
     (
@@ -119,7 +120,7 @@ fn what_isnt_drawn_is_told(rt: HostRuntime) -> Result<(), Fail> {
     Ok(())
 }
 
-/// An ask between two loads, of which none is in its minute; a third one is.
+/// An update check, a load in its minute, and loads just before and after that minute.
 const LOADS_BESIDE: &str =
     r##"{"time":"2026-11-25T07:59:59.999Z","kind":"load","path":"a.toml","generation":2}
 {"time":"2026-11-25T08:00:30.000Z","kind":"connection","status":200,"apps":[{"version":"1","choice":0,"appid":"app"}]}
@@ -127,28 +128,28 @@ const LOADS_BESIDE: &str =
 {"time":"2026-11-25T08:01:00.000Z","kind":"load","path":"c.toml","generation":4}
 "##;
 
-/// An ask in the last second that can be read.
+/// An update check in the last readable second.
 const LAST_ASK: &str =
     r##"{"time":"9999-12-30T22:00:00.999Z","kind":"connection","status":200,"apps":[{"version":"1","choice":0,"appid":"app"}]}
 "##;
 
-/// And one in the first minute of 1970, too: the last bin ends behind the year 9999.
+/// The same, and one in the first minute of 1970: the last bin ends after the year 9999.
 const FIRST_AND_LAST: &str =
     r##"{"time":"1970-01-01T00:00:00.000Z","kind":"connection","status":200,"apps":[{"version":"1","choice":0,"appid":"app"}]}
 {"time":"9999-12-30T22:00:00.999Z","kind":"connection","status":200,"apps":[{"version":"1","choice":0,"appid":"app"}]}
 "##;
 
-/// An ask behind that isn't drawn.
+/// An update check after the last readable second isn't drawn.
 const LATE_ASK: &str =
     r##"{"time":"9999-12-31T23:59:00.000Z","kind":"connection","status":200,"apps":[{"version":"1","choice":0,"appid":"app"}]}
 "##;
 
-/// Nor is one before 1970.
+/// An update check before 1970 isn't drawn.
 const EARLY_ASK: &str =
     r##"{"time":"1969-12-31T23:59:59.999Z","kind":"connection","status":200,"apps":[{"version":"1","choice":0,"appid":"app"}]}
 "##;
 
-/// A log, and what its picture has.
+/// A log, and a part of its chart.
 const EDGES: [(&str, &str); 8] = [
     (
         LOADS_BESIDE,

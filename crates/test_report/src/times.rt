@@ -1,4 +1,4 @@
-//! Moments that are so long ago, and their times.
+//! Moments named by how long ago, and their times.
 
 use jiff_core::Timestamp;
 use moments::{moment_in, time_text};

@@ -1,4 +1,4 @@
--- Loops over versions and over bins: the first of them, and then the others.
+-- Loops over versions and over bins: the first element, and then the others.
 use Rattle.std.proofs.Common.{◌≡◌, ◌∙◌, ap, ap₂, ℕ, ◌+◌, ◌-◌, ◌<◌, List, [], ◌∷◌, ◌++◌}
 use Rattle.std.proofs.Common.{length, get_or, take, drop, map, arith, String, string_bytes}
 use Rattle.std.proofs.lemmas.List.{take_all}
@@ -11,7 +11,7 @@ use Rattle.timeline.specs.Marks.{Drawn}
 use Rattle.timeline.specs.declared.bins.Bins.{Bins}
 use Rattle.timeline.proofs.Written.{one_further}
 
--- those behind the first
+-- all elements but the first
 abbrev pub others : {X : Type 0} → List X → List X
 others xs = take (length xs - 1) (drop 1 xs)
 

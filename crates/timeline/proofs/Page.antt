@@ -1,4 +1,4 @@
--- The panels of a picture, one below the other: one is put, and the next begins where it ends.
+-- The panels of a chart, one below the other: each begins at the end of the last one.
 use Rattle.std.proofs.Common.{◌≡◌, ◌∙◌, ap, ℕ, List, [], ◌++◌}
 use Rattle.report.specs.Screen.{Rows}
 use Rattle.timeline.specs.Pictures.{Drawing, app_panel, panel_end, app_panels, panels_end}
@@ -20,6 +20,6 @@ pub end : (drawing : Drawing) (top next : ℕ) (app : List ℕ) (rows : Rows) (e
 end drawing top next app rows last below is =
     ap (λ (t : ℕ). panels_end drawing t rows) below ∙ is
 
--- where none is left, all are put
+-- if no panel is left, the text is the whole
 pub all : (o whole : List ℕ) → o ++ [] ≡ whole → o ≡ whole
 all = at_end

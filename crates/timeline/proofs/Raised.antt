@@ -1,4 +1,4 @@
--- Numbers that are raised row by row are raised by the sum.
+-- Adding the rows to the numbers one by one adds their sums.
 use Rattle.std.proofs.Common.{◌≡◌, ◌∙◌, refl, sym, ap, ap₂, ℕ, zero, suc, ◌+◌, ◌<◌, ◌≤◌}
 use Rattle.std.proofs.Common.{List, [], ◌∷◌, length, get_or, set, arith, Bool, true, false}
 use Rattle.std.proofs.Common.{◌==◌, if◌then◌else◌, Option, Some, None, sum_by}
@@ -13,7 +13,7 @@ use Rattle.report.specs.Screen.{Rows}
 use Rattle.timeline.specs.Marks.{Drawn, moment_of}
 use Rattle.timeline.specs.declared.bins.Bins.{Bins}
 
--- numbers that are raised by the same from a place on
+-- numbers raised by amounts that are equal from an index on
 same_raised : (place : ℕ) (f g : ℕ → ℕ) (numbers : List ℕ)
     → ((p : ℕ) → place ≤ p → f p ≡ g p) → raised_from place f numbers ≡ raised_from place g numbers
 same_raised place f g [] same = refl
@@ -28,7 +28,7 @@ by_nothing place f (n ∷ numbers) none =
     ap₂ (λ (m : ℕ) (ms : List ℕ). m ∷ ms) (omega (arith, none place))
     (by_nothing (place + 1) f numbers none)
 
--- what a row adds at a place
+-- what a row adds at an index
 adds : Option ℕ → ℕ → ℕ → ℕ
 adds found more place = if is_place place found then more else 0
 
@@ -38,7 +38,7 @@ here place more = grind arith
 elsewhere : (p place more : ℕ) → place < p → (if place == p then more else 0) ≡ 0
 elsewhere p place more past = grind arith
 
--- one of them is raised before all are
+-- raising one number first, and then all
 one_first : (place at more : ℕ) (f : ℕ → ℕ) (numbers : List ℕ) → at < length numbers
     → raised_from place f (set numbers at (get_or numbers at 0 + more))
     ≡ raised_from place (λ p. (if place + at == p then more else 0) + f p) numbers
@@ -68,7 +68,7 @@ one_first place (suc at) more f (n ∷ numbers) within =
         ≡ (if place + suc at == p then more else 0) + f p
     same p = grind arith
 
--- a row is added, and then those behind it
+-- adding a row, and then the rows after it
 pub row_further : (found : Option ℕ) (more : ℕ) (f : ℕ → ℕ) (old new numbers whole : List ℕ)
     → ((p : ℕ) → found ≡ Some p → p < length old) → new ≡ raised_at found more old
     → raised_from 0 (λ p. (if is_place p found then more else 0) + f p) old ≡ whole
@@ -84,7 +84,7 @@ row_further (Some at) more f old new numbers whole within grown is =
         ≡ (if at == p then more else 0) + f p
     same p = grind arith
 
--- a place that a name has is one of a bin
+-- the index found for a name is that of a bin
 some_place : (b : Bool) (x p n : ℕ) → (b ≡ true → x < n) → (if b then Some x else None) ≡ Some p
     → p < n
 some_place true x p n less is = subst (λ (k : ℕ). k < n) (some_is x p is) (less refl)

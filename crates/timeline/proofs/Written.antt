@@ -1,4 +1,4 @@
--- What is written part by part is written as a whole.
+-- Writing the parts one by one writes the whole.
 use Rattle.std.proofs.Common.{◌≡◌, ◌∙◌, refl, sym, ap, ℕ, zero, suc, ◌+◌, ◌-◌, ◌<◌, ◌≤◌}
 use Rattle.std.proofs.Common.{List, [], ◌∷◌, ◌++◌, append_assoc, append-nil, arith, length}
 use Rattle.std.proofs.Common.{String, map, string_bytes}
@@ -6,7 +6,7 @@ use Rattle.std.proofs.lemmas.List.{length-map, map-append}
 use Rattle.std.specs.List.{flat_map, range_with_len}
 use Rattle.std.specs.declared.alloc.Global.{Global}
 
--- one part further, and at the end
+-- after one more part, and at the end
 pub one_further : (o part rest new whole : List ℕ) → new ≡ o ++ part → o ++ (part ++ rest) ≡ whole
     → new ++ rest ≡ whole
 one_further o part rest new whole grown is =
@@ -15,7 +15,7 @@ one_further o part rest new whole grown is =
 pub and_then : (o n m a b : List ℕ) → n ≡ o ++ a → m ≡ n ++ b → m ≡ o ++ (a ++ b)
 and_then o n m a b first last = last ∙ ap (λ (t : List ℕ). t ++ b) first ∙ append_assoc o a b
 
--- a text that is lent is the one that it is
+-- a part that equals another
 pub lent : (o n a b : List ℕ) → n ≡ o ++ a → a ≡ b → n ≡ o ++ b
 lent o n a b put is = put ∙ ap (λ (t : List ℕ). o ++ t) is
 
@@ -32,11 +32,11 @@ pub five_parts : (o a b c d e : List ℕ)
     → o ++ a ++ b ++ c ++ d ++ e ≡ o ++ (a ++ b ++ c ++ d ++ e)
 five_parts o a b c d e = simp append_assoc refl
 
--- texts are as many as their bytes are
+-- taking the bytes of texts keeps their number
 pub as_many : (texts : List (String Global)) → length (map string_bytes texts) ≡ length texts
 as_many texts = length-map texts string_bytes
 
--- one text more
+-- one more text
 pub text_further : (items : List (String Global)) (text : String Global) (rest : List (List ℕ))
     → map string_bytes (items ++ text ∷ []) ++ rest
     ≡ map string_bytes items ++ (string_bytes text ∷ rest)
@@ -44,7 +44,7 @@ text_further items text rest =
     ap (λ (l : List (List ℕ)). l ++ rest) (map-append string_bytes items (text ∷ []))
     ∙ append_assoc (map string_bytes items) (string_bytes text ∷ []) rest
 
--- ---- a part for each number from one to another
+-- ---- a part for each number in a range
 
 next_number : (i n : ℕ) → i ≤ n
     → range_with_len i (n + 1 - i) ≡ i ∷ range_with_len (i + 1) (n + 1 - (i + 1))

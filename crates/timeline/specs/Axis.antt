@@ -1,6 +1,6 @@
--- The axis of time: a tick at each multiple of a step from the first bin's begin to the last one's
--- end, within the year 9999, with the time and the date below it. Minutes are counted from 1970 on,
--- in UTC, and places in pixels.
+-- The time axis. It has a tick at each multiple of a step between the first bin's start and the
+-- last bin's end, up to the year 9999. Below each tick are the time and the date. Minutes are
+-- counted from 1970 in UTC, and positions are in pixels.
 use Rattle.std.specs.Prelude.{ℕ, ◌+◌, ◌-◌, ◌*◌, ◌/◌, List, [], ◌∷◌, ◌++◌, codes, decimal, nat_lt}
 use Rattle.std.specs.Prelude.{Bool, ◌&&◌, min, if◌then◌else◌}
 use Rattle.std.specs.Int.{div_ceil}
@@ -8,7 +8,7 @@ use Rattle.std.specs.List.{flat_map, range_with_len}
 use Rattle.timeline.specs.Clocks.{clock_of_minute, date_of_minute}
 use Rattle.timeline.specs.declared.bins.Bins.{Bins}
 
--- where a minute stands: strips are 780 wide, 60 from the left
+-- the x position of a minute: strips are 780 wide, 60 from the left
 abbrev pub across : Bins → ℕ → ℕ
 across bins minute = 60 + (minute - bins.start) * 780 / bins.span
 
@@ -17,7 +17,7 @@ across bins minute = 60 + (minute - bins.start) * 780 / bins.span
 abbrev pub is_far_enough : (span step : ℕ) → Bool
 is_far_enough span step = nat_lt 0 step && nat_lt (span / step) 8
 
--- the first of these by which there are at most 8 ticks, or else one by which there are at most 7
+-- the first step that gives at most 8 ticks, or else a step that gives at most 7
 abbrev pub step_among : ℕ → List ℕ → ℕ
 step_among span [] = span / 7 + 1
 step_among span (step ∷ steps) =
@@ -31,7 +31,7 @@ tick_steps =
 
 -- ---- ticks
 
--- a text whose middle stands there
+-- the beginning of a text that is centred at x
 unfoldable pub place_opens : List ℕ
 place_opens = codes "<text text-anchor=\"middle\" font-size=\"12\" x=\""
 
@@ -55,7 +55,7 @@ tick bins minute = tick_line (across bins minute) ++ time_at (across bins minute
 abbrev pub tick_at : Bins → (step number : ℕ) → List ℕ
 tick_at bins step number = tick bins (number * step)
 
--- no tick is behind the bins, nor behind the year 9999
+-- no tick is after the bins, nor after the year 9999
 abbrev pub last_minute : Bins → ℕ
 last_minute bins = min (bins.start + bins.span) 4223371679
 

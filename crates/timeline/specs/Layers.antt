@@ -1,6 +1,6 @@
--- The layers of a strip, one a version, in units of a bin and of a hundredth of a percent. A
--- version stands on those before it and reaches to the top, and the next one covers what is above
--- its own share. What no version of the legend has is grey.
+-- The layers of a strip, one for each version, in units of a bin and of a hundredth of a percent. A
+-- layer begins above the layers before it and reaches to the top; the next layer covers what is
+-- above the version's own share. The share without a version in the legend is grey.
 use Rattle.std.specs.Prelude.{ℕ, ◌+◌, ◌-◌, ◌*◌, ◌/◌, ◌%◌, List, [], ◌∷◌, ◌++◌, codes, decimal}
 use Rattle.std.specs.Prelude.{nat_lt, Some, if◌then◌else◌}
 use Rattle.svg.specs.Colours.{colour_of}
@@ -9,14 +9,14 @@ use Rattle.report.specs.Screen.{Rows}
 use Rattle.timeline.specs.Marks.{Drawn}
 use Rattle.timeline.specs.declared.bins.Bins.{Bins}
 
--- the versions below count so many of all that a bin counts
+-- the bar in a bin, if the versions below have `below` of its `total` counts
 abbrev pub share_bar : (place total below : ℕ) → List ℕ
 share_bar place total below =
     if nat_lt below total
     then codes "M" ++ decimal place ++ codes " 0h1v" ++ decimal (10000 - below * 10000 / total)
     ++ codes "h-1z" else []
 
--- of each bin, from a place on
+-- the bars in all bins, from an index on
 abbrev pub share_bars : (place : ℕ) → List ℕ → List ℕ → List ℕ
 share_bars place [] stood = []
 share_bars place (total ∷ totals) [] = []
@@ -28,11 +28,11 @@ layer colour totals stood =
     codes "<path fill=\"" ++ colour_of colour ++ codes "\" d=\"" ++ share_bars 0 totals stood
     ++ codes "\"/>\n"
 
--- 64 colours, one after the other
+-- 64 colours in a cycle
 abbrev pub next_colour : ℕ → ℕ
 next_colour colour = colour % 64 + 1
 
--- what is drawn of one version
+-- the series of one version
 abbrev pub of_version : Drawn → List ℕ → Drawn
 of_version drawn version =
     record { what = drawn.what; app = drawn.app; version = Some version }

@@ -1,5 +1,5 @@
--- The legend of an app: a row for each version, with a patch of its colour, its text, and how often
--- it asked, was offered and failed. Heights are in pixels below the app's top.
+-- The legend of an app. It has a row for each version: its colour, its text, and the numbers of its
+-- update checks, offers and failures. Heights are in pixels below the app's top.
 use Rattle.std.specs.Prelude.{ℕ, ◌+◌, List, [], ◌∷◌, ◌++◌, codes, decimal}
 use Rattle.svg.specs.Colours.{colour_of}
 use Rattle.svg.specs.Xml.{xml_text}
@@ -21,7 +21,7 @@ version_place y = codes "<text x=\"80\" y=\"" ++ decimal y ++ codes "\">"
 abbrev pub version_text_at : (y : ℕ) → List ℕ → List ℕ
 version_text_at y version = version_place y ++ xml_text version ++ codes "</text>"
 
--- a text that ends there begins
+-- the beginning of a text that ends at x
 unfoldable pub count_opens : List ℕ
 count_opens = codes "<text text-anchor=\"end\" x=\""
 
@@ -33,7 +33,7 @@ count_place x y =
 abbrev pub column_count : (x y count : ℕ) → List ℕ
 column_count x y count = count_place x y ++ decimal count ++ codes "</text>"
 
--- what the columns have
+-- the titles of the columns
 unfoldable pub version_head : List ℕ
 version_head = codes "<text x=\"80\" y=\"455\">version</text>"
 
@@ -46,7 +46,7 @@ heads =
     ++ column_head 840 (codes "failures")
 
 module _ (rows : Rows) (app : List ℕ) where
-  -- how often a version asked, was offered or failed
+  -- the update checks, offers or failures of a version
   abbrev pub count_by_version : List ℕ → List ℕ → ℕ
   count_by_version what version = drawn_count rows (of_version (all_versions what app) version)
 
@@ -60,7 +60,7 @@ module _ (rows : Rows) (app : List ℕ) where
   version_row top colour version =
       colour_patch top colour ++ version_text_at (top + 11) version ++ counts_at (top + 11) version
 
-  -- the next row is 20 below
+  -- the next row is 20 pixels below
   abbrev pub version_rows : (top colour : ℕ) → List (List ℕ) → List ℕ
   version_rows top colour [] = []
   version_rows top colour (version ∷ versions) =

@@ -1,5 +1,5 @@
--- The loads of a log: a dashed line across an app's strips each, and above it `load` with its
--- generation, where the last label leaves room. The rows of loads have the time, the generation and
+-- The loads of a log. Each is a dashed line across an app's strips, with `load` and its generation
+-- above it, unless the last label is too near. The rows of loads have the time, the generation and
 -- the path, in the order of the times.
 use Rattle.std.specs.Prelude.{ℕ, ◌+◌, ◌-◌, ◌^◌, List, [], ◌∷◌, ◌++◌, codes, decimal, string_bytes}
 use Rattle.std.specs.Prelude.{nat_lt, nat_le, ◌&&◌, min, Option, Some, None, option_and_then}
@@ -12,7 +12,7 @@ use Rattle.report.specs.Exposition.{first, rest}
 use Rattle.report.specs.Screen.{Rows}
 use Rattle.timeline.specs.declared.bins.Bins.{Bins}
 
--- where a load of a minute stands, if that is within the bins
+-- the x position of a load, if its minute is within the bins
 abbrev pub x_within : Bins → ℕ → Option ℕ
 x_within bins minute =
     if nat_le bins.start minute && nat_lt (minute - bins.start) bins.span
@@ -21,7 +21,7 @@ x_within bins minute =
 abbrev pub load_x : Bins → List ℕ → Option ℕ
 load_x bins name = option_and_then (x_within bins) (minute_in (first name))
 
--- how often a load stands outside the bins: of a name with its count, and of all rows
+-- the number of loads outside the bins: for a name with its count, and for all rows
 abbrev pub outside : Bins → List ℕ → ℕ → ℕ
 outside bins name count = if is_none (load_x bins name) then count else 0
 
@@ -33,7 +33,7 @@ loads_outside bins rows = sum_by (count_outside bins) rows
 
 -- ---- a mark
 
--- across the three strips: a dashed line on a white one
+-- across the three strips: a dashed line over a white line
 unfoldable pub white_opens : List ℕ
 white_opens = codes "<path stroke=\"rgb(255,255,255)\" d=\"M"
 
@@ -49,7 +49,7 @@ path_at opens x = opens ++ decimal x ++ path_closes
 abbrev pub load_line : (x : ℕ) → List ℕ
 load_line x = path_at white_opens x ++ path_at dashed_opens x ++ codes "\n"
 
--- its generation, in the middle above it
+-- its generation, centred above the line
 unfoldable pub label_opens : List ℕ
 label_opens = codes "<text text-anchor=\"middle\" font-size=\"12\" y=\"36\" x=\""
 
@@ -59,7 +59,7 @@ label_place x = label_opens ++ decimal x ++ codes "\">load "
 abbrev pub load_label : (x : ℕ) → List ℕ → List ℕ
 load_label x generation = label_place x ++ xml_text generation ++ codes "</text>\n"
 
--- with its label, unless that would stand before where there is room
+-- with its label, unless that would begin before `free`
 abbrev pub load_mark : (free : ℕ) → Option ℕ → List ℕ → List ℕ
 load_mark free (Some x) name =
     load_line x ++ (if nat_lt x free then [] else load_label x (first (rest name)))

@@ -1,5 +1,5 @@
--- The rows that a picture is drawn by: each tells what was counted, of which app and version, in
--- which minute or hour from 1970 on, with tabs between the four, and how often.
+-- The rows for a chart. Each name has the kind of count, the app, the version, and the minute or
+-- hour since 1970, with tabs between the four.
 use Rattle.std.specs.Prelude.{ℕ, List, Option, Some, None, option_and_then}
 use Rattle.std.specs.Prelude.{is_some, option_copied, if◌then◌else◌, sum_by}
 use Rattle.std.specs.Prelude.{String, string_bytes}
@@ -12,18 +12,18 @@ use Rattle.timeline.specs.declared.marks.Series.{Series}
 
 -- ---- the texts of a name
 
--- what stands behind this text, if the name begins with it
+-- the rest of the name, if its first text is this one
 abbrev pub rest_behind : List ℕ → List ℕ → Option (List ℕ)
 rest_behind text name = if bytes_eq (first name) text then Some (rest name) else None
 
--- the same of any text, where none is asked for
+-- the same for any first text, if `None` is given
 abbrev pub behind_any : Option (List ℕ) → List ℕ → Option (List ℕ)
 behind_any (Some text) name = rest_behind text name
 behind_any None name = Some (rest name)
 
--- ---- rows by what they count
+-- ---- rows of a series
 
--- what is drawn: asks, offers or failures of an app, of one of its versions or of all
+-- a series: the update checks, offers or failures of an app, for one of its versions or for all
 pub record Drawn : Type 0 where
   pub what : List ℕ
   pub app : List ℕ
@@ -40,17 +40,17 @@ drawn_by series = record {
 abbrev pub moment_in : List ℕ → Option ℕ
 moment_in text = decimal_within 0 4223371679 text
 
--- the minute or the hour of a name, if it counts this
+-- the minute or hour of a name, if the series includes it
 abbrev pub moment_of : Drawn → List ℕ → Option ℕ
 moment_of drawn name =
     option_and_then (λ a. option_and_then (λ b. option_and_then moment_in
     (behind_any drawn.version b)) (rest_behind drawn.app a)) (rest_behind drawn.what name)
 
--- of any name
+-- for any name
 abbrev pub any_moment : List ℕ → Option ℕ
 any_moment name = moment_in (rest (rest (rest name)))
 
--- how often this was counted: of a name with its count, and of all rows
+-- the count of a series: for a name with its count, and for all rows
 abbrev pub count_if_named : Drawn → List ℕ → ℕ → ℕ
 count_if_named drawn name count = if is_some (moment_of drawn name) then count else 0
 

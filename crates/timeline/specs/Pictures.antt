@@ -1,5 +1,5 @@
--- The picture of a log's course, in SVG 1.1: for each app that was asked for a panel, in the order
--- of their appids. Lengths and places are in pixels, and heights grow downwards.
+-- The chart of a log over time, in SVG 1.1: a panel for each app with update checks, in the order
+-- of the appids. Lengths and positions are in pixels, and heights grow downwards.
 use Rattle.std.specs.Prelude.{ℕ, ◌+◌, ◌-◌, ◌*◌, List, [], ◌∷◌, ◌++◌, codes, decimal, length}
 use Rattle.std.specs.Prelude.{nat_lt, Bool, true, not, ◌&&◌, ◌==◌, Option, Some, None}
 use Rattle.std.specs.Prelude.{if◌then◌else◌, string_bytes}
@@ -20,9 +20,9 @@ use Rattle.timeline.specs.declared.bins.Bins.{Bins}
 use Rattle.timeline.specs.declared.bins.Reach.{Reach}
 use Rattle.timeline.specs.declared.picture.Undrawn.{Undrawn}
 
--- ---- what a picture is drawn by
+-- ---- the data of a chart
 
--- the rows of a table and their bins, and those of the versions and of the loads
+-- the rows of a table with their bins, the rows of versions, and the rows of loads
 pub record Drawing : Type 0 where
   pub rows : Rows
   pub bins : Bins
@@ -66,7 +66,7 @@ module _ (drawing : Drawing) where
   unfoldable pub app_panel : (top : ℕ) → List ℕ → List ℕ
   app_panel top app = panel_of top app (versions_in app)
 
--- each version has 20 pixels, and 500 are around them
+-- each version takes 20 pixels, and the rest of a panel 500
 abbrev pub end_of : (top : ℕ) → List (List ℕ) → ℕ
 end_of top versions = top + 500 + length versions * 20
 
@@ -86,7 +86,7 @@ panels_end drawing top [] = top
 panels_end drawing top (row ∷ rows) =
     panels_end drawing (panel_end drawing top (string_bytes row.0)) rows
 
--- ---- above them
+-- ---- above the panels
 
 unfoldable pub heading : List ℕ
 heading =
@@ -99,7 +99,7 @@ abbrev pub heading_of : Bins → List ℕ
 heading_of bins =
     heading ++ bins_heading ++ decimal (bins.width * bins.unit) ++ codes "</text>\n"
 
--- what has no place in the picture, if anything
+-- a number that the chart leaves out, unless it is 0
 abbrev pub undrawn_number : ℕ → List ℕ → List ℕ
 undrawn_number n what = if n == 0 then [] else codes " " ++ decimal n ++ what
 
@@ -116,22 +116,22 @@ undrawn_text undrawn =
 abbrev pub picture_head : (end : ℕ) → Bins → Undrawn → List ℕ
 picture_head end bins undrawn = frame end ++ heading_of bins ++ undrawn_text undrawn
 
--- ---- the picture
+-- ---- the chart
 
 abbrev pub picture_with : Drawing → Rows → Undrawn → List ℕ
 picture_with drawing apps undrawn =
     picture_head (panels_end drawing 60 apps) drawing.bins undrawn ++ app_panels drawing 60 apps
     ++ codes "</svg>\n"
 
--- the times that can be read by RFC 3339, to the second
+-- the times that RFC 3339 can express, to the second
 unfoldable pub no_asks : List ℕ
 no_asks = codes "<text x=\"20\" y=\"30\">No ask with a time from 1970-01-01T00:00:00Z to 9999-12-30T22:00:00Z.</text>\n"
 
 abbrev pub picture_of_none : List ℕ
 picture_of_none = frame 60 ++ no_asks ++ codes "</svg>\n"
 
--- The table by the minute is taken where it has all, and its time is shorter than 6000 minutes; or
--- else the one by the hour.
+-- The table by minute is used if all its names have rows, and its times span less than 6000
+-- minutes; else the table by hour.
 abbrev pub is_short : Option Reach → Bool
 is_short (Some reach) = nat_lt (reach.greatest - reach.least) 6000
 is_short None = true
@@ -150,7 +150,8 @@ drawing_over r t bins = record {
   loads = r.loads.rows.entries;
 }
 
--- counts beyond the table's rows, asks beyond 256 apps, and loads beyond 256 or outside the bins
+-- counts without a row, update checks of apps after the first 256, and loads after the first 256 or
+-- outside the bins
 abbrev pub undrawn_of : Report → Tally → Bins → Undrawn
 undrawn_of r t bins = record {
   counts = t.others;
@@ -172,7 +173,7 @@ picture_by_table r t by_hour = picture_of_reach r t by_hour (reach_from None t.r
 abbrev pub picture_when : Report → Bool → List ℕ
 picture_when r by_hour = picture_by_table r (table_of r.course by_hour) by_hour
 
--- where no app was asked for, or nothing has a time from 1970 on that can be read, none is drawn
+-- an empty chart if no app has update checks, or no row has a readable time
 abbrev pub course_picture : Report → List ℕ
 course_picture r =
     if length r.asked.rows.entries == 0 then picture_of_none

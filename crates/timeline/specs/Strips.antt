@@ -1,5 +1,5 @@
--- A strip shows in each bin of time which share of something each version has: 780 by 90 pixels, 60
--- from the left, with what it is and how often it was counted above it.
+-- A strip shows the share of each version in each bin of time. It is 780 by 90 pixels, 60 from the
+-- left, with a title and the total count above it.
 use Rattle.std.specs.Prelude.{ℕ, ◌+◌, ◌-◌, List, ◌++◌, codes, decimal, None}
 use Rattle.timeline.specs.Bins.{counts_by_bin, no_counts}
 use Rattle.timeline.specs.Layers.{layers}
@@ -7,7 +7,7 @@ use Rattle.report.specs.Screen.{Rows}
 use Rattle.timeline.specs.Marks.{Drawn, drawn_count}
 use Rattle.timeline.specs.declared.bins.Bins.{Bins}
 
--- ---- around a strip, which begins so far below its app's top
+-- ---- around a strip, which begins `top` pixels below its app's top
 
 abbrev pub strip_title_place : (y : ℕ) → List ℕ
 strip_title_place y = codes "<text x=\"60\" y=\"" ++ decimal y ++ codes "\">"
@@ -47,17 +47,17 @@ strip_opens =
 unfoldable pub strip_crisp : List ℕ
 strip_crisp = codes " 10000\" shape-rendering=\"crispEdges\">\n"
 
--- a bin is a unit wide, and 10000 units high
+-- a bin is 1 unit wide, and 10000 units high
 abbrev pub strip_opening : Bins → (top : ℕ) → List ℕ
 strip_opening bins top =
     strip_opens ++ decimal top ++ codes "\" viewBox=\"0 0 " ++ decimal bins.count ++ strip_crisp
 
--- what is drawn of all versions
+-- the series of all versions
 abbrev pub all_versions : List ℕ → List ℕ → Drawn
 all_versions what app = record { what = what; app = app; version = None }
 
 module _ (rows : Rows) (bins : Bins) (versions : List (List ℕ)) where
-  -- the layers stand on nothing, and all of a bin is what is counted of all versions
+  -- the first layer begins at the bottom, and a bin's total is the count of all versions
   abbrev pub shares : Drawn → (top : ℕ) → List ℕ
   shares drawn top =
       strip_opening bins top
@@ -68,7 +68,7 @@ module _ (rows : Rows) (bins : Bins) (versions : List (List ℕ)) where
   strip drawn top =
       strip_title drawn.what (drawn_count rows drawn) top ++ shares drawn top ++ frame_of top
 
-  -- those of an app
+  -- the strips of an app
   abbrev pub strips : List ℕ → List ℕ
   strips app =
       strip (all_versions (codes "asks") app) 60 ++ strip (all_versions (codes "offers") app) 180

@@ -1,4 +1,4 @@
--- The versions of an app, in the order of their texts, which is that of the rows.
+-- The versions of an app, in the order of the rows, which are sorted by name.
 use Rattle.std.specs.Prelude.{ℕ, List, [], ◌∷◌, ◌++◌, string_bytes}
 use Rattle.report.specs.Screen.{Rows}
 use Rattle.report.specs.Names.{listed}

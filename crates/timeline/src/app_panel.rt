@@ -1,4 +1,4 @@
-//! An app: its title, its loads and strips with their axis, and its legend.
+//! The panel of an app: its title, strips, time axis, loads and legend.
 
 ghost use Rattle.std.specs.Prelude.{◌≡◌, OnOk, IfOk, map, string_bytes};
 ghost use Rattle.printing.specs.Pushed.{Puts};
@@ -17,10 +17,10 @@ use std::collections::BTreeMap;
 use std::fmt::Write;
 use svg::push_xml;
 
-/// What a picture is drawn by.
+/// The data of a chart.
 #[derive(Clone, Copy)]
 pub(crate) struct PictureSource<'a> {
-    /// Its rows, by the minute or by the hour, and their bins.
+    /// The rows, by minute or by hour, and their bins.
     pub rows: &'a BTreeMap<String, u64>,
     pub bins: Bins,
     /// The rows of the versions, and of the loads.
@@ -28,7 +28,7 @@ pub(crate) struct PictureSource<'a> {
     pub loads: &'a BTreeMap<String, u64>,
 }
 
-/// Puts the panel of an app from a height on, and answers where the next one begins.
+/// Appends the panel of an app at the height `top`, and returns the height of the next one.
 #[tactic(auto, unfolding(crate::specs::Pictures::app_panel, crate::specs::Pictures::panel_end))]
 pub(crate) fn push_panel(
     alloc: Global,
@@ -48,7 +48,7 @@ pub(crate) fn push_panel(
     end_of(top, versions.as_slice())
 }
 
-// Where a panel with these versions ends: each has 20 pixels, and 500 are around them.
+// The end of a panel with these versions: each takes 20 pixels, and the rest 500.
 #[tactic(auto, using(crate::proofs::Written::as_many))]
 fn end_of(top: u64, versions: &[String]) -> Result<u64, AllocError>
     ensures { IfOk result (λ end. end ≡ specs.end_of top (map string_bytes versions.now)) }

@@ -11,17 +11,17 @@ use crate::marks::LAST_MINUTE;
 use std::alloc::AllocError;
 use std::fmt::Write;
 
-/// From tick to tick, in minutes.
+/// The steps between ticks, in minutes.
 const STEPS: [u64; 18] = [
     1, 2, 5, 10, 15, 30, 60, 120, 180, 360, 720, 1440, 2880, 5760, 10080, 20160, 40320, 80640,
 ];
 
-/// How many pixels a strip is wide, and how far it is from the left.
+/// The width of a strip, and its distance from the left, in pixels.
 const WIDTH: u128 = 780;
 
 const LEFT: u128 = 60;
 
-/// Where a minute from the first bin's begin on stands, in pixels from the left.
+/// The x position of a minute since the first bin's start, in pixels.
 pub(crate) fn across(bins: &Bins, minute: u64) -> u128
     requires { 0 < bins.now.span }
     ensures { result ≡ specs.across bins.now minute }
@@ -29,7 +29,7 @@ pub(crate) fn across(bins: &Bins, minute: u64) -> u128
     LEFT + minute.saturating_sub(bins.start) as u128 * WIDTH / bins.span as u128
 }
 
-/// Puts the ticks: at most 8, at multiples of a step.
+/// Appends the ticks: at most 8, at multiples of a step.
 #[tactic(auto, using(crate::proofs::Written::number_further, crate::proofs::Written::numbers_done))]
 pub(crate) fn push_axis(text: &mut String, bins: &Bins) -> Result<(), AllocError>
     requires { AreBins bins.now }
@@ -47,7 +47,7 @@ pub(crate) fn push_axis(text: &mut String, bins: &Bins) -> Result<(), AllocError
     Ok(())
 }
 
-// No tick is behind the bins, nor behind the year 9999.
+// No tick is after the bins, nor after the year 9999.
 fn last_minute(bins: &Bins) -> u64
     requires { AreBins bins.now }
     ensures last { result ≡ specs.last_minute bins.now }
@@ -77,7 +77,7 @@ fn is_far_enough(span: u64, step: u64) -> bool
     step > 0 && span / step < 8
 }
 
-// The minute of a tick, which isn't behind the last. Want of memory is answered where it would be.
+// The minute of a tick. Returns `AllocError` if it is after `last`.
 fn minute_at(number: u64, step: u64, last: u64) -> Result<u64, AllocError>
     ensures minute { IfOk result (λ minute. minute ≡ number * step) }
     ensures within { IfOk result (λ minute. minute ≤ last) }
@@ -107,7 +107,7 @@ fn push_line(text: &mut String, x: u128) -> Result<(), AllocError>
     text.push_str(" 390v6\"/>")
 }
 
-// The time at a tick, and its date below it.
+// The time at a tick, and its date below.
 fn push_time(text: &mut String, x: u128, minute: u64) -> Result<(), AllocError>
     requires { minute ≤ 4223371679 }
     ensures { OnOk result (Puts text.old text.new (specs.time_at x minute)) }
@@ -121,7 +121,7 @@ fn push_time(text: &mut String, x: u128, minute: u64) -> Result<(), AllocError>
     Ok(())
 }
 
-// A text begins whose middle stands there.
+// The beginning of a text that is centred at x.
 fn push_place(text: &mut String, x: u128, y: u64) -> Result<(), AllocError>
     ensures { OnOk result (Puts text.old text.new (specs.middle_text_at x y)) }
 {

@@ -1,4 +1,4 @@
-//! The bins into which a log's time is cut.
+//! The bins into which a log's time is divided.
 
 ghost use Rattle.std.specs.Prelude.{◌≡◌, ◌<◌, IfSome, None, true};
 ghost use Rattle.timeline.specs.Bins as specs;
@@ -7,7 +7,7 @@ ghost use Rattle.timeline.specs.Marks.{drawn_by};
 use crate::marks::{Series, any_moment, moment_of};
 use std::collections::BTreeMap;
 
-/// The most bins.
+/// The maximum number of bins.
 const MOST_BINS: u64 = 200;
 
 /// The widths of bins, in minutes and in hours.
@@ -15,28 +15,28 @@ const MINUTE_WIDTHS: [u64; 7] = [1, 2, 5, 10, 15, 30, 60];
 
 const HOUR_WIDTHS: [u64; 9] = [1, 2, 3, 6, 12, 24, 48, 168, 672];
 
-/// The least and the greatest number of rows.
+/// The least and the greatest number in the rows.
 #[derive(Clone, Copy)]
 pub(crate) struct Reach {
     pub least: u64,
     pub greatest: u64,
 }
 
-/// Bins of so many numbers each; a number is a minute or an hour.
+/// Bins with `width` numbers each; a number is a minute or an hour.
 #[derive(Clone, Copy)]
 pub(crate) struct Bins {
-    /// How many minutes a number has: 1 or 60.
+    /// The minutes of a number: 1 or 60.
     pub unit: u64,
     pub width: u64,
-    /// The number of the first bin, counted from 1970 on by this width.
+    /// The index of the first bin since 1970, in bins of this width.
     pub first: u64,
     pub count: u64,
-    /// The minute with which the first bin begins, and how many minutes all have.
+    /// The minute at which the first bin begins, and the minutes of all bins.
     pub start: u64,
     pub span: u64,
 }
 
-/// How far the rows reach, if any has a number.
+/// The reach of the rows, if any has a number.
 pub(crate) fn reach_of(rows: &BTreeMap<String, u64>) -> Option<Reach>
     ensures { result ≡ specs.reach_from None rows.now.entries }
 {
@@ -63,7 +63,7 @@ fn wider(reach: Option<Reach>, number: Option<u64>) -> Option<Reach>
     }
 }
 
-/// The bins of rows that reach so far, by minutes or by hours; none where they end past 64 bits.
+/// The bins for this reach, by minutes or by hours. `None` if they end beyond 64 bits.
 pub(crate) fn bins_over(reach: Reach, by_hour: bool) -> Option<Bins>
     ensures bins { IfSome result (λ bins. bins ≡ specs.bins_over reach by_hour) }
     ensures are { IfSome result specs.AreBins }
@@ -125,9 +125,9 @@ fn bins_of(reach: Reach, unit: u64, width: u64) -> Option<Bins>
     })
 }
 
-// ---- places
+// ---- indices
 
-/// In which bin what is drawn was counted under a name, from 0 on.
+/// The bin of a row's name, from 0, if the series includes it.
 pub(crate) fn bin_of(bins: &Bins, drawn: Series<'_>, name: &str) -> Option<u64>
     requires { 0 < bins.now.width }
     ensures place { result ≡ specs.bin_of bins.now (drawn_by drawn.entry) name.now }

@@ -1,4 +1,4 @@
-//! Minutes as a person reads them: a date, and a clock's time, in UTC.
+//! Minutes as dates and times of day, in UTC.
 
 ghost use Rattle.std.specs.Prelude.{◌≤◌, OnOk};
 ghost use Rattle.printing.specs.Pushed.{Puts};
@@ -8,7 +8,7 @@ use moments::CivilDate;
 use std::alloc::AllocError;
 use std::fmt::Write;
 
-/// Puts the date of a minute, as `2026-11-25`.
+/// Appends the date of a minute, such as `2026-11-25`.
 pub(crate) fn push_date(text: &mut String, minute: u64) -> Result<(), AllocError>
     requires { minute ≤ 4223371679 }
     ensures { OnOk result (Puts text.old text.new (specs.date_of_minute minute)) }
@@ -26,7 +26,7 @@ fn push_civil(text: &mut String, date: CivilDate) -> Result<(), AllocError>
     push_two(text, date.day)
 }
 
-/// Puts the time of day of a minute, as `08:00`.
+/// Appends the time of day of a minute, such as `08:00`.
 pub(crate) fn push_clock(text: &mut String, minute: u64) -> Result<(), AllocError>
     ensures { OnOk result (Puts text.old text.new (specs.clock_of_minute minute)) }
 {
@@ -35,7 +35,7 @@ pub(crate) fn push_clock(text: &mut String, minute: u64) -> Result<(), AllocErro
     push_two(text, minute % 60)
 }
 
-// A number, with two digits at least.
+// A number with at least two digits.
 fn push_two(text: &mut String, n: u64) -> Result<(), AllocError>
     ensures { OnOk result (Puts text.old text.new (specs.padded_two n)) }
 {

@@ -1,4 +1,4 @@
-//! What was counted in each bin.
+//! The counts of a series in each bin.
 
 ghost use Rattle.std.specs.Prelude.{◌≡◌, ◌<◌, ◌≤◌, OnOk, IfOk, length};
 ghost use Rattle.timeline.specs.Bins as specs;
@@ -9,7 +9,7 @@ use crate::marks::{Series, added};
 use std::alloc::{AllocError, Global};
 use std::collections::BTreeMap;
 
-/// How often this was counted in each bin.
+/// The counts of a series in each bin.
 pub(crate) fn counts_by_bin(
     alloc: Global,
     rows: &BTreeMap<String, u64>,
@@ -36,8 +36,8 @@ pub(crate) fn no_counts(alloc: Global, bins: &Bins) -> Result<Vec<u64>, AllocErr
     Ok(zeros)
 }
 
-/// Adds to the number of each bin how often this was counted in it. Want of memory is answered,
-/// too, where a number passes 64 bits.
+/// Adds the series' counts to the numbers of the bins. Also returns `AllocError` if a number
+/// overflows 64 bits.
 pub(crate) fn raise(
     numbers: &mut [u64],
     rows: &BTreeMap<String, u64>,

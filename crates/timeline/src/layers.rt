@@ -1,4 +1,4 @@
-//! The layers of a strip: one a version.
+//! The layers of a strip: one for each version.
 
 ghost use Rattle.std.specs.Prelude.{◌≡◌, ◌<◌, ◌≤◌, OnOk, length, map, string_bytes};
 ghost use Rattle.printing.specs.Pushed.{Puts};
@@ -13,12 +13,11 @@ use std::collections::BTreeMap;
 use std::fmt::Write;
 use svg::push_colour;
 
-/// How high a bin is, in hundredths of a percent.
+/// The height of a bin, in hundredths of a percent.
 const WHOLE: u128 = 10000;
 
-/// Puts a layer for each version, from the first colour on, and a grey one for what no version has.
-/// A layer stands on those before it, of which `stood` has what they count in each bin, and reaches
-/// to the top.
+/// Appends a layer for each version, from colour 1 on, and a grey layer for the rest. A layer
+/// begins above the layers before it, whose counts by bin are in `stood`, and reaches to the top.
 #[tactic(auto, using(crate::proofs::Loops::layer_further))]
 pub(crate) fn push_layers<'a>(
     text: &mut String,
@@ -45,7 +44,7 @@ pub(crate) fn push_layers<'a>(
     push_layer(text, 0, totals, stood)
 }
 
-/// What is drawn of one version.
+/// The series of one version.
 pub(crate) fn of_version<'a>(drawn: Series<'a>, version: &'a str) -> Series<'a>
     ensures { drawn_by result ≡ specs.of_version (drawn_by drawn.entry) version.now }
 {
@@ -55,7 +54,7 @@ pub(crate) fn of_version<'a>(drawn: Series<'a>, version: &'a str) -> Series<'a>
     }
 }
 
-/// The colour of the next version: 1 to 64, and then again.
+/// The colour of the next version: from 1 to 64, and then 1 again.
 pub(crate) fn next_colour(colour: usize) -> usize
     requires { colour ≤ 64 }
     ensures next { result ≡ specs.next_colour colour }
@@ -100,7 +99,8 @@ fn push_share_bars(text: &mut String, totals: &[u64], stood: &[u64]) -> Result<(
     Ok(())
 }
 
-// From what the layers below count of a bin up to its top; nothing where they count all.
+// The bar of a bin, from the share of the layers below up to the top. No bar if they have all
+// counts.
 fn push_share_bar(text: &mut String, place: u64, total: u64, below: u64) -> Result<(), AllocError>
     ensures { OnOk result (Puts text.old text.new (specs.share_bar place total below)) }
 {

@@ -1,4 +1,4 @@
-//! The legend of an app: its versions with their colours and their counts.
+//! The legend of an app: its versions, with their colours and counts.
 
 ghost use Rattle.std.specs.Prelude.{◌≡◌, ◌≤◌, OnOk, map, string_bytes};
 ghost use Rattle.printing.specs.Pushed.{Puts};
@@ -27,7 +27,7 @@ fn count_opens() -> &'static str
     "<text text-anchor=\"end\" x=\""
 }
 
-/// Puts a row for each version, from the first colour on.
+/// Appends a row for each version, from colour 1 on.
 pub(crate) fn push_app_legend<'a>(
     text: &mut String,
     rows: &BTreeMap<String, u64>,
@@ -50,7 +50,7 @@ fn version_head() -> &'static str
     "<text x=\"80\" y=\"455\">version</text>"
 }
 
-// What the columns count.
+// The titles of the columns.
 fn push_heads(text: &mut String) -> Result<(), AllocError>
     ensures { OnOk result (Puts text.old text.new specs.heads) }
 {
@@ -68,7 +68,7 @@ fn push_head(text: &mut String, x: u64, what: &str) -> Result<(), AllocError>
     text.push_str("</text>")
 }
 
-// A text begins that ends there.
+// The beginning of a text that ends at x.
 fn push_count_place(text: &mut String, x: u64, y: u64) -> Result<(), AllocError>
     ensures { OnOk result (Puts text.old text.new (specs.count_place x y)) }
 {
@@ -185,7 +185,7 @@ fn push_counts<'a>(
     Ok(())
 }
 
-// How often this was counted.
+// The count of a series.
 fn push_count_of(
     text: &mut String,
     rows: &BTreeMap<String, u64>,

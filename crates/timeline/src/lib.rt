@@ -1,13 +1,13 @@
-//! The course of a server's log over time, as a picture in SVG: the share that each version of an
-//! app has of the asks, the offers and the failures in each bin of time, with the loads as marks.
+//! The chart of a server's log over time, in SVG. For each bin of time it shows the share of each
+//! version in an app's update checks, offers and failures. Loads are marked.
 //!
 //! See docs/PROGRAM.md, "report".
 #![tactic(auto)]
 
-// How it goes. A report counts what a picture is drawn by, by the minute and by the hour. The finer
-// table is taken where it has all and its time is short enough; its time is cut into bins, and the
-// rows of each bin are added up. A version's layer stands on those of the versions before it, and
-// reaches to the top, so that the next one covers what is beyond it.
+// How a chart is made. A report counts by the minute and by the hour. The table by minute is used
+// if it is complete and spans a short enough time. That time is divided into bins, and the rows of
+// each bin are added up. A version's layer begins above the layers before it and reaches to the
+// top, and the next layer covers what is above the version's share.
 
 mod app_panel;
 mod axis;

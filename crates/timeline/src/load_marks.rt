@@ -13,7 +13,7 @@ use std::collections::BTreeMap;
 use std::fmt::Write;
 use svg::push_xml;
 
-/// Puts a line for each load within the bins, with its generation where there is room.
+/// Appends a line for each load within the bins, with its generation if there is space.
 #[tactic(auto, using(crate::proofs::Written::one_further, crate::proofs::Written::at_end))]
 pub(crate) fn push_loads(
     text: &mut String,
@@ -33,7 +33,7 @@ pub(crate) fn push_loads(
     Ok(())
 }
 
-/// How many loads stand outside the bins. Want of memory is answered where that passes 64 bits.
+/// The number of loads outside the bins. Also returns `AllocError` if it overflows 64 bits.
 pub(crate) fn loads_outside(bins: &Bins, loads: &BTreeMap<String, u64>) -> Result<u64, AllocError>
     requires { 0 < bins.now.span }
     ensures { IfOk result (λ n. n ≡ specs.loads_outside bins.now loads.now.entries) }
@@ -52,7 +52,7 @@ fn outside(bins: &Bins, name: &str, n: u64) -> u64
     if load_x(bins, name).is_none() { n } else { 0 }
 }
 
-// Where a load stands, if that is within the bins.
+// The x position of a load, if it is within the bins.
 fn load_x(bins: &Bins, name: &str) -> Option<u128>
     requires { 0 < bins.now.span }
     ensures { result ≡ specs.load_x bins.now name.now }
@@ -73,7 +73,7 @@ fn x_within(bins: &Bins, minute: u64) -> Option<u128>
     Some(across(bins, minute))
 }
 
-// From where on the next label has room.
+// The least x position for the next label.
 fn free_behind(free: u128, at: Option<u128>) -> u128
     ensures { result ≡ specs.free_behind free at }
 {
@@ -96,7 +96,7 @@ fn push_load(text: &mut String, free: u128, at: Option<u128>, name: &str) -> Res
     push_label(text, x, first(rest(name)))
 }
 
-// A dashed line across the three strips, on a white one.
+// A dashed line across the three strips, over a white line.
 fn push_line(text: &mut String, x: u128) -> Result<(), AllocError>
     ensures { OnOk result (Puts text.old text.new (specs.load_line x)) }
 {

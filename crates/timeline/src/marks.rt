@@ -1,4 +1,4 @@
-//! The rows that a picture is drawn by, and what they count.
+//! The rows for a chart, and the series that include them.
 
 ghost use Rattle.std.specs.Prelude.{◌≡◌, ◌+◌, ◌≤◌, IfOk, IfSome};
 ghost use Rattle.std.specs.Option.{option_copied};
@@ -9,10 +9,11 @@ use lexing::decimal_within;
 use std::alloc::AllocError;
 use std::collections::BTreeMap;
 
-/// The last minute of the year 9999, counted from 1970 on; no time of a server's log is behind it.
+/// The last minute of the year 9999, counted from 1970; all times of a server's log are before its
+/// end.
 pub(crate) const LAST_MINUTE: u64 = 4223371679;
 
-/// What is drawn: asks, offers or failures of an app, of one of its versions or of all.
+/// A series: the update checks, offers or failures of an app, for one of its versions or for all.
 #[derive(Clone, Copy)]
 pub(crate) struct Series<'a> {
     pub what: &'a str,
@@ -20,7 +21,7 @@ pub(crate) struct Series<'a> {
     pub version: Option<&'a str>,
 }
 
-/// The minute or the hour of a name, if it counts this.
+/// The minute or hour of a name, if the series includes it.
 pub(crate) fn moment_of(drawn: Series<'_>, name: &str) -> Option<u64>
     ensures moment { result ≡ specs.moment_of (specs.drawn_by drawn.entry) name.now }
     ensures within { IfSome result (λ n. n ≤ 4223371679) }
@@ -31,7 +32,7 @@ pub(crate) fn moment_of(drawn: Series<'_>, name: &str) -> Option<u64>
     moment_in(text)
 }
 
-/// The same of any name.
+/// The minute or hour of any name.
 pub(crate) fn any_moment(name: &str) -> Option<u64>
     ensures moment { result ≡ specs.any_moment name.now }
     ensures within { IfSome result (λ n. n ≤ 4223371679) }
@@ -46,7 +47,7 @@ fn moment_in(text: &str) -> Option<u64>
     decimal_within(text, 0, LAST_MINUTE)
 }
 
-/// How often this was counted. Want of memory is answered, too, where that passes 64 bits.
+/// The count of a series. Also returns `AllocError` if it overflows 64 bits.
 pub(crate) fn drawn_count(
     rows: &BTreeMap<String, u64>,
     drawn: Series<'_>,
@@ -71,7 +72,7 @@ fn count_if(drawn: Series<'_>, name: &str, n: u64) -> u64
     }
 }
 
-/// The sum of two numbers. Want of memory is answered where it passes 64 bits.
+/// The sum of two numbers. Returns `AllocError` if it overflows 64 bits.
 pub(crate) fn added(n: u64, more: u64) -> Result<u64, AllocError>
     ensures { IfOk result (λ sum. sum ≡ n + more) }
 {
@@ -83,7 +84,7 @@ pub(crate) fn added(n: u64, more: u64) -> Result<u64, AllocError>
 
 // ---- the texts of a name
 
-/// What stands behind this text, if the name begins with it.
+/// The rest of the name, if its first text is `text`.
 pub(crate) fn behind<'a>(text: &str, name: &'a str) -> Option<&'a str>
     ensures { option_copied result ≡ specs.rest_behind text.now name.now }
 {
@@ -113,7 +114,7 @@ pub(crate) fn first<'a>(name: &'a str) -> &'a str
     }
 }
 
-/// The others.
+/// The texts after the first.
 pub(crate) fn rest<'a>(name: &'a str) -> &'a str
     ensures { result.now ≡ rest name.now }
 {

@@ -1,4 +1,4 @@
-//! The whole picture.
+//! The whole chart.
 
 ghost use Rattle.std.specs.Prelude.{◌≡◌, IfOk, OnOk, string_bytes};
 ghost use Rattle.printing.specs.Pushed.{Puts};
@@ -16,7 +16,7 @@ use std::collections::BTreeMap;
 use std::fmt::Write;
 use svg::push_frame;
 
-/// The longest time that is drawn by the minute: 200 bins of half an hour.
+/// The longest time for a chart by minute: 200 bins of half an hour.
 const MOST_MINUTES: u64 = 6000;
 
 #[tactic(auto, unfolding(crate::specs::Pictures::no_asks))]
@@ -41,20 +41,20 @@ fn bins_heading() -> &'static str
     "dashed lines are loads. Times are in UTC. Minutes a bin: "
 }
 
-/// How much has no place in a picture.
+/// The numbers that a chart leaves out.
 #[derive(Clone, Copy)]
 pub(crate) struct Undrawn {
-    /// Counts that have no row in its table.
+    /// Counts without a row in the table.
     pub counts: u64,
-    /// Asks of apps beyond 256.
+    /// Update checks of apps after the first 256.
     pub asks: u64,
-    /// Loads beyond 256, and those outside the bins.
+    /// Loads after the first 256, and loads outside the bins.
     pub loads: u64,
 }
 
-/// The picture of the course that a report counted, as the text of an SVG file. Want of memory is
-/// answered, too, where a number passes 64 bits.
-// open: whether memory is refused.
+/// The chart of a report's counts over time, as the text of an SVG file. Also returns `AllocError`
+/// if a number overflows 64 bits.
+// open: whether an allocation fails.
 pub fn draw_course(alloc: Global, report: &Report) -> Result<String, AllocError>
     ensures { IfOk result (λ text. string_bytes text ≡ specs.course_picture report.now) }
 {
@@ -69,7 +69,7 @@ pub fn draw_course(alloc: Global, report: &Report) -> Result<String, AllocError>
     }
 }
 
-// Whether the table by the minute has all, and its time is short.
+// Whether the table by minute is complete, and its time is short.
 fn is_fine(by_minute: &Tally) -> bool
     ensures { result ≡ specs.is_fine by_minute.now }
 {
@@ -95,7 +95,7 @@ fn table_of<'a>(course: &'a Course, by_hour: bool) -> &'a Tally
     }
 }
 
-// Where nothing was counted.
+// An empty chart.
 fn drawn_none(alloc: Global) -> Result<String, AllocError>
     ensures { IfOk result (λ text. string_bytes text ≡ specs.picture_of_none) }
 {
@@ -201,7 +201,7 @@ fn push_heading(text: &mut String, bins: &Bins) -> Result<(), AllocError>
     write!(text, "{minutes}</text>\n")
 }
 
-// What has no place in the picture, if anything.
+// What the chart leaves out, if anything.
 fn push_undrawn(text: &mut String, undrawn: Undrawn) -> Result<(), AllocError>
     ensures { OnOk result (Puts text.old text.new (specs.undrawn_text undrawn)) }
 {
@@ -216,7 +216,7 @@ fn push_undrawn(text: &mut String, undrawn: Undrawn) -> Result<(), AllocError>
     Ok(())
 }
 
-// How many of these there are, if there are any.
+// A number that the chart leaves out, unless it is 0.
 fn push_undrawn_number(text: &mut String, n: u64, what: &str) -> Result<(), AllocError>
     ensures { OnOk result (Puts text.old text.new (specs.undrawn_number n what.now)) }
 {
@@ -235,7 +235,7 @@ fn undrawn_opens() -> &'static str
     "<text x=\"20\" y=\"50\">Not drawn:"
 }
 
-// The panels of all apps, one below the other, and where they end.
+// The panels of all apps, one below the other, and the height at which they end.
 #[tactic(auto, using(crate::proofs::Page::put, crate::proofs::Page::end, crate::proofs::Page::all))]
 fn push_panels(
     alloc: Global,

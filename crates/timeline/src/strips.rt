@@ -1,4 +1,4 @@
-//! The three strips of an app: asks, offers and failures.
+//! The three strips of an app: update checks, offers and failures.
 
 ghost use Rattle.std.specs.Prelude.{◌≡◌, ◌≤◌, OnOk, map, string_bytes};
 ghost use Rattle.printing.specs.Pushed.{Puts};
@@ -35,7 +35,7 @@ fn border() -> &'static str
     "\" x=\"60\" width=\"780\" height=\"90\" fill=\"none\" stroke=\"rgb(150,150,150)\"/>\n"
 }
 
-/// Puts the strips of an app's asks, offers and failures.
+/// Appends the strips of an app's update checks, offers and failures.
 pub(crate) fn push_strips<'a>(
     alloc: Global,
     text: &mut String,
@@ -81,7 +81,7 @@ fn push_strip_of<'a>(
     )
 }
 
-/// What is drawn of all versions.
+/// The series of all versions.
 pub(crate) fn all_versions<'a>(what: &'a str, app: &'a str) -> Series<'a>
     ensures { drawn_by result ≡ specs.all_versions what.now app.now }
 {
@@ -114,7 +114,7 @@ fn push_strip<'a>(
     Ok(())
 }
 
-// What the strip shows, and how often that was counted.
+// The title of the strip and its total count.
 fn push_title(text: &mut String, what: &str, count: u64, top: u64) -> Result<(), AllocError>
     requires { 6 ≤ top }
     ensures { OnOk result (Puts text.old text.new (specs.strip_title what.now count top)) }
@@ -160,7 +160,7 @@ fn push_border_line(text: &mut String, top: u64) -> Result<(), AllocError>
     text.push_str(border())
 }
 
-// A number beside the strip.
+// A number next to the strip.
 fn push_scale(text: &mut String, number: &str, y: u64) -> Result<(), AllocError>
     ensures { OnOk result (Puts text.old text.new (specs.scale number.now y)) }
 {

@@ -7,7 +7,7 @@ use crate::marks::behind;
 use std::alloc::{AllocError, Global};
 use std::collections::BTreeMap;
 
-/// The versions that rows have of an app.
+/// The versions of an app in the rows.
 #[tactic(auto, using(crate::proofs::Written::text_further))]
 pub(crate) fn versions_in_rows(
     alloc: Global,

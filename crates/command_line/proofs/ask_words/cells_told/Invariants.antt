@@ -3,7 +3,7 @@ use Rattle.std.specs.Prelude.{option_map}
 use Rattle.command_line.specs.ReplyWords as specs
 use Rattle.command_line.proofs.ask_words.cells_told.Given as goal
 
--- what is told so far, and then what the texts that are left tell, is all
+-- the cells read so far, followed by those of the remaining texts, are all cells
 abbrev pub invariant-loop-rest : goal.invariant-loop-rest
 invariant-loop-rest l =
     specs.cells_told (map (λ text. text.now) l.given)

@@ -3,7 +3,7 @@ use Rattle.std.specs.List.{list_all}
 use Rattle.warnings.specs.Names.{is_warning_name}
 use Rattle.command_line.proofs.check_words.are_names.Given as goal
 
--- those that are left decide
+-- the remaining texts decide
 abbrev pub invariant-loop-left : goal.invariant-loop-left
 invariant-loop-left l =
     list_all is_warning_name (map (λ name. name.now) l.left)

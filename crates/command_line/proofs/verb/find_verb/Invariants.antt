@@ -2,7 +2,7 @@ use Rattle.std.proofs.Common.{◌≡◌, length}
 use Rattle.command_line.specs.Grammar.{names_told, verb_in}
 use Rattle.command_line.proofs.verb.find_verb.Given as goal
 
--- those that are left decide
+-- the remaining rows decide
 abbrev pub invariant-loop-left : goal.invariant-loop-left
 invariant-loop-left l =
     verb_in l.name (names_told l.left) ≡ verb_in l.name (names_told l.rows)

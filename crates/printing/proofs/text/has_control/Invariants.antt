@@ -4,7 +4,7 @@ use Rattle.std.specs.Str.Iter.{chars_rest}
 use Rattle.printing.specs.Printed.{has_control, is_control}
 use Rattle.printing.proofs.text.has_control.Given as goal
 
--- none so far is a control
+-- no character so far is a control character
 abbrev pub invariant-loop-c : goal.invariant-loop-c
 invariant-loop-c l =
     IsUtf8 (chars_rest l.c-iterator)

@@ -4,7 +4,7 @@ use Rattle.std.specs.Str.Iter.{chars_rest}
 use Rattle.printing.specs.Printed.{is_control, printed, printed_char}
 use Rattle.printing.proofs.text.write_text.Given as goal
 
--- with the characters that are left what is written is the whole
+-- the output so far and the remaining characters make the whole
 abbrev pub invariant-loop-c : goal.invariant-loop-c
 invariant-loop-c g l =
     IsUtf8 (chars_rest l.c-iterator)

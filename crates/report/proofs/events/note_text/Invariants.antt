@@ -5,7 +5,7 @@ use Rattle.report.specs.Tallies.{Notes}
 use Rattle.report.specs.declared.tally.Tally.{Tally}
 use Rattle.report.proofs.events.note_text.Given as goal
 
--- once the events of the text that is left are counted, all are
+-- counting the events of the remaining text completes the count
 abbrev pub invariant-loop-left : goal.invariant-loop-left
 invariant-loop-left l = (last : Tally)
     → Notes l.tally last (names_in_text l.question (view l.app) l.appid l.left)

@@ -2,7 +2,7 @@ use Rattle.std.proofs.Common.{◌≡◌, ◌++◌, string_bytes}
 use Rattle.report.specs.Exposition.{samples}
 use Rattle.report.proofs.exposition.push_samples.Given as goal
 
--- the text so far, and the samples that are left, are the whole
+-- the text so far and the remaining samples make the whole
 abbrev pub invariant-loop-name : goal.invariant-loop-name
 invariant-loop-name l =
     string_bytes l.text ++ samples l.metric l.labels l.name-iterator

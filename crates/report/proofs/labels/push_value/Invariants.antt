@@ -4,7 +4,7 @@ use Rattle.std.specs.Str.Iter.{chars_rest}
 use Rattle.report.specs.Exposition.{value_char, value_text}
 use Rattle.report.proofs.labels.push_value.Given as goal
 
--- with the characters that are left the text is the whole
+-- the text so far and the remaining characters make the whole
 abbrev pub invariant-loop-c : goal.invariant-loop-c
 invariant-loop-c l =
     IsUtf8 (chars_rest l.c-iterator)

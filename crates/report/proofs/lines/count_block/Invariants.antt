@@ -4,7 +4,7 @@ use Rattle.report.specs.Reading.{CountsLines}
 use Rattle.report.specs.declared.counting.Report.{Report}
 use Rattle.report.proofs.lines.count_block.Given as goal
 
--- once the lines of the bytes that are left and of those behind are counted, those of all are
+-- counting the remaining bytes and those after the block completes the count
 abbrev pub invariant-loop-left : goal.invariant-loop-left
 invariant-loop-left l = (bytes : List ℕ) (last : Report)
     → CountsLines l.window (lines_behind l.begun.items (l.left ++ bytes)) l.report last

@@ -3,7 +3,7 @@ use Rattle.std.specs.Io.KnownBytes.{Consumes}
 use Rattle.report.specs.Reading.{ReadsBlock}
 use Rattle.report.proofs.lines.count_by_blocks.Given as goal
 
--- these bytes have been read, and their lines are counted but for the beginning of the last
+-- the bytes read so far, whose lines are counted except for the beginning of the last
 abbrev pub invariant-loop : goal.invariant-loop
 invariant-loop g l = record {
   seen : List ℕ;

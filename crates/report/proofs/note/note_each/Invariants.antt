@@ -5,7 +5,7 @@ use Rattle.report.specs.Tallies.{Notes}
 use Rattle.report.specs.declared.tally.Tally.{Tally}
 use Rattle.report.proofs.note.note_each.Given as goal
 
--- once the apps that are left are counted, all are
+-- counting the remaining apps completes the count
 abbrev pub invariant-loop-left : goal.invariant-loop-left
 invariant-loop-left l = (last : Tally)
     → Notes l.tally last (names_of_apps l.question (view l.line) (items_view l.left))

@@ -4,7 +4,7 @@ use Rattle.std.specs.Str.Iter.{chars_rest}
 use Rattle.svg.specs.Xml.{xml_char, xml_text}
 use Rattle.svg.proofs.xml.push_xml.Given as goal
 
--- with the characters that are left the text is the whole
+-- the text so far and the remaining characters make the whole
 abbrev pub invariant-loop-c : goal.invariant-loop-c
 invariant-loop-c l =
     IsUtf8 (chars_rest l.c-iterator)

@@ -3,7 +3,7 @@ use Rattle.std.specs.List.{flat_map, range_with_len}
 use Rattle.timeline.specs.Axis.{axis, tick_at}
 use Rattle.timeline.proofs.axis.push_axis.Given as goal
 
--- with the ticks that are left the text is the whole
+-- the text so far and the remaining ticks make the whole
 abbrev pub invariant-loop-number : goal.invariant-loop-number
 invariant-loop-number l =
     string_bytes l.text ++ flat_map (tick_at l.bins l.step)

@@ -2,7 +2,7 @@ use Rattle.std.proofs.Common.{◌≡◌, length}
 use Rattle.timeline.specs.Bins.{width_among}
 use Rattle.timeline.proofs.bins.width_among.Given as goal
 
--- none before those that are left fits
+-- no width before the remaining ones is wide enough
 abbrev pub invariant-loop-left : goal.invariant-loop-left
 invariant-loop-left l = width_among l.reach l.left ≡ width_among l.reach l.widths
 

@@ -3,7 +3,7 @@ use Rattle.timeline.specs.Marks.{drawn_by}
 use Rattle.timeline.proofs.Raised.{raised_each}
 use Rattle.timeline.proofs.counts.raise.Given as goal
 
--- the numbers so far, raised by the rows that are left, are those raised by all
+-- the numbers so far, raised by the remaining rows, are those raised by all
 abbrev pub invariant-loop-name : goal.invariant-loop-name
 invariant-loop-name l = record {
   each : raised_each l.bins (drawn_by l.drawn) l.name-iterator l.numbers

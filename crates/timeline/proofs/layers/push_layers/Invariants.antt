@@ -3,7 +3,7 @@ use Rattle.timeline.specs.Layers.{layers}
 use Rattle.timeline.specs.Marks.{drawn_by}
 use Rattle.timeline.proofs.layers.push_layers.Given as goal
 
--- with the layers of the versions that are left the text is the whole
+-- the text so far and the layers of the remaining versions make the whole
 abbrev pub invariant-loop-left : goal.invariant-loop-left
 invariant-loop-left l = record {
   text : string_bytes l.text ++ layers l.rows.entries (drawn_by l.drawn) l.bins l.totals l.colour

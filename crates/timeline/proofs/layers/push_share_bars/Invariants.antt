@@ -2,7 +2,7 @@ use Rattle.std.proofs.Common.{◌≡◌, ◌+◌, ◌++◌, length, string_bytes
 use Rattle.timeline.specs.Layers.{share_bars}
 use Rattle.timeline.proofs.layers.push_share_bars.Given as goal
 
--- with the bins that are left the text is the whole
+-- the text so far and the remaining bins make the whole
 abbrev pub invariant-loop-totals : goal.invariant-loop-totals
 invariant-loop-totals l = record {
   text : string_bytes l.text ++ share_bars l.place l.totals l.stood

@@ -2,7 +2,7 @@ use Rattle.std.proofs.Common.{◌≡◌, ◌≤◌, ◌++◌, length, map, strin
 use Rattle.timeline.specs.Legends.{version_rows}
 use Rattle.timeline.proofs.legend.push_rows.Given as goal
 
--- with the rows of the versions that are left the text is the whole
+-- the text so far and the rows of the remaining versions make the whole
 abbrev pub invariant-loop-left : goal.invariant-loop-left
 invariant-loop-left l = record {
   text : string_bytes l.text ++ version_rows l.rows.entries l.app l.top l.colour

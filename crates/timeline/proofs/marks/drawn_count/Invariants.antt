@@ -2,7 +2,7 @@ use Rattle.std.proofs.Common.{◌≡◌, ◌+◌}
 use Rattle.timeline.specs.Marks.{drawn_count, drawn_by}
 use Rattle.timeline.proofs.marks.drawn_count.Given as goal
 
--- those so far, and those that are left, are all
+-- the count so far and the remaining rows make the whole
 abbrev pub invariant-loop-name : goal.invariant-loop-name
 invariant-loop-name l =
     l.count + drawn_count l.name-iterator (drawn_by l.drawn)

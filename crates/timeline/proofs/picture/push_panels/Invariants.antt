@@ -2,7 +2,7 @@ use Rattle.std.proofs.Common.{◌≡◌, ◌++◌, string_bytes}
 use Rattle.timeline.specs.Pictures.{drawing_by, app_panels, panels_end}
 use Rattle.timeline.proofs.picture.push_panels.Given as goal
 
--- with the panels of the apps that are left the text is the whole, and they end with all
+-- the text so far and the remaining panels make the whole, and both have the same end
 abbrev pub invariant-loop-app : goal.invariant-loop-app
 invariant-loop-app l = record {
   text : string_bytes l.text ++ app_panels (drawing_by l.source) l.top l.app-iterator
