@@ -1,4 +1,5 @@
-"""A server that is started and asked, by plain sockets over loopback, for the scripts of bench/."""
+"""Starts a server and sends it requests by plain sockets over loopback, for the scripts of
+bench/."""
 import re
 import socket
 import struct
@@ -39,7 +40,7 @@ def manifest(server, *tables):
 
 
 def free_ports():
-    """Two ports of loopback that nobody listens on."""
+    """Two ports of loopback on which nothing listens."""
     with socket.socket() as one, socket.socket() as other:
         for it in (one, other):
             it.bind(("127.0.0.1", 0))
@@ -47,7 +48,7 @@ def free_ports():
 
 
 class Server:
-    """`rollout serve` on a manifest, on ports of its own, until the end of a `with`."""
+    """`rollout serve` on a manifest, with its own ports, until the end of a `with`."""
 
     # Seconds that a client or an operator waits for a piece of a reply.
     patience = 30
@@ -74,7 +75,7 @@ class Server:
         self.errors.close()
 
     def said(self):
-        """What it has written on standard error so far."""
+        """What it has written to standard error so far."""
         self.errors.seek(0)
         return self.errors.read().decode()
 
@@ -82,7 +83,7 @@ class Server:
         return socket.create_connection(("127.0.0.1", self.port), timeout=self.patience)
 
     def exchange(self, data):
-        """What comes back to these bytes."""
+        """The reply to these bytes."""
         with self.connect() as stream:
             stream.sendall(data)
             return rest(stream)
@@ -91,13 +92,13 @@ class Server:
         return socket.create_connection(("127.0.0.1", self.operator), timeout=self.patience)
 
     def ask(self, line):
-        """The operator's port's reply to a line."""
+        """The reply of the operator's port to a line."""
         with self.connect_operator() as stream:
             stream.sendall(line.encode() + b"\n")
             return rest(stream).decode()
 
     def of_status(self, name):
-        """A number of the process's status, as VmRSS (in KiB) or Threads."""
+        """A number in the process's status, such as VmRSS (in KiB) or Threads."""
         text = Path(f"/proc/{self.process.pid}/status").read_text()
         return int(re.search(rf"^{name}:\s+(\d+)", text, re.M)[1])
 
@@ -105,11 +106,11 @@ class Server:
         return len(list(Path(f"/proc/{self.process.pid}/fd").iterdir()))
 
     def ends(self):
-        """Its status after `stop`."""
+        """Its exit status after `stop`."""
         return self.process.wait(self.patience)
 
 
-# ---- what clients send and hear
+# ---- what clients send and receive
 
 
 def request(*appids, more=""):
@@ -123,7 +124,7 @@ def post(body):
 
 
 def rest(stream):
-    """What comes until the other side ends."""
+    """All bytes until the other side closes."""
     pieces = []
     while piece := stream.recv(65536):
         pieces.append(piece)
@@ -131,13 +132,13 @@ def rest(stream):
 
 
 def reset(stream):
-    """Closes without a farewell: the other side's next call on it fails."""
+    """Resets the connection: the other side's next call on it fails."""
     stream.setsockopt(socket.SOL_SOCKET, socket.SO_LINGER, struct.pack("ii", 1, 0))
     stream.close()
 
 
 def whole(reply):
-    """The status and the text of a reply that is as long as it says, or None."""
+    """The status and the text of a reply whose length is as it says, or None."""
     head, blank, text = reply.partition(b"\r\n\r\n")
     found = re.match(rb"HTTP/1\.1 (\d{3}) .*\r\nContent-Length: (\d+)\r\n", head + b"\r\n", re.S)
     if not blank or found is None or int(found[2]) != len(text):

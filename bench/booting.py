@@ -1,8 +1,8 @@
-"""A check of the unit of examples/deploy as it stands there, run by a systemd of its own: one that
-is the first process of namespaces, over files that are copied when they are written, and knows no
-other units of this host. So all is tried that confines the server, but for its memory.
+"""Checks the unit of examples/deploy, unchanged, in a systemd of its own. This is the first process
+of its namespaces, over copy-on-write files, and knows no other units of this host. So everything
+that confines the server is tested, except the memory limit.
 
-It gives nothing, or what was wrong. Where that can't be made, as without root, it is skipped.
+Returns nothing, or what was wrong. Skipped if this can't be set up, for example without root.
 """
 import contextlib
 import os
@@ -19,7 +19,7 @@ PROGRAM, AT = "/opt/rollout/bin/rollout", ["--operator", "8081"]
 POST = "http://127.0.0.1:8080/service/update2/json"
 CONFINED = ["CapBnd:\t0000000000000000", "NoNewPrivs:\t1", "Seccomp:\t2"]
 FIRST = "/usr/lib/systemd/systemd"
-# $1 is an empty folder, and $2 has a folder for each of the host's that is to be another one.
+# $1 is an empty folder, and $2 has a replacement for each host folder that is to differ.
 BOOT = """
 mount -t tmpfs tmpfs "$1" && mkdir "$1/up" "$1/work" "$1/new"
 mount -t overlay -o lowerdir=/,upperdir="$1/up",workdir="$1/work" overlay "$1/new"
@@ -44,11 +44,11 @@ ip link set lo up
 exec env -i container=bench PATH=/usr/sbin:/usr/bin:/sbin:/bin "$3" --system --unit=basic.target
 """
 TARGETS = ["basic", "sysinit", "shutdown", "multi-user"]
-# Folders of this host in which others may write, or may find room for one of theirs.
+# Folders of this host that others may write to, or that may hold a folder of theirs.
 PLACES = ["/dev/shm", "/dev/mqueue", "/run/lock", "/tmp", "/var/tmp", "/var/lib", "/srv", "/home"]
 
 def prepared(folder):
-    """What the booted one has beside this host's files."""
+    """The files that the booted system has in addition to this host's."""
     host, root = Host(folder / "host"), folder / "its"
     for name in ("etc/systemd/system", "etc/sysusers.d", "etc/rollout", "opt", "var/log/rollout"):
         (root / name).mkdir(parents=True)
@@ -65,7 +65,7 @@ def prepared(folder):
 
 @contextlib.contextmanager
 def own_group():
-    """A control group of its own, in which processes begin."""
+    """A control group of its own for new processes."""
     mounts = re.findall(r"^\S+ (\S+) cgroup2 ", Path("/proc/self/mounts").read_text(), re.M)
     within = re.search(r"^0::/(.*)$", Path("/proc/self/cgroup").read_text(), re.M)
     if not mounts or not within:
@@ -91,7 +91,7 @@ def removed(group):
 
 @contextlib.contextmanager
 def booted(folder):
-    """The words by which a command is called beside the systemd that has booted."""
+    """The words that run a command in the booted system."""
     root = prepared(folder)
     (folder / "top").mkdir()
     apart = ["unshare", "--mount", "--pid", "--fork", "--kill-child", "--net", "--uts", "--ipc"]
@@ -117,7 +117,7 @@ def booted(folder):
 
 
 class Booted:
-    """Commands beside the systemd that has booted."""
+    """Commands in the booted system."""
 
     def __init__(self, into):
         self.into = into
@@ -133,7 +133,7 @@ class Booted:
         return OFFERED in self.call("curl", "-s", POST, "-d", ASK)[1]
 
     def started(self):
-        """What is wrong with a start, which is to end when clients are answered."""
+        """What is wrong with a start, which must return only once clients get answers."""
         words = 'systemctl start rollout && curl -s "$0" -d "$1"'
         found = self.call("sh", "-c", words, POST, ASK)
         if found[0] != 0 or OFFERED not in found[1]:
@@ -152,7 +152,7 @@ def wrong_start(it):
 
 
 def wrong_places(it):
-    """A manifest is loaded from no folder in which others may write, and from the right one."""
+    """A manifest loads only from the right folder, not from one that others may write to."""
     copies = 'mkdir -p "$0" && cp /etc/rollout/* "$0" && chmod -R a+rX "$0"'
     load = [*AS_ANOTHER, PROGRAM, "load"]
     for place in PLACES:
@@ -169,7 +169,7 @@ def wrong_places(it):
 
 
 def wrong_ends(it):
-    """A second server of the ports, a crash, a signal, two stops."""
+    """A second server on the same ports, a crash, a signal, two stops."""
     if it.call("systemctl", "start", "rollout@8")[0] == 0 or not it.is_asked():
         return "a second server of the same ports is started, or ends the first"
     it.call("systemctl", "stop", "rollout@8")
@@ -189,7 +189,7 @@ def wrong_ends(it):
 
 
 def booted_unit(folder):
-    """The unit as it stands, by systemd."""
+    """The unchanged unit, run by systemd."""
     needs("unshare", "nsenter", "ip", "setpriv", "curl", "systemctl", "systemd-sysusers", FIRST)
     needs_root()
     with booted(folder) as into:

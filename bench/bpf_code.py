@@ -1,8 +1,8 @@
-"""Programs of BPF as lists of instructions, their bytes (RFC 9669), and random ones with masks and
-bit tests, for the scripts of bench/.
+"""BPF programs as lists of instructions, their bytes (RFC 9669), and random ones with masks and bit
+tests, for the scripts of bench/.
 
-An instruction of a program is named by its place in the list, which is also the target of a jump.
-Where code is made of it a target is a label: an item of the list that has no bytes.
+In a program, an instruction's index in the list is also the target of jumps to it. In generated
+code a target is a label: an item of the list without bytes.
 """
 import struct
 from dataclasses import dataclass
@@ -18,7 +18,7 @@ LOADS = {"ldxw": 0x61, "ldxh": 0x69, "ldxb": 0x71, "ldxdw": 0x79}
 
 @dataclass(frozen=True)
 class Insn:
-    """An instruction; without src its operand is imm, which of a load is the place."""
+    """An instruction. Without src its operand is imm; for a load, imm is the offset."""
 
     word: str
     dst: int = 0
@@ -52,7 +52,7 @@ class Insn:
 
 @dataclass(frozen=True)
 class Label:
-    """A place in a list of instructions."""
+    """A position in a list of instructions."""
 
     name: object
 
@@ -75,7 +75,7 @@ def places(items):
 
 
 def encoded(items):
-    """The bytes of instructions whose jumps lead to labels."""
+    """The bytes of instructions whose jumps have labels as targets."""
     at_label, made, at = places(items), [], 0
     for item in items:
         if isinstance(item, Insn):
@@ -87,7 +87,7 @@ def encoded(items):
 
 # ---- random programs
 
-# The registers with numbers; each is set by the first instructions, one each.
+# The registers for numbers; the first instructions set one each.
 REGISTERS = [0, 2, 3, 4]
 FIELDS = [("ldxb", 18), ("ldxb", 19), ("ldxh", 16), ("ldxw", 0), ("ldxw", 24), ("ldxdw", 8)]
 MASKS = [1, 2, 3, 4, 5, 6, 7, 8, 12, 15, 16, 24, 31, 32, 40, 48, 63, 127, 255, -2, -4, -8, -16]
@@ -95,7 +95,7 @@ ENDS = [0, 1, 2, 3, 4, 6, 7, 8, 10, 15, 16, 31, 32, 63, 64, 100, 255]
 
 
 def operation(drawn):
-    """Arithmetic on a register: twice as often as not AND, OR or XOR."""
+    """An arithmetic operation on a register; more than half are AND, OR or XOR."""
     words = {"and": 20, "or": 14, "xor": 10, "lsh": 6, "rsh": 6, "arsh": 3, "add": 5, "sub": 4}
     words |= {"mul": 1, "neg": 1, "mov": 6}
     word = drawn.choices(list(words), words.values())[0]
@@ -111,7 +111,7 @@ def operation(drawn):
 
 
 def test(drawn, target):
-    """A conditional jump: every other one is a test of bits."""
+    """A conditional jump; half of these test bits."""
     others = ["jeq", "jne", "jgt", "jge", "jlt", "jle", "jsgt", "jslt"]
     word = "jset" if drawn.random() < 0.5 else drawn.choice(others)
     how = {"bits": drawn.choice([64, 64, 64, 32]), "target": target}
@@ -122,8 +122,8 @@ def test(drawn, target):
 
 
 def random_program(drawn):
-    """Loads, four to twelve operations and tests, an operation that bounds R0, and an EXIT. A test
-    jumps over up to three of these, or to the choice 0 behind them."""
+    """Loads, four to twelve operations and jumps, an operation that bounds R0, and an EXIT. A jump
+    skips up to three of these, or leads to the choice 0 at the end."""
     insns = []
     for register in REGISTERS:
         word, place = drawn.choice(FIELDS)

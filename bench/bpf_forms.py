@@ -1,8 +1,8 @@
-"""Forms of a program that do the same: its slots one after another, or each path by itself; and in
-either more code at its points.
+"""Equivalent forms of a program: its slots in order, or each path separately. In both, more code
+can be inserted at its points.
 
-More code is a function that gives the instructions for a point. A jump to NONE leaves with
-the choice 0.
+More code is a function that returns the instructions for a point. A jump to NONE leaves with the
+choice 0.
 """
 from dataclasses import dataclass, replace
 
@@ -13,8 +13,8 @@ NONE = "the choice 0"
 
 @dataclass(frozen=True)
 class Point:
-    """A place in a program: behind an instruction, `on` or `taken` as an edge of a jump, or `in`
-    front of an instruction, where edges have met."""
+    """A point in a program: after an instruction, on an edge of a jump (`on` or `taken`), or before
+    an instruction at which edges meet (`in`)."""
 
     place: int
     edge: str = ""
@@ -38,7 +38,7 @@ def joined(insns, more):
 
 
 def apart(insns, more):
-    """Each path of the program by itself, but for its beginning."""
+    """Each path of the program separately; paths share only their common beginnings."""
     made, waiting = [], [(0, None)]
     while waiting:
         at, edge = waiting.pop()
@@ -67,7 +67,7 @@ def nothing(_):
 
 
 def copied_again(insns):
-    """More code: each number is copied onto itself, where it may have become another one."""
+    """More code: copies each number onto itself wherever it may have changed."""
     targets = {insn.target for insn in insns}
 
     def more(point):

@@ -1,4 +1,4 @@
-"""Rules in C, and the compilers of this machine that make programs of them."""
+"""Rules in C, and the compilers of this machine that compile them."""
 import functools
 import re
 import shutil
@@ -21,7 +21,7 @@ HEADER = '#include "corpus.h"\n'
 
 @dataclass(frozen=True)
 class Rule:
-    """A function in C, with its releases and arrays, and the fault that its comment says it has."""
+    """A C function, with its releases and arrays, and the fault that its comment announces."""
 
     name: str
     releases: int
@@ -31,7 +31,7 @@ class Rule:
 
 @dataclass(frozen=True)
 class Source:
-    """A text in C with some rules, which is compiled as a whole."""
+    """A C text with one or more rules, which is compiled as a whole."""
 
     name: str
     text: str
@@ -44,7 +44,7 @@ class Source:
 
 
 def example(path):
-    """A rule of examples/c, whose comment has the words for `verify`."""
+    """A rule of examples/c; its comment has the options for `verify`."""
     text = path.read_text()
     most = re.search(r"--releases (\d+)", text)[1]
     arrays = re.search(r"--arrays (\S+)", text)
@@ -53,14 +53,14 @@ def example(path):
 
 
 def by_hand():
-    """The rules of bench/programs and examples/c, a source a file."""
+    """The rules of bench/programs and examples/c, one source for each file."""
     files = [file for file in sorted(PROGRAMS.glob("*.c")) if file.stem != "host"]
     examples = [Source(file.stem, example(file)) for file in sorted(EXAMPLES.glob("*.c"))]
     return [Source(file.stem, file.read_text()) for file in files] + examples
 
 
 def at_random(count, seed):
-    """Random rules, a source each."""
+    """Random rules, one source for each."""
     for number in range(count):
         name = f"random_{number}"
         yield Source(name, random_rule(name, f"{seed} {number}"))
@@ -80,7 +80,7 @@ class Compiler:
         return self.name.startswith("clang")
 
     def compile(self, sources, option, folder):
-        """The bytes of each rule's program, but of sources that the compiler refuses."""
+        """The bytes of each rule's program, except for sources that the compiler refuses."""
         if not sources:
             return {}
         made = folder / "rules.o"
@@ -99,10 +99,10 @@ class Compiler:
 
 
 def sections(elf):
-    """The sections of an object file of 64 bits, by name (System V ABI, "Sections")."""
+    """The sections of a 64-bit object file, by name (System V ABI, "Sections")."""
     (start,) = struct.unpack_from("<Q", elf, 0x28)
     size, count, names = struct.unpack_from("<HHH", elf, 0x3A)
-    # Of each its name's place, its place in the file, and its size.
+    # For each section: the offset of its name, its offset in the file, and its size.
     headers = [struct.unpack_from("<I20xQQ", elf, start + size * it) for it in range(count)]
     texts = headers[names][1]
     named = [(elf[texts + name :].split(b"\0", 1)[0], at, size) for name, at, size in headers]
@@ -115,16 +115,16 @@ def version(command):
 
 
 def compilers():
-    """Those that are installed: each clang by the levels of the instruction set, and gcc."""
+    """The installed compilers: each clang at each level of the instruction set, and gcc."""
     clangs = {version(command): command for command in reversed(CLANGS) if shutil.which(command)}
     for number, command in sorted(clangs.items()):
-        # The last level came with 18.
+        # The last level was added in 18.
         for level in LEVELS[: 4 if int(number.split(".")[0]) >= 18 else 3]:
             words = (command, "-O2", "-target", "bpf", f"-mcpu={level}")
             yield Compiler(f"clang {number} {level}", words)
     if shutil.which("bpf-gcc"):
         for level in ("-O1", "-O2"):
-            # Its word for the machine is in upper case alone.
+            # It defines the machine's macro only in upper case.
             yield Compiler(f"gcc {version('bpf-gcc')} {level}", ("bpf-gcc", level, "-D__bpf__"))
 
 
@@ -132,7 +132,7 @@ def compilers():
 
 
 def host(sources, option, folder):
-    """This machine's program of the rules, which traps where C leaves a result undefined."""
+    """This machine's program for the rules, which traps if C leaves a result undefined."""
     made, text = folder / f"host_{option}", folder / "rules.c"
     text.write_text(HEADER + "".join(source.text for source in sources))
     checks = ["-fsanitize=undefined", "-fsanitize-undefined-trap-on-error"]

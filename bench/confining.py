@@ -1,7 +1,8 @@
-"""Checks of what a server is confined by: the rules of nftables, in a network of their own, and the
-entry script of the image, as the first process of a namespace.
+"""Checks what confines a server: the rules of nftables, in a separate network, and the entry script
+of the image, as the first process of a namespace.
 
-Each gives nothing, or what was wrong. Where a command isn't installed it is skipped by that name.
+Each check returns nothing, or what was wrong. If a command isn't installed, the check is skipped
+with that name.
 """
 import contextlib
 import json
@@ -17,13 +18,13 @@ from hosts import Skipped, awaited, called, child_of, connect, needs, needs_root
 from hosts import words_of
 
 UP = "ip link set lo up && echo up && exec sleep 600"
-# In the place of the server's user, and of another one of the host.
+# Stand-ins for the server's user, and for another user of the host.
 SERVER, OTHER = "daemon", "nobody"
 REFUSED = (1, "refused B5 Connect\n")
 
 
 class Network:
-    """A network of its own, in which users call commands."""
+    """A network namespace in which users run commands."""
 
     def __init__(self, process):
         self.enter = ["nsenter", f"--net=/proc/{process.pid}/ns/net"]
@@ -38,7 +39,7 @@ class Network:
 
     @contextlib.contextmanager
     def serving(self, host, unit, user):
-        """The unit's server as a user's, once it is ready."""
+        """The unit's server, run by a user, once it is ready."""
         words = self.words(user, *words_of(unit, "ExecStart"))
         how = {"cwd": host.top / "etc" / "rollout", "stdout": subprocess.DEVNULL}
         server = subprocess.Popen(words, stderr=subprocess.DEVNULL, **how)
@@ -71,7 +72,7 @@ def polled(net, user):
 
 
 def wrong_rules(net, host, unit, rules):
-    """With the rules, of a server of its user."""
+    """A server of its user, with the rules."""
     program, at = program_of(host), ["--operator", PORTS["8081"]]
     manifest = str(host.top / "etc" / "rollout" / "current.toml")
     with net.serving(host, unit, SERVER) as server:
@@ -94,7 +95,8 @@ def wrong_rules(net, host, unit, rules):
 
 
 def operators_port(folder):
-    """Another user is refused at the operator's port, and heard at neither of the two."""
+    """Another user is refused at the operator's port, and a server of theirs is reachable on
+    neither port."""
     needs("nft", "unshare", "nsenter", "ip", "setpriv", "curl")
     needs_root()
     host = Host(folder / "nft")
@@ -114,13 +116,13 @@ def operators_port(folder):
 
 
 def heed_signals():
-    """A shell can't trap what was ignored when it began, as SIGINT is behind `&`."""
+    """A shell can't trap signals that were ignored at its start, as SIGINT is after `&`."""
     signal.signal(signal.SIGINT, signal.SIG_DFL)
 
 
 @contextlib.contextmanager
 def first(host, words, **environment):
-    """A command as the first process of a namespace, and its number as it is seen from here."""
+    """A command as the first process of a namespace, and its process number outside."""
     own = ["unshare", "--pid", "--fork", "--kill-child", "--mount-proc", *words]
     path = f"{host.top / 'opt' / 'rollout' / 'bin'}:{os.environ['PATH']}"
     how = {"cwd": host.top / "etc" / "rollout", "env": {**os.environ, "PATH": path, **environment}}
@@ -139,7 +141,7 @@ def program_of(host):
 
 
 def image(host):
-    """The words that the image's first process has, and those of its health check."""
+    """The words of the image's first process, and those of its health check."""
     text = host.file("Dockerfile").read_text().replace("\\\n", "")
 
     def words(name):
@@ -152,7 +154,7 @@ def image(host):
 
 
 def wrong_alone(host, words, healthy):
-    """The program as the first process passes over SIGTERM and SIGINT, as the page says."""
+    """As the first process the program ignores SIGTERM and SIGINT, as the page says."""
     with first(host, ["rollout", "serve", *words]) as (process, number):
         if not awaited(lambda: called(*healthy)[0] == 0):
             return "the program alone doesn't serve"
@@ -167,7 +169,7 @@ def wrong_alone(host, words, healthy):
 
 
 def wrong_entry(host, entry, healthy):
-    """The script answers who is being heard, and ends as the server does."""
+    """The script finishes the request in progress, and ends with the server's status."""
     for it in (signal.SIGTERM, signal.SIGINT):
         with first(host, entry) as (process, number), contextlib.ExitStack() as rest_of:
             if not awaited(lambda: called(*healthy)[0] == 0):
@@ -185,7 +187,7 @@ def wrong_entry(host, entry, healthy):
 
 
 def wrong_early(host, entry):
-    """Before the server listens SIGTERM ends it; and what it ends with the script ends with."""
+    """Before the server listens, SIGTERM ends it; the script has the status of the server."""
     stub = host.top / "stub"
     stub.mkdir()
     (stub / "rollout").write_text('#!/bin/sh\n[ "$1" = stop ] && exit 1\nexec sleep "$STUB"\n')

@@ -1,7 +1,8 @@
-"""Checks of the units of examples/deploy and of the rotation of their log, each as it stands there
-but for paths and ports, with a server that is installed and run by the unit's commands.
+"""Checks the units of examples/deploy and the rotation of their log. Only paths and ports are
+changed. The server is installed and run by the unit's commands.
 
-Each gives nothing, or what was wrong. Where a command isn't installed it is skipped by that name.
+Each check returns nothing, or what was wrong. If a command isn't installed, the check is skipped
+with that name.
 """
 import os
 import re
@@ -16,13 +17,13 @@ from hosts import ASK, DEPLOY, HEAD, NOTHING, OFFERED, PATIENCE, Host
 from hosts import Skipped, asked, awaited, called, connect, needs, rest, words_of
 from proxying import PROXIED
 
-# Of 100, by what systemd counts as exposed.
+# The highest exposure level, in systemd's scale to 100.
 MOST_EXPOSED = 12
 UNITS = [("rollout.service", ""), ("rollout@.service", "8"), ("rollout@.service", "9")]
 
 
 def verified_units(folder):
-    """What systemd says of the units."""
+    """What systemd reports about the units."""
     needs("systemd-analyze")
     host = Host(folder / "verified")
     for name, instance in UNITS:
@@ -42,7 +43,7 @@ def settings(text):
 
 
 def template(_folder):
-    """The template is the unit, but for its ports and its name."""
+    """The template equals the unit, except for its ports and its name."""
     alone = (DEPLOY / "rollout.service").read_text()
     both = "SocketBindAllow=ipv4:tcp:8080-8081\nSocketBindAllow=ipv4:tcp:8090-8091"
     alone = alone.replace(both.splitlines()[0], "PORTS")
@@ -54,7 +55,7 @@ def template(_folder):
 
 
 def calls_of(host, unit, folder):
-    """The lines of `strace` of all processes of a unit's commands: a start, a load and a stop."""
+    """The lines of `strace` for all processes of a unit's commands: a start, a load and a stop."""
     before = ["strace", "-ff", "-qq", "-o", str(folder / "calls")]
 
     def traced(name, **environment):
@@ -73,7 +74,7 @@ def calls_of(host, unit, folder):
 
 
 def allowed_by(lines):
-    """The system calls that these lines of SystemCallFilter= leave, as systemd groups them."""
+    """The system calls that these lines of SystemCallFilter= allow, by systemd's groups."""
     sets, name = {}, None
     for line in called("systemd-analyze", "syscall-filter", "--no-pager")[1].splitlines():
         if line.startswith("@"):
@@ -93,12 +94,12 @@ def allowed_by(lines):
     return allowed
 
 
-# What MemoryDenyWriteExecute= refuses.
+# The calls that MemoryDenyWriteExecute= refuses.
 WRITE_AND_EXECUTE = re.compile(r"mmap\(.*PROT_WRITE\|PROT_EXEC|(mprotect|shmat)\(.*_EXEC")
 
 
 def system_calls(folder):
-    """What the unit's commands call is what the unit lets them call."""
+    """The unit allows the system calls that its commands make."""
     needs("strace", "systemd-analyze")
     if called("strace", "-o", str(folder / "tried"), "true")[0] != 0:
         raise Skipped("strace may not trace here")
@@ -120,7 +121,8 @@ def system_calls(folder):
 
 
 def unit_commands(folder):
-    """The unit's commands: a start is ready, a reload, and a start after a kill serves the halt."""
+    """The unit's commands: a start is ready, a reload works, and a start after a kill serves the
+    halt."""
     host = Host(folder / "unit")
     unit = host.file("rollout.service")
     if host.command(unit, "ExecStartPre")[0] != 0:
@@ -146,7 +148,7 @@ def unit_commands(folder):
 
 
 def wrong_second(host, unit):
-    """Of a second start, whose ports the first server has: it fails, and nobody is stopped."""
+    """A second start on the first server's ports fails, and stops nothing."""
     how = {"stdout": subprocess.DEVNULL, "stderr": subprocess.DEVNULL}
     words = words_of(unit, "ExecStart")
     second = subprocess.Popen(words, cwd=host.top / "etc" / "rollout", **how)
@@ -159,7 +161,7 @@ def wrong_second(host, unit):
 
 
 def wrong_stop(host, unit, server):
-    """Of a stop while a client is being heard, who is answered first."""
+    """A stop waits until the request in progress is answered."""
     with connect() as slow:
         slow.sendall(HEAD.encode())
         time.sleep(0.5)
@@ -180,11 +182,11 @@ def wrong_stop(host, unit, server):
 
 
 def rotated_log(folder):
-    """The log goes on in the emptied file."""
+    """The log continues in the emptied file."""
     needs("logrotate")
     host = Host(folder / "rotated")
     rotation = host.file("rollout.logrotate")
-    # logrotate takes no file of which others could write the folder.
+    # logrotate refuses a file in a folder that others could write to.
     rotation.chmod(0o644)
     for place in (host.log().parent, host.top):
         place.chmod(0o755)

@@ -1,6 +1,6 @@
-"""A folder in the place of a host: an install, a manifest, and the files of examples/deploy as they
-stand but for paths and ports. A server is started there by its unit's commands. What other checks
-share stands here, too.
+"""A folder that stands in for a host: an install, a manifest, and the files of examples/deploy with
+only paths and ports changed. A server is started in it by its unit's commands. Helpers shared by
+the other checks are also here.
 """
 import contextlib
 import os
@@ -26,7 +26,7 @@ OFFERED, NOTHING = '"version":"2.0.4"', '"status":"noupdate"'
 
 
 class Skipped(Exception):
-    """A check that can't be made here, and why."""
+    """Why a check can't be made here."""
 
 
 def needs(*commands):
@@ -41,20 +41,20 @@ def needs_root():
 
 
 def called(*words, **how):
-    """Status and all that a command prints."""
+    """The status and all output of a command."""
     done = subprocess.run(words, capture_output=True, text=True, timeout=PATIENCE, **how)
     return done.returncode, done.stdout + done.stderr
 
 
 def child_of(process):
-    """The number of the process that one as `unshare` has begun; none where it has ended."""
+    """The child process of a wrapper such as `unshare`; None if the wrapper has ended."""
     children = ["pgrep", "-P", str(process.pid)]
     awaited(lambda: called(*children)[0] == 0 or process.poll() is not None)
     return int((called(*children)[1].split() or [0])[0]) or None
 
 
 def awaited(call, seconds=PATIENCE):
-    """Whether it is true within this time."""
+    """Whether the call is true within this time."""
     until = time.monotonic() + seconds
     while not call():
         if time.monotonic() > until:
@@ -64,7 +64,7 @@ def awaited(call, seconds=PATIENCE):
 
 
 def section(page, title):
-    """The blocks of a section of a page."""
+    """The code blocks of a section of a page."""
     text = (ROOT / "docs" / page).read_text()
     part = re.search(rf"^## {title}\n(.*?)(?=^## |\Z)", text, re.M | re.S)[1]
     return re.findall(r"^```\w*\n(.*?)^```", part, re.M | re.S)
@@ -77,7 +77,8 @@ def placed(text, top):
 
 
 class Host:
-    """A folder in the place of a host's root, with an install, a manifest and files of deploy."""
+    """A folder that stands in for a host's root, with an install, a manifest and files of
+    deploy."""
 
     def __init__(self, top):
         self.top = top
@@ -92,28 +93,28 @@ class Host:
         self.serve_from("manifest.toml")
 
     def serve_from(self, name):
-        """Puts a manifest in the place of the one that is served, as OPERATING has it."""
+        """Makes this manifest the served one, in the way of OPERATING."""
         folder = self.top / "etc" / "rollout"
         shutil.copy(folder / name, folder / "current.toml.new")
         (folder / "current.toml.new").rename(folder / "current.toml")
 
     def file(self, name, instance=""):
-        """Writes a file of deploy, with this host's paths and ports, and of a template unit that
-        instance; where it is written."""
+        """Writes a file of deploy with this host's paths and ports, and returns its path. A
+        template unit gets this instance."""
         text = (DEPLOY / name).read_text().replace("%i", instance)
         path = self.top / "etc" / name.replace("@", f"@{instance}")
         path.write_text(placed(text, self.top))
         return path
 
     def command(self, unit, name, **environment):
-        """Status and all that a command of a unit prints, as systemd calls it."""
+        """The status and all output of a unit's command, called as systemd does."""
         how = {"cwd": self.top / "etc" / "rollout", "env": {"PATH": "/usr/bin:/bin", **environment}}
         return called(*words_of(unit, name), **how)
 
     @contextlib.contextmanager
     def started(self, unit, *before):
-        """The server of a unit, once it is ready, until the end of a `with`. The words before its
-        own are of a command that runs it."""
+        """The server of a unit, once it is ready, until the end of a `with`. The words in `before`
+        are a command that runs it."""
         words = [*before, *words_of(unit, "ExecStart")]
         with open(self.log(), "ab") as log:
             how = {"cwd": self.top / "etc" / "rollout", "stdout": subprocess.DEVNULL, "stderr": log}
@@ -133,14 +134,14 @@ class Host:
 
 
 def line_of(unit, name):
-    """A command of a unit as it stands there, without the `-` before it."""
+    """A command of a unit, unchanged except for the `-` before it."""
     text = unit.read_text().replace("\\\n", " ")
     [line] = re.findall(rf"^{name}=-?(.*)$", text, re.M)
     return line.replace("$$", "$")
 
 
 def words_of(unit, name):
-    """The words of a command of a unit, as systemd reads them."""
+    """The words of a unit's command, split as systemd does."""
     return shlex.split(line_of(unit, name))
 
 

@@ -1,18 +1,19 @@
-"""Why one of two verifiers accepts a program that the other refuses: rollout's and Linux's.
+"""Why only one of two verifiers accepts a program: rollout's or Linux's.
 
-Where Linux alone does, three things are tried, alone and together, by programs that do the same and
-that rollout judges:
+If only Linux accepts it, three changes are tried, alone and together. They give equivalent
+programs, which rollout judges:
 
-- each result, and each number on an edge and at a join, is copied onto itself, and so tidied again;
-- each path is code of its own, so that nothing is joined;
-- rollout is told what Linux knows. Where Linux's log says of a register that it lies from 4 to 7
-  and has bit 0, the program tests that, and leaves with the choice 0 where it isn't so, which no
-  run does.
+- each result, and each number on an edge and at a join, is copied onto itself, so that rollout
+  synchronizes its range and bits again;
+- each path has its own code, so that nothing is joined;
+- rollout is given what Linux knows. For example, if Linux's log says that a register is in 4 to 7
+  and has bit 0, the program tests that. If the test fails, which happens in no run, it leaves with
+  the choice 0.
 
-Told is what has to be, from the program's first place on, and of that the most is left out again.
-The instructions at the places that stay are the cause.
+Facts are added from the first slot on until rollout accepts, and then as many as possible are
+removed again. The instructions at the remaining facts are the cause.
 
-Where rollout alone does, Linux is told what it knew itself before each JSET.
+If only rollout accepts it, Linux is given what it knew itself before each JSET.
 """
 from dataclasses import dataclass
 
@@ -20,7 +21,7 @@ from bpf_code import GREATEST, REGISTERS, Insn, Label, encoded, places
 from bpf_forms import NONE, Point, apart, copied_again, joined, nothing
 from linux_verifier import ALL_PATHS, Known, copies_told
 
-# A program may have so many slots.
+# The maximum number of slots of a program.
 MOST_SLOTS = 4096
 SCRATCH = 9
 AGAIN = "a number is tidied once"
@@ -34,7 +35,7 @@ FORGOTTEN = "Linux forgets the range where JSET goes on"
 
 @dataclass(frozen=True)
 class Fact:
-    """What Linux knows of a register at a point; nothing where it finds that no run comes there."""
+    """What Linux knows about a register at a point; None if it finds the point unreachable."""
 
     point: Point
     register: int
@@ -42,7 +43,7 @@ class Fact:
 
 
 def points_of(insns):
-    """The points of a program, each with the registers of which something new may be known."""
+    """The points of a program, each with the registers that may have become better known there."""
     for at, insn in enumerate(insns):
         if insn.branches():
             yield Point(at, "on"), REGISTERS
@@ -52,8 +53,8 @@ def points_of(insns):
 
 
 def known_at(linux, insns, releases, registers):
-    """What Linux knows at these points, of each its registers, over all paths: by its log of the
-    paths by themselves. Of a point where it finds that no run comes there is nothing."""
+    """What Linux knows at these points about their registers, over all paths: by its log of the
+    separate paths. Points that it finds unreachable are left out."""
     probes = []
 
     def more(point):
@@ -86,7 +87,7 @@ def facts_of(linux, insns, releases):
 
 
 def ranges_before_tests(linux, insns, releases):
-    """More code: where JSET goes on, tests of the range that Linux knew before it."""
+    """More code: after a JSET that doesn't jump, tests of the range that Linux knew before it."""
     jsets = [at for at, insn in enumerate(insns) if insn.word == "jset"]
     registers = {Point(at, "in"): [insns[at].dst] for at in jsets}
     found = known_at(linux, insns, releases, registers)
@@ -98,7 +99,7 @@ def ranges_before_tests(linux, insns, releases):
 
 
 def compared(word, register, number, target):
-    """A conditional jump by a number of any size."""
+    """A conditional jump that compares with a number of any size."""
     if -(2**31) <= (signed := number - (number >> 63 << 64)) < 2**31:
         return [Insn(word, register, imm=signed, target=target)]
     wide = Insn("lddw", SCRATCH, imm=number)
@@ -106,7 +107,7 @@ def compared(word, register, number, target):
 
 
 def tests(fact, name):
-    """Code that leaves where what is known isn't so; the name is of labels in it."""
+    """Code that leaves if what is known doesn't hold; its labels contain the name."""
     register, known = fact.register, fact.known
     if known is None:
         return compared("jge", register, 0, NONE)
@@ -140,7 +141,7 @@ def telling(facts):
 
 
 def enough(facts, accepts):
-    """How many facts, from the first on, are enough; none where all aren't."""
+    """How many facts, from the first on, are enough; None if all aren't."""
     if not accepts(facts):
         return None
     least, most = 0, len(facts)
@@ -151,7 +152,7 @@ def enough(facts, accepts):
 
 
 def needed(facts, accepts):
-    """Of facts that are enough those that can't be left out; the latest are left out first."""
+    """The facts of these that can't be removed; the last ones are removed first."""
     kept = facts
     for fact in reversed(facts):
         others = [it for it in kept if it != fact]
@@ -160,7 +161,7 @@ def needed(facts, accepts):
 
 
 def kind(insns, fact):
-    """By what instruction Linux knows more."""
+    """The kind of instruction by which Linux knows more."""
     insn = insns[fact.point.place]
     kinds = {"sub": "add", "neg": "add", "or": "and", "xor": "and", "rsh": "lsh", "arsh": "lsh"}
     names = {"add": "ADD, SUB, NEG", "mul": "MUL", "and": "AND, OR, XOR", "lsh": "shifts"}
@@ -179,7 +180,7 @@ def kind(insns, fact):
 
 
 def cause_of_ours(linux, insns, releases):
-    """Why rollout alone accepts a program: what Linux forgets, or what its log says last."""
+    """Why only rollout accepts a program: what Linux forgets, or the last message of its log."""
     told = encoded(joined(insns, ranges_before_tests(linux, insns, releases)))
     if linux.judge(told, releases).accepts:
         return FORGOTTEN
@@ -187,8 +188,8 @@ def cause_of_ours(linux, insns, releases):
 
 
 def cause_of_theirs(linux, rollout, insns, releases):
-    """Why Linux alone accepts a program, in a few words, by the form of it that has to be told the
-    least, from the first place on."""
+    """Why only Linux accepts a program, in a few words: by the form of it that needs the fewest
+    facts, from the first slot on."""
     facts = facts_of(linux, insns, releases)
     again = copied_again(insns)
     least, words = len(facts) + 1, [UNSAID]

@@ -1,10 +1,10 @@
-"""Linux's verifier, asked by bpf(2): whether it accepts a program whose choice may be 0 to N, and
-what it knows of registers on the way.
+"""Linux's verifier, called by bpf(2): whether it accepts a program whose choice may be 0 to N, and
+what it knows about registers on the way.
 
-The program is loaded as one of type `syscall`, the context of which may be read, and is never run.
-Each EXIT is a jump to a tail behind the program's slots, so that these keep their numbers. The tail
-loads the byte at R0 of a map's value of N + 1 bytes: Linux accepts it exactly where it knows that
-R0 is one of 0 to N.
+The program is loaded with the type `syscall`, whose context may be read, and is never run. Each
+EXIT becomes a jump to a tail after the program's slots, so that these keep their numbers. The tail
+loads the byte at R0 of a map's value of N + 1 bytes. Linux accepts it exactly if it knows that R0
+is one of 0 to N.
 """
 import ctypes
 import os
@@ -18,11 +18,11 @@ from bpf_code import GREATEST, encoded, slot
 SYSCALL_NUMBERS = {"x86_64": 321, "aarch64": 280}
 MAP_CREATE, PROG_LOAD = 0, 5
 MAP_TYPE_ARRAY, PROG_TYPE_SYSCALL, SLEEPABLE = 2, 31, 1 << 4
-# What the log has: the path that is refused and figures, or all paths with each instruction's
-# registers.
+# The contents of the log: the refused path and statistics, or all paths with the registers at each
+# instruction.
 REFUSED_PATH, ALL_PATHS = 1 | 4, 2 | 4
 ATTRIBUTES, LOG = 144, 1 << 24
-# A line of the log with the register's words, which have parentheses in parentheses.
+# A line of the log with the register's state, which has nested parentheses.
 COPY_OF_ITSELF = r"(\d+): \(bf\) r(\d+) = r\2\s+; (?:.* )?R\2(?:_\w+)?=(P?scalar\(.*?\)\)?|\S+)"
 EXIT, JUMP = 0x95, 0x05
 
@@ -33,7 +33,7 @@ def release():
 
 
 class Missing(Exception):
-    """Why Linux can't be asked here."""
+    """Why bpf(2) can't be used here."""
 
 
 @dataclass
@@ -44,13 +44,13 @@ class Answer:
     log: list[str]
 
     def word(self):
-        """What the log says last, before its figures."""
+        """The last message of the log, before its statistics."""
         figures = ("verification time", "stack depth", "processed", "mark_precise")
         told = [line for line in self.log if line and not line.startswith(figures)]
         return told[-1] if told else "no word"
 
     def processed(self):
-        """How many instructions were followed, over all paths."""
+        """The number of instructions followed, over all paths."""
         found = re.search(r"processed (\d+) insns", "\n".join(self.log[-5:]))
         return int(found[1]) if found else 0
 
@@ -69,7 +69,7 @@ class Linux:
             raise Missing("the kernel refuses `mov r0, 0 / exit` as a program of type syscall")
 
     def bpf(self, command, attributes):
-        """The descriptor, or less the error's number."""
+        """The descriptor, or the negated error number."""
         given = ctypes.create_string_buffer(attributes, ATTRIBUTES)
         found = self.libc.syscall(self.number, command, given, ATTRIBUTES)
         return found if found >= 0 else -ctypes.get_errno()
@@ -84,7 +84,7 @@ class Linux:
         return self.maps[releases]
 
     def judge(self, code, releases, level=REFUSED_PATH):
-        """The answer to a program's bytes, where its app has so many releases."""
+        """The answer for a program's bytes, if its app has `releases` releases."""
         given = ctypes.create_string_buffer(with_tail(code, self.choices(releases)))
         license = ctypes.create_string_buffer(b"GPL")
         self.log.value = b""
@@ -98,10 +98,10 @@ class Linux:
 
 
 def with_tail(code, choices):
-    """The program as Linux is given it."""
+    """The program in the form that Linux gets."""
     slots = [code[at : at + 8] for at in range(0, len(code), 8)]
     for at, one in enumerate(slots):
-        # The second half of a wide load begins with 0.
+        # The second half of a wide load begins with 0, so it isn't an EXIT.
         if one[0] == EXIT:
             slots[at] = slot(JUMP, off=len(slots) - at - 1)
     address = slot(0x18, dst=1, src=2, imm=choices) + slot(0)
@@ -111,7 +111,7 @@ def with_tail(code, choices):
 
 @dataclass(frozen=True)
 class Known:
-    """What is known of a number: its range, the bits that it has and those that it may have."""
+    """What is known about a number: its range, the bits that are set, and those that may be."""
 
     lo: int
     hi: int
@@ -124,7 +124,7 @@ class Known:
 
 
 def known_of(text):
-    """What a register's words in the log say; none of what is no number."""
+    """The meaning of a register's state in the log; None if it isn't a number."""
     text = text.removeprefix("P")
     if re.fullmatch(r"-?(0x[0-9a-f]+|\d+)", text):
         number = int(text, 0) & GREATEST
@@ -140,7 +140,7 @@ def known_of(text):
 
 
 def copies_told(log):
-    """What is told of a register where it is copied onto itself, by the slot."""
+    """What the log says about a register that is copied onto itself, by slot."""
     told = {}
     for line in log:
         found = re.match(COPY_OF_ITSELF, line)

@@ -1,4 +1,4 @@
-"""How the scripts of bench/ take times and counts of whole processes."""
+"""Times and counts of whole processes, for the scripts of bench/."""
 import os
 import platform
 import re
@@ -11,7 +11,7 @@ import time
 from pathlib import Path
 
 HERE = Path(__file__).resolve().parent
-# Seconds of processor time that a process is given.
+# The limit of a process, in seconds of processor time.
 PATIENCE = 5
 
 
@@ -26,7 +26,7 @@ def processor_time(command, source=os.devnull):
 
 
 def times_of(command, source=os.devnull):
-    """The processor time of a process in seconds, its time by the clock, and its output."""
+    """The processor time of a process in seconds, its elapsed time, and its output."""
     start = time.monotonic()
     with tempfile.TemporaryFile() as out, tempfile.TemporaryFile() as err:
         with open(source, "rb") as given:
@@ -49,13 +49,13 @@ def times_of(command, source=os.devnull):
 
 
 def time_so_far(pid):
-    """The processor time of a process that still runs."""
+    """The processor time of a running process."""
     fields = Path(f"/proc/{pid}/stat").read_text().rsplit(")", 1)[1].split()
     return (int(fields[11]) + int(fields[12])) / os.sysconf("SC_CLK_TCK")
 
 
 class Measured:
-    """A command with a number of times in it, which is done rarely and often in each round."""
+    """A command with a number of repetitions in it. Each round runs it with few and with many."""
 
     def __init__(self, command, rarely, often, source=os.devnull):
         self.command = [str(word) for word in command]
@@ -82,7 +82,7 @@ class Measured:
         return self.of_one(self.took)
 
     def each_by_clock(self):
-        """The same by the clock."""
+        """The same in elapsed time."""
         return self.of_one(self.clock)
 
     def of_one(self, took):
@@ -103,12 +103,12 @@ def measure(cases, rounds):
 
 
 def ratio(ours, peers):
-    """The median over the rounds of our time by the peer's."""
+    """The median over the rounds of our time divided by the peer's."""
     return statistics.median(a / b for a, b in zip(ours.each(), peers.each()) if b > 0)
 
 
 def counted(pattern, options, command, source=os.devnull):
-    """The number that valgrind tells of a process."""
+    """The number that valgrind reports for a process."""
     words = ["valgrind", *options, *map(str, command)]
     with open(source, "rb") as given:
         how = {"stdin": given, "stdout": subprocess.DEVNULL, "stderr": subprocess.PIPE}
@@ -117,13 +117,13 @@ def counted(pattern, options, command, source=os.devnull):
 
 
 def steps(command, source=os.devnull):
-    """How many instructions of the processor a process takes."""
+    """The number of instructions that a process executes."""
     options = ["--tool=callgrind", "--callgrind-out-file=/dev/null"]
     return counted(r"Collected : (\d+)", options, command, source)
 
 
 def allocations(command, source=os.devnull):
-    """How many allocations a process makes."""
+    """The number of allocations that a process makes."""
     return counted(r"total heap usage: ([\d,]+) allocs", [], command, source)
 
 
@@ -140,7 +140,7 @@ def show_load(when):
 
 
 def build_program(crate, words):
-    """Proves and builds the program of a crate; where nothing has changed, `rt run` only runs it."""
+    """Proves and builds the program of a crate; if nothing has changed, `rt run` only runs it."""
     print(f"proving and building crates/{crate.name}, where it has changed", file=sys.stderr)
     done = subprocess.run(["rt", "run", "--", *words], cwd=crate, capture_output=True, text=True)
     if done.returncode != 0:
@@ -148,7 +148,7 @@ def build_program(crate, words):
 
 
 def build_server_peer(out):
-    """Builds bench/server_peer, the service in plain Rust, or says why it can't."""
+    """Builds bench/server_peer, the service in plain Rust, or prints why it can't."""
     shutil.rmtree(out / "server_peer", ignore_errors=True)
     shutil.copytree(HERE / "server_peer", out / "server_peer")
     words = ["cargo", "build", "--release", "--quiet", "--target-dir", str(out / "target")]

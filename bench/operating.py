@@ -1,7 +1,8 @@
-"""Checks of docs/OPERATING.md: its manifest, its rule, its commands and its recipes, run as they
-stand on the page but for the folder and the ports, and the requests of docs/CLIENTS.md beside them.
+"""Checks docs/OPERATING.md: runs its manifest, rule, commands and recipes, with only the folder and
+the ports changed, and also the requests of docs/CLIENTS.md.
 
-Each gives nothing, or what was wrong. Where a command isn't installed it is skipped by that name.
+Each check returns nothing, or what was wrong. If a command isn't installed, the check is skipped
+with that name.
 """
 import contextlib
 import json
@@ -13,7 +14,7 @@ import subprocess
 from hosts import PATIENCE, ROOT, awaited, needs, section
 from upgrading import UPGRADES
 
-# Not the launcher, which looks at all sources each time: the page has a loop of a hundred calls.
+# Not the launcher, which checks all sources in each call: the page has a loop of a hundred calls.
 BUILT = ROOT / "crates" / "rollout" / "out" / "rlib" / "rollout"
 PORTS = {"8080": "18097", "8081": "18098"}
 ASKED = "curl -s http://127.0.0.1:8080/service/update2/json --data-binary @-"
@@ -21,12 +22,12 @@ SERVING = "--port 8080 --operator 8081 --workers 1 --log"
 OFFERED, NOTHING = '"version":"2.1"', '"status":"noupdate"'
 CHECKED = "app editor releases 1 slots 21\n"
 HALTED = "app editor releases 1 slots 5\n"
-# The fewest file descriptors that a server starts with, as "On a host" has it.
+# The fewest file descriptors with which a server starts, as "On a host" says.
 LEAST = 10
-# What the last recipe tells behind the moment and the address.
+# What the last recipe prints after the moment and the address.
 OFFERS = ["editor b:2 1.9 2.1"]
-# What each recipe before it counts, in the page's order: in the day below one machine is offered
-# 2.1, one has no cohort, two installs end, and a third one's event is cut. In no minute a client is
+# What each recipe before the last counts, in the page's order. In the day below, one machine is
+# offered 2.1, one has no cohort, two installs end, and the event of a third is cut. No client is
 # dropped, or waits.
 COUNTS = [
     ['1 "editor 2.1"'],
@@ -35,7 +36,7 @@ COUNTS = [
     ['1 "editor 1.9"'],
     [],
 ]
-# What `report` counts of the same day, and how Prometheus reads some of it.
+# What `report` counts for the same day, and a part of it in Prometheus's format.
 REPORTED = {
     "offers": ["1 editor 2.1"],
     "installs": ["1 50.00 % 0 editor 1.9 2.0.4", "1 50.00 % 1 editor 1.9 2.0.4"],
@@ -46,7 +47,7 @@ EXPOSED = ['rollout_offers{app="editor",release="2.1"} 1', 'rollout_cut_events{a
 
 
 class Day:
-    """A folder in the place of /etc/rollout, in which blocks of the page are run."""
+    """A folder that stands in for /etc/rollout, in which blocks of the page are run."""
 
     def __init__(self, folder, program):
         self.folder = folder
@@ -60,7 +61,7 @@ class Day:
         shutil.copy(folder / "editor-5.toml", folder / "current.toml")
 
     def run(self, block, given=""):
-        """What a block prints, up to its first failure, which is told behind it."""
+        """The output of a block up to its first failure, and then the failure."""
         words = self.words(block)
         how = {"input": given, "timeout": PATIENCE, **self.place()}
         done = subprocess.run(words, capture_output=True, text=True, **how)
@@ -94,17 +95,17 @@ class Day:
 
 
 def undigested(said):
-    """What is told, without the lines of a digest."""
+    """The output without the lines of digests."""
     return re.sub("^digest [0-9a-f]{64}\n", "", said, flags=re.MULTILINE)
 
 
 def asking():
-    """The block that asks a server as a machine does."""
+    """The block that sends a machine's request to the server."""
     return section("OPERATING.md", "What is being served")[1]
 
 
 def wrong_stages(day):
-    """Of a stage that is raised, and then halted."""
+    """Raises a stage, and then halts it."""
     raising, moves, _ = section("OPERATING.md", "Raising a stage")
     [placing] = section("OPERATING.md", "Putting a manifest in place")
     halting, lost, putting = section("OPERATING.md", "Halting a release")
@@ -130,7 +131,7 @@ def wrong_stages(day):
 
 
 def wrong_events(day):
-    """Of requests with an event, and of one without a cohort."""
+    """Sends requests with an event, and one without a cohort."""
     asked, told = section("CLIENTS.md", "The request")
     answer = '{"app":[{"appid":"editor","cohort":"b:9449","status":"ok"}],'
     long = told.replace('"eventtype"', f'"text":"{"x" * 600}","eventtype"')
@@ -154,7 +155,7 @@ def wrong_counts(day):
 
 
 def wrong_report(day):
-    """Of what `report` counts of the day's log, of which each line is the server's."""
+    """What `report` counts in the day's log, of which each line is the server's."""
     told, heading = {}, ""
     for line in day.run("rollout report server.log").splitlines():
         heading = heading if "\t" in line else line
@@ -172,7 +173,7 @@ def wrong_report(day):
 
 
 def day_of_the_page(folder, program=BUILT):
-    """A stage, the next one, and a halt that stays over a restart; and what its log tells."""
+    """A stage, the next one, and a halt that persists over a restart; and the day's log."""
     needs("jq", "curl")
     day = Day(folder / "day", program)
     with day.served():
@@ -202,7 +203,7 @@ def few_descriptors(folder, program=BUILT):
 
 
 def wrong_with_few(day, server):
-    """Of a server that has as many file descriptors as it wants at least."""
+    """A server with the fewest file descriptors that it needs."""
     if (said := server.stdout.readline()) != "serving generation 1\n":
         return f"with {LEAST}: {said!r}"
     ask = asking()

@@ -1,7 +1,9 @@
-"""Checks of what ./build hands on: an install, an archive and a package for Debian, made of scratch
-repositories whose toolchain proves nothing; and the package of this repository on this host.
+"""Checks what ./build delivers: an install, an archive and a Debian package, made from scratch
+repositories whose toolchain proves nothing. It also installs this repository's package on this
+host.
 
-Each gives nothing, or what was wrong. Where a command isn't installed it is skipped by that name.
+Each check returns nothing, or what was wrong. If a command isn't installed, the check is skipped
+with that name.
 """
 import os
 import shutil
@@ -22,7 +24,7 @@ PORTS = [18098, 18099]
 
 
 def tree(folder):
-    """All that lies in a folder, with the files' texts."""
+    """All paths in a folder, with the files' texts."""
     return {
         str(it.relative_to(folder)): it.read_text() if it.is_file() else None
         for it in folder.rglob("*")
@@ -51,7 +53,7 @@ def installs(folder):
         for words, printed in [(["stop", ""], "<stop><>"), (["--version"], BUILT_FROM)]:
             if one.call(str(one.away / "short"), *words) != (0, printed, []):
                 return f"{words}: another program"
-        # An earlier install, with a page that there is no longer, and a file of the operator's own.
+        # An earlier install, with a page that no longer exists, and a file of the operator's.
         (place / "share" / "rollout" / "docs" / "gone.md").touch()
         (place / "share" / "rollout" / "own").touch()
     return not_installed(one, place)
@@ -73,7 +75,7 @@ def not_installed(one, place):
 
 
 def archives(folder):
-    """./build --archive and --deb: the same bytes from two folders, and what is in them."""
+    """./build --archive and --deb: the same bytes from two folders, and their contents."""
     needs("dpkg-deb")
     made = []
     for name in ("one", "another place"):
@@ -113,7 +115,7 @@ def request(port):
 
 
 def served(manifest):
-    """What the installed program answers, run as the package's user."""
+    """What is wrong with the installed program, run as the package's user."""
     words = ["setpriv", "--reuid=rollout", "--regid=rollout", "--clear-groups"]
     words += ["rollout", "serve", manifest, "--port", str(PORTS[0]), "--operator", str(PORTS[1])]
     server = subprocess.Popen([*words, "--workers", "2"], stdout=subprocess.PIPE, text=True)
@@ -145,7 +147,7 @@ def package(folder):
             shutil.copy(it, "/etc/rollout")
         names = ["rollout.service", "rollout@.service", "rollout-nft.service"]
         units = [f"/usr/lib/systemd/system/{it}" for it in names]
-        # The third one's command may not be installed here.
+        # The third unit's command may not be installed here.
         found = called("systemd-analyze", "verify", "--man=no", *units[:2])
         wrong = served("/etc/rollout/manifest.toml") or (None if found == (0, "") else f"{found}")
     finally:

@@ -1,7 +1,8 @@
-"""Checks of the site of nginx in examples/deploy, as it stands there but for paths and ports: curl
-through it, its limits, and what it does behind a balancer.
+"""Checks the nginx site of examples/deploy, with only paths and ports changed: curl through it, its
+limits, and its behaviour with a balancer in front.
 
-Each gives nothing, or what was wrong. Where a command isn't installed it is skipped by that name.
+Each check returns nothing, or what was wrong. If a command isn't installed, the check is skipped
+with that name.
 """
 import contextlib
 import json
@@ -30,8 +31,8 @@ POST = "/service/update2/json"
 
 
 def nginx_words(host, changes=()):
-    """nginx with the site, in which these texts are changed, on a port and with a certificate of
-    its own."""
+    """The command for nginx with the site, in which these texts are changed, on its own port and
+    with its own certificate."""
     text = host.file("rollout.nginx").read_text().replace("listen [::]:443 ssl;", "")
     text = text.replace("listen 443 ssl;", f"listen 127.0.0.1:{TLS} ssl;")
     for old, new in changes:
@@ -48,7 +49,7 @@ def nginx_words(host, changes=()):
 
 @contextlib.contextmanager
 def proxied_by(host, words):
-    """nginx, which listens, and is ended behind it."""
+    """nginx, which listens until the end of a `with`."""
     status, text = called(*words, "-t")
     if status != 0:
         raise OSError(text)
@@ -64,8 +65,8 @@ def proxied_by(host, words):
 
 CHUNKED = ["-H", "Transfer-Encoding: chunked"]
 MANY_HEADERS = [word for n in range(80) for word in ("-H", f"X-{n}: {'a' * 150}")]
-# Of a server that serves: the path, more words of curl, its standard input, the status that it
-# prints, and a part of the text.
+# With a running server: the path, more words for curl, its standard input, the expected status, and
+# a part of the text.
 ANSWERS = [
     (POST, ["--data-binary", "@-"], ASK, "200", OFFERED),
     (f"{POST}?x=1", ["--data-binary", "@-"], ASK, "200", OFFERED),
@@ -80,7 +81,7 @@ ANSWERS = [
 
 
 def proxied(host, path, words, given):
-    """Status and text of curl by way of nginx."""
+    """Status and text of curl through nginx."""
     trusted = str(host.top / "etc" / "ssl" / "rollout.pem")
     command = ["curl", "-s", "--cacert", trusted, "-w", "\n%{http_code}", *words]
     _, text = called(*command, f"https://127.0.0.1:{TLS}{path}", input=given)
@@ -99,14 +100,14 @@ def wrong_answers(host):
         status, text = proxied(host, path, words, given)
         if status != wanted[0] or wanted[1] not in text:
             return f"{path} {words[:2]}: {status} {text[:200]}"
-    # Whoever they say that they are.
+    # Whatever address they claim.
     found = polled(host, [f"198.51.100.{n}" for n in range(30)])
     if found[-1] != "429" or {*found} != {"200", "429"}:
         return f"thirty polls at once: {found}"
 
 
 def site_of_nginx(folder):
-    """nginx -t of the site, curl through it, its limits, and what it answers without a server."""
+    """nginx -t of the site, curl through it, its limits, and its replies without a server."""
     needs("nginx", "openssl", "curl")
     host = Host(folder / "site")
     with proxied_by(host, nginx_words(host)):
@@ -119,7 +120,7 @@ def site_of_nginx(folder):
 
 BALANCER = [("10.0.0.0/8", "127.0.0.0/8"), ("#set_real_ip_from", "set_real_ip_from")]
 BALANCER += [("#real_ip_", "real_ip_")]
-# Thirty clients each, and whether they are of one rate.
+# Thirty clients each, and whether they share a rate limit.
 CLIENTS = [
     ([f"198.51.100.{n}" for n in range(30)], False),
     (["203.0.113.1"] * 30, True),
@@ -132,7 +133,8 @@ CLIENTS = [
 
 
 def behind_balancer(folder):
-    """The site with its three lines: a rate for each client or network of IPv6, and the log."""
+    """The site with its three lines for a balancer: a rate for each client or IPv6 network, and the
+    log."""
     needs("nginx", "openssl", "curl")
     host = Host(folder / "balancer")
     with proxied_by(host, nginx_words(host, BALANCER)):

@@ -1,24 +1,24 @@
-"""Random rules in C, of what rules are made of: stages, versions, flags, days, texts, quotas,
+"""Random rules in C, with the typical parts of rules: stages, versions, flags, days, texts, quotas,
 counters, switches, points and arithmetic.
 
-None has a loop that isn't unrolled, a table that is read at a variable index, an operation of the
-signed kinds, or a result that C leaves undefined. What a rule is depends on its seed alone.
+They have no loop that isn't unrolled, no table read at a variable index, no signed operation, and
+no result that C leaves undefined. A rule depends only on its seed.
 
-A rule is written by a grammar: for each $word one of its forms is drawn by weight, and the words in
-it are written in turn.
+A grammar writes the rule: for each $word it draws one of the word's forms by weight, and then
+writes the words in that form in turn.
 """
 import random
 import re
 
 ARRAYS = "taken:64:4:3,seen:64:16,majors:32:8"
 FLAGS = ["VERSION_KNOWN", "UPDATECHECK", "PING", "EVENT", "COHORT_KNOWN", "INSTALLDATE_KNOWN"]
-# A form that names its own word stands in itself so often at most.
+# The most times that a form may contain its own word, one in the other.
 DEEPEST = 2
 WORD = re.compile(r"\$(\w+)")
 
 
 def alike(*forms):
-    """Forms of one weight."""
+    """Forms of equal weight."""
     return {str(form): 1 for form in forms}
 
 
@@ -126,7 +126,7 @@ GRAMMAR = {
     "unsigned": alike("uint32_t", "uint64_t", "uint8_t"),
 }
 
-# The kinds of rules: the type of the choice, what is done to it, and how the rule ends.
+# The kinds of rules: the type of the choice, its assignments, and how the rule ends.
 CHOICES = {
     "type": alike("int", "uint32_t", "uint64_t", "uint8_t"),
     "assign": alike("choice = $choice;"),
@@ -151,14 +151,14 @@ SIGNED_POINTS = POINTS | {
 
 
 class Writer:
-    """Writes by a grammar."""
+    """Writes a text by a grammar."""
 
     def __init__(self, draw, grammar):
         self.draw, self.grammar = draw, grammar
         self.open = []
 
     def word(self, word):
-        """One of the word's forms, written out."""
+        """A random form of the word, written out."""
         forms = self.grammar[word]
         if self.open.count(word) >= DEEPEST:
             forms = {form: of for form, of in forms.items() if word not in WORD.findall(form)}

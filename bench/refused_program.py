@@ -1,4 +1,4 @@
-"""Memory that is refused to the built program: to its commands, and to servers at both ports."""
+"""Failed allocations in the built program: in its commands, and in servers at both ports."""
 import itertools
 import re
 import subprocess
@@ -9,11 +9,11 @@ from refusing import Wrong, told
 
 PATIENCE = 60
 LINE = re.compile(r"refused ([A-Z]\d+ Memory(?: in --against)?)\n")
-# What `check` writes of manifests that are accepted.
+# The warnings that `check` prints about accepted manifests.
 WARNINGS = re.compile(r"((warning [a-z-]+: |manifest ).*\n)*")
-# How far `simulate` is.
+# The progress of `simulate`.
 PROGRESS = re.compile(r"^simulated .*\n", re.M)
-# Bytes that stand in an OUT before a command; a picture is written over a picture alone.
+# The bytes of OUT before a command; a picture may only replace a picture.
 BEFORE = b"<svg> as it was"
 
 RULES = {
@@ -28,7 +28,7 @@ TAKING = ARRAYS + app("x", "take.rule", "2.0") + app("y", "count.rule", "2.0")
 MANIFESTS = {
     "first.toml": manifest("first", TAKING),
     "next.toml": manifest("next", array("more", 64, 3), TAKING, app("z", "none.rule", "3.0")),
-    # The array `more` in another shape: this one is loaded where no array of next.toml stands.
+    # The array `more` with another shape: this file loads only if no array of next.toml exists.
     "other.toml": manifest("other", array("more", 32, 5), TAKING),
     "one.toml": manifest("one", app("z", "none.rule", "3.0")),
     "script.txt": "start 0 x 99 1.0\nstep 0 4097\nswap next.toml\nstart 1 z 7 -\nstep 1 4097\n"
@@ -57,7 +57,7 @@ COMMANDS = {
 }
 
 
-# A simulation takes growths for each client: after the first 600 each 997th is enough.
+# A simulation allocates for each client: after the first 600, every 997th is enough.
 def some(first):
     return itertools.chain(range(first, 600), itertools.count(600, 997))
 
@@ -74,19 +74,20 @@ def write_files(folder, program):
 
 
 def is_refused_event(found, untroubled):
-    """Whether a script was played up to an event that was refused memory, and then went on."""
+    """Whether a script was played up to an event that ran out of memory, and then continued."""
     before, refused, _ = found[1].partition("refused E6 Memory\n")
     return found[0] == 0 and found[2] == "" and refused and untroubled[1].startswith(before)
 
 
 def by_manifest(text):
-    """What is told of each of several manifests, behind the line with its name."""
+    """The output for each of several manifests, after the line with its name."""
     _, *parts = re.split(r"^manifest (.+)\n", text, flags=re.MULTILINE)
     return dict(zip(parts[::2], parts[1::2]))
 
 
 def is_refused_check(found, untroubled):
-    """Whether one of several manifests was refused memory, and the others were told as ever."""
+    """Whether one of several manifests ran out of memory, and the output for the others is as
+    usual."""
     said, errors = by_manifest(found[1]), by_manifest(found[2])
     wanted, warned = by_manifest(untroubled[1]), by_manifest(untroubled[2])
     refused = [name for name in wanted if LINE.fullmatch(errors.get(name, ""))]
@@ -97,7 +98,7 @@ def is_refused_check(found, untroubled):
 
 
 class Commands:
-    """The program's commands, each in a process of its own."""
+    """The program's commands, each in its own process."""
 
     def __init__(self, refusal, folder, program):
         self.refusal, self.folder, self.program = refusal, folder, program
@@ -124,7 +125,7 @@ class Commands:
 
 
 def kind(found, untroubled):
-    """How a command answered that was refused memory, of which the second answer is untroubled."""
+    """How a command with a failed allocation ended; its second result is the usual one."""
     refused = LINE.fullmatch(found[2])
     if untroubled[0] != 0 or not WARNINGS.fullmatch(untroubled[2]):
         raise Wrong(f"again: {untroubled}")
@@ -144,12 +145,12 @@ CELL = re.compile(r"(\w+\[\d+\]) (\d+)")
 
 
 def state(server):
-    """What the operator sees: generation and apps, and the counters."""
+    """What the operator can read: generation, apps, and counters."""
     return server.ask("show"), server.ask("cells")
 
 
 def serves(server):
-    """Whether it answers, and ends when it is told to."""
+    """Whether it answers, and then stops."""
     if server.process.poll() is not None:
         return False
     status, _ = whole(server.exchange(ASK)) or (0, "")
@@ -157,7 +158,7 @@ def serves(server):
 
 
 class Servers:
-    """Servers of one worker, over the first manifest."""
+    """Servers of one worker, with the first manifest."""
 
     def __init__(self, refusal, folder, program):
         self.refusal, self.folder, self.program = refusal, folder, program
@@ -170,7 +171,7 @@ class Servers:
         print(told(f"server: {name}", self.refusal.in_turn(lambda call: task(self, call))))
 
     def start(self, call):
-        """A server that starts serves; one that is refused memory says so, and that alone."""
+        """A server that starts also serves; if an allocation fails, it prints only that."""
         self.refusal.ask(call)
         with self.server() as server:
             if server.first == "":
@@ -179,7 +180,7 @@ class Servers:
                     raise Wrong(f"status {status}, {said!r}")
                 answer = LINE.fullmatch(said)[1]
             else:
-                # What is still made once it says that it serves.
+                # Allocations that follow its line `serving`.
                 time.sleep(0.05)
                 answer = "serves all the same"
             if not self.refusal.is_reached():
@@ -192,7 +193,7 @@ class Servers:
         return answer
 
     def at_operator(self, call, line, untroubled, again):
-        """A line to a server with that call refused; `again` is then asked of it."""
+        """Sends a line to a server in which this allocation fails, and then calls `again`."""
         self.refusal.ask(0)
         with self.server() as server:
             server.exchange(ASK)
@@ -218,7 +219,7 @@ class Servers:
         return self.at_operator(call, line, untroubled, again)
 
     def load(self, call):
-        """Its arrays aren't seen, but a load that declares one of them otherwise is."""
+        """A failed load leaves no arrays: a load that declares one of them differently succeeds."""
 
         def next_one(server, before):
             if server.ask("load next.toml") != "generation 2\n":
@@ -236,23 +237,23 @@ class Servers:
 
 
 class Answers:
-    """One server that is asked again and again for two apps, each of which counts."""
+    """One server that gets requests for two apps, each of which counts."""
 
-    # The counters that rise where no app was run, the first, and both.
+    # How much the counters rise if no app was run, the first, or both.
     RUNS = [{}, {"q[0]": 1, "n[0]": 1}, {"q[0]": 1, "n[0]": 1, "n[1]": 1}]
 
     def __init__(self, servers):
         self.servers = servers
 
     def risen(self, server):
-        """By how much each counter rose since it was asked."""
+        """How much each counter has risen since the last call."""
         found = {name: int(value) for name, value in CELL.findall(server.ask("cells"))}
         risen = {name: value - self.cells.get(name, 0) for name, value in found.items()}
         self.cells = found
         return {name: by for name, by in risen.items() if by}
 
     def judged(self, server, reply):
-        """How it answered; the counters have to rise by the runs that were made."""
+        """How it answered; the counters must have risen by the runs that were made."""
         status, text = whole(reply) or (0, "")
         if status == 200 and without_moment(text) == self.untroubled:
             allowed, answer = self.RUNS[2:], "done all the same"
@@ -265,7 +266,7 @@ class Answers:
         return answer
 
     def twice(self, server, call):
-        """Asks with that call refused, and again."""
+        """Sends a request while this allocation fails, and a second request."""
         self.servers.refusal.ask(call)
         reply = server.exchange(ASK)
         is_reached = self.servers.refusal.is_reached()

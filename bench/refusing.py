@@ -1,4 +1,4 @@
-"""Memory that is refused once, at a call of malloc that is asked for, to a process that runs."""
+"""A chosen call of malloc that fails once, in a running process."""
 import itertools
 import mmap
 import os
@@ -10,11 +10,11 @@ HERE = Path(__file__).resolve().parent
 
 
 class Wrong(Exception):
-    """A refusal had another answer, or something didn't stay as it was."""
+    """An allocation failed with another result, or something changed that should not."""
 
 
 class Refusal:
-    """Builds bench/refused.c, and shares its two numbers with the processes that it is given."""
+    """Builds bench/refused.c, and shares its two numbers with the processes that use it."""
 
     def __init__(self, folder):
         self.library = folder / "refused.so"
@@ -26,21 +26,21 @@ class Refusal:
             self.counts = mmap.mmap(file.fileno(), 16)
 
     def env(self):
-        """The environment of a process that may be refused."""
+        """The environment of a process whose allocations may fail."""
         return {**os.environ, "LD_PRELOAD": str(self.library), "REFUSED_COUNTS": str(self.file)}
 
     def ask(self, call):
-        """The call of this number from here on is refused; none where it is 0."""
+        """Makes the call with this number fail, counted from here on; no call for 0."""
         self.counts[:] = struct.pack("QQ", 0, call)
 
     def is_reached(self):
-        """Whether the call was reached that was asked for. Nothing is refused any more."""
+        """Whether the chosen call was reached. From here on no call fails."""
         calls, refused = struct.unpack("QQ", self.counts[:])
         self.ask(0)
         return 0 < refused <= calls
 
     def in_turn(self, once, calls=itertools.count):
-        """What `once` gives of each of these calls, up to the first of which it gives None."""
+        """The results of `once` for these calls, up to the first None."""
         found = []
         for call in calls(1):
             try:
@@ -53,7 +53,7 @@ class Refusal:
 
 
 def told(name, answers):
-    """The line of a call whose refused growths had these answers."""
+    """The output line for a call whose failed allocations had these results."""
     counts = {}
     for answer in answers:
         counts[answer] = counts.get(answer, 0) + 1

@@ -1,4 +1,4 @@
-"""The servers of bench/serve, and what the system tells of a server's process."""
+"""The servers of bench/serve, and the system's figures about their processes."""
 import os
 import re
 import shutil
@@ -55,7 +55,7 @@ http {
 
 
 class Kind(NamedTuple):
-    """A kind of server: its name, its port, and its words for so many workers."""
+    """A kind of server: its name, its port, and its command for a number of workers."""
 
     name: str
     port: int
@@ -63,13 +63,13 @@ class Kind(NamedTuple):
 
 
 def write_texts(folder):
-    """What rollout serves."""
+    """The files that rollout serves."""
     (folder / "x.toml").write_text(MANIFEST)
     (folder / "x.rule").write_text(RULE)
 
 
 def nginx_words(program, folder, workers):
-    """nginx with a static reply: the text that rollout replied."""
+    """nginx with a static reply: the text of rollout's reply."""
     text = (folder / "reply").read_text().replace("'", "\\'").replace("$", "")
     names = [str(folder / f"t{n}") for n in range(5)]
     path = folder / "nginx.conf"
@@ -78,7 +78,7 @@ def nginx_words(program, folder, workers):
 
 
 def kinds(program, peer, folder):
-    """The servers that can be had. rollout's reply is kept, so it stands before nginx."""
+    """The available servers. rollout is before nginx, because its reply is used there."""
     rollout = [str(program), "serve", str(folder / "x.toml"), "--port", str(PORT)]
     rollout += ["--operator", str(OPERATOR), "--workers"]
     found = [
@@ -111,8 +111,8 @@ def ask(port):
 
 
 class Calls:
-    """Counts the system calls of a server's processes by `perf`, until it is asked. It makes each
-    call slower."""
+    """Counts the system calls of a server's processes by `perf`, until `counted` is called. This
+    makes each call slower."""
 
     EVENTS = ["raw_syscalls:sys_enter", "syscalls:sys_enter_futex"]
 
@@ -133,8 +133,7 @@ class Calls:
 
 
 class Used(NamedTuple):
-    """What a server has used: user's and system's processor time in seconds, and how often one of
-    its threads waited."""
+    """What a server has used: user and system time in seconds, and how often its threads waited."""
 
     user: float
     system: float
@@ -145,7 +144,7 @@ class Used(NamedTuple):
 
 
 class Running:
-    """A server with so many workers, that listens and has answered, until the end of a `with`."""
+    """A server with `workers` workers that has sent a first reply, until the end of a `with`."""
 
     def __init__(self, kind, workers, folder):
         self.kind, self.words, self.folder = kind, kind.words(workers), folder
@@ -161,7 +160,7 @@ class Running:
         reply = ask(self.kind.port)
         if self.kind.name == "rollout":
             (self.folder / "reply").write_bytes(reply.split(b"\r\n\r\n", 1)[1])
-        time.sleep(0.3)  # until nginx has started all its workers
+        time.sleep(0.3)  # time for nginx to start all its workers
         return self
 
     def __exit__(self, *_):
@@ -174,13 +173,13 @@ class Running:
         return int(re.search(r"VmRSS:\s+(\d+)", status)[1])
 
     def processes(self):
-        """Its first process, and the children that this one has (nginx's workers)."""
+        """Its first process, and the children of that process (nginx's workers)."""
         pid = self.process.pid
         children = Path(f"/proc/{pid}/task/{pid}/children").read_text().split()
         return [pid, *map(int, children)]
 
     def used(self):
-        """What all its processes and threads have used until now."""
+        """What all its processes and threads have used so far."""
         user = system = waits = 0
         tick = os.sysconf("SC_CLK_TCK")
         for pid in self.processes():

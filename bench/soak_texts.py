@@ -1,4 +1,4 @@
-"""What bench/soak loads and sends, and the replies that it wants."""
+"""What bench/soak loads and sends, and the replies that it expects."""
 import re
 
 from asking import HASH, HEAD, app, array, manifest, post, request
@@ -21,7 +21,7 @@ def generation_text(number):
     return manifest(f"g{number}", ARRAYS, *apps, app("z", "none.rule", version))
 
 
-# Manifests that are refused: the text, and the refusal.
+# Manifests that are refused: the text, and the error.
 BAD = {
     "toml.toml": ("server = \n", "M1 Toml"),
     "field.toml": ("server = 1\n", "M2 Field"),
@@ -37,7 +37,7 @@ BAD = {
     ),
 }
 
-# ---- what replies have to be
+# ---- expected replies
 
 PACKAGE = f'{{"hash_sha256":"{HASH}","name":"x.bin","required":true,"size":3}}'
 NONE = '{"status":"noupdate"}'
@@ -70,7 +70,8 @@ UNCOUNTED = post(request("z"))
 
 
 def wanted(generation):
-    """The replies to COUNTED and to UNCOUNTED, each with how many offers of the quota it has."""
+    """The replies to COUNTED and to UNCOUNTED, each with the number of its offers from the
+    quota."""
     last = [("y", offer(generation)), ("z", NONE)]
     return {
         reply_text(generation, [("x", offer(generation)), *last]): 1,
@@ -79,14 +80,14 @@ def wanted(generation):
     }
 
 
-# ---- what is no request
+# ---- malformed requests
 
 
 def bytes_of(rng, count):
     return bytes(rng.randrange(256) for _ in range(count))
 
 
-# What is no request, each with another refusal, or none where it ends too soon.
+# Malformed requests, each with a different error, or without a reply if it ends too early.
 GARBAGE = [
     lambda rng: b"\0" + bytes_of(rng, rng.randrange(200)),
     lambda rng: b"\x16\x03\x01" + bytes_of(rng, 300),

@@ -1,4 +1,4 @@
-"""A soak: the clients and the operators of bench/soak, and what they see of one server."""
+"""The clients and operators of bench/soak, and what they observe of one server."""
 import collections
 import random
 import socket
@@ -8,13 +8,13 @@ import time
 from asking import reset, rest, until, whole, without_moment
 from soak_texts import BAD, COUNTED, GARBAGE, SERVER, UNCOUNTED, generation_text, wanted
 
-# Seconds from one load to the next, and of the server's --timeout.
+# Seconds between loads, and of the server's --timeout.
 PACE = 0.2
 TIMEOUT = 2
 
 
 class Soak:
-    """One server, what is asked of it, and what was seen."""
+    """One server, the requests to it, and what was observed."""
 
     def __init__(self, server, folder, given):
         self.server, self.folder, self.given = server, folder, given
@@ -24,7 +24,7 @@ class Soak:
         self.wrong = []
         self.took = []
         self.loads = []
-        # The last generation whose load was answered, and the last whose load was sent.
+        # The last generation whose load was answered, and the last one whose load was sent.
         self.confirmed = self.begun = 1
 
     def goes_on(self):
@@ -39,7 +39,7 @@ class Soak:
             self.wrong.append(text)
 
     def judged(self, reply, least):
-        """The generation of a reply, none older than `least`; 0 where something is wrong."""
+        """The generation of a reply, which must be at least `least`; 0 if something is wrong."""
         status, text = whole(reply) or (0, "")
         text = without_moment(text)
         found = SERVER.search(text)
@@ -56,7 +56,7 @@ class Soak:
     # ---- clients
 
     def honest(self, _rng):
-        """Asks again and again, with a pause."""
+        """Sends requests in a loop, with a pause."""
         newest = 0
         while self.goes_on():
             least = max(newest, self.confirmed)
@@ -69,7 +69,7 @@ class Soak:
             time.sleep(self.given.pause)
 
     def stalls(self, rng):
-        """Sends a part, and waits; the server closes in time, and writes nothing."""
+        """Sends a part, and waits; the server closes in time, and sends nothing."""
         cut = rng.randrange(len(UNCOUNTED))
         start = time.monotonic()
         with self.server.connect() as stream:
@@ -81,7 +81,7 @@ class Soak:
         self.count("stalled, and were closed")
 
     def resets(self, rng):
-        """Sends all or a part, and resets, at once or in the reply."""
+        """Sends all or a part, and resets, at once or during the reply."""
         stream = self.server.connect()
         stream.sendall(UNCOUNTED[: rng.randrange(1, len(UNCOUNTED) + 1)])
         if rng.random() < 0.3:
@@ -95,7 +95,7 @@ class Soak:
         time.sleep(0.01)
 
     def garbles(self, rng):
-        """Sends what is no request; what is heard of the refusal is whole."""
+        """Sends garbage; if there is a reply, it is a whole refusal."""
         data = rng.choice(GARBAGE)(rng)
         try:
             with self.server.connect() as stream:
@@ -112,7 +112,7 @@ class Soak:
         time.sleep(0.01)
 
     def drips(self, _rng):
-        """Sends byte by byte, and is answered."""
+        """Sends byte by byte, and gets an answer."""
         least = self.confirmed
         with self.server.connect() as stream:
             stream.setsockopt(socket.IPPROTO_TCP, socket.TCP_NODELAY, 1)
@@ -126,7 +126,7 @@ class Soak:
     # ---- operators
 
     def loads_on(self, rng):
-        """Loads every 200 ms, and a third of the manifests are refused."""
+        """Loads every 200 ms; a third of the manifests are refused."""
         due = time.monotonic()
         while self.goes_on():
             if rng.random() < 1 / 3:
@@ -157,7 +157,7 @@ class Soak:
         self.count("loads that were refused")
 
     def hangs(self, rng):
-        """Connects to the operator's port, says nothing or a part of a line, and leaves."""
+        """Connects to the operator's port, sends nothing or a part of a line, and leaves."""
         with self.server.connect_operator() as stream:
             stream.sendall(rng.choice([b"", b"sho", b"load /"]))
             time.sleep(rng.choice([0.1, 1]))

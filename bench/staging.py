@@ -1,5 +1,5 @@
-"""A check of examples/deploy/stage: an app that is raised, halted and taken back on a server, and
-the calls at which it stops, after which the server serves what it served.
+"""Checks examples/deploy/stage: an app is raised, halted and taken back on a server. After a call
+that stops with an error, the server still serves what it served.
 """
 from hosts import DEPLOY
 from operating import BUILT, Day
@@ -7,7 +7,7 @@ from operating import BUILT, Day
 HOST = "--version 1.9 --folder /etc/rollout --operator 8081"
 RAISED, LOWERED = "none to 2.1, 1972 buckets", "2.1 to none, 1972 buckets, lost"
 HALTED, LIFTED = "2.1 to none, 2444 buckets, lost", "none to 2.1, 2444 buckets"
-# A call, what it prints, and where it stops the reason; else it is the next generation.
+# A call, its output, and the reason if it stops; otherwise the generation increases.
 CALLS = [
     ("raise nobody 2500", [], 'current.toml has no app "nobody" with a rule'),
     ("back", [], "current.toml isn't what a stage has put there"),

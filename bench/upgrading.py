@@ -1,8 +1,9 @@
-"""A check of docs/OPERATING.md: the upgrade that loses no request, by the page's commands and the
-template unit but for paths and ports, while clients ask through nginx without a pause.
+"""Checks docs/OPERATING.md: the upgrade that loses no request. It runs the page's commands and the
+template unit, with only paths and ports changed, while clients send requests through nginx without
+a pause.
 
-In the place of systemctl stands a script that calls the unit's commands as systemd does. Where a
-command isn't installed the check is skipped by that name.
+systemctl is replaced by a script that runs the unit's commands as systemd does. If a command isn't
+installed, the check is skipped with that name.
 """
 import os
 import re
@@ -21,7 +22,7 @@ from proxying import TLS, nginx_words, proxied_by
 
 TITLE = "An upgrade that loses no request"
 CLIENTS = 6
-# The site has six polls a minute for each address.
+# The site allows six polls a minute for each address.
 QUICK = [("rate=6r/m", "rate=9999r/s"), ("burst=20", "burst=9999")]
 LEAST = 3000
 
@@ -38,7 +39,7 @@ NAMES = {"pre": "ExecStartPre", "start": "ExecStart", "post": "ExecStartPost", "
 
 
 class Site:
-    """A host with nginx before its servers, and commands that stand in for those of the host."""
+    """A host with nginx before its servers, and commands that replace those of the host."""
 
     def __init__(self, top):
         self.host = host = Host(top)
@@ -53,7 +54,7 @@ class Site:
         self.how = {"cwd": top, "env": {**os.environ, "PATH": path}, "capture_output": True}
 
     def cases(self, instance, unit):
-        """What the script does for an instance."""
+        """The script's cases for an instance."""
         lines = {it: line_of(unit, name) for it, name in NAMES.items()}
         at = {"it": instance, "log": self.host.log(), "pid": self.pid(instance)}
         return (STARTS + STOPS).format(**lines, **at)
@@ -67,13 +68,13 @@ class Site:
         path.chmod(path.stat().st_mode | stat.S_IXUSR)
 
     def run(self, text):
-        """Status and all that it prints."""
+        """Status and all output."""
         words = ["sh", "-c", placed(text, self.host.top)]
         done = subprocess.run(words, text=True, timeout=4 * PATIENCE, **self.how)
         return done.returncode, done.stdout + done.stderr
 
     def end(self):
-        """What is left of servers where a check has failed."""
+        """Kills the remaining servers after a failed check."""
         for it in ("8", "9"):
             if self.pid(it).exists() and listens(PORTS[f"80{it}1"]):
                 os.kill(int(self.pid(it).read_text()), signal.SIGKILL)
@@ -88,7 +89,8 @@ def listens(port):
 
 
 class Load:
-    """Clients that ask by way of nginx, one request a connection, until the end of a `with`."""
+    """Clients that send requests through nginx, one for each connection, until the end of a
+    `with`."""
 
     def __init__(self, host):
         self.context = ssl.create_default_context(cafile=host.top / "etc" / "ssl" / "rollout.pem")
@@ -125,12 +127,13 @@ class Load:
 
 
 def counted(log):
-    """What the log tells of the counter of all asks, as a server ends."""
+    """The counter of all requests, as the log has it when a server ends."""
     return sum(map(int, re.findall(r'"array":"asked","index":0,"value":(\d+)', log.read_text())))
 
 
 def wrong_upgrade(site):
-    """From the one to the other under load; what each has answered is told by its counter."""
+    """Upgrades from the old server to the new one under load; their counters say what each
+    answered."""
     host, [commands] = site.host, section("OPERATING.md", TITLE)
     with Load(host) as load:
         awaited(lambda: sum(load.whole) > LEAST / 2)
@@ -152,7 +155,7 @@ def wrong_upgrade(site):
 
 
 def upgrade(folder):
-    """The commands of the page, under load."""
+    """The page's commands, under load."""
     needs("nginx", "openssl", "pgrep")
     site = Site(folder / "upgrade")
     with proxied_by(site.host, site.nginx):

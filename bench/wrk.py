@@ -1,4 +1,4 @@
-"""Asks a server by `wrk`, and reads what it tells."""
+"""Sends requests to a server by `wrk`, and reads its output."""
 import re
 import subprocess
 from typing import NamedTuple
@@ -11,7 +11,8 @@ wrk.body = '%s'
 wrk.headers["Content-Type"] = "application/json"
 wrk.headers["Connection"] = "close"
 """
-# What it tells; the line of Req/Sec ends in "50%" as well, and the next one begins with a word.
+# An example of its output; the line of Req/Sec also ends in "50%", and the next one begins with a
+# word.
 TOLD = """\
 Running 3s test @ http://127.0.0.1:18080/service/update2/json
   2 threads and 16 connections
@@ -32,8 +33,8 @@ UNITS = {"us": 1e-3, "ms": 1, "s": 1e3, "m": 6e4}
 
 
 class Drive(NamedTuple):
-    """So many requests; how many a second; times that half of them and 99 of 100 don't pass, in
-    ms; and what was wrong."""
+    """The number of requests, requests a second, the median and the 99th percentile in ms, and what
+    was wrong."""
 
     requests: int
     rate: float
@@ -48,7 +49,7 @@ def milliseconds(text):
 
 
 def share(told, percent):
-    """The time that this share of the requests doesn't pass: a line of its own of the output."""
+    """The percentile of the times, which has its own line in the output."""
     return milliseconds(re.search(rf"^ +{percent}%\s+(\S+)$", told, re.M)[1])
 
 
@@ -64,14 +65,15 @@ def read(told):
 
 
 def check():
-    """Stops where an output isn't read as it is to be."""
+    """Exits if an output isn't read correctly."""
     wrong = "Socket errors: connect 0, read 3, write 0, timeout 0"
     if read(TOLD) != Drive(164751, 53145.98, 0.265, 2.72, wrong):
         raise SystemExit(f"wrk is misread: {read(TOLD)}")
 
 
 def drive(port, script, seconds):
-    """Asks the server at the port by so many connections, a request a connection."""
+    """Sends requests to the server at the port over CONNECTIONS connections, one request for each
+    connection."""
     words = ["wrk", "-t2", f"-c{CONNECTIONS}", f"-d{seconds}s", "--latency", "-s", str(script)]
     words.append(f"http://127.0.0.1:{port}/service/update2/json")
     return read(subprocess.run(words, capture_output=True, text=True, check=True).stdout)

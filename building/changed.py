@@ -1,22 +1,22 @@
-"""Which crates have changed since a commit, what stands on them, and what of these is run."""
+"""Which crates have changed since a commit, which depend on them, and which of these have runs."""
 import subprocess
 import sys
 
 from building.crates import PROGRAM, ROOT, all_crates, crate_lines, seconds_recorded
 from building.running import Runs
 
-# The edits of wrong bodies, which change nothing of a crate.
+# The folders of wrong bodies, whose edits don't change a crate.
 EDITS = {"must-fail", "wrong"}
 
 
 def printed(*words):
-    """The lines that git prints, or none where it fails."""
+    """The lines that git prints; None if it fails."""
     done = subprocess.run(["git", *words], cwd=ROOT, capture_output=True, text=True)
     return done.stdout.splitlines() if done.returncode == 0 else None
 
 
 def commit_before(commit):
-    """The last commit that this branch shares with the one that is named, or with main."""
+    """The last commit that this branch shares with the named one, or with main."""
     for name in [commit] if commit else ["origin/main", "main"]:
         if found := printed("merge-base", "HEAD", name):
             return found[0]
@@ -24,14 +24,14 @@ def commit_before(commit):
 
 
 def touched_paths(commit):
-    """The paths below crates that differ from a commit's, new ones among them."""
+    """The paths below crates that differ from a commit's, including new ones."""
     differing = printed("diff", "--name-only", "--no-renames", commit, "--", "crates")
     new = printed("ls-files", "--others", "--exclude-standard", "--", "crates")
     return [it.split("/") for it in [*(differing or []), *(new or [])]]
 
 
 class Changed:
-    """The crates that a gate of what has changed goes by, lowest first."""
+    """The crates for a gate of what has changed, lowest first."""
 
     def __init__(self, commit):
         self.since = commit_before(commit)
@@ -44,18 +44,18 @@ class Changed:
         self.crates = [it for it in crates if it.name in texts or lines.get(it.name) != it.line]
         self.above = [it for it in crates if it.below & {*self.crates} and it not in self.crates]
         self.selected = [it for it in crates if it in {*self.crates, *self.above}]
-        # Those whose wrong bodies are to be tried once more.
+        # The crates whose wrong bodies must be tried again.
         self.tried = [it.name for it in crates if it in self.crates or it.name in edits]
         self.tried = [it for it in self.tried if any(self.known[it].folder.glob("*/*.edit"))]
 
     def runs(self):
-        """The tests and the stored runs of what is selected."""
+        """The tests and the stored runs of the selected crates."""
         found = [Runs(it, of_tests) for it in self.selected for of_tests in (True, False)]
         return [it for it in found if it.is_there()]
 
     def libraries(self):
-        """What is proved as a library or as the program: the selected crates but those that have
-        tests alone, and all that these and the runs stand on."""
+        """What is proved as a library or as the program: the selected crates except those that only
+        have tests, and all crates on which these and the runs depend."""
         stood_on = set().union(*(it.below for it in self.known.values()))
         tests = {it.crate for it in self.runs()}
         wanted = {it for it in self.selected if it in stood_on or it not in tests}

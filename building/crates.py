@@ -1,4 +1,4 @@
-"""The repository's crates: what crates.txt says of them, and COSTS.md of their time."""
+"""The repository's crates, from crates.txt, and their times, from COSTS.md."""
 import re
 import sys
 from pathlib import Path
@@ -7,7 +7,7 @@ ROOT = Path(__file__).resolve().parent.parent
 CRATES = ROOT / "crates"
 PROGRAM = "rollout"
 PARTS = ["src", "specs", "proofs"]
-# What `build` makes. `rt ci` gives a folder of this name back to a crate, and nothing else there.
+# The output of `build`. `rt ci` restores a folder of this name to a crate, and nothing else there.
 BUILT = CRATES / PROGRAM / "out" / "rlib"
 
 
@@ -16,14 +16,14 @@ def say(text):
 
 
 def write(path, data):
-    """Writes it whole, or leaves what stood there."""
+    """Writes the file whole, or leaves the old one."""
     new = path.with_name(f"{path.name}.new")
     new.write_bytes(data)
     new.replace(path)
 
 
 class Crate:
-    """A crate by its line of crates.txt."""
+    """A crate, from its line of crates.txt."""
 
     def __init__(self, line, known):
         head, _, named = line.partition(":")
@@ -32,25 +32,25 @@ class Crate:
         self.folder = CRATES / name
         self.is_program = name == PROGRAM
         self.root = f"src/{'main' if (self.folder / 'src' / 'main.rt').exists() else 'lib'}.rt"
-        # The crates of the repository that its line names, and the libraries of the kit.
+        # The repository's crates that its line names, and the kit's libraries.
         self.named = [known[it] for it in named if it in known]
         self.of_kit = [it for it in named if it not in known]
         self.below = {*self.named}.union(*(it.below for it in self.named))
 
     def files(self):
-        """Its sources, in an order of their own."""
+        """Its sources in a fixed order."""
         found = [it for part in PARTS for it in (self.folder / part).rglob("*")]
         return sorted(it for it in found if it.is_file())
 
 
 def crate_lines(text):
-    """The lines of a crates.txt by the names of their crates."""
+    """The lines of a crates.txt, by crate."""
     lines = [it for it in text.splitlines() if it and it[0] != "#"]
     return {re.split("[ :]", it)[0]: it for it in lines}
 
 
 def all_crates():
-    """The repository's crates by their names, lowest first."""
+    """The repository's crates by name, lowest first."""
     known = {}
     for name, line in crate_lines((ROOT / "crates.txt").read_text()).items():
         known[name] = Crate(line, known)
@@ -58,12 +58,12 @@ def all_crates():
 
 
 def crates_of_program():
-    """The crates that the program stands on and its own, lowest first."""
+    """The program and the crates on which it depends, lowest first."""
     known = all_crates()
     return [it for it in known.values() if it in known[PROGRAM].below or it.is_program]
 
 
 def seconds_recorded():
-    """How long a crate takes from nothing, by the table of docs/internals/COSTS.md."""
+    """The seconds of each crate from nothing, by the table of docs/internals/COSTS.md."""
     text = (ROOT / "docs" / "internals" / "COSTS.md").read_text()
     return {name: int(s) for name, s in re.findall(r"^\| `(\w+)` \| \d+ \| (\d+) \|", text, re.M)}

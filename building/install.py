@@ -1,7 +1,7 @@
-"""Copies the built program, with its pages and examples, to a folder from which it runs alone.
+"""Copies the built program, with its pages and examples, to a folder from which it runs by itself.
 
-All is written beside the places that it goes to, under names that begin with a dot, before anything
-is set in its place. Where a step fails those before it are undone.
+Everything is first written next to its final place, under names that begin with a dot. Only then is
+it moved into place. If a step fails, the steps before it are undone.
 """
 import contextlib
 import os
@@ -14,8 +14,8 @@ from building.version import BUILT_FROM
 
 SHARE = "share/rollout"
 DOCS = ROOT / "docs"
-# The program comes last: it is replaced in one step, with nothing behind it that could fail. A
-# server that runs goes on with the file that it has.
+# The program is last: it is replaced in one step, and no later step can fail. A running server
+# keeps its file.
 PLACES = {
     f"{SHARE}/README.md": ROOT / "README.md",
     f"{SHARE}/CHANGELOG.md": ROOT / "CHANGELOG.md",
@@ -26,8 +26,8 @@ PLACES = {
     "bin/rollout": ROOT / "building" / "installed",
     "libexec/rollout": BUILT / PROGRAM,
 }
-# What checks the pages stays with the sources, and a reference that somebody wrote there, too: it may
-# be of other sources.
+# The scripts that check the pages aren't installed, and neither is an existing reference, since it
+# may belong to other sources.
 LEFT_OUT = shutil.ignore_patterns("*.py", "checking", "__pycache__", "reference")
 
 
@@ -43,8 +43,8 @@ def remove(path):
 
 
 def open_to_all(path):
-    """Lets everybody read it, and call what can be called, whatever the caller's umask: a service has
-    a user of its own."""
+    """Makes it readable for everybody, and programs executable, whatever the caller's umask: a
+    service has its own user."""
     for it in [path, *path.rglob("*")]:
         it.chmod(0o755 if it.is_dir() or os.access(it, os.X_OK) else 0o644)
 
@@ -58,7 +58,8 @@ def make_folder(folder, undo):
 
 
 def write_reference(folder):
-    """The pages of contracts and definitions, which aren't in git, from the sources as they are."""
+    """Writes the pages of contracts and definitions, which aren't in git, from the current
+    sources."""
     words = [sys.executable, "-B", "-X", "utf8", DOCS / "check.py", "--write", folder]
     if subprocess.run(words).returncode:
         raise OSError("docs/check.py doesn't write the reference")
@@ -76,13 +77,14 @@ def write_beside(source, place, undo):
     else:
         shutil.copy(source, new)
         with open(new) as it:
-            # It stands on the disk before it stands in the place of another.
+            # It is on the disk before it replaces another file.
             os.fsync(it.fileno())
     open_to_all(new)
 
 
 def set_in_place(place, undo):
-    """What stood there stays beside it, for the time that a later step may fail."""
+    """Moves the new file into place. The old one is kept next to it, because a later step may
+    fail."""
     new, old = beside(place, "new"), beside(place, "old")
     remove(old)
     if not os.path.lexists(place):
@@ -92,19 +94,19 @@ def set_in_place(place, undo):
         undo.callback(old.rename, place)
         undo.callback(place.rename, new)
     else:
-        # It is replaced in one step: a launcher is there at any moment.
+        # It is replaced in one step, so the launcher exists at every moment.
         shutil.copy2(place, old)
         undo.callback(old.replace, place)
     new.replace(place)
 
 
 def cause(error):
-    """Of the faults of a folder's copy the first."""
+    """The first of several faults in the copy of a folder."""
     return error.args[0][0][2] if isinstance(error.args[0], list) else error
 
 
 def copy_all(folder):
-    """Copies all or nothing, over what an earlier call copied there."""
+    """Copies all or nothing, and replaces what an earlier call copied."""
     *shared, program = [folder / it for it in PLACES]
     with contextlib.ExitStack() as undo:
         for place, source in PLACES.items():

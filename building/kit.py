@@ -1,4 +1,4 @@
-"""The toolchain's kit: where it stands, and how its compiler proves and builds a crate."""
+"""The toolchain's kit: its folder, and how its compiler proves and builds a crate."""
 import os
 import shutil
 from pathlib import Path
@@ -13,11 +13,11 @@ class Kit:
 
     def __init__(self, folder):
         self.folder = folder
-        # Sums of the kit's own files: another build of the compiler has others.
+        # Sums of the kit's own files; another build of the compiler has others.
         self.what = (folder / "WHAT").read_bytes()
 
     def words(self, crate, way, jobs):
-        """How the compiler is called for a crate over its libraries, in its folder."""
+        """The compiler's command for a crate and its libraries, to be run in the crate's folder."""
         words = [self.folder / "bin" / "rattle", "build", "--crate-name", crate.name, crate.root]
         for name in ["std", *crate.of_kit]:
             words += ["--extern", f"{name}={self.folder}/rlibs/{name}.rlib"]
@@ -30,7 +30,7 @@ class Kit:
         return [*words, "--links", f"{crate.name}=", "--jobs", str(jobs)]
 
     def linked(self, words, compiled, made):
-        """What compiles what these words prove, and links it."""
+        """The commands that compile what this command proves, and link it."""
         toolchain = ["--toolchain", self.folder / "toolchain"]
         link = [self.folder / "bin" / "rattle-link", "--target", TARGET, *toolchain]
         link += ["-o", made, compiled]
@@ -38,19 +38,19 @@ class Kit:
         return [[*words, *toolchain, "--backend", "llvm", "-o", compiled], link]
 
     def commands(self, crate, way, jobs):
-        """What proves and builds a crate over its libraries, one after the other."""
+        """The commands that prove and build a crate with its libraries, in order."""
         words = [*self.words(crate, way, jobs), *way.words(crate)]
         if not crate.is_program:
             return [[*words, "-o", way.library(crate)]]
         return self.linked(words, BUILT / f"{PROGRAM}.o", BUILT / f"{PROGRAM}.new")
 
     def run_commands(self, runs, way, jobs):
-        """What proves and builds the tests of a crate, or a program that is run."""
+        """The commands that prove and build a crate's tests, or a program for its stored run."""
         words = [*self.words(runs.crate, way, jobs), *runs.words()]
         return self.linked(words, runs.place(".o"), runs.place(".new"))
 
 
 def find_kit():
-    """The kit of the `rt` on the caller's path, or none."""
+    """The kit of the `rt` on the caller's PATH, or None."""
     rt = shutil.which("rt")
     return Kit(Path(os.path.realpath(rt)).parent.parent) if rt else None

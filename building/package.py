@@ -1,4 +1,4 @@
-"""Archives of an install, which from one commit have the same bytes wherever they are made."""
+"""Archives of an install. The same commit gives the same bytes everywhere."""
 import gzip
 import hashlib
 import os
@@ -19,7 +19,7 @@ UNITS = ["rollout.service", "rollout@.service", "rollout-nft.service"]
 
 
 def moment():
-    """The time of all files in an archive: the commit's, where there is one."""
+    """The time of all files in an archive: that of the commit, if there is one."""
     given = os.environ.get("SOURCE_DATE_EPOCH") or told("git", "log", "-1", "--format=%ct")
     return int(given or 0)
 
@@ -38,7 +38,7 @@ def pack(folder, name, file):
 
 
 def set_in_place(new, place):
-    """Writes a file and its SHA-256 into the folder that is asked for."""
+    """Writes a file and its SHA-256 into the requested folder."""
     place.parent.mkdir(parents=True, exist_ok=True)
     beside = place.with_name(f".{place.name}.new")
     shutil.copyfile(new, beside)
@@ -58,7 +58,7 @@ def write_archive(folder):
 
 
 def unit(name):
-    """A unit with the package's paths, and without what the package itself does at its install."""
+    """A unit with the package's paths, and without what the package does at its install."""
     text = (DEPLOY / name).read_text()
     lines = [it for it in text.splitlines() if not it.startswith(("#   install ", "#   cp rollout"))]
     text = "\n".join(lines) + "\n"
@@ -67,7 +67,7 @@ def unit(name):
 
 
 def lay_out(tree):
-    """The files of the package where they go to, and what dpkg reads of it."""
+    """The files of the package at their places, and the files for dpkg."""
     copy_all(tree / "usr")
     texts = {it.name: it.read_text() for it in DEBIAN.iterdir()}
     places = {
@@ -92,7 +92,7 @@ def write_deb(folder):
     with tempfile.TemporaryDirectory() as room:
         tree, file = Path(room) / "tree", Path(room) / f"rollout_{number()}_amd64.deb"
         lay_out(tree)
-        # One block of one thread: the bytes are the same on any machine.
+        # One thread and one block, so that the bytes are the same on any machine.
         words = ["dpkg-deb", "--root-owner-group", "-Zgzip", "--build", tree, file]
         given = {**os.environ, "SOURCE_DATE_EPOCH": str(moment())}
         done = subprocess.run(words, env=given, capture_output=True, text=True)

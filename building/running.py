@@ -1,7 +1,7 @@
-"""What a crate has to run: its tests, or the program that it is with its stored run.
+"""What a crate runs: its tests, or its program in a stored run.
 
-A program's files `args`, `stdin`, `stdout` and `status` stand beside its sources, and those of
-`data` lie in the folder that it runs in, as `rt` has it.
+A program's files `args`, `stdin`, `stdout` and `status` are next to its sources, and the files of
+`data` are in its working folder, as for `rt`.
 """
 import shutil
 import subprocess
@@ -10,12 +10,12 @@ from pathlib import Path
 
 from building.crates import BUILT
 
-# A test, or a stored run, takes less.
+# The time limit of the tests, or of a stored run.
 SECONDS = 120
 
 
 class Runs:
-    """The tests of a crate, or its stored run: what is built over the crates below it."""
+    """The tests of a crate, or its stored run, built with the crates below it."""
 
     is_program = False
 
@@ -27,13 +27,14 @@ class Runs:
 
     def is_there(self):
         if not self.of_tests:
-            # The program itself is built as a library is.
+            # The program itself is built like a library.
             return self.root.endswith("main.rt") and not self.crate.is_program
         texts = (it.read_text() for it in self.crate.files() if it.suffix == ".rt")
         return any("#[test]" in it for it in texts)
 
     def files(self):
-        """What it goes by: the crate's sources, and what its program is given and has to print."""
+        """The files on which it depends: the crate's sources, and the program's input and expected
+        output."""
         beside = [self.folder / it for it in ("args", "stdin", "stdout", "status")]
         data = [] if self.of_tests else (self.folder / "data").rglob("*")
         more = [] if self.of_tests else [*beside, *data]
@@ -43,11 +44,12 @@ class Runs:
         return BUILT / "runs" / f"{self.name}{ending}"
 
     def words(self):
-        """How the compiler reads it, and where it keeps its work, in either way of libraries."""
+        """The compiler's options for it, and the folder of its work, for both kinds of
+        libraries."""
         return [*(["--test"] if self.of_tests else []), "--incremental", self.place(".work")]
 
     def faults(self, kit):
-        """Runs what was built: what was wrong, or nothing."""
+        """Runs what was built, and returns what was wrong, or nothing."""
         program = self.place("")
         self.place(".new").replace(program)
         self.place(".o").unlink(missing_ok=True)
@@ -60,7 +62,8 @@ class Runs:
 
 
 def stored_run(crate, program):
-    """Runs a program on a copy of its data, and compares its output: what differs, or nothing."""
+    """Runs a program on a copy of its data, and compares its output. Returns what differs, or
+    nothing."""
 
     def given(name, otherwise=""):
         file = crate.folder / name

@@ -1,7 +1,7 @@
-"""Which crate is proved when, and by how many processors; and what is told of it meanwhile.
+"""When each crate is proved, with how many processors, and what is printed meanwhile.
 
-A crate is begun once those are done that it stands on, and of these the one first that the longest
-chain waits for.
+A crate starts once all crates below it are done. Of those ready, the one with the longest chain
+above it is first.
 """
 import sys
 import time
@@ -11,9 +11,9 @@ from building.crates import BUILT, PROGRAM, say, seconds_recorded
 from building.running import Runs, stored_run
 from building.work import Guard, Work, count_jobs
 
-# More jobs of one crate gain nothing.
+# More jobs for one crate gain nothing.
 MOST_JOBS = 8
-# A crate may take minutes. After so many seconds without a line there is one of what goes on.
+# A crate may take minutes. After this many seconds without a line, a line says what is running.
 MOST_SILENT = 50
 
 
@@ -23,7 +23,7 @@ class Build:
     def __init__(self, kit, way, crates):
         self.kit, self.way, self.crates = kit, way, crates
         recorded = seconds_recorded()
-        # A crate that has none counts as an average one, so that it isn't left for the end.
+        # A crate without a recorded time counts as average, so that it isn't left for the end.
         average = sum(recorded.values()) // max(1, len(recorded))
         names = {it: it.crate.name if isinstance(it, Runs) else it.name for it in crates}
         self.recorded = {it: recorded.get(names[it], average) + 1 for it in crates}
@@ -34,42 +34,43 @@ class Build:
         self.left = sorted(way.lacking(self.crates, kit), key=self.chain.get, reverse=True)
         self.jobs = count_jobs()
         self.running = {}
-        # What each crate that is being built is built of.
+        # The sum of the sources and libraries of each running crate.
         self.sums = {}
-        # The seconds of the crates that were proved, and those recorded of them.
+        # The seconds of the crates proved so far, and the seconds recorded for them.
         self.proved = [0.0, 0.0]
 
     def pace(self):
-        """How many seconds a recorded one takes on this machine."""
+        """The seconds on this machine for a recorded second."""
         return self.proved[0] / self.proved[1] if self.proved[1] else 1
 
     def worked(self, crate):
-        """How much is done of a crate, in recorded seconds."""
+        """The work done on a crate, in recorded seconds."""
         if crate not in self.running:
             return 0
         return min(self.running[crate].seconds() / self.pace(), self.recorded[crate])
 
     def minutes_left(self):
-        """About: the longest chain that is left, or all that is left over the processors."""
+        """An estimate: the longest remaining chain, or all remaining work divided by the
+        processors."""
         chain = max(self.chain[it] - self.worked(it) for it in self.left)
         work = sum(self.recorded[it] - self.worked(it) for it in self.left)
         return int(self.pace() * max(chain, work / self.jobs)) // 60 + 1
 
     def tell(self, text):
-        """Says it, with how much is done and left of all."""
+        """Prints the text, with how much is done and left in total."""
         count = f"{len(self.crates) - len(self.left)} of {len(self.crates)}"
         then = f"; about {self.minutes_left()} min left" if self.left else ""
         say(f"{count}: {text}{then}")
         self.told = time.monotonic()
 
     def under_way(self, crate):
-        """How long a crate has been worked on, and of about how long."""
+        """The seconds spent on a crate, and the estimated total."""
         whole = self.recorded[crate] * self.pace()
         return f"{crate.name} at {self.running[crate].seconds():.0f} s of about {whole:.0f}"
 
     def share_processors(self):
-        """Gives each processor that is idle to a crate that nothing below holds up, and to the first
-        of these what nobody else can use. Who holds up the longest chain has two jobs, if it can."""
+        """Gives each idle processor to a crate that is ready. The first of these also gets those
+        that no other crate can use. The crate of the longest chain has two jobs if possible."""
         waiting = {*self.left}
         ready = [it for it in self.left if it not in self.running and not it.below & waiting]
         idle = self.jobs - sum(it.jobs for it in self.running.values())
@@ -90,14 +91,14 @@ class Build:
         return self.kit.commands(crate, self.way, jobs)
 
     def is_good(self, crate):
-        """Puts what its commands have made where it belongs."""
+        """Moves the output of its commands into place."""
         if crate.is_program:
             (BUILT / f"{PROGRAM}.new").replace(BUILT / PROGRAM)
             (BUILT / f"{PROGRAM}.o").unlink(missing_ok=True)
         return True
 
     def end(self, crate):
-        """Keeps and tells of a crate whose commands have ended."""
+        """Saves and prints the result of a crate whose commands have ended."""
         work = self.running.pop(crate)
         if work.was_killed():
             say(f"{crate.name} was killed, most likely for memory: once more with one job")
@@ -105,7 +106,7 @@ class Build:
         if work.process.returncode:
             sys.stderr.write(work.printed())
             sys.exit(f"rollout: {crate.name} isn't proved")
-        # A source may have changed meanwhile.
+        # A source may have changed in the meantime.
         if self.is_good(crate) and self.way.sum(crate, self.kit) == self.sums[crate]:
             self.way.stamp(crate).write_text(self.sums[crate])
         self.left.remove(crate)
@@ -137,7 +138,7 @@ class Build:
 
 
 class Gate(Build):
-    """Of what has changed: libraries, and over them the tests and the stored runs of crates."""
+    """A gate of what has changed: libraries, and then the tests and the stored runs of crates."""
 
     what = "what has changed"
 
@@ -158,7 +159,7 @@ class Gate(Build):
         return self.passes(crate.faults(self.kit))
 
     def passes(self, faults):
-        """Tells what is wrong with a run, while the others go on."""
+        """Prints what is wrong with a run, while the others continue."""
         sys.stderr.write(faults)
         self.bad += bool(faults)
         return not faults

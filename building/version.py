@@ -1,10 +1,11 @@
-"""Which program stands: its number, its sources, their commit, and the kit that proved them."""
+"""The identity of the built program: its number, its sources, their commit, and the kit that proved
+them."""
 import os
 import subprocess
 
 from building.crates import BUILT, ROOT
 
-# Of what the build of the program that stands began with, as the script `stamp` here tells.
+# The state at the start of the build of the existing program, as the script `stamp` prints it.
 STAMP = BUILT / "stamp"
 # Written by each build, for `./rollout --version` and for installs.
 BUILT_FROM = BUILT / "built-from"
@@ -12,8 +13,8 @@ SOURCES = ["crates.txt", *(f":(glob)crates/*/{part}/**" for part in ("src", "spe
 
 
 def told(*words):
-    """The first line that a command prints, or none where it fails or isn't there."""
-    # A repository that this one's folder lies in tells nothing of these sources.
+    """The first line that a command prints; None if it fails or doesn't exist."""
+    # A repository that contains this folder says nothing about these sources.
     within = {**os.environ, "GIT_CEILING_DIRECTORIES": str(ROOT.parent)}
     try:
         done = subprocess.run(words, cwd=ROOT, env=within, capture_output=True, text=True)
@@ -27,7 +28,7 @@ def number():
 
 
 def commit_now():
-    """The commit, and whether a source is another one than the commit has."""
+    """The commit, and whether a source differs from it."""
     commit = told("git", "rev-parse", "--short=12", "HEAD")
     if not commit:
         return "of no known commit"
@@ -44,6 +45,7 @@ def stamp_now():
 
 
 def is_current():
-    """Whether the program stands, is of the sources as they are, and is known by its version."""
+    """Whether the program exists, is built from the current sources, and has its version
+    recorded."""
     stands = subprocess.run([ROOT / "building" / "is_current"]).returncode == 0
     return stands and BUILT_FROM.exists()

@@ -1,16 +1,16 @@
-"""The two ways in which libraries are kept, each in a folder of its own.
+"""The two ways of keeping libraries, each in its own folder.
 
-By statements a library holds what others can cite of it, and not its proofs: it is small, and is
-quickly proved and loaded. But a changed crate is proved as one that is new, and so is all that
-stands on it. By kept work it holds its proofs as well, and beside it lies what was checked of each
-of its modules, so that after a change mostly what changed is checked again.
+By statements: a library has what other crates can cite, and no proofs. It is small, and is quickly
+proved and loaded. But a changed crate, and all crates that depend on it, are proved as if new. By
+kept work: a library also has its proofs, and the results of checking each module are kept next to
+it. After a change, mostly what changed is checked again.
 """
 import hashlib
 import zlib
 
 from building.crates import BUILT, write
 
-# Smaller files stay as they are once the program stands.
+# Smaller files aren't compressed once the program is built.
 LEAST_PACKED = 1 << 20
 
 
@@ -23,7 +23,7 @@ class Way:
         return self.folder / f"{crate.name}.rlib"
 
     def stamp(self, crate):
-        """The file with the sum of what stands of a crate. There is one program."""
+        """The file with the sum of a built crate. There is only one program."""
         return (BUILT if crate.is_program else self.folder) / f"{crate.name}.stamp"
 
     def words(self, crate):
@@ -32,7 +32,7 @@ class Way:
         return [] if crate.is_program else ["--statements"]
 
     def sum(self, crate, kit):
-        """Of the crate's sources, the kit, and the very libraries that it is built over."""
+        """The sum of the crate's sources, the kit, and the libraries with which it is built."""
         found = hashlib.sha256(kit.what + repr((self.keeps_work, crate.of_kit)).encode())
         for file in crate.files():
             found.update(repr((str(file.relative_to(crate.folder)), file.read_bytes())).encode())
@@ -41,13 +41,14 @@ class Way:
         return found.hexdigest()
 
     def stands(self, crate, kit):
-        """Whether its stamp is of what it is to be built of now. All below it stands."""
+        """Whether its stamp has the current sum, if all crates below it are built."""
         is_there = (BUILT / crate.name).exists() if crate.is_program else True
         stamp = self.stamp(crate)
         return is_there and stamp.exists() and stamp.read_text() == self.sum(crate, kit)
 
     def lacking(self, crates, kit):
-        """Of crates, lowest first, those to be built: what has changed, and what stands on that."""
+        """The crates that must be built, of `crates`, lowest first: those that changed, and those
+        that depend on them."""
         changed = set()
         for it in crates:
             if it.below & changed or not self.stands(it, kit):
@@ -55,7 +56,7 @@ class Way:
         return changed
 
     def pack(self, crate):
-        """Once nothing more is built over it; by statements alone."""
+        """Compresses a library once nothing more is built with it; only by statements."""
         for file in [] if self.keeps_work else [*self.library(crate).rglob("*")]:
             if file.is_file() and file.suffix != ".z" and file.stat().st_size >= LEAST_PACKED:
                 write(file.with_name(f"{file.name}.z"), zlib.compress(file.read_bytes(), 1))

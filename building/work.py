@@ -1,4 +1,4 @@
-"""The commands that prove and build a crate: how they are started, and how they end with `build`."""
+"""The commands that prove and build a crate: how they start, and how they end with `build`."""
 import os
 import re
 import signal
@@ -7,7 +7,7 @@ import tempfile
 import time
 from pathlib import Path
 
-# What a job may take, in bytes.
+# The memory for a job, in bytes.
 MEMORY = 3 << 30
 
 
@@ -19,7 +19,7 @@ def number_in(file, pattern):
 
 
 def count_jobs():
-    """How many processors there are that memory suffices for, also in a container."""
+    """The number of processors for which memory suffices, also in a container."""
     available = [1024 * number_in("/proc/meminfo", r"^MemAvailable: +(\d+)")]
     if limit := number_in("/sys/fs/cgroup/memory.max", r"^(\d+)"):
         held = number_in("/sys/fs/cgroup/memory.stat", r"^anon (\d+)") or 0
@@ -28,7 +28,7 @@ def count_jobs():
 
 
 class Guard:
-    """A group of processes that ends when `build` does, however it ends, and stops where it stops."""
+    """A process group that ends whenever `build` does, and stops whenever it is stopped."""
 
     def __init__(self):
         # The pipe closes when `build` ends, and the shell then kills its group.
@@ -41,7 +41,7 @@ class Guard:
 
     def stop(self, *_):
         os.killpg(self.shell.pid, signal.SIGSTOP)
-        # It goes on, to end the others where `build` is killed while it stands still.
+        # The shell continues, so that it ends the others if `build` is killed while stopped.
         os.kill(self.shell.pid, signal.SIGCONT)
         os.kill(os.getpid(), signal.SIGSTOP)
         os.killpg(self.shell.pid, signal.SIGCONT)
@@ -51,7 +51,7 @@ class Guard:
 
 
 class Work:
-    """The commands of one crate, one after the other, by so many processors."""
+    """The commands of one crate, in order, with `jobs` processors."""
 
     def __init__(self, commands, folder, jobs, guard):
         self.commands, self.folder, self.jobs, self.guard = commands, folder, jobs, guard
@@ -68,13 +68,13 @@ class Work:
         return time.monotonic() - self.begun
 
     def goes_on(self):
-        """Tells whether it hasn't ended, and starts what comes behind a command that is done."""
+        """Whether it is still running; starts the next command if one has succeeded."""
         if self.process.poll() == 0 and self.commands:
             self.start()
         return self.process.poll() is None
 
     def was_killed(self):
-        """Most likely for memory, which fewer jobs take less of."""
+        """Whether it was killed, most likely for its memory; fewer jobs take less."""
         return self.process.returncode == -signal.SIGKILL and self.jobs > 1
 
     def printed(self):

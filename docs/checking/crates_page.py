@@ -1,5 +1,5 @@
-"""The pages that have all crates: the picture of the storeys, which is drawn from crates.txt, and
-the index of the reference, which leads to each crate's page."""
+"""The pages that list all crates: the picture of the layers, which is drawn from crates.txt, and
+the index of the reference, with a link to each crate's page."""
 import re
 import textwrap
 
@@ -27,7 +27,7 @@ The texts of help, of usage and of wrong command lines are in no clause; tests h
 
 
 def picture():
-    """The storeys with their crates, the highest first."""
+    """The layers with their crates, the highest first."""
     lines = []
     for name, what, members in reversed([*storeys()]):
         lines.append(f"{name:10}{what}")
@@ -41,7 +41,7 @@ def anew(text):
 
 
 def other_crates(text):
-    """Crates that the rows of a page lack, where it has rows of crates."""
+    """Crates without a row, on a page that has rows of crates."""
     rows = [it.split("|")[1] for it in text.splitlines() if it.startswith("| `")]
     named = {name for row in rows for name in re.findall(r"`(\w+)`", row)}
     if not {*crates()}.isdisjoint(named):

@@ -1,4 +1,4 @@
-"""What a file of definitions has: its first lines, and its definitions with their comments."""
+"""A file of definitions: its first comment, and its definitions with their comments."""
 import re
 import textwrap
 
@@ -7,7 +7,7 @@ DEFINES = re.compile(r"^ *(?:abbrev |unfoldable )?pub (?!use\b|mod\b)", re.M)
 
 
 def text_of(comment):
-    """The text of lines of a comment."""
+    """The text of a comment's lines."""
     return "\n".join(re.sub(r"^ *-- ?", "", it) for it in comment)
 
 
@@ -16,7 +16,7 @@ def is_comment(line):
 
 
 class SpecFile:
-    """A file's first lines, and its sections, each a title, which may be empty, and definitions."""
+    """A file's first comment, and its sections: a title, which may be empty, and definitions."""
 
     def __init__(self, path):
         lines = path.read_text().splitlines()
@@ -30,7 +30,7 @@ class SpecFile:
 
     def take(self, part):
         if part and part[0].startswith(SECTION):
-            # Its title goes on in the lines of its comment.
+            # The title continues in the lines of its comment.
             behind = next((k for k, it in enumerate(part) if not is_comment(it)), len(part))
             self.sections.append((text_of(part[:behind]).removeprefix("---- "), []))
             part = part[behind:]
@@ -39,13 +39,13 @@ class SpecFile:
 
 
 def titled(title):
-    """A section's title, or its text where that has several lines."""
+    """A section's title, or its text if that has several lines."""
     text = title[:1].upper() + title[1:]
     return f"**{text}**" if text and "\n" not in text else text
 
 
 def prose(text):
-    """A comment's text as a page has it: what is set in stands as it is."""
+    """A comment's text for a page; indented text is kept as it is."""
     blocks = []
     for block in text.split("\n\n"):
         lines = block.splitlines()

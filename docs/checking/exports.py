@@ -1,5 +1,5 @@
-"""What a crate hands out: the items that its `lib.rt` names, by the files that define them. Beside
-these stand the functions whose comment says what is open, exported or not."""
+"""What a crate exports: the items that its `lib.rt` names, by the files that define them. Also the
+functions with a comment on what is open, exported or not."""
 import re
 from dataclasses import dataclass, field
 from functools import cache
@@ -16,7 +16,8 @@ TYPES = ("struct", "enum", "trait", "type")
 
 @dataclass
 class Module:
-    """A file of sources, and what of it is told, by what it is called, and not handed out."""
+    """A source file, the items of it that a page describes, by name, and which of them aren't
+    exported."""
 
     path: object
     items: list
@@ -87,7 +88,7 @@ class Crate:
         self.lost.append(name)
 
     def take_open(self):
-        """Functions that aren't exported, and say what is open."""
+        """Takes functions that aren't exported, and have a comment on what is open."""
         for module in self.modules.values():
             told = {id(it) for it in module.told.values()}
             for item in module.items:
@@ -103,7 +104,7 @@ class Crate:
                     yield implements(item)[0], item, module
 
     def calls(self):
-        """Each function that is told, with what it is called and its module."""
+        """Each function that a page describes, with its name and its module."""
         for module in self.modules.values():
             for name, item in ordered(module):
                 if item.kind == "fn":
@@ -112,7 +113,7 @@ class Crate:
                     yield from calls_of(name, item, module, list(self.impls(item.name)))
 
     def untold(self):
-        """What it hands out with no comment that tells it."""
+        """Exported items without a comment."""
         for module in self.modules.values():
             for name, item in module.told.items():
                 if item.kind != "fn" and not item.doc():
@@ -121,7 +122,8 @@ class Crate:
 
 
 def calls_of(name, item, module, impls):
-    """The functions of a type or trait. Of a trait's `impl` those that say what is open."""
+    """The functions of a type or trait. In a trait's `impl`, only those with a comment on what is
+    open."""
     if item.kind == "trait":
         yield from ((f"{name}::{it.name}", it, module) for it in item.inner() if it.kind == "fn")
     for trait, impl, home in impls:
@@ -132,7 +134,7 @@ def calls_of(name, item, module, impls):
 
 
 def ordered(module):
-    """What of a module is told, in the order of its file."""
+    """The described items of a module, in the order of its file."""
     places = {id(it): k for k, it in enumerate(module.items)}
     return sorted(module.told.items(), key=lambda it: places[id(it[1])])
 
@@ -143,7 +145,7 @@ def told_crates():
 
 
 def lost_comments():
-    """What is handed out with no comment, and what a crate names that isn't there."""
+    """Exported items without a comment, and items that a crate names but doesn't have."""
     for crate in told_crates():
         yield from (f"{crate.name}: lib.rt hands out {it}, which no file has" for it in crate.lost)
         yield from (f"{crate.name}: no /// line of {it}" for it in crate.untold())

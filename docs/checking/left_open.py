@@ -1,4 +1,4 @@
-"""The page of what no clause pins: the `// open:` comments at calls, crate by crate."""
+"""The page OPEN: what no clause determines, from the `// open:` comments at calls, by crate."""
 from checking.exports import told_crates
 from checking.sources import OPEN
 
@@ -6,7 +6,7 @@ MARK = "<!-- docs/check.py --write writes the rest from crates/*/src. -->\n"
 
 
 def left_open(crate):
-    """A line for each thing that is open, with the calls of which it is."""
+    """A line for each open thing, with its calls."""
     found = {}
     for name, item, _ in crate.calls():
         if item.open():
@@ -15,7 +15,7 @@ def left_open(crate):
 
 
 def anew(text):
-    """The page, with what stands in it by hand up to the mark."""
+    """The page, with its text by hand up to the mark."""
     blocks = [text.partition(MARK)[0] + MARK]
     for crate in told_crates():
         if lines := left_open(crate):
@@ -24,7 +24,7 @@ def anew(text):
 
 
 def lost_open():
-    """Crates with a comment on what is open that no call has, so that the page lacks it."""
+    """Crates with a comment on what is open that isn't at a call, so that the page lacks it."""
     for crate in told_crates():
         written = sum(it.path.read_text().count(OPEN) for it in crate.modules.values())
         if written != (found := sum(bool(it.open()) for _, it, _ in crate.calls())):

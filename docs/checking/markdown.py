@@ -1,16 +1,16 @@
-"""What the generated pages share: headings with the places to which links lead, fences, and links
-to the sections of other pages."""
+"""Parts that the generated pages share: headings with their anchors, fences, and links to sections
+of other pages."""
 import re
 
 from checking.places import DOCS
 
 KINDS = ("Types", "Traits", "Functions", "Constants", "Laws", "Inside the crate", "Definitions")
-# A section of a page, as the sources name it.
+# A section of a page, in the form in which sources name it.
 SECTION = re.compile(r'docs/((?:\w+/)*(\w+)\.md), "([^"]+)"')
 
 
 def slug(title):
-    """The place of a heading, as GitHub names it."""
+    """The anchor of a heading on GitHub."""
     text = re.sub(r"\[([^]]*)\]\([^)]*\)", r"\1", title)
     return re.sub(r"[^\w\- ]", "", text.lower()).replace(" ", "-")
 
@@ -20,7 +20,7 @@ def fenced(text):
 
 
 def section(page, name):
-    """The place of a section of a page, by its heading or by the heading's words before a colon."""
+    """The anchor of a section of a page, by its heading or the heading's words before a colon."""
     path = DOCS / page
     lines = path.read_text().splitlines() if path.is_file() else []
     for title in (it.lstrip("# ") for it in lines if it.startswith("##")):
@@ -30,7 +30,7 @@ def section(page, name):
 
 
 def linked(text):
-    """A text with a link in the place of each section that it names."""
+    """A text in which the names of sections are links."""
     def link(named):
         page, short, name = named.groups()
         return f'[{short}, "{name}"](../{page}#{section(page, name)})'
@@ -45,7 +45,8 @@ def lost_sections(text):
 
 
 class Headings:
-    """The parts of a page below its title. Of two headings of one place the later is numbered."""
+    """The parts of a page below its title. If two headings have the same anchor, the later one is
+    numbered."""
 
     def __init__(self):
         self.parts = []
@@ -59,8 +60,8 @@ class Headings:
         self.parts.append((level, title, place, kind, [it for it in below if it]))
 
     def contents(self):
-        """A line for each kind of part that has one, with links. What is handed out in a module is
-        found by the module."""
+        """A line for each kind of part on the page, with links. Items exported in a module are
+        linked by the module."""
         lines, home = {}, None
         for _, title, place, kind, _ in self.parts:
             name = re.sub(r"\[(?:specs/|src/)?([^]]*)\]\([^)]*\)", r"\1", title)

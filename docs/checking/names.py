@@ -1,12 +1,12 @@
-"""What pages cite of the sources: clauses, definitions in their files, and names; and what the
-sources cite of themselves, in wrong bodies."""
+"""What pages cite from the sources: clauses, definitions in their files, and names. Also the texts
+that wrong bodies replace."""
 import re
 
 from checking.places import CRATES, crates
 from checking.quotes import QUOTE
 
 FUNCTION = re.compile(r"\bfn (\w+)\b(.*?)(?:\s\{\}?|;)\s*\n", re.S)
-# A call, with its clauses, or its crate, in parentheses behind it.
+# A call, followed by its clauses, or its crate, in parentheses.
 CLAUSES = re.compile(r"`([\w:]+)` \(((?:`\w+`(?:, )?)+)\)")
 CITED = re.compile(r"`((?:\w+::)?[A-Za-z]\w*)`")
 SPEC = re.compile(r"\[[^]]*\]\(\.\./crates/([^)]+\.antt)\)")
@@ -14,7 +14,7 @@ EDIT = re.compile(r"^(file|old|new): ?(.*)$", re.M)
 
 
 def contracts():
-    """The names of the clauses of all functions of one name."""
+    """The names of the clauses of all functions with a name."""
     found = {}
     for file in CRATES.glob("*/src/**/*.rt"):
         for name, contract in FUNCTION.findall(file.read_text()):
@@ -33,7 +33,7 @@ def false_clauses(page, clauses):
 
 
 def strangers(text):
-    """Names in cells of tables that stand before a link to a file of definitions, and not in it."""
+    """Names in table cells before a link to a file of definitions that doesn't have them."""
     for cell in re.findall(r"[^|\n]+", text):
         names, *rest = re.split(SPEC, cell)
         while rest:
@@ -47,7 +47,7 @@ def strangers(text):
 
 
 def unknown_names(text):
-    """Names in backticks that are no word of any crate's files."""
+    """Names in backquotes that don't occur in any crate's files."""
     kinds = ("src/**/*.rt", "specs/**/*.antt", "proofs/**/*.antt")
     files = [it for kind in kinds for it in CRATES.glob(f"*/{kind}")]
     known = {*crates()}.union(*(re.findall(r"\w+", it.read_text()) for it in files))
@@ -57,7 +57,7 @@ def unknown_names(text):
 
 
 def lost_edits():
-    """Wrong bodies of which an `old` text doesn't stand once in its file, or that have none."""
+    """Wrong bodies whose `old` text doesn't occur once in its file, or that have none."""
     for edit in sorted([*CRATES.glob("*/must-fail/*.edit"), *CRATES.glob("*/wrong/*.edit")]):
         name, texts, file, old = edit.relative_to(CRATES), {}, "", None
         for word, rest in EDIT.findall(edit.read_text()):

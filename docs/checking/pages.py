@@ -1,18 +1,18 @@
-"""What holds of single pages: links lead to files, README is short and names the toolchain's logic,
-and one version is named everywhere. And what their writers may look at: the long sentences."""
+"""Checks of single pages: links lead to files, README is short and names the toolchain's logic, and
+all name one version. Also prints long sentences for their writers."""
 import re
 import shutil
 import subprocess
 
 from checking.places import CHANGELOG, OPEN, README, VERSION, pages
 
-# README is for a visitor.
+# README is for visitors.
 MOST_LINES, MOST_WORDS = 150, 1200
 LOGIC = re.compile(r"\blogic ([0-9a-f]+)")
-# What is no sentence: code, tables, headings, and where a link leads to.
+# Not a sentence: code, tables, headings, and the targets of links.
 NO_SENTENCE = re.compile(r"^```.*?^```|^\|.*?$|^#.*?$|^ {4}.*?$|(?<=\])\([^)]*\)", re.M | re.S)
 MOST_IN_SENTENCE = 35
-# How many longer sentences all pages by hand may have together.
+# The maximum number of longer sentences on all pages by hand together.
 MOST_LONG = 10
 LINK = re.compile(r"\]\(([^)#]+)(?:#[^)]*)?\)")
 
@@ -31,7 +31,7 @@ def too_long(text):
 
 
 def other_logic(text):
-    """Where there is an `rt`, its logic is README's. Its number differs between machines."""
+    """If `rt` is installed, its logic must be README's. Its number differs between machines."""
     if shutil.which("rt"):
         printed = subprocess.run(["rt", "version"], stdout=subprocess.PIPE, text=True).stdout
         if {*LOGIC.findall(text)} != {*LOGIC.findall(printed)}:
@@ -39,7 +39,7 @@ def other_logic(text):
 
 
 def other_versions():
-    """VERSION is the number alone, which README and the newest entry of CHANGELOG name."""
+    """VERSION has only the number, which README and the newest entry of CHANGELOG name."""
     number = VERSION.read_text() if VERSION.exists() else ""
     if not re.fullmatch(r"\d+\.\d+\.\d+\n", number):
         yield f"{VERSION.name}: no number of three parts alone"

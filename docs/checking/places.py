@@ -1,11 +1,11 @@
-"""Where the pages and the crates stand, and the storeys of crates.txt."""
+"""The paths of the pages and the crates, and the layers of crates.txt."""
 import re
 from pathlib import Path
 
 ROOT = Path(__file__).resolve().parent.parent.parent
 CRATES = ROOT / "crates"
 DOCS = ROOT / "docs"
-# The pages of contracts and definitions go here in a checkout; git ignores it.
+# The folder for the pages of contracts and definitions in a checkout; git ignores it.
 REFERENCE = DOCS / "reference"
 README = ROOT / "README.md"
 CHANGELOG = ROOT / "CHANGELOG.md"
@@ -15,8 +15,8 @@ PROMISE = DOCS / "PROMISE.md"
 PROOF = DOCS / "PROOF.md"
 OPEN = DOCS / "OPEN.md"
 TOP = [README, CHANGELOG, ROOT / "CONTRIBUTING.md"]
-# The pages by hand that say what is so today. Those for provers also tell of names that there
-# aren't.
+# The pages by hand that describe the present state. Those for provers also name things that don't
+# exist.
 CITING = [README, PROMISE, PROOF, CRATES_PAGE]
 
 STOREY = re.compile(r"^# (\w+): (.+)\n((?:\w.*\n)+)", re.M)
@@ -28,7 +28,7 @@ def pages():
 
 
 def names_in(lines):
-    """The crates of lines of crates.txt."""
+    """The crates in lines of crates.txt."""
     return [re.split("[ :]", it)[0] for it in lines.splitlines() if it and it[0] != "#"]
 
 
@@ -37,6 +37,6 @@ def crates():
 
 
 def storeys():
-    """Each storey's name, what it is, and its crates, the lowest first."""
+    """Each layer's name, what it is, and its crates, the lowest first."""
     for name, what, block in STOREY.findall((ROOT / "crates.txt").read_text()):
         yield name, what, names_in(block)

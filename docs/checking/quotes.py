@@ -1,20 +1,20 @@
-"""What PROOF quotes of the sources, and the sizes that it tells of them."""
+"""PROOF's quotes from the sources, and the sizes in it."""
 import re
 import textwrap
 
 from checking.places import CRATES, ROOT, crates
 
-# A quote: a comment with its file and its name, and behind it the block.
+# A quote: a comment with its file and its name, followed by the block.
 QUOTE = re.compile(r"<!-- quote (\S+) (\S+) -->\n```\n(.*?)```\n", re.S)
 QUOTABLE = re.compile(r"(?: *pub fn |(?:abbrev |unfoldable )?pub (?:record |data )?)(\w+)\b")
-# The rows of the table of sizes: a part's name, its crates, and what is counted of them.
+# The rows of the table of sizes: a part's name, its crates, and their counts.
 SIZES = re.compile(r"^(\| [^|]+ \| )((?:`\w+`(?:, )?)+)( \|)((?: +[\d,]+ \|)+)$", re.M)
 LEMMA = re.compile(r"^(?:pub )?[^\s:({]+ :", re.M)
 
 
 def quotable(file, name):
-    """The definition, or the contract, of a name as its file has it with the comment above it; none
-    where the file has not just one of that name."""
+    """The definition, or the contract, of a name in its file, with the comment above it; None
+    unless the file has exactly one."""
     path = ROOT / file
     lines = path.read_text().splitlines() if path.is_file() else []
     heads = ((k, QUOTABLE.match(line)) for k, line in enumerate(lines))
@@ -24,7 +24,7 @@ def quotable(file, name):
     first = last = found[0]
     while lines[first - 1].lstrip().startswith(("--", "//")):
         first -= 1
-    # A definition goes to a blank line, and a contract to its body.
+    # A definition extends to a blank line, and a contract to its body.
     end = "{" if path.suffix == ".rt" else ""
     while last < len(lines) and lines[last].strip() != end:
         last += 1
@@ -49,8 +49,8 @@ def requoted(text):
 
 
 def sizes(names):
-    """Of crates: the lines of source, of definitions and of proofs; the lemmas at the top level of
-    their files; the wrong bodies that the gate tries, and the others."""
+    """The sizes of crates: lines of source, of definitions and of proofs; lemmas at the top level
+    of their files; wrong bodies that the gate tries, and the others."""
 
     def texts(pattern):
         return [it.read_text() for name in names for it in (CRATES / name).glob(pattern)]

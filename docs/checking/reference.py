@@ -1,5 +1,5 @@
-"""The reference, a page for each crate, from its sources: what it hands out, with the contracts, and
-its definitions. The links to sources and to pages by hand lead there from `docs/reference`."""
+"""The reference, a page for each crate, made from its sources: its exports with their contracts,
+and its definitions. The links to sources and to pages by hand work from `docs/reference`."""
 import os
 import sys
 
@@ -15,7 +15,7 @@ ALL = "[All crates](README.md)"
 
 
 class Page:
-    """A page as its headings, each with its level and what stands below it."""
+    """A page as its headings, each with its level and its text."""
 
     def __init__(self, crate):
         self.crate = crate
@@ -96,14 +96,14 @@ class Page:
 
 
 def texts():
-    """The text of each page by its name."""
+    """The text of each page by name."""
     pages = {it.name: Page(it) for it in told_crates()}
     written = {name: page.text() for name, page in pages.items() if not page.is_empty()}
     return {"README": index(written), **written}
 
 
 def write(folder):
-    """Writes all pages into a folder, in the place of those of an earlier call and of nothing else."""
+    """Writes all pages into a folder. Replaces the pages of an earlier call, and nothing else."""
     folder.mkdir(parents=True, exist_ok=True)
     there = [*folder.iterdir()]
     for it in there:

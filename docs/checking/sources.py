@@ -1,5 +1,5 @@
-"""What a file of sources has: its first lines, and its items with their comments. It goes by the
-layout of `rt fmt`: an item begins at the left, and so does the `{` or `}` that ends a part."""
+"""A source file: its first comment, and its items with their comments. It relies on the layout of
+`rt fmt`: an item begins at the left, and so does the `{` or `}` that ends a part."""
 import re
 import textwrap
 from dataclasses import dataclass, field
@@ -32,7 +32,7 @@ class Item:
         return any(it.startswith(("#[cfg(test)]", "#[test]")) for it in self.attributes())
 
     def open(self):
-        """What no clause of it pins, as its comment says behind `open:`."""
+        """What no clause determines about it, as the comment after `open:` says."""
         text = [it for it in self.head if it.startswith("//") and not it.startswith("///")]
         begins = next((k for k, it in enumerate(text) if it.startswith(OPEN)), None)
         if begins is None:
@@ -40,7 +40,7 @@ class Item:
         return " ".join([text[begins][len(OPEN):], *(it[3:] for it in text[begins + 1:])])
 
     def front(self):
-        """Its lines up to its body: of a function the signature and the contract."""
+        """Its lines up to its body; for a function, the signature and the contract."""
         front = []
         for line in self.lines:
             if line[:1].strip() and line.endswith(("{", "{}")):
@@ -62,7 +62,7 @@ class Item:
 
 
 def items(lines):
-    """The items of lines that begin at the left."""
+    """The items among lines that begin at the left."""
     found, head = [], []
     for line in lines:
         word = line[:1].strip()
@@ -74,7 +74,7 @@ def items(lines):
             found.append(Item(kind, name, bool(begins["pub"]), head, [line]))
             head = []
         elif head and not line and not head[-1].startswith("///"):
-            head = []  # a comment that stands alone
+            head = []  # a separate comment
         elif found and not head and (not word or line.startswith(GOES_ON)):
             found[-1].lines.append(line)
     for item in found:
@@ -89,7 +89,7 @@ def first_lines(lines):
 
 
 def method(lines):
-    """The text of the comment that stands by itself behind a file's first lines."""
+    """The text of the separate comment after a file's first lines."""
     text = []
     for line in lines:
         if line.startswith("// ") or line == "//":
@@ -98,12 +98,12 @@ def method(lines):
             text.append("")
         elif text or line and not line.startswith(("//!", "#!")):
             break
-    # What stands at an item without a blank line between is the item's.
+    # A comment next to an item, without a blank line between them, belongs to the item.
     return "\n".join(text).rstrip() if text and not text[-1] else ""
 
 
 def past_generics(text):
-    """What stands behind the angle brackets with which a text begins."""
+    """The rest of a text after the angle brackets at its beginning."""
     depth = 0
     for k, letter in enumerate(text):
         depth += (letter == "<") - (letter == ">" and text[k - 1] not in "-=")
@@ -113,7 +113,7 @@ def past_generics(text):
 
 
 def implements(item):
-    """Of an `impl` the trait, if it is one's, and the type's name."""
+    """For an `impl`, the trait, if there is one, and the type's name."""
     text = past_generics(" ".join(item.front()).removeprefix("impl"))
     text = text.split(" where ")[0].strip()
     trait, _, target = text.rpartition(" for ")

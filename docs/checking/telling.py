@@ -1,9 +1,9 @@
-"""How a page tells of types, of constants and of what contracts know of a value."""
+"""How a page describes types, constants, and what contracts know about a value."""
 import re
 
 
 def is_law(item):
-    """It takes nothing and gives nothing, so all that there is of it is what it ensures."""
+    """Whether it takes no arguments and returns nothing, so that it is only its contract."""
     return item.kind == "fn" and item.front()[0].endswith("()")
 
 
@@ -19,7 +19,7 @@ def own(impls):
 
 
 def declaration(item):
-    """A type as its source has it, without what is private or told by itself."""
+    """A type as in its source, without its private parts and the parts described separately."""
     if item.kind == "trait":
         return trait(item)
     if item.kind != "struct" or len(item.lines) == 1:
@@ -42,7 +42,7 @@ def declaration(item):
 
 
 def trait(item):
-    """Its ghosts and its types; its functions are told by themselves."""
+    """A trait's ghosts and types; its functions are described separately."""
     inside = []
     for it in item.inner():
         if it.kind in ("ghost", "type") and it.name != "use":
@@ -52,7 +52,8 @@ def trait(item):
 
 
 def view(impls):
-    """The ghosts by which a type has a trait: of `Model` what a contract reads in its values."""
+    """The ghosts with which a type implements a trait; for `Model`, what a contract reads in its
+    values."""
     lines = []
     for trait_name, impl, _ in impls:
         ghosts = [it for it in impl.inner() if it.kind == "ghost" and it.name != "use"]
