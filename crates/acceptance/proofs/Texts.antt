@@ -1,4 +1,4 @@
--- The fault of a text, as the reader of rules tells it.
+-- The fault of a text is the fault of the rule parser.
 use Rattle.std.proofs.Common.{inl, inr, ℕ, List, IsUtf8}
 use Rattle.cells.specs.Arrays.{AppShape}
 use Rattle.rule_lang.specs.declared.fault.RuleFault.{RuleFault}

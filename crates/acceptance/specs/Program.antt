@@ -1,4 +1,4 @@
--- The program that bytes are, once it is accepted, and why they are none.
+-- The accepted program of bytes, and why they have none.
 use Rattle.std.specs.Prelude.{◌≡◌, ℕ, List, Bool, true, false}
 use Rattle.bpf_insn.specs.Program.{Program}
 use Rattle.bpf_semantics.specs.Program.{ShapedProgram}
@@ -28,8 +28,7 @@ pub record IsRefusedProgram (bytes : List ℕ) (shape : AppShape) (refusal : Ref
   pub are : AreOnly bytes code
   pub refused : IsRefusal code shape refusal
 
--- why they are no program of the shape; a fault of the flow check is the only one that they have,
--- and of want of memory nothing more is said
+-- why the bytes aren't a program of the shape; a fault of the flow check is their only one
 abbrev pub RefusesProgram : List ℕ → AppShape → ProgramFault → Type 0
 RefusesProgram bytes shape (Flow fault) = IsFlowFault bytes fault × HasOneVerdict bytes
 RefusesProgram bytes shape (Verify refused) = IsRefusedProgram bytes shape refused

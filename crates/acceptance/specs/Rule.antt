@@ -1,4 +1,4 @@
--- The program of the rule that bytes spell, and why they give none.
+-- The program of the rule that bytes spell, and why they have none.
 use Rattle.std.specs.Prelude.{◌≡◌, ◌<◌, ℕ, List, length, Ok, Err, IsUtf8, Bool, true, false}
 use Rattle.attrs.specs.Attributes.{Attributes}
 use Rattle.bpf_semantics.specs.Program.{ShapedProgram}
@@ -32,21 +32,21 @@ pub record IsProgramOfRule (bytes : List ℕ) (program : ShapedProgram) : Type 0
   pub flow : IsFlow program.code
   pub accepted : IsAccepted program.code program.shape
 
--- the bytes spell a rule of the shape whose code passes 4096 slots, and so does its cost
+-- the bytes spell a rule of the shape whose code exceeds 4096 slots, and so does its cost
 pub record IsTooLong (bytes : List ℕ) (shape : AppShape) : Type 0 where
   pub rule : List Statement
   pub text : IsTextOf bytes shape rule
   pub slots : 4096 < length (rule_code shape rule)
   pub cost_is : 4096 < cost rule
 
--- the fault of a text; bytes that aren't UTF-8 are no token in line 1
+-- the fault of a text; bytes that aren't UTF-8 have no token in line 1
 pub data IsRuleTextFault (bytes : List ℕ) (shape : AppShape) : ℕ → RuleFaultKind → Type 0 where
   no_text : ¬ IsUtf8 bytes → IsRuleTextFault bytes shape 1 Token
   no_rule : {line : ℕ} {kind : RuleFaultKind} → IsUtf8 bytes
       → IsVerdict shape bytes (Err (rule.At line kind)) → IsRuleTextFault bytes shape line kind
 
--- why they spell no rule of the shape, or one that has no program; memory is refused to the reader
--- of a text alone, and of want of memory nothing more is said
+-- why the bytes aren't a rule of the shape, or one without a program; about L5 only that the bytes
+-- are UTF-8, and about C2 nothing is claimed
 abbrev pub RefusesRule : List ℕ → AppShape → RuleTextFault → Type 0
 RefusesRule bytes shape (Text (rule.At line kind)) = IsRuleTextFault bytes shape line kind
 RefusesRule bytes shape (Text rule.Memory) = IsUtf8 bytes

@@ -1,4 +1,4 @@
--- The texts of why bytes come to no program, as they are printed.
+-- The printed texts of the faults.
 use Rattle.std.specs.Prelude.{ℕ, List}
 use Rattle.bpf_checks.specs.Texts.{verifier_refusal_text}
 use Rattle.flow_check.specs.Texts.{flow_fault_text}

@@ -1,4 +1,4 @@
-//! Why bytes are no program.
+//! Why bytes aren't a program.
 
 ghost use Rattle.std.specs.Prelude.{◌≡◌, Some};
 ghost use Rattle.acceptance.specs.Program as programs;
@@ -12,17 +12,17 @@ use rule_lang::RuleFault;
 use std::error::Error;
 use std::fmt;
 
-/// Why bytes are no program of a shape.
+/// Why bytes aren't a program of a shape.
 #[derive(Debug, Drop, PartialEq, Eq)]
 pub enum ProgramFault {
-    /// F1 to F9: they are no program whose edges lead forward.
+    /// F1 to F9: the bytes aren't a program whose edges lead forward.
     Flow(FlowFault),
     /// V1 to V15: the verifier refuses the program.
     Verify(Refusal),
 }
 
 impl ProgramFault {
-    /// Whether it is F9 or V15: the bytes may be a program, but memory was refused.
+    /// Whether it is F9 or V15: an allocation failed, so the bytes may still be a program.
     pub fn is_memory(&self) -> bool
         ensures { result ≡ programs.is_memory self.now }
     {
@@ -48,17 +48,17 @@ impl fmt::Display for ProgramFault {
 
 impl Error for ProgramFault {}
 
-/// Why a text gives no program of a shape.
+/// Why a text doesn't give a program of a shape.
 #[derive(Debug, Drop, PartialEq, Eq)]
 pub enum RuleTextFault {
-    /// L1 to L5: it spells no rule.
+    /// L1 to L5: the text isn't a rule.
     Text(RuleFault),
     /// C1 and C2: its rule has no program.
     Compile(CompileFault),
 }
 
 impl RuleTextFault {
-    /// Whether it is L5 or C2: the text may give a program, but memory was refused.
+    /// Whether it is L5 or C2: an allocation failed, so the text may still give a program.
     pub fn is_memory(&self) -> bool
         ensures { result ≡ rules.is_memory self.now }
     {

@@ -1,13 +1,12 @@
-//! From bytes to a program that may run: the bytes of a program, or those of a rule's text, come to
-//! a program that is accepted under a shape, or are refused with one fault.
+//! From bytes to a program that may run. The bytes of a program or of a rule's text give a program
+//! that is accepted under a shape, or are refused with one fault.
 //!
 //! See docs/PROGRAM.md, "Refusals".
 #![tactic(auto)]
 
-// This is the one way that bytes take: those of a file that a manifest names, those that a command
-// is given, and those of tests and benchmarks. `accept` goes by the flow check and then by the
-// verifier, and `rule_program` by the parser of rules and then by their compiler, which goes by
-// both itself.
+// All bytes go this way: files that a manifest names, files that a command is given, and those of
+// tests and benchmarks. `accept` runs the flow check and then the verifier. `rule_program` runs the
+// parser of rules and then their compiler, whose programs pass both by proof.
 
 mod fault;
 mod program;

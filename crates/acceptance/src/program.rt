@@ -1,4 +1,4 @@
-//! From the bytes of a program to a program that is accepted.
+//! From the bytes of a program to an accepted program.
 
 ghost use Rattle.std.specs.Prelude.{◌≡◌, IfOk, IfErr};
 ghost use Rattle.acceptance.specs.Program.{IsProgramOf, RefusesProgram};
@@ -8,10 +8,10 @@ use bpf_verify::{Shape, Verified, verify};
 use flow_check::{Flow, one_verdict};
 use std::alloc::Global;
 
-/// The program that bytes are, accepted under a shape, or the fault that counts: F1 to F9 of
-/// `Flow::check`, and then V1 to V15 of `verify`. Bytes with a fault of the first kind are read
-/// once more, which tells that they have no other.
-// open: whether memory is refused (F9, V15).
+/// The program of these bytes, accepted under a shape, or the fault that counts: F1 to F9 of
+/// `Flow::check`, and then V1 to V15 of `verify`. Bytes with an F fault are decoded once more,
+/// since the law `one_verdict` says that they have no other fault.
+// open: whether an allocation fails (F9, V15).
 pub fn accept(alloc: Global, bytes: &[u8], shape: &Shape) -> Result<Verified, ProgramFault>
     ensures shape { IfOk result (λ program. program.shape ≡ shape.now) }
     ensures program { IfOk result (IsProgramOf bytes.now) }

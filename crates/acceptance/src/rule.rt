@@ -12,7 +12,7 @@ use std::str;
 
 /// The program of the rule that bytes spell, accepted under a shape, or the fault that counts: L1
 /// to L5 of `parse`, and then C1 or C2 of `compile`. Bytes that aren't UTF-8 are L1 at line 1.
-// open: whether memory is refused (L5, C2).
+// open: whether an allocation fails (L5, C2).
 pub fn rule_program(alloc: Global, text: &[u8], shape: &Shape) -> Result<Verified, RuleTextFault>
     ensures shape { IfOk result (λ program. program.shape ≡ shape.now) }
     ensures program { IfOk result (IsProgramOfRule text.now) }

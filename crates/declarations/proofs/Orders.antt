@@ -16,14 +16,14 @@ use Rattle.cells.specs.Directory.Declares.{again, anew}
 use Rattle.declarations.specs.Order.{AreDeclared}
 use Rattle.declarations.specs.Order.AreDeclared.{none, next}
 
--- those of a list are declared, and then one more
+-- the declarations of a list, and then one more
 pub after_them : {old between new : List CellArray} {ds : List Declaration} {d : Declaration}
     {numbers : List ArrayNo} {n : ArrayNo} → AreDeclared old ds numbers between
     → Declares d between n.number new → AreDeclared old (ds ++ d ∷ []) (numbers ++ n ∷ []) new
 after_them none declares = next declares none
 after_them (next first others) declares = next first (after_them others declares)
 
--- one more of those of a list
+-- one more declaration of a list
 pub one_more : {old between new : List CellArray} {numbers : List ArrayNo} {n : ArrayNo}
     {d : Declaration} (all : List Declaration) (k : ℕ) (x : Declaration)
     → AreDeclared old (take k all) numbers between → k < length all → d ≡ get_or all k x
@@ -52,7 +52,7 @@ begins_on u v w first later = (
       ∙ ap (λ (l : List CellArray). l ++ later.0) first.1 ∙ later.1,
 )
 
--- what stands before them begins what stands after them
+-- the directory before is a prefix of the directory after
 pub all_begin : {old new : List CellArray} {ds : List Declaration} {numbers : List ArrayNo}
     → AreDeclared old ds numbers new → IsPrefix old new
 all_begin {old = old} none = ([], append-nil old)

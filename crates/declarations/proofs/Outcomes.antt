@@ -1,4 +1,4 @@
--- A list of declarations has one outcome, since each of them has one.
+-- A list of declarations has one outcome, since each declaration has one.
 use Rattle.std.proofs.Common.{◌≡◌, ◌≢◌, ℕ, zero, suc, ◌+◌, List, [], ◌∷◌, take}
 use Rattle.std.proofs.Common.{refl, sym, ◌∙◌, ap, subst}
 use Rattle.std.specs.Prelude.{Some, slice_get}
@@ -16,7 +16,7 @@ use Rattle.declarations.specs.OneWay.{AreDeclaredOneWay}
 same_number : (n m : ArrayNo) → n.number ≡ m.number → n ≡ m
 same_number n m e = ap (λ k. record { number = k }) e
 
--- what is left once the first one is declared
+-- the rest after the first declaration
 pub record Rest (old : List CellArray) (d : Declaration) (ds : List Declaration)
     (numbers : List ArrayNo) (new : List CellArray) : Type 0 where
   pub n : ArrayNo
@@ -41,7 +41,7 @@ nothing_new : {old new : List CellArray} {numbers : List ArrayNo} → AreDeclare
     → (numbers ≡ []) × (new ≡ old)
 nothing_new none = (refl, refl)
 
--- the refusal of an array, by how many stand before it
+-- the refusal of an array, by the number of declarations before it
 pub record IsRefusedAfter (old : List CellArray) (ds : List Declaration) (before : ℕ)
     (fault : CellsFault) : Type 0 where
   pub numbers : List ArrayNo
@@ -88,7 +88,7 @@ module _ (declare : DeclareOneWay) (keep : KeepsNames) where
         there.1,
       )
 
-  -- after the first one is declared, the refusal is one of the others
+  -- after the first declaration, the refusal is one of the others
   after_first : (d : Declaration) (ds : List Declaration) (k n : ℕ) (old between : List CellArray)
       (e : CellsFault) → HasDistinctNames old → Declares d old n between
       → IsRefusedAfter old (d ∷ ds) (suc k) e → IsRefusedAfter between ds k e
@@ -104,7 +104,7 @@ module _ (declare : DeclareOneWay) (keep : KeepsNames) where
         refused = r.refused;
       }
 
-  -- of a list that is declared none is refused
+  -- a declared list has no refusal
   not_refused : (ds : List Declaration) (before : ℕ) (old new : List CellArray)
       (numbers : List ArrayNo) (e : CellsFault) → HasDistinctNames old
       → AreDeclared old ds numbers new → IsRefusedAfter old ds before e → e ≡ Memory

@@ -7,8 +7,8 @@ use Rattle.cells.specs.declared.fault.CellsFault.TheVariants.{Memory}
 use Rattle.cells.specs.Directory.{Declaration, HasDistinctNames}
 use Rattle.declarations.specs.Order.{AreDeclared, IsRefusedArray}
 
--- the declarations give arrays of the same numbers in one directory, or one of them is the first
--- that is refused, with one fault, want of memory aside
+-- the declarations give arrays with the same numbers in one directory, or one of them is the first
+-- that is refused, with one fault; except for out of memory
 pub record AreDeclaredOneWay (old : List CellArray) (ds : List Declaration) : Type 0 where
   pub arrays : (numbers others : List ArrayNo) (new last : List CellArray)
       → AreDeclared old ds numbers new → AreDeclared old ds others last
@@ -19,7 +19,7 @@ pub record AreDeclaredOneWay (old : List CellArray) (ds : List Declaration) : Ty
   pub either : (numbers : List ArrayNo) (number : ℕ) (e : CellsFault) (new last : List CellArray)
       → AreDeclared old ds numbers new → IsRefusedArray old ds number e last → e ≡ Memory
 
--- they do where no name stands twice
+-- if the names of the directory are distinct, they do
 abbrev pub ListsDeclareOneWay : Type 0
 ListsDeclareOneWay = (old : List CellArray) (ds : List Declaration) → HasDistinctNames old
     → AreDeclaredOneWay old ds

@@ -1,5 +1,5 @@
--- The text of a list of declarations: each is `name:width:length`, or `name:64:length:quota`, and
--- they are joined by commas. A width is spelled `64` or `32`, a number in decimal digits.
+-- The text of a list of declarations: each is `name:width:length` or `name:64:length:quota`, and
+-- they are joined by commas. A width is `64` or `32`, and a number has decimal digits.
 use Rattle.std.specs.Prelude.{ℕ, ◌-◌, ◌^◌, List, [], ◌∷◌, length, codes, Option, Some, None}
 use Rattle.std.specs.Prelude.{option_and_then, option_map, Bool, ◌&&◌, nat_le, ◌==◌}
 use Rattle.std.specs.Prelude.{if◌then◌else◌}
@@ -28,7 +28,7 @@ width_of text =
 abbrev pub length_of : List ℕ → Option ℕ
 length_of text = decimal_within 1 4096 text
 
--- a quota stands over 64-bit cells alone
+-- a quota needs 64-bit cells
 abbrev pub quota_of : CellWidth → Option (List ℕ) → Option (Option ℕ)
 quota_of w None = Some None
 quota_of Bits64 (Some text) = option_map (λ q. Some q) (decimal_within 1 (2 ^ 63 - 1) text)
@@ -41,7 +41,7 @@ declaration_of name width length quota =
     option_map (λ q. declaration n w l q) (quota_of w quota)) (length_of length)) (width_of width))
     (name_of name)
 
--- of the fields between the colons
+-- the declaration with these fields between colons
 abbrev pub of_fields : List (List ℕ) → Option Declaration
 of_fields (name ∷ width ∷ length ∷ []) = declaration_of name width length None
 of_fields (name ∷ width ∷ length ∷ quota ∷ []) = declaration_of name width length (Some quota)
@@ -53,11 +53,11 @@ of_part part = of_fields (slice_split (λ b. b == byte ":") part)
 abbrev pub joined : Option Declaration → Option (List Declaration) → Option (List Declaration)
 joined first rest = option_and_then (λ d. option_map (λ ds. d ∷ ds) rest) first
 
--- all of them, if each part is one
+-- all declarations, if each part is one
 abbrev pub of_parts : List (List ℕ) → Option (List Declaration)
 of_parts [] = Some []
 of_parts (part ∷ parts) = joined (of_part part) (of_parts parts)
 
--- the declarations that a text is, all or none
+-- the declarations of a text, all or none
 abbrev pub declarations_in : List ℕ → Option (List Declaration)
 declarations_in text = of_parts (slice_split (λ b. b == byte ",") text)

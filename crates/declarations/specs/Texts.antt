@@ -1,4 +1,4 @@
--- How a declaration is written.
+-- The text of a declaration.
 use Rattle.std.specs.Prelude.{ℕ, List, [], ◌++◌, codes, Option, Some, None}
 use Rattle.std.specs.Fmt.{decimal}
 use Rattle.cells.specs.declared.array.CellWidth.{CellWidth}

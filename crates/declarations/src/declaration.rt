@@ -1,4 +1,4 @@
-//! One declaration: a name, a width, a length and perhaps a quota.
+//! One declaration: a name, a width, a length and an optional quota.
 
 ghost use Rattle.std.specs.Prelude.{◌≡◌};
 
@@ -6,8 +6,7 @@ use cells::{ArrayName, CellWidth};
 use std::fmt;
 use std::marker::Model;
 
-/// An array as it is declared: of 1 to 4096 cells, with a quota of 1 to 2^63 - 1 over 64-bit cells
-/// alone.
+/// The declaration of an array with 1 to 4096 cells. A quota, 1 to 2^63 - 1, needs 64-bit cells.
 #[derive(Debug, Drop)]
 pub struct ArrayDeclaration {
     name: ArrayName,
@@ -30,8 +29,8 @@ impl ArrayDeclaration {
     ghost use Rattle.cells.specs.Arrays.{HasRanges};
     ghost use Rattle.cells.specs.Directory.{declaration, IsDeclaration};
 
-    /// The declaration of these values.
-    // open: whether memory is refused.
+    /// A declaration with these values.
+    // open: whether an allocation fails.
     pub fn new(
         name: ArrayName,
         width: CellWidth,
@@ -57,14 +56,14 @@ impl ArrayDeclaration {
         self.name.as_str()
     }
 
-    /// How wide its cells are.
+    /// The width of its cells.
     pub fn width(&self) -> CellWidth
         ensures { result ≡ self.now.width }
     {
         self.width
     }
 
-    /// How many cells it has, 1 to 4096.
+    /// The number of its cells, 1 to 4096.
     pub fn length(&self) -> u16
         ensures { result ≡ self.now.length }
     {
@@ -78,7 +77,7 @@ impl ArrayDeclaration {
         self.quota
     }
 
-    /// What the type keeps. It does nothing: a proof calls it for its clauses.
+    /// Law: the invariant of a declaration.
     pub fn keeps(&self)
         ensures { IsDeclaration self.now }
     {
@@ -86,7 +85,7 @@ impl ArrayDeclaration {
     }
 }
 
-/// The text is that of a list of this one declaration.
+/// The text of a list with just this declaration.
 impl fmt::Display for ArrayDeclaration {
     ghost use Rattle.std.specs.Prelude.{Some};
     ghost use Rattle.declarations.specs.Texts.{declaration_text};

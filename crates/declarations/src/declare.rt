@@ -1,4 +1,4 @@
-//! All declarations of a list, one after another.
+//! Declaring a list, one declaration after another.
 
 ghost use Rattle.std.specs.Prelude.{◌≡◌, ◌<◌, length, All};
 ghost use Rattle.std.specs.Prelude.{IfOk, IfErr, OnOk, OnErr};
@@ -10,16 +10,16 @@ use crate::declaration::ArrayDeclaration;
 use cells::{ArrayNo, CellsFault, Directory};
 use std::alloc::Global;
 
-/// An array that is refused: its number in the list, from 1, and why.
+/// A refused array: its number in the list, from 1, and why.
 #[derive(Clone, Copy, Debug, PartialEq, Eq)]
 pub struct RefusedArray {
     pub number: usize,
     pub fault: CellsFault,
 }
 
-/// Declares the arrays in their order, and gives their numbers: equal declarations have the same
-/// one. It stops at the first that is refused; those before it stay declared.
-// open: whether memory is refused.
+/// Declares the arrays in order, and returns their numbers; equal declarations have the same
+/// number. Stops at the first that is refused, and keeps those before it.
+// open: whether an allocation fails.
 pub fn declare_all(
     alloc: Global,
     directory: &mut Directory,
@@ -44,7 +44,7 @@ pub fn declare_all(
     Ok(numbers)
 }
 
-// Declares one array more.
+// Declares one more array.
 fn declare_next(
     alloc: Global,
     directory: &mut Directory,

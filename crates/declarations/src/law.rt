@@ -4,8 +4,8 @@ ghost use Rattle.declarations.specs.OneWay.{ListsDeclareOneWay};
 
 use cells::declares_one_way;
 
-/// A law: declarations, one after another, are all declared in one way, or refused in one. It is
-/// called by nothing that runs.
+/// Law: a list of declarations is declared in at most one way, or refused in at most one. No
+/// running code calls it.
 pub fn lists_declare_one_way()
     ensures { ListsDeclareOneWay }
 {

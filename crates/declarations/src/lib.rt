@@ -1,4 +1,4 @@
-//! Arrays of counters as a server's owner writes them down, and their declaration in a directory:
+//! Arrays of counters as the owner of a server writes them, and their declaration in a directory:
 //! all in order, or the first that is refused.
 //!
 //! See docs/DECISIONS.md, "Counters".

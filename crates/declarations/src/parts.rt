@@ -5,7 +5,7 @@ ghost use Rattle.std.specs.List.{slice_split};
 
 use std::alloc::{AllocError, Global};
 
-/// The parts of a text between these characters, of which there is one more than of them.
+/// The parts of a text between these characters: one part more than there are characters.
 pub fn parts_of<'a>(alloc: Global, text: &'a str, at: char) -> Result<Vec<&'a str>, AllocError>
     requires { at < 128 }
     ensures { IfOk result (λ v. map (λ part. part.now) v.items

@@ -1,4 +1,4 @@
-//! The text of a list of declarations, as a command line has it: `name:width:length`, or
+//! The text of a list of declarations on a command line: `name:width:length` or
 //! `name:64:length:quota`, joined by commas.
 
 ghost use Rattle.std.specs.Prelude.{◌≡◌, Err, IfOk, Some, None, map, option_copied};
@@ -10,18 +10,18 @@ use cells::{ArrayName, CellArray, CellWidth};
 use lexing::decimal_within;
 use std::alloc::Global;
 
-/// Why a text gives no declarations.
+/// Why a text isn't a list of declarations.
 #[derive(Clone, Copy, Debug, PartialEq, Eq)]
 pub enum SpecFault {
-    /// It isn't of that form, or a number is out of its range.
+    /// It isn't of that form, or a number is out of range.
     Malformed,
-    /// Memory was refused.
+    /// An allocation failed.
     Memory,
 }
 
-/// The declarations of a text, in their order. A name may occur twice, and the empty text is
+/// The declarations of a text, in order. A name may be a duplicate, and the empty text is
 /// malformed.
-// open: whether memory is refused.
+// open: whether an allocation fails.
 pub fn read_spec(alloc: Global, text: &str) -> Result<Vec<ArrayDeclaration>, SpecFault>
     ensures read { IfOk result (λ v. specs.declarations_in text.now ≡ Some v.items) }
     ensures malformed { result ≡ Err SpecFault.Malformed → specs.declarations_in text.now ≡ None }
@@ -50,7 +50,7 @@ fn read_parts(alloc: Global, parts: &[&str]) -> Result<Vec<ArrayDeclaration>, Sp
     Ok(declarations)
 }
 
-// The declaration of the fields between the colons.
+// The declaration with these fields between colons.
 fn read_part(alloc: Global, part: &str) -> Result<ArrayDeclaration, SpecFault>
     ensures read { IfOk result (λ d. specs.of_part part.now ≡ Some d) }
     ensures malformed { result ≡ Err SpecFault.Malformed → specs.of_part part.now ≡ None }
@@ -115,7 +115,7 @@ fn width_of(text: &str) -> Option<CellWidth>
     }
 }
 
-// A quota stands over 64-bit cells alone.
+// A quota needs 64-bit cells.
 fn quota_of(width: CellWidth, text: Option<&str>) -> Option<Option<u64>>
     ensures { result ≡ specs.quota_of width (option_copied text.entry) }
 {

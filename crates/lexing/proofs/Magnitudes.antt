@@ -1,4 +1,4 @@
--- The numbers that digits write, one digit after another.
+-- Numbers, digit by digit.
 use Rattle.std.proofs.Common.{◌≡◌, ℕ, ◌+◌, ◌*◌, ◌<◌, ◌≤◌, ◌^◌, List, length, take, get_or}
 use Rattle.std.proofs.Common.{Some, None, sym, ap, ◌∙◌, arith}
 use Rattle.std.proofs.lemmas.Str.Parse.{digits_value-take-le}

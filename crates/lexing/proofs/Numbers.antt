@@ -1,4 +1,4 @@
--- How a number is read.
+-- Reading a number.
 use Rattle.std.proofs.Common.{◌≡◌, ℕ, List, get_or, ◌==◌, Result, Ok, Err, true, false, arith}
 use Rattle.std.specs.Result.{result_ok}
 use Rattle.std.specs.Str.{all_ascii_digits}
@@ -11,7 +11,7 @@ use Rattle.lexing.specs.Decimal.{long_number}
 digits_are : IsNumeralModel (λ ds. all_ascii_digits ds ≡ true) (digits_value 10)
 digits_are = numerals_by_value _ tells_all_ascii_digits
 
--- with no plus in front, `parse` reads what is a number, and nothing else
+-- without a leading plus, `parse` reads exactly the numbers
 pub long_number-parse : {E : Type 0} (part : List ℕ) (r : Result ℕ E)
     → (get_or part 0 0 == 43) ≡ false → ParsesUnsigned 64 10 part r
     → result_ok r ≡ long_number part

@@ -4,7 +4,7 @@ use Rattle.std.specs.Prelude.{Bool, ◌&&◌, nat_lt, nat_le, if◌then◌else�
 use Rattle.std.specs.Str.{all_ascii_digits}
 use Rattle.std.specs.Str.Parse.{digits_value}
 
--- the number is one of 64 bits
+-- a number that fits in 64 bits
 abbrev pub is_long_number : List ℕ → Bool
 is_long_number text =
     all_ascii_digits text && nat_lt 0 (length text) && nat_lt (digits_value 10 text) (2 ^ 64)
@@ -15,6 +15,6 @@ long_number text = if is_long_number text then Some (digits_value 10 text) else 
 abbrev pub within : ℕ → ℕ → ℕ → Option ℕ
 within from to n = if nat_le from n && nat_le n to then Some n else None
 
--- from the one to the other
+-- a number from `from` to `to`
 abbrev pub decimal_within : ℕ → ℕ → List ℕ → Option ℕ
 decimal_within from to text = option_and_then (within from to) (long_number text)

@@ -1,4 +1,4 @@
--- The bytes of words, in ASCII.
+-- The ASCII bytes of words.
 use Rattle.std.specs.Prelude.{ℕ, Bool, ◌==◌, ◌||◌}
 use Rattle.std.specs.Char.{is_ascii_alphabetic, is_ascii_digit}
 
@@ -6,6 +6,6 @@ use Rattle.std.specs.Char.{is_ascii_alphabetic, is_ascii_digit}
 abbrev pub is_letter : ℕ → Bool
 is_letter c = is_ascii_alphabetic c || (c == 95)
 
--- a letter, `_` or a digit, in ASCII
+-- an ASCII letter, digit or `_`
 abbrev pub is_word_byte : ℕ → Bool
 is_word_byte c = is_letter c || is_ascii_digit c

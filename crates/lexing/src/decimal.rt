@@ -3,7 +3,7 @@
 ghost use Rattle.std.specs.Prelude.{◌≡◌, ◌≤◌, IfSome};
 ghost use Rattle.lexing.specs.Decimal as specs;
 
-/// A number from the one to the other.
+/// A decimal number from `from` to `to`.
 pub fn decimal_within(text: &str, from: u64, to: u64) -> Option<u64>
     ensures number { result ≡ specs.decimal_within from to text.now }
     ensures within { IfSome result (λ n. n ≤ to) }
@@ -16,7 +16,7 @@ pub fn decimal_within(text: &str, from: u64, to: u64) -> Option<u64>
     }
 }
 
-// A number of 64 bits. `parse` alone would allow a plus in front.
+// A number of 64 bits. `parse` would also allow a leading plus.
 fn long_number(text: &str) -> Option<u64>
     ensures { result ≡ specs.long_number text.now }
 {

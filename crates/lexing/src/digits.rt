@@ -1,4 +1,4 @@
-//! Numbers that digits write in a radix to 36.
+//! Numbers in a radix up to 36.
 
 ghost use Rattle.std.specs.Prelude.{◌≡◌, ◌+◌, ◌*◌, ◌≤◌};
 ghost use Rattle.std.specs.Char as char;
@@ -16,7 +16,7 @@ pub fn digit_value(c: u8) -> u8
     }
 }
 
-/// The number that digits write, if 64 bits hold it.
+/// The number with these digits, if it fits in 64 bits.
 pub fn magnitude(radix: u8, digits: &[u8]) -> Option<u64>
     requires { 1 ≤ radix }
     ensures { result ≡ specs.magnitude radix digits.now }
@@ -28,7 +28,7 @@ pub fn magnitude(radix: u8, digits: &[u8]) -> Option<u64>
     Some(n)
 }
 
-// The number with one digit more, if 64 bits hold it.
+// The number with one more digit, if it fits in 64 bits.
 fn with_digit(n: u64, radix: u8, digit: u8) -> Option<u64>
     ensures { result ≡ specs.number_if_small (n * radix + digit) }
 {

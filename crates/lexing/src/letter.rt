@@ -1,4 +1,4 @@
-//! The bytes of words, in ASCII.
+//! The ASCII bytes of words.
 
 ghost use Rattle.std.specs.Prelude.{◌≡◌};
 ghost use Rattle.lexing.specs.Letter as specs;

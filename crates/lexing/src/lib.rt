@@ -1,5 +1,5 @@
-//! What the texts of this repository spell alike: letters, digits and the numbers that they write,
-//! in assembler, rules, names of arrays, versions, declarations and scripts.
+//! What the languages of this repository share: letters, digits and numbers, in assembler, rules,
+//! names of arrays, versions, declarations and scripts.
 //!
 //! See docs/DECISIONS.md, "Rules"; docs/DECISIONS.md, "The assembly text".
 #![tactic(auto)]

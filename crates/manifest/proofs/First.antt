@@ -1,4 +1,4 @@
--- What is told first of all that doesn't fit, and of all names that stand twice.
+-- The first of all schema errors, and of all duplicate names, is the reported one.
 use Rattle.std.proofs.Common.{◌≡◌, ℕ, ◌+◌, Bool, true, false, cond, ◌==◌, List, [], ◌∷◌, ◌++◌, map}
 use Rattle.std.proofs.Common.{codes, Option, Some, None, option_map, Result, Ok, Err}
 use Rattle.std.proofs.Common.{refl, sym, ap, ◌∙◌}
@@ -57,7 +57,7 @@ begins : {X : Type 0} (xs : List X) (x : X) → first xs ≡ Some x
 begins [] x is = absurd (none-some x is)
 begins (y ∷ ys) x is = (ys, ap (λ z. z ∷ ys) (same_Some y x is))
 
--- ---- of the rows of a list
+-- ---- the rows of a list
 
 first_of_two : {X M : Type 0} (r : Result X M) (behind : List M) (rest : Result (List X) M)
     → first behind ≡ fault_in rest
@@ -92,7 +92,7 @@ module _ {X M : Type 0} (row_of : Members → Result X M) where
   first_row from to None = first_if (from == 0) [] (Ok []) refl
   first_row from to (Some value) = first_between from to (items_in value)
 
--- ---- of a manifest
+-- ---- a manifest
 
 first_of_parts : (key server : Option (List ℕ))
     (arrays : Result (List Declaration) (InList ArrayMisfit))
@@ -130,7 +130,7 @@ first_of_tree tree =
     ∙ first_of_parts (unknown_member kind.Manifest tree) (required as_str (codes "server") tree)
     (arrays_of tree) (apps_of tree)
 
--- ---- of the names
+-- ---- names
 
 first_name_of : (again : Bool) (name : List ℕ) (some all : List (List ℕ))
     (r : Option (List ℕ))
@@ -163,7 +163,7 @@ first_of_once manifest =
     (first-map twice.App (names_twice apps) ∙ ap (option_map twice.App) (first_name apps))
     ∙ first_of_names manifest (repeated arrays) (repeated apps)
 
--- ---- of the bytes
+-- ---- bytes
 
 one_tree : (bytes : List ℕ) (t u : Members) → IsTree bytes t → IsTree bytes u → t ≡ u
 one_tree bytes t u is are = same_Some t u (sym is.document ∙ are.document)

@@ -1,4 +1,4 @@
--- The items of a list, as the values that it holds.
+-- The items of a list, as the values of a `Vec`.
 use Rattle.std.proofs.Common.{◌≡◌, List, [], ◌∷◌, map, refl, ap}
 use Rattle.toml.specs.View.{view, items_view}
 use Rattle.toml.specs.declared.value.Value.{Value}

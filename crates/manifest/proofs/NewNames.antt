@@ -1,4 +1,4 @@
--- Names that stand twice, in a list that is walked along.
+-- Duplicate names, in a walk along a list.
 use Rattle.std.proofs.Common.{◌≡◌, ℕ, ◌+◌, length, List, [], ◌∷◌, ◌++◌, map, take}
 use Rattle.std.proofs.Common.{Bool, true, false, not, ◌&&◌, ◌||◌, cond, refl, sym, ap, ◌∙◌}
 use Rattle.std.proofs.lemmas.Bool.{or_parts, not_from_false}
@@ -12,7 +12,7 @@ use Rattle.std.specs.Str.{bytes_eq}
 use Rattle.manifest.proofs.Walks.{taken, told_both}
 use Rattle.manifest.specs.Twice.{names_twice, names_without}
 
--- those that didn't stand before
+-- the names that didn't occur before
 abbrev pub names_new : (before names : List (List ℕ)) → List (List ℕ)
 names_new before names = filter (λ name. not (list_any (bytes_eq name) before)) names
 
@@ -20,7 +20,7 @@ pub names_new-none : (names : List (List ℕ)) → names_new [] names ≡ names
 names_new-none [] = refl
 names_new-none (name ∷ names) = ap (λ rest. name ∷ rest) (names_new-none names)
 
--- ---- with a name more before them
+-- ---- with one more name before them
 
 kept : (here seen : Bool) (x : List ℕ) (f : List ℕ → Bool) (some all : List (List ℕ))
     → f x ≡ not seen → filter f some ≡ all
@@ -44,7 +44,7 @@ new-without name before (x ∷ names) =
     ∙ ap (λ b. cond (not b) (x ∷ all) all)
     (sym (list_any-append (bytes_eq x) before (name ∷ [])))
 
--- ---- a name that doesn't stand among them
+-- ---- a name that isn't among them
 
 bytes_eq-sym : (a b : List ℕ) → bytes_eq a b ≡ bytes_eq b a
 bytes_eq-sym a b =
@@ -79,7 +79,7 @@ without-other name (x ∷ names) all =
     (All-head (IsOther name) x names all)
     ∙ ap (λ rest. x ∷ rest) (without-other name names (All-tail (IsOther name) x names all))
 
--- ---- a step along the list
+-- ---- one step along the list
 
 begun : (seen again : Bool) (x : List ℕ) (f : List ℕ → Bool)
     (some names all : List (List ℕ))
@@ -107,7 +107,7 @@ next name before rest =
     (sym (without-other name (names_twice rest) (are_other name rest none)))
     ∙ new-without name before (names_twice rest))
 
--- what is told so far, of a name, and of those behind it, is what is told of all
+-- the duplicates so far, with those of the next item and of the later ones, are all duplicates
 pub next_told : {X Y : Type 0} (told : List ℕ → Y) (name_of : X → List ℕ)
     (done new all : List Y)
     (list left before : List X) (place : ℕ) (x : X) (after : List X)

@@ -1,4 +1,4 @@
--- Rows behind those that were read.
+-- Rows after those that were read.
 use Rattle.std.proofs.Common.{◌≡◌, List, [], ◌∷◌, ◌++◌, Result, Ok, Err, refl, ap, sym}
 use Rattle.std.proofs.Common.{append_assoc}
 use Rattle.manifest.specs.Rows.{with_first}

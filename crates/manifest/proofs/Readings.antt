@@ -1,4 +1,4 @@
--- Bytes have one reading: their tree is one, and what is read of a tree is a function of it.
+-- Bytes have one reading: they have one tree, and a tree determines the result.
 use Rattle.std.proofs.Common.{◌≡◌, ◌≢◌, ℕ, List, Result, Ok, Err}
 use Rattle.std.proofs.Common.{refl, sym, ◌∙◌, ap, arith}
 use Rattle.std.proofs.lemmas.Option.{same_Some, none-some}
@@ -13,7 +13,7 @@ use Rattle.manifest.specs.Manifest.{Manifest, IsTree, HasNoTree, ReadsManifest}
 use Rattle.manifest.specs.Manifest.{tables_of, once}
 use Rattle.manifest.specs.OneReading.{HasOneManifest}
 
--- what comes of the tables of a tree
+-- the result of a tree's tables
 abbrev of_names : Result Manifest Twice → Result Manifest ManifestFault
 of_names (Ok manifest) = Ok manifest
 of_names (Err twice) = Err (Duplicate twice)
@@ -22,7 +22,7 @@ abbrev of_tables : Result Manifest Misfit → Result Manifest ManifestFault
 of_tables (Ok manifest) = of_names (once manifest)
 of_tables (Err misfit) = Err (Field misfit)
 
--- a reading by what it is found by
+-- a reading, by its source
 data Found (bytes : List ℕ) : Result Manifest ManifestFault → Type 0 where
   no_tree : (fault : TomlFault) → HasNoTree bytes fault → Found bytes (Err (Toml fault))
   tree : (r : Result Manifest ManifestFault) (tree : Members) → IsTree bytes tree

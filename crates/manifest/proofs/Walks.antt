@@ -1,11 +1,11 @@
--- A list that is walked along, and what is told of each of it.
+-- A walk along a list, and what is reported for each item.
 use Rattle.std.proofs.Common.{◌≡◌, ℕ, ◌+◌, ◌-◌, ◌≤◌, length, get_or, List, [], ◌∷◌, ◌++◌}
 use Rattle.std.proofs.Common.{map, take, drop, sym, ap, ◌∙◌, arith}
 use Rattle.std.proofs.Common.{append_assoc, length-append}
 use Rattle.std.proofs.Math.Seq.{take-append_seam}
 use Rattle.std.proofs.lemmas.List.{length-take-le, map-append, take_all}
 
--- what is left, by its first and those behind it
+-- the remaining items are the first one and those after it
 pub opened : {X : Type 0} (left : List X) (x : X) → 1 ≤ length left → x ≡ get_or left 0 x
     → left ≡ x ∷ take (length left - 1) (drop 1 left)
 opened [] x some first = absurd (omega arith)
@@ -13,7 +13,7 @@ opened (y ∷ rest) x some first =
     ap (λ z. z ∷ rest) (sym first)
     ∙ ap (λ ys. x ∷ ys) (sym (take_all (length (y ∷ rest) - 1) rest (omega arith)))
 
--- a step further
+-- one more step
 pub taken : {X : Type 0} (list left : List X) (place : ℕ) (x : X) (after : List X)
     → left ≡ x ∷ after → take place list ++ left ≡ list
     → place + length left ≡ length list
@@ -42,7 +42,7 @@ within_next left place total x after is within =
     let counts : length left ≡ length (x ∷ after) = ap length is in
     omega arith
 
--- what is told of one and of those behind it
+-- the reports of an item and of those after it
 pub told_both : {X Y : Type 0} (told : X → Y) (done : List Y) (here behind : List X)
     → (done ++ map told here) ++ map told behind ≡ done ++ map told (here ++ behind)
 told_both told done here behind =

@@ -1,4 +1,4 @@
--- All names that stand twice in a manifest: of its arrays, and its appids.
+-- All duplicate names of a manifest: of its arrays, and of its apps.
 use Rattle.std.specs.Prelude.{◌≡◌, List, ◌++◌, map, Ok}
 use Rattle.toml.specs.Data.{Members}
 use Rattle.cells.specs.Directory.{Declaration}
@@ -14,7 +14,7 @@ all_twice manifest =
     map twice.Array (names_twice (map (λ (a : Declaration). a.name) manifest.arrays))
     ++ map twice.App (names_twice (map (λ (a : AppEntry). a.appid) manifest.apps))
 
--- those of a document's tables, if these fit
+-- the duplicates of a document's tables, if these have no schema error
 pub record HasAllTwice (tree : Members) (twices : List Twice) : Type 0 where
   pub manifest : Manifest
   pub tables_are : tables_of tree ≡ Ok manifest

@@ -22,12 +22,12 @@ pub record AppEntry : Type 0 where
   pub source : ProgramSource
   pub releases : List Release
 
--- what an app keeps: its appid is one, and it has at most 64 releases
+-- the invariant of an app: its appid is valid, and it has at most 64 releases
 pub record IsAppEntry (appid : List ℕ) (releases : List Release) : Type 0 where
   pub named : IsTrue (is_appid appid)
   pub few : length releases ≤ 64
 
--- the file is that of a program or that of a rule, and there is just one
+-- the file of a program, or of a rule, but not both
 abbrev pub source_of : Option Data → Option Data → Option ProgramSource
 source_of (Some program) None = option_map (λ file. Program file) (as_str program)
 source_of None (Some rule) = option_map (λ file. Rule file) (as_str rule)
@@ -43,7 +43,7 @@ source_in table =
 abbrev pub releases_of : Members → Result (List Release) (InList ReleaseMisfit)
 releases_of table = rows_of release_of 0 64 (get_member (codes "release") table)
 
--- the app that a table is, or its first misfit
+-- the app of a table, or its first schema error
 abbrev pub app_of : Members → Result AppEntry AppMisfit
 app_of table =
     only kind.App table misfit.Unknown (

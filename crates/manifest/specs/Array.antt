@@ -19,13 +19,13 @@ width_from n = if n == 32 then Some Bits32 else if n == 64 then Some Bits64 else
 abbrev pub width_of : Data → Option CellWidth
 width_of value = option_and_then width_from (number 32 64 value)
 
--- a quota may be absent, and stands over 64-bit cells alone
+-- a quota may be absent, and needs 64-bit cells
 abbrev pub quota_of : CellWidth → Option Data → Option (Option ℕ)
 quota_of w None = Some None
 quota_of Bits64 (Some value) = option_map (λ q. Some q) (number 1 9223372036854775807 value)
 quota_of Bits32 (Some value) = None
 
--- the array that a table is, or its first misfit
+-- the array of a table, or its first schema error
 abbrev pub array_of : Members → Result Declaration ArrayMisfit
 array_of table =
     only kind.Array table misfit.Unknown (

@@ -1,4 +1,4 @@
--- The fault of bytes that are refused stands first among all of its kind.
+-- The fault of refused bytes is the first of its kind.
 use Rattle.std.specs.Prelude.{◌≡◌, ℕ, List, ◌∷◌, Err}
 use Rattle.toml.specs.Data.{Members}
 use Rattle.manifest.specs.declared.fault.ManifestFault.TheVariants.{Field, Duplicate}
@@ -8,13 +8,13 @@ use Rattle.manifest.specs.AllTwice.{HasAllTwice}
 use Rattle.manifest.specs.Manifest.{IsTree, ReadsManifest}
 use Rattle.manifest.specs.Misfits.{misfits_of}
 
--- the misfit of bytes that are refused stands first among all of their document
+-- the schema error of refused bytes is the first of their document
 abbrev pub HasMisfitFirst : List ℕ → Type 0
 HasMisfitFirst bytes = (misfit : Misfit) (tree : Members)
     → ReadsManifest bytes (Err (Field misfit)) → IsTree bytes tree
     → (others : List Misfit) × (misfits_of tree ≡ misfit ∷ others)
 
--- the name that stands twice, for which bytes are refused, is the first of their document
+-- the duplicate name of refused bytes is the first of their document
 abbrev pub HasTwiceFirst : List ℕ → Type 0
 HasTwiceFirst bytes = (twice : Twice) (tree : Members) (twices : List Twice)
     → ReadsManifest bytes (Err (Duplicate twice)) → IsTree bytes tree → HasAllTwice tree twices

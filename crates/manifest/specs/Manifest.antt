@@ -1,4 +1,4 @@
--- A manifest: the table of a document, and what is told of one that is refused.
+-- A manifest: the table of a document, and the faults of refused ones.
 use Rattle.std.specs.Prelude.{◌≡◌, ℕ, ◌<◌, ◌≤◌, List, length, map, codes}
 use Rattle.std.specs.Prelude.{Option, Some, None, Result, Ok, Err, IsUtf8}
 use Rattle.toml.specs.Data.{Members, get_member, as_str}
@@ -36,7 +36,7 @@ arrays_of table = rows_of array_of 0 64 (get_member (codes "array") table)
 abbrev pub apps_of : Members → Result (List AppEntry) (InList AppMisfit)
 apps_of table = rows_of app_of 1 256 (get_member (codes "app") table)
 
--- the manifest that a document's table is, or its first misfit
+-- the manifest of a document's table, or its first schema error
 abbrev pub tables_of : Members → Result Manifest Misfit
 tables_of table =
     only kind.Manifest table misfit.Unknown (
@@ -45,12 +45,12 @@ tables_of table =
     fits (apps_of table) misfit.Apps (λ apps.
     Ok (record { server = server; arrays = arrays; apps = apps })))))
 
--- what comes next, where there is nothing
+-- continues if there is nothing
 abbrev pub none_of : {X Y E : Type 0} → Option X → (X → E) → Result Y E → Result Y E
 none_of None fault next = next
 none_of (Some x) fault next = Err (fault x)
 
--- the manifest, if the names of its arrays stand once, and so do its appids
+-- the manifest, if the names of its arrays are distinct, and so are its appids
 abbrev pub once : Manifest → Result Manifest Twice
 once manifest =
     none_of (repeated (map (λ (a : Declaration). a.name) manifest.arrays)) twice.Array (
@@ -59,7 +59,7 @@ once manifest =
 
 -- ---- the bytes
 
--- the tree of the bytes: they are at most 1048576 of UTF-8, and spell a TOML document
+-- the tree of the bytes: they are at most 1048576, are UTF-8, and spell a TOML document
 pub record IsTree (bytes : List ℕ) (tree : Members) : Type 0 where
   pub short : length bytes ≤ 1048576
   pub utf8 : IsUtf8 bytes
@@ -71,13 +71,13 @@ HasNoTree bytes TooLong = 1048576 < length bytes
 HasNoTree bytes Text =
     (length bytes ≤ 1048576) × (IsUtf8 bytes → parse_document bytes ≡ None)
 
--- the tables of the bytes' tree are read so
+-- the result of reading the tables of the bytes' tree
 pub record HasTables (bytes : List ℕ) (tables : Result Manifest Misfit) : Type 0 where
   pub tree : Members
   pub spelled : IsTree bytes tree
   pub tables_are : tables_of tree ≡ tables
 
--- what a manifest's bytes are read as; of want of memory nothing is said
+-- the result of reading a manifest's bytes; out of memory is always allowed
 abbrev pub ReadsManifest : List ℕ → Result Manifest ManifestFault → Type 0
 ReadsManifest bytes (Ok manifest) = HasTables bytes (Ok manifest) × (once manifest ≡ Ok manifest)
 ReadsManifest bytes (Err (Toml fault)) = HasNoTree bytes fault

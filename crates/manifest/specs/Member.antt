@@ -1,9 +1,9 @@
--- What the value of a member has to be: a text, a whole number of a range, a truth value.
+-- The types of members: a text, an integer of a range, a truth value.
 use Rattle.std.specs.Prelude.{ℕ, ℤ, pos, List, Option, Some, None, option_and_then}
 use Rattle.std.specs.Prelude.{Bool, ◌&&◌, nat_le, if◌then◌else◌, Result, Ok, Err}
 use Rattle.toml.specs.Data.{Data, Members, get_member, as_str, as_integer}
 
--- a member that has to be there, and what its value says
+-- the value of a member that must be present
 abbrev pub required : {X : Type 0} → (Data → Option X) → List ℕ → Members → Option X
 required form key table = option_and_then form (get_member key table)
 
@@ -11,7 +11,7 @@ abbrev pub within : ℕ → ℕ → ℤ → Option ℕ
 within from to (pos n) = if nat_le from n && nat_le n to then Some n else None
 within from to _ = None
 
--- a whole number from the one to the other
+-- an integer from `from` to `to`
 abbrev pub number : ℕ → ℕ → Data → Option ℕ
 number from to value = option_and_then (within from to) (as_integer value)
 
@@ -22,12 +22,12 @@ passed test text = if test text then Some text else None
 abbrev pub text_that : (List ℕ → Bool) → Data → Option (List ℕ)
 text_that test value = option_and_then (passed test) (as_str value)
 
--- what comes next needs this, or else it is a fault
+-- continues with the value, or else with this fault
 abbrev pub needs : {X Y E : Type 0} → Option X → E → (X → Result Y E) → Result Y E
 needs None fault next = Err fault
 needs (Some x) fault next = next x
 
--- what comes next needs what fits here, or else the misfit is one of its own
+-- continues with the value, or else with the schema error inside it
 abbrev pub fits :
     {X Y E F : Type 0} → Result X E → (E → F) → (X → Result Y F) → Result Y F
 fits (Err misfit) fault next = Err (fault misfit)

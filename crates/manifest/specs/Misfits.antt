@@ -1,4 +1,4 @@
--- All that doesn't fit in a manifest: of each table of its two lists what doesn't fit first.
+-- All schema errors of a manifest: the first one of each table in its two lists.
 use Rattle.std.specs.Prelude.{ℕ, ◌+◌, ◌==◌, if◌then◌else◌, List, [], ◌∷◌, ◌++◌, map, codes}
 use Rattle.std.specs.Prelude.{Option, Some, None, option_to_list, Result, Ok, Err}
 use Rattle.toml.specs.Data.{Data, Members, get_member, as_str}
@@ -15,13 +15,13 @@ use Rattle.manifest.specs.Kind.{unknown_member}
 use Rattle.manifest.specs.Member.{required}
 use Rattle.manifest.specs.Rows.{are_between, item_of, items_in}
 
--- what doesn't fit, if it is that
+-- the schema error, if there is one
 abbrev pub misfit_in : {X M : Type 0} → Result X M → List M
 misfit_in (Ok x) = []
 misfit_in (Err misfit) = misfit ∷ []
 
 module _ {X M : Type 0} (row_of : Members → Result X M) where
-  -- of the items, numbered from this number on, each that doesn't fit
+  -- the schema errors of the items, which are numbered from this number
   abbrev pub misfits_from : ℕ → List Data → List (InList M)
   misfits_from n [] = []
   misfits_from n (d ∷ ds) = misfit_in (item_of row_of n d) ++ misfits_from (n + 1) ds
@@ -31,7 +31,7 @@ module _ {X M : Type 0} (row_of : Members → Result X M) where
   misfits_between from to (Some ds) =
       if are_between from to ds then misfits_from 1 ds else Count ∷ []
 
-  -- of a list of so many tables; one that may be empty may be absent
+  -- the schema errors of a list of `from` to `to` tables; if `from` is 0 it may be absent
   abbrev pub misfits_of_rows : ℕ → ℕ → Option Data → List (InList M)
   misfits_of_rows from to None = if from == 0 then [] else Count ∷ []
   misfits_of_rows from to (Some value) = misfits_between from to (items_in value)
@@ -40,7 +40,7 @@ abbrev pub server_of : Option (List ℕ) → List Misfit
 server_of None = misfit.Server ∷ []
 server_of (Some server) = []
 
--- the first member that a manifest doesn't have, and a server that is no text
+-- the first unknown member, and a server that isn't a text
 abbrev pub own_misfits : Members → List Misfit
 own_misfits table =
     map misfit.Unknown (option_to_list (unknown_member kind.Manifest table))

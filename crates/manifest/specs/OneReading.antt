@@ -1,10 +1,10 @@
--- No bytes are read two ways.
+-- Bytes have at most one reading.
 use Rattle.std.specs.Prelude.{◌≡◌, ◌≢◌, ℕ, List, Result, Err}
 use Rattle.manifest.specs.Manifest.{Manifest, ReadsManifest}
 use Rattle.manifest.specs.declared.fault.ManifestFault.{ManifestFault}
 use Rattle.manifest.specs.declared.fault.ManifestFault.TheVariants.{Memory}
 
--- bytes have one manifest or one fault, want of memory aside
+-- bytes have one manifest or one fault, except for out of memory
 abbrev pub HasOneManifest : List ℕ → Type 0
 HasOneManifest bytes = (r s : Result Manifest ManifestFault) → ReadsManifest bytes r
     → ReadsManifest bytes s → r ≢ Err Memory → s ≢ Err Memory → r ≡ s

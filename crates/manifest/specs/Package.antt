@@ -8,7 +8,7 @@ use Rattle.manifest.specs.declared.misfit.PackageMisfit.TheVariants as misfit
 use Rattle.manifest.specs.Kind.{only}
 use Rattle.manifest.specs.Member.{required, number, text_that, needs}
 
--- the package that a table is, or its first misfit
+-- the package of a table, or its first schema error
 abbrev pub package_of : Members → Result Package PackageMisfit
 package_of table =
     only kind.Package table misfit.Unknown (

@@ -1,4 +1,4 @@
--- What comes with the refusal of a manifest: what the crate `toml` gave for its bytes.
+-- What comes with a refused manifest: the result of the crate `toml` for its bytes.
 use Rattle.std.specs.Prelude.{ℕ, List, Err}
 use Rattle.toml.specs.View.{table_view}
 use Rattle.manifest.specs.declared.fault.ManifestFault.{ManifestFault}
@@ -9,7 +9,7 @@ use Rattle.manifest.specs.declared.refused.Parsed.TheVariants.{Document, Error, 
 use Rattle.manifest.specs.declared.refused.RefusedManifest.{RefusedManifest}
 use Rattle.manifest.specs.Manifest.{IsTree, ReadsManifest}
 
--- the document of the bytes, if they are one; an error, of which nothing is said; or nothing
+-- the document of the bytes, if they are one; an error, unspecified; or nothing
 abbrev pub IsParsed : List ℕ → ManifestFault → Parsed → Type 0
 IsParsed bytes (Field misfit) (Document table) = IsTree bytes (table_view table)
 IsParsed bytes (Duplicate twice) (Document table) = IsTree bytes (table_view table)
@@ -18,7 +18,7 @@ IsParsed bytes (Toml TooLong) Nothing = Unit {0}
 IsParsed bytes Memory Nothing = Unit {0}
 IsParsed bytes fault parsed = ⊥
 
--- why the bytes are no manifest, and what they were parsed as
+-- why the bytes aren't a manifest, and what they were parsed as
 pub record IsNoManifest (bytes : List ℕ) (refused : RefusedManifest) : Type 0 where
   pub fault_is : ReadsManifest bytes (Err refused.fault)
   pub parsed_is : IsParsed bytes refused.fault refused.parsed

@@ -21,7 +21,7 @@ is_version_text text = is_some (version_of text)
 abbrev pub packages_of : Members → Result (List Package) (InList PackageMisfit)
 packages_of table = rows_of package_of 1 16 (get_member (codes "package") table)
 
--- the release that a table is, or its first misfit
+-- the release of a table, or its first schema error
 abbrev pub release_of : Members → Result Release ReleaseMisfit
 release_of table =
     only kind.Release table misfit.Unknown (

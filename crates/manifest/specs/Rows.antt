@@ -14,16 +14,16 @@ data_of (item d ds) = d ∷ data_of ds
 abbrev pub items_in : Data → Option (List Data)
 items_in value = option_map data_of (as_array value)
 
--- there are so many
+-- whether there are `from` to `to` items
 abbrev pub are_between : {X : Type 0} → ℕ → ℕ → List X → Bool
 are_between from to xs = nat_le from (length xs) && nat_le (length xs) to
 
--- what a table is read as, at its place in a list
+-- the result of a table, with its number in a list
 abbrev pub at_place : {X M : Type 0} → ℕ → Result X M → Result X (InList M)
 at_place n (Ok x) = Ok x
 at_place n (Err misfit) = Err (At n misfit)
 
--- the first fault, or all of them
+-- the first fault, or all rows
 abbrev pub with_first : {X E : Type 0} → Result X E → Result (List X) E → Result (List X) E
 with_first (Err e) rest = Err e
 with_first (Ok x) (Err e) = Err e
@@ -34,11 +34,11 @@ module _ {X M : Type 0} (row_of : Members → Result X M) where
   row_in n None = Err (NoTable n)
   row_in n (Some table) = at_place n (row_of table)
 
-  -- the item of this number, which has to be a table
+  -- the item with this number, which must be a table
   abbrev pub item_of : ℕ → Data → Result X (InList M)
   item_of n value = row_in n (as_table value)
 
-  -- the items, numbered from this number on
+  -- the items, which are numbered from this number
   abbrev pub items_from : ℕ → List Data → Result (List X) (InList M)
   items_from n [] = Ok []
   items_from n (d ∷ ds) = with_first (item_of n d) (items_from (n + 1) ds)
@@ -48,7 +48,7 @@ module _ {X M : Type 0} (row_of : Members → Result X M) where
   some_rows from to (Some ds) =
       if are_between from to ds then items_from 1 ds else Err Count
 
-  -- a list of so many tables; one that may be empty may be absent
+  -- a list of `from` to `to` tables; if `from` is 0 it may be absent
   abbrev pub rows_of : ℕ → ℕ → Option Data → Result (List X) (InList M)
   rows_of from to None = if from == 0 then Ok [] else Err Count
   rows_of from to (Some value) = some_rows from to (items_in value)

@@ -1,5 +1,5 @@
--- The texts of what doesn't fit: the path of the member, and what is wanted there. Tables of a list
--- are numbered from 1. A key or a name of the manifest is told as it is printed.
+-- The texts of schema errors: the path of the member, and what is expected there. Tables of a list
+-- are numbered from 1. A key or a name of the manifest is escaped for printing.
 use Rattle.std.specs.Prelude.{ℕ, List, ◌++◌, codes, decimal}
 use Rattle.manifest.specs.declared.fault.ManifestFault.{ManifestFault}
 use Rattle.manifest.specs.declared.fault.ManifestFault.TheVariants as unread
@@ -19,7 +19,7 @@ use Rattle.manifest.specs.declared.misfit.ReleaseMisfit.{ReleaseMisfit}
 use Rattle.manifest.specs.declared.misfit.ReleaseMisfit.TheVariants as release
 use Rattle.printing.specs.Printed.{printed}
 
--- in the list of this key
+-- the path in the list with this key
 abbrev pub list_text : {M : Type 0} → (M → List ℕ) → (key wanted : List ℕ) → InList M → List ℕ
 list_text text_of key wanted Count = key ++ codes ": " ++ wanted
 list_text text_of key wanted (NoTable number) =
@@ -58,7 +58,7 @@ array_text array.Length = codes "length: a whole number from 1 to 4096"
 array_text array.Quota =
     codes "quota: a whole number from 1 to 9223372036854775807, with width 64 alone"
 
--- the path of the member that doesn't fit, and what is wanted there
+-- the path of the wrong member, and what is expected there
 abbrev pub misfit_text : Misfit → List ℕ
 misfit_text (misfit.Unknown key) = printed key ++ codes ": no member of a manifest"
 misfit_text misfit.Server = codes "server: a text"
@@ -66,14 +66,14 @@ misfit_text (misfit.Arrays list) =
     list_text array_text (codes "array") (codes "at most 64 tables") list
 misfit_text (misfit.Apps list) = list_text app_text (codes "app") (codes "1 to 256 tables") list
 
--- ---- what stands twice
+-- ---- duplicates
 
--- what stands twice
+-- a duplicate name
 abbrev pub twice_text : Twice → List ℕ
 twice_text (twice.Array name) = codes "array " ++ printed name
 twice_text (twice.App appid) = codes "app " ++ printed appid
 
--- ---- a refusal, by number and name alone
+-- ---- a refusal, only by number and name
 
 abbrev pub manifest_fault_text : ManifestFault → List ℕ
 manifest_fault_text (unread.Toml fault) = codes "M1 Toml"

@@ -1,5 +1,5 @@
--- What is answered of a definition that gives a value or a misfit: what is defined, unless memory
--- was refused.
+-- Results of calls whose definition gives a value or a schema error: what is defined, unless an
+-- allocation fails.
 use Rattle.std.specs.Prelude.{◌≡◌, List, Vec, Result, Ok, Err}
 use Rattle.std.specs.declared.alloc.Global.{Global}
 use Rattle.manifest.specs.declared.unread.Unread.{Unread}

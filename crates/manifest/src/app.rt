@@ -20,16 +20,16 @@ use std::alloc::Global;
 use std::marker::Model;
 use toml::Table;
 
-/// The file from which an app's program comes, by its name.
+/// The file of an app's program, by its name.
 #[derive(Drop)]
 pub enum ProgramSource {
-    /// The bytes of a program.
+    /// A file with the bytes of a program.
     Program(Text),
-    /// The text of a rule.
+    /// A file with the text of a rule.
     Rule(Text),
 }
 
-/// An app as a manifest tells of it, with an appid of 1 to 1024 bytes and at most 64 releases.
+/// An app of a manifest, with an appid of 1 to 1024 bytes and at most 64 releases.
 #[derive(Drop)]
 pub struct AppEntry {
     appid: Text,
@@ -52,7 +52,7 @@ impl Model for AppEntry {
 }
 
 impl AppEntry {
-    /// The text by which a client names the app.
+    /// The text by which clients name the app.
     pub fn appid(&self) -> &str
         ensures appid { result.now ≡ self.now.appid }
         ensures named { IsTrue (is_appid result.now) }
@@ -60,7 +60,7 @@ impl AppEntry {
         self.appid.as_str()
     }
 
-    /// Where its program comes from.
+    /// The file of its program.
     pub fn source(&self) -> &ProgramSource
         ensures { result.now ≡ self.now.source }
     {
@@ -76,7 +76,7 @@ impl AppEntry {
     }
 }
 
-/// The parts of an app, given away.
+/// The parts of an app, owned.
 #[derive(Drop)]
 pub struct AppParts {
     pub appid: Text,
@@ -85,7 +85,7 @@ pub struct AppParts {
 }
 
 impl AppEntry {
-    /// Its parts; it takes no memory.
+    /// Moves its parts out, without an allocation.
     pub fn into_parts(self) -> AppParts
         ensures appid { result.appid ≡ self.appid }
         ensures named { IsTrue (is_appid result.appid) }
@@ -144,7 +144,7 @@ fn appid(table: &Table) -> Option<&str>
     }
 }
 
-// Either a program or a rule.
+// A table has either a program or a rule.
 fn read_source(alloc: Global, table: &Table) -> Result<ProgramSource, Unread<AppMisfit>>
     ensures { ReadsAs (specs.source_in (table_view table.now)) result }
 {

@@ -81,7 +81,7 @@ fn width_of(value: &Value) -> Option<CellWidth>
     }
 }
 
-// The quota of an array of this width: one that isn't wrong may be absent.
+// The quota of an array of this width: `None` if it is wrong, and `Some(None)` if there is none.
 fn quota(table: &Table, width: CellWidth) -> Option<Option<u64>>
     ensures { result ≡ specs.quota_of width (get_member (codes "quota") (table_view table.now)) }
 {

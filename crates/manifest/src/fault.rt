@@ -9,17 +9,17 @@ use std::error::Error;
 use std::fmt;
 use std::fmt::{Display, Formatter, Write};
 
-/// What is wrong, with the numbers that are printed. `Display` gives number and name alone; what
-/// the variants hold tells more.
+/// What is wrong, with the printed numbers. `Display` gives only number and name; the variants have
+/// the details.
 #[derive(Debug, Drop)]
 pub enum ManifestFault {
-    /// It is no TOML document of at most 1048576 bytes.
+    /// The bytes aren't a TOML document, or are more than 1048576.
     Toml(TomlFault),
-    /// A member is wrong, is not there, or is none of a manifest's.
+    /// A member is wrong, missing or unknown.
     Field(Misfit),
-    /// The name of an array or an appid stands twice.
+    /// An array's name or an appid is a duplicate.
     Duplicate(Twice),
-    /// Memory was refused.
+    /// An allocation failed.
     Memory,
 }
 
@@ -38,16 +38,16 @@ impl Display for ManifestFault {
 
 impl Error for ManifestFault {}
 
-/// Why bytes are no document.
+/// Why bytes aren't a document.
 #[derive(Clone, Copy, Debug, Drop, PartialEq, Eq)]
 pub enum TomlFault {
-    /// They are more than 1048576.
+    /// There are more than 1048576 bytes.
     TooLong,
-    /// They are no UTF-8, or no TOML.
+    /// The bytes aren't UTF-8, or aren't TOML.
     Text,
 }
 
-/// What stands twice.
+/// A duplicate name.
 #[derive(Debug, Drop)]
 pub enum Twice {
     /// The name of an array.

@@ -18,7 +18,7 @@ pub(crate) enum Kind {
     Package,
 }
 
-/// The first member, in the order of their keys, that a table of this kind doesn't have.
+/// The first member, in the order of keys, that isn't allowed in a table of this kind.
 pub(crate) fn unknown_member<'a>(kind: Kind, table: &'a Table) -> Option<&'a str>
     ensures { option_copied result ≡ specs.unknown_member kind (table_view table.now) }
 {
@@ -30,14 +30,14 @@ pub(crate) fn unknown_member<'a>(kind: Kind, table: &'a Table) -> Option<&'a str
     None
 }
 
-/// Whether a table of this kind has a member of this key.
+/// Whether a table of this kind may have a member with this key.
 fn is_member(kind: Kind, key: &str) -> bool
     ensures { result ≡ list_any (bytes_eq key.now) (specs.members_of kind) }
 {
     is_among(key, members_of(kind))
 }
 
-// Whether a key is one of these.
+// Whether a key is in a list.
 fn is_among(key: &str, keys: &[&str]) -> bool
     ensures { result ≡ list_any (bytes_eq key.now) (map (λ other. other.now) keys.now) }
 {
@@ -61,7 +61,7 @@ static RELEASE: [&str; 3] = ["version", "codebase", "package"];
 
 static PACKAGE: [&str; 4] = ["name", "hash_sha256", "size", "required"];
 
-// The keys of a table's members. A match whose arms compare the key with each takes 30 s to check.
+// The keys of a table's members. A match that compares the key in each arm takes 30 s to check.
 fn members_of(kind: Kind) -> &'static [&'static str]
     ensures { map (λ key. key.now) result.now ≡ specs.members_of kind }
 {

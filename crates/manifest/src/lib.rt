@@ -1,16 +1,16 @@
-//! Manifests: what an operator tells the server of its counters, its apps and their releases, as a
-//! TOML document.
+//! Manifests: a server's counters, its apps and their releases, as a TOML document that an operator
+//! writes.
 //!
 //! ```toml
 //! server = "prod"
 //!
-//! [[array]]                  # at most 64, by the name of each just once
+//! [[array]]                  # at most 64, with distinct names
 //! name = "q"
 //! width = 64                 # or 32
 //! length = 1                 # to 4096
-//! quota = 2                  # may be absent; with width 64 alone
+//! quota = 2                  # may be absent; only with width 64
 //!
-//! [[app]]                    # 1 to 256, by the appid of each just once
+//! [[app]]                    # 1 to 256, with distinct appids
 //! appid = "x"
 //! program = "x.bin"          # or rule = "x.rule"
 //!
@@ -25,9 +25,10 @@
 //! required = true
 //! ```
 //!
-//! Each kind of table has its file, its definition of the same name in `specs/`, and its misfits:
-//! the first member that such a table doesn't have, and then its own members in the order of this
-//! sample. So a manifest that doesn't fit has one misfit, and its path says where it is.
+//! Each kind of table has a file, a definition of the same name in `specs/`, and its schema errors
+//! (a `Misfit` type). The error that counts is the first unknown member, or else the first wrong
+//! member in the order of this sample. So a manifest has at most one schema error, whose path says
+//! where it is.
 //!
 //! See docs/DECISIONS.md, "Manifests".
 #![tactic(auto)]

@@ -23,7 +23,7 @@ use toml::Table;
 /// The most arrays.
 pub(crate) const MAX_ARRAYS: usize = 64;
 
-/// What an operator tells a server: its name, its arrays of counters, and its apps.
+/// The data of a manifest: the server's name, its arrays of counters, and its apps.
 #[derive(Drop)]
 pub struct Manifest {
     server: Text,
@@ -44,14 +44,14 @@ impl Model for Manifest {
 }
 
 impl Manifest {
-    /// The text that names the server.
+    /// The server's name.
     pub fn server(&self) -> &str
         ensures { result.now ≡ self.now.server }
     {
         self.server.as_str()
     }
 
-    /// The arrays, in order: a program's map i is the i-th, from 0.
+    /// The arrays, in order: map i of a program is the i-th array, from 0.
     pub fn arrays(&self) -> &[ArrayDeclaration]
         ensures { result.now ≡ self.now.arrays }
     {
@@ -66,7 +66,7 @@ impl Manifest {
     }
 }
 
-/// The parts of a manifest, given away.
+/// The parts of a manifest, owned.
 #[derive(Drop)]
 pub struct ManifestParts {
     pub server: Text,
@@ -75,7 +75,7 @@ pub struct ManifestParts {
 }
 
 impl Manifest {
-    /// Its parts; it takes no memory.
+    /// Moves its parts out, without an allocation.
     pub fn into_parts(self) -> ManifestParts
         ensures server { result.server ≡ self.server }
         ensures arrays { result.arrays.items ≡ self.arrays }
@@ -89,7 +89,7 @@ impl Manifest {
     }
 }
 
-/// The manifest that a table is, whatever names stand twice.
+/// The manifest of a table, which may have duplicate names.
 pub(crate) fn read_tables(alloc: Global, table: &Table) -> Result<Manifest, Unread<Misfit>>
     ensures { ReadsAs (specs.tables_of (table_view table.now)) result }
 {
@@ -131,7 +131,7 @@ fn read_apps(alloc: Global, table: &Table) -> Result<Vec<AppEntry>, Unread<InLis
     read_rows(alloc, table, "app", 1, MOST_APPS)
 }
 
-/// A manifest in which no name stands twice.
+/// A manifest without duplicate names.
 pub(crate) fn read_once(alloc: Global, manifest: Manifest) -> Result<Manifest, Unread<Twice>>
     ensures { ReadsAs (specs.once manifest) result }
 {

@@ -1,4 +1,4 @@
-//! The members of a table, by the kinds of their values.
+//! The members of a table, by the types of their values.
 
 ghost use Rattle.std.specs.Prelude.{◌≡◌, option_map, option_copied};
 ghost use Rattle.toml.specs.Data.{get_member, as_str, as_bool};
@@ -14,7 +14,7 @@ pub(crate) fn member<'a>(table: &'a Table, key: &str) -> Option<&'a Value>
     table.get(key)
 }
 
-/// The text that a member is.
+/// The text of a member.
 pub(crate) fn text<'a>(table: &'a Table, key: &str) -> Option<&'a str>
     ensures { option_copied result ≡ required as_str key.now (table_view table.now) }
 {
@@ -24,7 +24,7 @@ pub(crate) fn text<'a>(table: &'a Table, key: &str) -> Option<&'a str>
     }
 }
 
-/// The whole number of this range that a member is.
+/// The integer of a member, if it is in this range.
 pub(crate) fn number(table: &Table, key: &str, from: u64, to: u64) -> Option<u64>
     ensures { result ≡ required (number from to) key.now (table_view table.now) }
 {
@@ -34,7 +34,7 @@ pub(crate) fn number(table: &Table, key: &str, from: u64, to: u64) -> Option<u64
     }
 }
 
-/// The truth value that a member is.
+/// The truth value of a member.
 pub(crate) fn truth(table: &Table, key: &str) -> Option<bool>
     ensures { result ≡ required as_bool key.now (table_view table.now) }
 {
@@ -44,7 +44,7 @@ pub(crate) fn truth(table: &Table, key: &str) -> Option<bool>
     }
 }
 
-/// The whole number of this range that a value is.
+/// The integer of a value, if it is in this range.
 pub(crate) fn number_of(value: &Value, from: u64, to: u64) -> Option<u64>
     ensures { result ≡ number from to (view value.now) }
 {

@@ -1,6 +1,6 @@
-//! What doesn't fit in the tables of a manifest: which member, and what is wanted there. Tables of
-//! a list are numbered from 1. `Unknown` has the key of a member that such a table doesn't have.
-//! `Display` tells the path and what is wanted, as `app[2].release[1].version: ..`.
+//! Schema errors: which member of which table is wrong, and what is expected there. Tables of a
+//! list are numbered from 1. `Unknown` has the key of a member that isn't allowed in its table.
+//! `Display` prints the path and what is expected, such as `app[2].release[1].version: ..`.
 
 ghost use Rattle.std.specs.Prelude.{Some};
 ghost use Rattle.manifest.specs.Texts.{app_text, array_text, misfit_text, package_text};
@@ -10,7 +10,7 @@ use crate::quote::Quote;
 use std::fmt;
 use std::fmt::{Display, Formatter, Write};
 
-/// What is wrong in a manifest.
+/// A schema error of a manifest.
 #[derive(Debug, Drop)]
 pub enum Misfit {
     Unknown(Quote),
@@ -19,18 +19,18 @@ pub enum Misfit {
     Apps(InList<AppMisfit>),
 }
 
-/// What is wrong in a list of tables.
+/// A schema error in a list of tables.
 #[derive(Debug, Drop)]
 pub enum InList<M> {
-    /// It is no list, or has too few or too many items.
+    /// It isn't a list, or has too few or too many items.
     Count,
-    /// The item of this number is no table.
+    /// The item with this number isn't a table.
     NoTable(usize),
-    /// In the table of this number.
+    /// The table with this number has an error.
     At(usize, M),
 }
 
-/// What is wrong in the table of an array.
+/// A schema error in the table of an array.
 #[derive(Debug, Drop)]
 pub enum ArrayMisfit {
     Unknown(Quote),
@@ -40,17 +40,17 @@ pub enum ArrayMisfit {
     Quota,
 }
 
-/// What is wrong in the table of an app.
+/// A schema error in the table of an app.
 #[derive(Debug, Drop)]
 pub enum AppMisfit {
     Unknown(Quote),
     Appid,
-    /// There is neither a program nor a rule, or both, or it is no text.
+    /// There is neither a program nor a rule, or both, or its file name isn't a text.
     ProgramSource,
     Releases(InList<ReleaseMisfit>),
 }
 
-/// What is wrong in the table of a release.
+/// A schema error in the table of a release.
 #[derive(Debug, Drop)]
 pub enum ReleaseMisfit {
     Unknown(Quote),
@@ -59,7 +59,7 @@ pub enum ReleaseMisfit {
     Packages(InList<PackageMisfit>),
 }
 
-/// What is wrong in the table of a package.
+/// A schema error in the table of a package.
 #[derive(Debug, Drop)]
 pub enum PackageMisfit {
     Unknown(Quote),

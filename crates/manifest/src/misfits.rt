@@ -1,4 +1,4 @@
-//! All that doesn't fit in a manifest: of each table of its two lists what doesn't fit first.
+//! All schema errors of a manifest: the first one of each table in its two lists.
 
 ghost use Rattle.std.specs.Prelude.{◌≡◌, ◌++◌, map, IfOk, OnOk};
 ghost use Rattle.toml.specs.Data.{get_member};
@@ -23,10 +23,9 @@ use releases::MOST_APPS;
 use std::alloc::{AllocError, Global};
 use toml::{Table, Value};
 
-/// All that doesn't fit in the document of a manifest: the first member that it doesn't have, its
-/// server, and then of each array and each app the first that doesn't fit; so the first is that of
-/// `read_manifest`.
-// open: whether memory is refused.
+/// All schema errors of a manifest's document: the first unknown member, the server, and then the
+/// first error of each array and each app. So the first one is that of `read_manifest`.
+// open: whether an allocation fails.
 pub fn all_misfits(alloc: Global, document: &Table) -> Result<Vec<Misfit>, AllocError>
     ensures { IfOk result (λ v. v.items ≡ misfits_of (table_view document.now)) }
 {
@@ -50,7 +49,7 @@ fn own(alloc: Global, table: &Table) -> Result<Vec<Misfit>, AllocError>
     Ok(misfits)
 }
 
-/// A table of one of a manifest's two lists.
+/// A table of one of the two lists of a manifest.
 trait ManifestRow: TableRow {
     ghost told_as: { InList Self.Misfit → Misfit };
 
@@ -78,7 +77,7 @@ impl ManifestRow for AppEntry {
     }
 }
 
-// Adds the misfits of a member that is a list of so many tables.
+// Adds the schema errors of a member that is a list of `from` to `to` tables.
 fn push_rows<R: ManifestRow>(
     alloc: Global,
     misfits: &mut Vec<Misfit>,

@@ -16,8 +16,8 @@ use releases::Package;
 use std::alloc::Global;
 use toml::Table;
 
-/// The most bytes that a package's file has, 2^53 - 1: the greatest whole number that each reader
-/// of JSON takes exactly.
+/// The most bytes of a package's file, 2^53 - 1: the greatest integer that every reader of JSON
+/// takes exactly.
 const MAX_SIZE: u64 = 9007199254740991;
 
 impl TableRow for Package {

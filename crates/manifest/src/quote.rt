@@ -1,4 +1,4 @@
-//! A text of a manifest that a fault tells.
+//! A text of a manifest that a fault quotes.
 
 ghost use Rattle.std.specs.Prelude.{◌≡◌, string_bytes, Some};
 ghost use Rattle.printing.specs.Printed.{printed};
@@ -7,7 +7,7 @@ use printing::Printed;
 use std::fmt;
 use std::marker::Model;
 
-/// A key or a name, as the manifest has it. `Display` shows it as it is printed.
+/// A key or a name of the manifest. `Display` escapes it for printing.
 #[derive(Debug, Drop)]
 pub struct Quote {
     text: String,
@@ -22,14 +22,14 @@ impl Model for Quote {
 }
 
 impl Quote {
-    /// This text; it takes no memory.
+    /// A quote of this text, without an allocation.
     pub(crate) fn new(text: String) -> Quote
         ensures { result ≡ string_bytes text }
     {
         Quote { text }
     }
 
-    /// The text, lent.
+    /// The text.
     pub fn as_str(&self) -> &str
         ensures { result.now ≡ self.now }
     {

@@ -1,4 +1,4 @@
-//! From the bytes of a manifest to what it tells.
+//! From the bytes of a manifest to its data.
 
 ghost use Rattle.std.specs.Prelude.{◌≡◌, IfOk, IfErr, Ok};
 ghost use Rattle.toml.specs.View.{table_view};
@@ -17,9 +17,13 @@ pub const MOST_MANIFEST: usize = 1048576;
 
 /// Reads a manifest, a TOML document of at most 1048576 bytes.
 ///
-/// M1 where the bytes are more or no document, M2 with the first misfit in the order of the
-/// format, M3 where the name of an array or an appid stands twice, M8 where memory is refused.
-// open: whether memory is refused (M8).
+/// Its faults:
+///
+/// - M1: there are more bytes, or they aren't a document.
+/// - M2: the first schema error, in the order of the format.
+/// - M3: an array's name or an appid is a duplicate.
+/// - M8: an allocation failed.
+// open: whether an allocation fails (M8).
 pub fn read_manifest(alloc: Global, bytes: &[u8]) -> Result<Manifest, ManifestFault>
     ensures { ReadsManifest bytes.now result }
 {
@@ -29,9 +33,9 @@ pub fn read_manifest(alloc: Global, bytes: &[u8]) -> Result<Manifest, ManifestFa
     }
 }
 
-/// Reads a manifest as `read_manifest` does, and hands out what its bytes were parsed as where it
-/// is refused: `all_misfits` and `all_twice` go on from that.
-// open: whether memory is refused (M8); what the error of M1 says.
+/// Reads a manifest as `read_manifest` does. If it is refused, also returns what its bytes were
+/// parsed as, from which `all_misfits` and `all_twice` continue.
+// open: whether an allocation fails (M8); what the error of M1 says.
 pub fn parse_manifest(alloc: Global, bytes: &[u8]) -> Result<Manifest, RefusedManifest>
     ensures manifest { IfOk result (λ manifest. ReadsManifest bytes.now (Ok manifest)) }
     ensures refused { IfErr result (IsNoManifest bytes.now) }
@@ -49,7 +53,7 @@ pub fn parse_manifest(alloc: Global, bytes: &[u8]) -> Result<Manifest, RefusedMa
     }
 }
 
-// The document of the bytes.
+// Parses the bytes as a document.
 fn parse_document(alloc: Global, bytes: &[u8]) -> Result<Table, RefusedManifest>
     ensures ok { IfOk result (λ table. IsTree bytes.now (table_view table)) }
     ensures err { IfErr result (IsNoManifest bytes.now) }

@@ -1,23 +1,23 @@
-//! A manifest that is refused, and what its bytes were parsed as: nobody has to parse them again.
+//! A refused manifest, with the result of parsing it, so that it isn't parsed again.
 
 use crate::fault::ManifestFault;
 use toml::Table;
 use toml::de::Error;
 
-/// Why bytes are no manifest, and what the crate `toml` gave for them.
+/// Why bytes aren't a manifest, and the result of the crate `toml` for them.
 #[derive(Drop)]
 pub struct RefusedManifest {
     pub fault: ManifestFault,
     pub parsed: Parsed,
 }
 
-/// What the crate `toml` gave for the bytes of a manifest that is refused.
+/// The result of the crate `toml` for the bytes of a refused manifest.
 #[derive(Drop)]
 pub enum Parsed {
-    /// The document that they spell, beside M2 and M3.
+    /// The document, with M2 and M3.
     Document(Table),
-    /// Why they are no document, beside M1.
+    /// Why the bytes aren't a document, with M1.
     Error(Error),
-    /// Nothing: they are more than 1048576 (M1), or memory was refused (M8).
+    /// Nothing: there are more than 1048576 bytes (M1), or an allocation failed (M8).
     Nothing,
 }

@@ -1,4 +1,4 @@
-//! All names that stand twice in a manifest: of its arrays, and its appids.
+//! All duplicate names of a manifest: of its arrays, and of its apps.
 
 ghost use Rattle.std.specs.Prelude.{◌≡◌, IfOk, IfSome};
 ghost use Rattle.toml.specs.View.{table_view};
@@ -11,10 +11,10 @@ use crate::twice::push_names_twice;
 use std::alloc::{AllocError, Global};
 use toml::Table;
 
-/// Each name that stands twice in the document of a manifest that fits but for such names: of its
-/// arrays, and then the appids; so the first is that of `read_manifest`. None where memory is
-/// refused, and of a document that doesn't fit.
-// open: when None is the answer: it comes where memory is refused, or the document doesn't fit.
+/// All duplicate names of a manifest that has no schema error: those of arrays, and then appids. So
+/// the first one is that of `read_manifest`. Returns `None` if an allocation fails, or if there is
+/// a schema error.
+// open: when the result is None: if an allocation fails, or the document has a schema error.
 pub fn all_twice(alloc: Global, document: &Table) -> Option<Vec<Twice>>
     ensures { IfSome result (λ v. HasAllTwice (table_view document.now) v.items) }
 {

@@ -12,7 +12,7 @@ use crate::unread::Unread;
 use std::alloc::Global;
 use toml::{Table, Value};
 
-/// What one table of a list is read as.
+/// A table of a list, and how it is read.
 pub(crate) trait TableRow: Drop {
     type Misfit: Drop;
 
@@ -22,7 +22,7 @@ pub(crate) trait TableRow: Drop {
         ensures { ReadsAs (row_of (table_view table.now)) result };
 }
 
-/// The rows of a member that is a list of so many tables; one that may be empty may be absent.
+/// The rows of a member that is a list of `from` to `to` tables; if `from` is 0 it may be absent.
 pub(crate) fn read_rows<R: TableRow>(
     alloc: Global,
     table: &Table,
@@ -57,7 +57,7 @@ pub(crate) fn items_of(list: &Value) -> Option<&[Value]>
     }
 }
 
-/// Whether they are so many.
+/// Whether there are `from` to `to` items.
 pub(crate) fn has_count(items: &[Value], from: usize, to: usize) -> bool
     ensures value { result ≡ are_between from to (map view items.now) }
     ensures count { IsTrue result → (from ≤ length items.now) × (length items.now ≤ to) }
@@ -86,7 +86,7 @@ fn read_items<R: TableRow>(
     Ok(rows)
 }
 
-/// The row of the item of this number.
+/// The row of the item with this number.
 pub(crate) fn read_item<R: TableRow>(
     alloc: Global,
     number: usize,

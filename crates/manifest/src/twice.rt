@@ -1,4 +1,4 @@
-//! Names that stand twice in a list.
+//! Duplicate names in a list.
 
 ghost use Rattle.std.specs.Prelude.{◌≡◌, ◌++◌, List, [], ◌∷◌, ℕ, map, option_copied, OnOk};
 ghost use Rattle.std.specs.Prelude.{if◌then◌else◌, not, ◌&&◌};
@@ -14,7 +14,7 @@ use crate::quote::Quote;
 use declarations::ArrayDeclaration;
 use std::alloc::{AllocError, Global};
 
-/// What has a name that stands once in its list.
+/// Something whose name must be unique in its list.
 pub(crate) trait Named {
     ghost name_of: { Self → List ℕ };
 
@@ -55,7 +55,7 @@ impl Named for AppEntry {
     }
 }
 
-/// The first name that stands again behind its place.
+/// The first name that occurs again later.
 pub(crate) fn repeated_name<N: Named>(list: &[N]) -> Option<&str>
     ensures { option_copied result ≡ repeated (map N.name_of list.now) }
 {
@@ -69,7 +69,7 @@ pub(crate) fn repeated_name<N: Named>(list: &[N]) -> Option<&str>
     None
 }
 
-/// Adds each name that stands twice, in the order of their first places.
+/// Adds each duplicate name, in the order of first occurrences.
 pub(crate) fn push_names_twice<N: Named>(
     alloc: Global,
     twices: &mut Vec<Twice>,
@@ -89,7 +89,7 @@ pub(crate) fn push_names_twice<N: Named>(
     Ok(())
 }
 
-// Adds the name of an item, if it stands again behind it, and hasn't stood before.
+// Adds the name of an item, if it is in `after` but not in `before`.
 fn push_twice<N: Named>(
     alloc: Global,
     twices: &mut Vec<Twice>,

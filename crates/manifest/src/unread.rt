@@ -6,7 +6,7 @@ use crate::quote::Quote;
 use attrs::Text;
 use std::alloc::Global;
 
-/// A misfit of the table, or memory that was refused.
+/// A schema error of the table, or a failed allocation.
 #[derive(Drop)]
 pub(crate) enum Unread<M> {
     Misfit(M),
@@ -24,7 +24,7 @@ pub(crate) fn copy<M>(alloc: Global, text: &str) -> Result<Text, Unread<M>>
     }
 }
 
-/// A copy of a text that a misfit tells.
+/// A copy of a text that a schema error quotes.
 pub(crate) fn quote<M>(alloc: Global, text: &str) -> Result<Quote, Unread<M>>
     ensures same { IfOk result (λ t. t ≡ text.now) }
     ensures memory { IfErr result (λ e. e ≡ Unread.Memory) }

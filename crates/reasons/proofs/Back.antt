@@ -1,4 +1,4 @@
--- Takes that are given back leave the counters as they were.
+-- Undone takes leave the counters unchanged.
 use Rattle.std.proofs.Common.{◌≡◌, ◌∙◌, ℕ, List, [], ◌∷◌, ◌++◌, refl, ap}
 use Rattle.std.specs.Prelude.{Option, Some, None, slice_index, slice_set}
 use Rattle.std.proofs.lemmas.List.{set-set, set-get_or}
@@ -17,7 +17,7 @@ test_is_back counters None = refl
 test_is_back counters (Some cell) =
     set-set counters cell _ (slice_index counters cell) ∙ set-get_or counters cell 0
 
--- the last of some takes is given back first
+-- the last take is undone first
 pub last_goes_first : (before : List CellTake) (one : CellTake) (all : List CellTake)
     (counters : List ℕ) → all ≡ before ++ one ∷ []
     → given_back before (slice_set counters one.cell one.value) ≡ given_back all counters

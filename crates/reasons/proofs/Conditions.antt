@@ -1,4 +1,4 @@
--- A condition leads to what is told of it, and so does a `when`.
+-- A condition, and a `when`, continue as they are reported.
 use Rattle.std.proofs.Common.{◌≡◌, ◌∙◌, ℕ, List, [], ◌∷◌, refl, ap}
 use Rattle.std.specs.Prelude.{Bool, true, false, not, if◌then◌else◌, Option, Some, None}
 use Rattle.attrs.specs.Attributes.{Attributes}
@@ -12,7 +12,7 @@ use Rattle.reasons.specs.Ending.{ending, ending_on}
 use Rattle.reasons.specs.Reading.{Reading, read_behind, read_one, read_steps, read_tree}
 use Rattle.reasons.proofs.Truths.{test_is_so}
 
--- a reading leads from a behaviour to what comes where it holds, and where it doesn't
+-- a behaviour continues by the truth of a reading
 abbrev Leads : (old : List ℕ) → Behaviour → Reading → (met unmet : Behaviour) → Type 0
 Leads old b r met unmet =
     ending_on old b ≡ ending_on r.counters (if r.holds then met else unmet)

@@ -1,4 +1,4 @@
--- A rule that some text spells is told in lines, none of which has a control.
+-- The report on a rule that some text spells consists of lines without controls.
 use Rattle.std.proofs.Common.{◌≡◌, ◌∙◌, refl, ap, ℕ, zero, suc, ◌-◌, List, [], ◌∷◌, ◌++◌}
 use Rattle.std.proofs.Common.{codes, length, take, arith, append_assoc, flat_map}
 use Rattle.std.specs.Prelude.{All, slice_index, Bool, true, false, ◌==◌, if◌then◌else◌}
@@ -27,7 +27,7 @@ data ArePlainLines : List (List ℕ) → Type 0 where
   next_line : {l : List ℕ} {ls : List (List ℕ)} → IsPlain l → ArePlainLines ls
       → ArePlainLines (l ∷ ls)
 
--- ---- the lines that are told
+-- ---- the reported lines
 
 when_is_plain : (steps : List Step) (told : List ℕ) → IsPlain told → IsPlain (when_line steps told)
 when_is_plain steps told plain =

@@ -1,4 +1,4 @@
--- What stands between quotes: printable ASCII without a quote, and each text of it as it is.
+-- Between quotes: only printable ASCII without a quote, and texts of this form unchanged.
 use Rattle.std.proofs.Common.{◌≡◌, ◌∙◌, refl, sym, ap, subst, ℕ, zero, suc, ◌+◌, ◌/◌, ◌%◌, ◌<◌, ◌≤◌}
 use Rattle.std.proofs.Common.{List, [], ◌∷◌, ◌++◌, codes, arith, chars, flat_map, IsUtf8}
 use Rattle.std.proofs.Common.{Bool, true, false, ◌==◌, if◌then◌else◌}
@@ -37,7 +37,7 @@ glyph_to d low = grind arith
 put : (d : ℕ) {bs : List ℕ} → d < 16 → HasGlyphs bs → HasGlyphs (digit_glyph false d ∷ bs)
 put d low glyphs = record { all = (glyph_from d, glyph_to d low, glyphs.all) }
 
--- in a base of at most 16
+-- in base 16 or less
 digits_are_glyphs : (base : ℕ) → ((n : ℕ) → n % base < 16) → (k n : ℕ) (after : List ℕ)
     → HasGlyphs after → HasGlyphs (digits_onto k base false n after)
 digits_are_glyphs base low zero n after glyphs = glyphs
@@ -54,7 +54,7 @@ pub in_decimal : (n : ℕ) → HasGlyphs (decimal n)
 unfolding digits
 in_decimal n = digits_are_glyphs 10 (λ m. omega arith) 64 n [] (record { all = tt })
 
--- ---- bytes that may stand between quotes
+-- ---- bytes that may be between quotes
 
 abbrev pub MayStand : List ℕ → Type 0
 MayStand [] = Unit {0}
@@ -114,7 +114,7 @@ none_passes (b ∷ bs) stand = (stand.1, none_passes bs stand.2)
 some_stand : (bs : List ℕ) → MayStand bs → NoCharPasses is_kept_out bs
 some_stand bs stand = (bs, spelled_alike bs stand, none_passes bs stand)
 
--- ---- what isn't shown by its number stands as it is
+-- ---- characters that aren't escaped are unchanged
 
 written_alike : (cs : List ℕ) → NonePass is_shown_by_number cs
     → flat_map (printed_char is_shown_by_number) cs ≡ encode_utf8_all cs

@@ -1,4 +1,4 @@
--- A rule chooses by the line that is told last.
+-- A rule chooses by the last reported line.
 use Rattle.std.proofs.Common.{◌≡◌, ◌∙◌, ℕ, List, [], ◌∷◌, refl, sym, ap, subst}
 use Rattle.std.specs.Prelude.{Bool, true, false, if◌then◌else◌, slice_index}
 use Rattle.attrs.specs.Attributes.{Attributes}
@@ -17,7 +17,7 @@ use Rattle.reasons.specs.Told.{ChoosesByLastLine, by_its_end, by_this_when, behi
 use Rattle.reasons.specs.Told.{behind_count, LastLineChooses, counted, rule_lines, when_line}
 use Rattle.reasons.proofs.Conditions.{when_is_so}
 
--- ---- a trace of counters that reply by their values comes to the behaviour's own ending
+-- ---- the result of a trace on counters that reply by their values is the behaviour's result
 
 event_is_next : (old new : List ℕ) (cell : ℕ) (op : CellOp) (next : ℕ → Behaviour) (e : CellEvent)
     → e.cell ≡ cell → e.op ≡ op → IsEvent old e new
@@ -44,7 +44,7 @@ trace_ends (Asks cell op next) (e ∷ es) old choice new is grown =
     event_is_next old grown.0 cell op next e is.0 is.1 grown.1
     ∙ trace_ends (next e.reply) es grown.0 choice new is.3 grown.2
 
--- ---- and the ending is that of the last line
+-- ---- the result is that of the last line
 
 module _ (a : Attributes) (s : AppShape) where
   when_chooses : (old : List ℕ) (steps : List Step) (release : ℕ) (rest : List Statement)

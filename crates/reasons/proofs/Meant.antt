@@ -1,4 +1,4 @@
--- A rule's behaviour only adds to counters, so on counters of some values it has a trace.
+-- A rule's behaviour only adds to counters, so on counters with given values it has a trace.
 use Rattle.std.proofs.Common.{◌∙◌, ℕ, ◌+◌, ◌^◌, ◌<◌, List, [], ◌∷◌, length, mod-lt}
 use Rattle.std.proofs.Common.{refl, ap, sym, subst, ⊎_elim, arith, pow_pos}
 use Rattle.std.specs.Prelude.{All, Bool, true, false, nat_lt, if◌then◌else◌, Option, Some, None}
@@ -26,7 +26,7 @@ data OnlyAdds : Behaviour → Type 0 where
   adds : (cell : ℕ) (next : ℕ → Behaviour) → ((reply : ℕ) → OnlyAdds (next reply))
       → OnlyAdds (Asks cell (Add 1) next)
 
--- ---- a rule only adds
+-- ---- rules only add
 
 either_adds : (b : Bool) {p q : Behaviour} → OnlyAdds p → OnlyAdds q
     → OnlyAdds (if b then p else q)

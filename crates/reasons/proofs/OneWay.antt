@@ -1,4 +1,4 @@
--- A text in quotes can be read in one way alone, whatever stands behind it.
+-- A quoted text can be read in only one way, whatever follows it.
 use Rattle.std.proofs.Common.{◌≡◌, ◌∙◌, refl, sym, ap, ℕ, ◌^◌, ◌<◌, List, [], ◌∷◌, ◌++◌}
 use Rattle.std.proofs.Common.{append_assoc, arith, chars, flat_map}
 use Rattle.std.proofs.Common.{Bool, true, false, if◌then◌else◌, encode_utf8, encode_utf8_all}
@@ -26,7 +26,7 @@ joined b c bs cs first rest =
 
 -- ---- one character
 
--- digits end where the brace stands
+-- digits end at the brace
 digits_end : (ds es xs ys : List ℕ) → AreGlyphs ds → AreGlyphs es
     → ds ++ (125 ∷ xs) ≡ es ++ (125 ∷ ys) → (ds ≡ es) × (xs ≡ ys)
 digits_end [] [] xs ys p q is = (refl, ap behind_first is)
@@ -56,7 +56,7 @@ escapes_end c d xs ys fits other is =
     (sym (append_assoc cs (125 ∷ []) xs) ∙ behind ∙ append_assoc ds (125 ∷ []) ys) in
     (numbers_alike c d fits other both.0, both.1)
 
--- a character that stands as it is begins no escape, and ends no text
+-- an unescaped character doesn't begin an escape or end a text
 not_shown : (b c : ℕ) → is_shown_by_number b ≡ true → is_shown_by_number c ≡ false → b ≡ c → ⊥
 not_shown b c shown other is =
     true≢false (sym shown ∙ ap is_shown_by_number is ∙ other)

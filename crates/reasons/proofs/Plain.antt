@@ -1,4 +1,4 @@
--- Printable ASCII: numbers and a client's text in quotes are of it, and it has no control.
+-- Printable ASCII: numbers and quoted client texts consist of it, and it has no controls.
 use Rattle.std.proofs.Common.{◌≡◌, ◌∙◌, refl, ap, ℕ, ◌<◌, ◌≤◌, List, [], ◌∷◌, ◌++◌, codes, arith}
 use Rattle.std.proofs.Common.{chars, flat_map, Bool, true, false, if◌then◌else◌, encode_utf8_all}
 use Rattle.std.proofs.lemmas.Bool.{and_parts}
@@ -16,7 +16,7 @@ use Rattle.reasons.proofs.InQuotes.{AreGlyphs, MayStand, all_stand, in_decimal}
 pub record IsPlain (text : List ℕ) : Type 0 where
   pub all : list_all is_printable text ≡ true
 
--- a text whose bytes are known
+-- a literal text
 pub known : (text : List ℕ) → list_all is_printable text ≡ true → IsPlain text
 known text all = record { all = all }
 
@@ -67,7 +67,7 @@ pub in_quotes : (text : List ℕ) → IsPlain (quoted text)
 in_quotes text =
     joined (joined (known (codes "\"") refl) (escaped_is_plain text)) (known (codes "\"") refl)
 
--- ---- there is no control in them
+-- ---- no controls
 
 is_low : (b : ℕ) → is_printable b ≡ true → b < 128
 is_low b is = grind arith

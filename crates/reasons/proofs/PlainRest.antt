@@ -1,5 +1,4 @@
--- The tokens that are left behind a part of a rule are printable ASCII, if those that it begins with
--- are.
+-- If the tokens of a rule are printable ASCII, so are those that remain after a part of it.
 use Rattle.std.proofs.Common.{◌≡◌, subst, List, [], ◌∷◌}
 use Rattle.std.specs.Prelude.{Ok, Err, IfOk, Bool, true, false, if◌then◌else◌}
 use Rattle.rule_lang.specs.Grammar as g
@@ -10,7 +9,7 @@ use Rattle.rule_lang.specs.Tests as tests
 use Rattle.rule_lang.specs.declared.fault.RuleFault.{RuleFault}
 use Rattle.reasons.proofs.PlainTokens.{ArePlainTokens, next_token}
 
--- what is said has this property, if anything is
+-- the value has this property, unless it is a fault
 pub record Says {A : Type 0} (P : A → Type 0) (v : OrFault A) : Type 0 where
   pub is : IfOk v P
 
@@ -35,9 +34,9 @@ if_says false first second = second
 pub no_more : {A : Type 0} {P : A → Type 0} {e : RuleFault} → Says P (Err e)
 no_more = record { is = tt }
 
--- ---- the tokens behind a part of a rule
+-- ---- the tokens after a part of a rule
 
--- with this result the tokens that are left are plain
+-- the remaining tokens of this result are plain
 abbrev LeavesPlain : OrFault (List Placed) → Type 0
 LeavesPlain v = Says ArePlainTokens v
 

@@ -46,7 +46,7 @@ literal_is_plain : (p : Placed) → IsPlain (text_of p.token) → Says IsPlain (
 literal_is_plain p plain =
     if_says (is_literal (text_of p.token)) (said (text_of p.token) plain) no_more
 
--- an array of a plain name has one
+-- an array found by a plain name has a plain name
 abbrev HasPlainName : CellArray → Type 0
 HasPlainName a = IsPlain a.name
 

@@ -1,4 +1,4 @@
--- What is told of a condition is printable ASCII, if the texts of its tests are.
+-- If the texts of a condition's tests are printable ASCII, so is the report on it.
 use Rattle.std.proofs.Common.{ℕ, List, [], ◌∷◌, codes, refl}
 use Rattle.std.specs.Prelude.{Option, Some, None, IfSome, option_and_then, slice_index}
 use Rattle.std.specs.Prelude.{slice_index_or, Bool, true, false, ◌==◌, ◌&&◌, if◌then◌else◌}
@@ -79,7 +79,7 @@ attribute_is_plain attribute.Lang = known (codes "lang") refl
 attribute_is_plain attribute.Cohort = known (codes "cohort") refl
 attribute_is_plain attribute.Platform = known (codes "platform") refl
 
--- ---- a test whose texts are plain
+-- ---- tests with plain texts
 
 abbrev pub IsPlainTest : Test → Type 0
 IsPlainTest (test.Attr n text) = IsPlain text
@@ -163,7 +163,7 @@ value_is_plain value quota =
     joined (joined (joined (known (codes ", ") refl) (number value)) (known (codes " of ") refl))
     (number quota)
 
--- ---- what is read of a condition
+-- ---- the report on a condition
 
 module _ (a : Attributes) (s : AppShape) where
   found_is_plain : (value : ℕ) (t : Test) → IsPlain (texts.found_text a s value t)

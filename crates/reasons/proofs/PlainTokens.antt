@@ -33,7 +33,7 @@ plain text = list_all is_printable text
 one_more : (n : ℕ) → 1 + n ≡ suc n
 one_more n = omega arith
 
--- a byte, and those behind it
+-- a byte, and the bytes after it
 led : (c : ℕ) (rest : List ℕ) (n : ℕ) → is_printable c ≡ true → plain (take n rest) ≡ true
     → plain (take (1 + n) (c ∷ rest)) ≡ true
 led c rest n first more =
@@ -101,7 +101,7 @@ number_is_plain text =
     with_part_is_plain text three (with_part_is_plain text two (with_part_is_plain text one
     (digits_are_plain text)))
 
--- ---- what stands at the front of a text
+-- ---- the token at the front of a text
 
 abbrev IsPlainPiece : Option tokens.Piece → Type 0
 IsPlainPiece (Some (piece.Token t n)) = IsPlain (text_of t)

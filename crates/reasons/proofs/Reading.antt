@@ -1,4 +1,4 @@
--- What a stack has of a condition's steps is what is told of its tree.
+-- The stack after a condition's steps is the reading of its tree.
 use Rattle.std.proofs.Common.{◌≡◌, ◌∙◌, ℕ, List, [], ◌∷◌, ◌++◌, refl, ap, sym, subst}
 use Rattle.std.specs.Prelude.{Option, Some, None, option_and_then, codes}
 use Rattle.std.specs.Prelude.{Bool, true, false, not, if◌then◌else◌}
@@ -17,8 +17,8 @@ use Rattle.reasons.specs.Texts.{negated_text}
 use Rattle.reasons.proofs.Back.{back_by_parts, test_is_back}
 use Rattle.reasons.proofs.Conditions.{if_not}
 
--- a part on the stack has what is told: it was read on counters of these values, has left them so,
--- and its takes can be given back
+-- a part on the stack agrees with a reading: it was evaluated on counters with these values, left
+-- the reading's values, and its takes can be undone
 record IsPartOf (r : Reading) (old : List ℕ) (p : Part) (new : List ℕ) : Type 0 where
   pub text : p.text ≡ r.text
   pub holds : p.holds ≡ r.holds
@@ -49,7 +49,7 @@ without_is r q old mid new first second a b = record {
 }
 
 module _ (a : Attributes) (s : AppShape) (first : List ℕ) where
-  -- the parts of the trees, read one after the other
+  -- the parts of the trees, evaluated in order
   data AreRead : List Tree → List Part → List ℕ → Type 0 where
     nothing : AreRead [] [] first
     next : {ts : List Tree} {ps : List Part} {old new : List ℕ} {c : Tree} {p : Part}
@@ -71,7 +71,7 @@ module _ (a : Attributes) (s : AppShape) (first : List ℕ) where
     back = test_is_back counters (cell_asked s t);
   }
 
-  -- of two parts the second is asked, or it isn't
+  -- the second of two parts counts or doesn't
   joined_is : {ts : List Tree} {ps : List Part} {old mid new : List ℕ} (c : Tree)
       (r q : Reading) (p second : Part) (asked : Bool) → AreRead ts ps old
       → IsPartOf r old p mid → IsPartOf q mid second new
@@ -152,7 +152,7 @@ module _ (a : Attributes) (s : AppShape) (first : List ℕ) where
       one_is_read (trees_from [] steps) p new
       (subst (λ (q : Option Stacked). Agree (trees_from [] steps) q) is (all_steps steps nothing))
 
--- ---- what is read of a whole condition
+-- ---- the report on a whole condition
 
 pub text_is_read : (a : Attributes) (s : AppShape) (first new : List ℕ) (steps : List Step)
     (p : Part) → after_steps a s [] first steps ≡ Some (stacked (p ∷ []) new)

@@ -1,4 +1,4 @@
--- A test leads to what comes where it holds on counters, and else to what comes where it doesn't.
+-- A test continues by whether it holds on the counters.
 use Rattle.std.proofs.Common.{◌≡◌, ℕ, List, refl}
 use Rattle.std.specs.Prelude.{Option, Some, None, if◌then◌else◌}
 use Rattle.attrs.specs.Attributes.{Attributes}
@@ -7,7 +7,7 @@ use Rattle.rule_lang.specs.Meaning.{Behaviour, asks_then, cell_asked, test_holds
 use Rattle.rule_lang.specs.declared.test.Test.{Test}
 use Rattle.reasons.specs.Ending.{ending_on, holds_on, left_at, value_at}
 
--- by the cell's value, on the counters once 1 was added to it
+-- it continues by the cell's value, on the counters after adding 1
 goes_by_value : (counters : List ℕ) (cell : Option ℕ) (next : ℕ → Behaviour)
     → ending_on counters (asks_then cell next)
     ≡ ending_on (left_at counters cell) (next (value_at counters cell))

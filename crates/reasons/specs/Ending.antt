@@ -1,4 +1,5 @@
--- What a rule's behaviour comes to on counters of some values, each of which replies by its value.
+-- The result of a rule's behaviour on counters with given values, each of which replies by its
+-- value.
 use Rattle.std.specs.Prelude.{ℕ, List, slice_index, slice_set, Bool, All, Option, Some, None}
 use Rattle.attrs.specs.Attributes.{Attributes}
 use Rattle.cells.specs.Arrays.{AppShape}
@@ -12,42 +13,42 @@ use Rattle.rule_lang.specs.Meaning.{cell_asked, test_holds}
 use Rattle.rule_lang.specs.declared.rule.Statement.{Statement}
 use Rattle.rule_lang.specs.declared.test.Test.{Test}
 
--- the choice, and the values of the counters then
+-- the choice, and the counters' values after it
 pub record Ending : Type 0 where
   pub choice : ℕ
   pub counters : List ℕ
 
--- an ending of these
+-- the ending with these two
 abbrev pub ending : (choice : ℕ) → (counters : List ℕ) → Ending
 ending choice counters = record { choice = choice; counters = counters }
 
--- the counters after an operation on one of them
+-- the counters after an operation on one cell
 abbrev pub counters_after : (counters : List ℕ) → (cell : ℕ) → CellOp → List ℕ
 counters_after counters cell op =
     slice_set counters cell (after (limit cell) (slice_index counters cell) op)
 
--- what a behaviour comes to on counters of these values
+-- the result of a behaviour on counters with these values
 abbrev pub ending_on : (counters : List ℕ) → Behaviour → Ending
 ending_on counters (Chooses k) = ending k counters
 ending_on counters (Asks cell op next) =
     ending_on (counters_after counters cell op) (next (reply_of (slice_index counters cell) op))
 
--- the value of a cell, if there is one, and else 0: what a test that asks it is replied
+-- the reply to a test: the value of its cell, or 0 if it has none
 abbrev pub value_at : (counters : List ℕ) → Option ℕ → ℕ
 value_at counters (Some cell) = slice_index counters cell
 value_at counters None = 0
 
--- the counters once 1 was added to it
+-- the counters after adding 1 to the cell
 abbrev pub left_at : (counters : List ℕ) → Option ℕ → List ℕ
 left_at counters (Some cell) = counters_after counters cell (Add 1)
 left_at counters None = counters
 
--- whether a test holds on counters of these values
+-- whether a test holds on counters with these values
 abbrev pub holds_on : Attributes → AppShape → (counters : List ℕ) → Test → Bool
 holds_on a s counters t = test_holds a s (value_at counters (cell_asked s t)) t
 
--- what a rule comes to is what it means: there are events that are a trace of its meaning, by which
--- the counters come to the values that it leaves; each reply fits its counter
+-- the result of a rule is what it means: some events are a trace of its meaning, and lead from the
+-- old values of the counters to the new ones; their replies fit the counters
 pub record IsMeant (a : Attributes) (s : AppShape) (rule : List Statement) (old : List ℕ)
     (choice : ℕ) (new : List ℕ) : Type 0 where
   pub events : List CellEvent

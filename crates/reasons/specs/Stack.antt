@@ -1,7 +1,7 @@
--- How the code reads a condition: step by step, over a stack of what was read of its parts, the
--- newest first. The second part of `and` and `or` is read before it is known whether it is asked.
--- Where it isn't, its takes are given back. No public clause cites this: what is promised stands in
--- Reading.antt, and that the stack comes to it is proved.
+-- How the code evaluates a condition: step by step, over a stack of parts, the newest first. The
+-- second part of `and` and `or` is evaluated before it is known whether it counts. If it doesn't,
+-- its takes are undone. No public clause uses this: the promise is in Reading.antt, and the stack
+-- is proved to give the same.
 use Rattle.std.specs.Prelude.{ℕ, List, [], ◌∷◌, ◌++◌, codes, slice_index, slice_set}
 use Rattle.std.specs.Prelude.{Option, Some, None, option_and_then}
 use Rattle.std.specs.Prelude.{Bool, true, false, not, if◌then◌else◌}
@@ -14,7 +14,7 @@ use Rattle.rule_lang.specs.declared.test.Test.{Test}
 use Rattle.reasons.specs.Ending.{holds_on, left_at, value_at}
 use Rattle.reasons.specs.Texts.{tested_text, negated_text}
 
--- a cell that was taken from, and its value before
+-- a cell that was taken from, and its previous value
 pub record CellTake : Type 0 where
   pub cell : ℕ
   pub value : ℕ
@@ -25,31 +25,31 @@ taken_at counters (Some cell) =
     record { cell = cell; value = slice_index counters cell } ∷ []
 taken_at counters None = []
 
--- what was read of a part: its text, whether it holds, and its takes in their order
+-- a part: its report, whether it holds, and its takes in order
 pub record Part : Type 0 where
   pub text : List ℕ
   pub holds : Bool
   pub taken : List CellTake
 
--- the counters as they were before these takes: the last is given back first
+-- the counters before these takes; the last is undone first
 abbrev pub given_back : List CellTake → (counters : List ℕ) → List ℕ
 given_back [] counters = counters
 given_back (t ∷ ts) counters = slice_set (given_back ts counters) t.cell t.value
 
--- the parts, and the counters then
+-- the parts, and the counters' values
 pub record Stacked : Type 0 where
   pub parts : List Part
   pub counters : List ℕ
 
--- these parts and counters
+-- the state with these parts and counters
 abbrev pub stacked : List Part → (counters : List ℕ) → Stacked
 stacked parts counters = record { parts = parts; counters = counters }
 
--- of `not`
+-- a part under `not`
 abbrev pub negated : Part → Part
 negated p = record p { text = negated_text p.text; holds = not p.holds }
 
--- the one and then the other
+-- a part followed by another
 abbrev pub followed : Part → Part → Part
 followed first second = record {
   text = first.text ++ codes "; " ++ second.text;
@@ -57,17 +57,17 @@ followed first second = record {
   taken = first.taken ++ second.taken;
 }
 
--- whether the second part is asked: of `and` where the first holds, of `or` where it doesn't
+-- whether the second part counts: for `and` if the first holds, for `or` if it doesn't
 abbrev pub asks_second : (goes_on : Bool) → Part → Bool
 asks_second true first = first.holds
 asks_second false first = not first.holds
 
--- the newest is negated, if there is one
+-- negates the newest part, if there is one
 abbrev pub not_newest : List Part → (counters : List ℕ) → Option Stacked
 not_newest (p ∷ ps) counters = Some (stacked (negated p ∷ ps) counters)
 not_newest [] counters = None
 
--- the two newest are joined, if there are two
+-- joins the two newest parts, if there are two
 abbrev pub join_two : (goes_on : Bool) → List Part → (counters : List ℕ) → Option Stacked
 join_two goes_on (second ∷ first ∷ ps) counters =
     if asks_second goes_on first then Some (stacked (followed first second ∷ ps) counters)
@@ -75,7 +75,7 @@ join_two goes_on (second ∷ first ∷ ps) counters =
 join_two goes_on ps counters = None
 
 module _ (a : Attributes) (s : AppShape) where
-  -- what is read of a test
+  -- the part of a test
   abbrev pub tested : (counters : List ℕ) → Test → Part
   tested counters t = record {
     text = tested_text a s (value_at counters (cell_asked s t)) (holds_on a s counters t) t;
@@ -91,7 +91,7 @@ module _ (a : Attributes) (s : AppShape) where
   stepped step.And ps counters = join_two true ps counters
   stepped step.Or ps counters = join_two false ps counters
 
-  -- and several
+  -- several steps
   abbrev pub after_steps : List Part → (counters : List ℕ) → List Step → Option Stacked
   after_steps ps counters [] = Some (stacked ps counters)
   after_steps ps counters (x ∷ xs) =

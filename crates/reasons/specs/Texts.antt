@@ -1,4 +1,4 @@
--- The texts of tests, as a rule may have them, and of what was found instead.
+-- The texts of tests, as a rule may have them, and of what was found.
 use Rattle.std.specs.Prelude.{ℕ, List, [], ◌++◌, codes, decimal, slice_index, slice_index_or}
 use Rattle.std.specs.Prelude.{Option, Some, None, Bool, true, false, ◌==◌, ◌&&◌, if◌then◌else◌}
 use Rattle.attrs.specs.Attributes.{Attributes}
@@ -26,7 +26,7 @@ comparison_text Ne = codes "!="
 comparison_text Ge = codes ">="
 comparison_text Gt = codes ">"
 
--- with the number behind it
+-- a comparison with its number
 abbrev pub compared_text : Comparison → ℕ → List ℕ
 compared_text r n = codes " " ++ comparison_text r ++ codes " " ++ decimal n
 
@@ -34,11 +34,11 @@ compared_text r n = codes " " ++ comparison_text r ++ codes " " ++ decimal n
 abbrev pub fourth_text : ℕ → List ℕ
 fourth_text n = if n == 0 then [] else codes "." ++ decimal n
 
--- the last two, up to the one that isn't 0
+-- the last two numbers, up to the last that isn't 0
 abbrev pub third_text : (m n : ℕ) → List ℕ
 third_text m n = if (m == 0) && (n == 0) then [] else codes "." ++ decimal m ++ fourth_text n
 
--- a version's numbers: two, and those behind them up to the last that isn't 0
+-- a version: its first two numbers, and the others up to the last that isn't 0
 abbrev pub numbers_text : List ℕ → List ℕ
 numbers_text w =
     decimal (slice_index w 0) ++ codes "." ++ decimal (slice_index w 1)
@@ -49,7 +49,7 @@ abbrev pub salt_text : Option ℕ → List ℕ
 salt_text (Some salt) = codes "(" ++ decimal salt ++ codes ")"
 salt_text None = []
 
--- what a bucket is divided by, if it is
+-- a bucket's modulus, if there is one
 abbrev pub modulus_text : Option ℕ → List ℕ
 modulus_text (Some modulus) = codes " mod " ++ decimal modulus
 modulus_text None = []
@@ -58,16 +58,16 @@ modulus_text None = []
 abbrev pub version_test_text : Comparison → List ℕ → List ℕ
 version_test_text r w = codes "version " ++ comparison_text r ++ codes " " ++ numbers_text w
 
--- one of the bucket
+-- a test of the bucket
 abbrev pub bucket_test_text : (salt modulus : Option ℕ) → Comparison → ℕ → List ℕ
 bucket_test_text salt modulus r n =
     codes "bucket" ++ salt_text salt ++ modulus_text modulus ++ compared_text r n
 
--- one of a flag
+-- a test of a flag
 abbrev pub flag_test_text : Flag → List ℕ
 flag_test_text f = codes "flag " ++ flag_text f
 
--- one of an attribute
+-- a test of an attribute
 abbrev pub attribute_test_text : Attribute → List ℕ → List ℕ
 attribute_test_text n text =
     codes "attr " ++ attribute_text n ++ codes " is \"" ++ text ++ codes "\""
@@ -76,7 +76,7 @@ attribute_test_text n text =
 abbrev pub take_text : (name : List ℕ) → (index : ℕ) → List ℕ
 take_text name index = codes "take(" ++ name ++ codes ", " ++ decimal index ++ codes ")"
 
--- a test, as a rule may have it: a version is told by its numbers
+-- a test, as a rule may have it; a version is written by its numbers
 abbrev pub test_text : Test → List ℕ
 test_text (test.Version r w) = version_test_text r w
 test_text (test.Bucket salt modulus r n) = bucket_test_text salt modulus r n
@@ -96,12 +96,12 @@ day_text day = if day == unknown_day then codes "not known" else decimal day
 abbrev pub value_text : (value quota : ℕ) → List ℕ
 value_text value quota = codes ", " ++ decimal value ++ codes " of " ++ decimal quota
 
--- a text of a client stands in quotes
+-- a client's text is in quotes
 abbrev pub it_is_text : Attributes → Attribute → List ℕ
 it_is_text a n = codes ", it is " ++ quoted (slice_index_or a.texts (attribute_number n) [])
 
--- what an app has where a test asks, or the counter that was asked, whose value was `value`; of a
--- flag nothing is said beside its truth
+-- the value of the app's attribute, or of the counter, which is `value`; for a flag nothing besides
+-- its truth
 abbrev pub found_text : Attributes → AppShape → (value : ℕ) → Test → List ℕ
 found_text a s value (test.Version r w) = codes ", " ++ numbers_text a.context.version
 found_text a s value (test.Bucket salt modulus r n) =
@@ -113,7 +113,7 @@ found_text a s value (test.Attr n text) = it_is_text a n
 found_text a s value (test.Take name index) =
     value_text value (quota_of (array_named name s.arrays))
 
--- where it holds nothing is said of what was found, but of a counter
+-- if the test holds, only a counter's value is reported
 abbrev pub held_text : AppShape → (value : ℕ) → Test → List ℕ
 held_text s value (test.Take name index) =
     codes ": yes" ++ value_text value (quota_of (array_named name s.arrays))
@@ -130,6 +130,6 @@ tested_text a s value holds t = test_text t ++ truth_text a s value holds t
 
 -- ---- a condition
 
--- what was told of a part that stands under `not`: each truth in it is its test's own
+-- a part under `not`; each truth in it is its test's own
 abbrev pub negated_text : (told : List ℕ) → List ℕ
 negated_text told = codes "not (" ++ told ++ codes ")"

@@ -1,4 +1,4 @@
--- What is told of a rule: a line for each `when`, up to the one that chooses.
+-- The report on a rule: a line for each `when`, up to the one that chooses.
 use Rattle.std.specs.Prelude.{◌≡◌, ℕ, List, [], ◌∷◌, ◌++◌, codes, decimal, flat_map, All, Ok}
 use Rattle.std.specs.Prelude.{Bool, true, false, if◌then◌else◌}
 use Rattle.std.specs.Str.{NoCharPasses}
@@ -21,25 +21,25 @@ use Rattle.printing.specs.Printed.{is_control}
 use Rattle.reasons.specs.Ending.{IsMeant, counters_after, ending, ending_on, holds_on, left_at}
 use Rattle.reasons.specs.Reading.{read_steps, read_tree}
 
--- the number of the line of a condition's first test, which may stand below its `when`
+-- the line of a condition's first test, which may be below its `when`
 abbrev pub first_test_line : List Step → ℕ
 first_test_line (step.Test line t ∷ rest) = line
 first_test_line steps = 0
 
--- the line of a `when`, of which this was told
+-- the line of a `when`, whose tests are reported in `told`
 abbrev pub when_line : List Step → (told : List ℕ) → List ℕ
 when_line steps told =
     codes "  line " ++ decimal (first_test_line steps) ++ codes ": " ++ told
 
--- the line of the rule's end
+-- the line for the rule's end
 abbrev pub otherwise_line : List ℕ
 otherwise_line = codes "  otherwise none"
 
--- a line, with the line feed that ends it
+-- a line with its line feed
 abbrev pub ended : (line : List ℕ) → List ℕ
 ended line = line ++ codes "\n"
 
--- the counters behind a count
+-- the counters after a count
 abbrev pub counted : AppShape → (counters : List ℕ) → (name : List ℕ) → (index : ℕ) → List ℕ
 counted s counters name index =
     counters_after counters (cell_of (array_named name s.arrays) index) (Add 1)
@@ -53,25 +53,25 @@ module _ (a : Attributes) (s : AppShape) where
       let r = read_steps a s counters steps in
       when_line steps r.text ∷ (if r.holds then [] else rule_lines r.counters rest)
 
-  -- and their text
+  -- the text of these lines
   abbrev pub rule_text : (counters : List ℕ) → List Statement → List ℕ
   rule_text counters rule = flat_map ended (rule_lines counters rule)
 
--- `ChoosesByLastLine a s old rule told choice new`: the rule, asked on counters of the values
--- `old`, makes this choice and leaves the values `new`; and of the lines that are told of it the
--- last is that of the `when` that chooses, or that of the rule's end
+-- `ChoosesByLastLine a s old rule told choice new`: on counters with the values `old`, the rule
+-- makes this choice and leaves the values `new`. The last line of `told` is that of the `when` that
+-- chooses, or of the rule's end.
 pub data ChoosesByLastLine (a : Attributes) (s : AppShape)
     : (old : List ℕ) → List Statement → (told : List (List ℕ)) → (choice : ℕ) → (new : List ℕ)
     → Type 0 where
-  -- at the rule's end nothing is chosen
+  -- the rule's end chooses nothing
   by_its_end : (old : List ℕ) → ChoosesByLastLine a s old [] (otherwise_line ∷ []) 0 old
-  -- a `when` that holds chooses its release, and what stands behind it isn't asked
+  -- a `when` that holds chooses its release, and the statements after it aren't evaluated
   by_this_when : (old : List ℕ) (steps : List Step) (release : ℕ) (rest : List Statement)
       → (read_steps a s old steps).holds ≡ true
       → ChoosesByLastLine a s old (When steps release ∷ rest)
       (when_line steps (read_steps a s old steps).text ∷ []) release
       (read_steps a s old steps).counters
-  -- behind one that doesn't hold the rest chooses
+  -- after a `when` that doesn't hold the rest chooses
   behind_when : (old : List ℕ) (steps : List Step) (release : ℕ) (rest : List Statement)
       (told : List (List ℕ)) (choice : ℕ) (new : List ℕ)
       → (read_steps a s old steps).holds ≡ false
@@ -84,15 +84,16 @@ pub data ChoosesByLastLine (a : Attributes) (s : AppShape)
       → ChoosesByLastLine a s (counted s old name index) rest told choice new
       → ChoosesByLastLine a s old (Count name index ∷ rest) told choice new
 
--- what is told of a `when`: its line behind a text, whether it holds, and the counters then
+-- the report on a `when`: its line is appended to a text, with whether it holds, and the counters'
+-- new values
 pub record TellsWhen (a : Attributes) (s : AppShape) (steps : List Step) (old : List ℕ)
     (before after : List ℕ) (holds : Bool) (new : List ℕ) : Type 0 where
   pub text_is : after ≡ before ++ ended (when_line steps (read_steps a s old steps).text)
   pub holds_is : holds ≡ (read_steps a s old steps).holds
   pub counters_are : new ≡ (read_steps a s old steps).counters
 
--- what is told of a rule on counters of some values: its lines behind a text; and the choice and
--- the counters are those that the rule means
+-- the report on a rule: its lines are appended to a text, and the choice and the counters are those
+-- that the rule means
 pub record TellsRule (a : Attributes) (s : AppShape) (rule : List Statement) (old : List ℕ)
     (before after : List ℕ) (choice : ℕ) (new : List ℕ) : Type 0 where
   pub text_is : after ≡ before ++ rule_text a s old rule
@@ -100,48 +101,48 @@ pub record TellsRule (a : Attributes) (s : AppShape) (rule : List Statement) (ol
 
 -- ---- laws
 
--- each truth that is told is that of the test: whatever comes where it holds, and where it doesn't,
--- on counters of these values the test leads to the one that is told
+-- each reported truth is that of its test: for any continuations, on counters with these values the
+-- test continues by the reported truth
 abbrev pub TruthsAreSo : Type 0
 TruthsAreSo = (a : Attributes) (s : AppShape) (counters : List ℕ) (t : Test)
     (met unmet : Behaviour) → ending_on counters (test_then a s t met unmet)
     ≡ ending_on (left_at counters (cell_asked s t))
     (if holds_on a s counters t then met else unmet)
 
--- so a condition that is decided goes on where it is told to hold, and else where it isn't
+-- so a condition continues by its reported truth
 abbrev pub ConditionsAreSo : Type 0
 ConditionsAreSo = (a : Attributes) (s : AppShape) (counters : List ℕ) (c : Tree)
     (met unmet : Behaviour) → (let r = read_tree a s counters c in
     ending_on counters (decide a s c met unmet)
     ≡ ending_on r.counters (if r.holds then met else unmet))
 
--- and a `when` that is told to hold ends the rule with its release, and else the rest of the rule
--- chooses
+-- so a `when` that is reported to hold ends the rule with its release, and otherwise the rest of
+-- the rule chooses
 abbrev pub WhensDecide : Type 0
 WhensDecide = (a : Attributes) (s : AppShape) (counters : List ℕ) (steps : List Step)
     (release : ℕ) (rest : List Statement) → (let r = read_steps a s counters steps in
     ending_on counters (behaviour a s (When steps release ∷ rest))
     ≡ (if r.holds then ending release r.counters else ending_on r.counters (behaviour a s rest)))
 
--- what a rule comes to on counters is what it means
+-- evaluating a rule on counters gives what it means
 abbrev pub EndingsAreMeant : Type 0
 EndingsAreMeant = (a : Attributes) (s : AppShape) (rule : List Statement) (counters : List ℕ)
     → AreCells counters → (let e = ending_on counters (behaviour a s rule) in
     IsMeant a s rule counters e.choice e.counters)
 
--- so whatever a rule means on counters, it chooses by the line that is told last
+-- so whatever a rule means on counters, it chooses by the last reported line
 abbrev pub LastLineChooses : Type 0
 LastLineChooses = (a : Attributes) (s : AppShape) (rule : List Statement) (old : List ℕ)
     (choice : ℕ) (new : List ℕ) → IsMeant a s rule old choice new
     → ChoosesByLastLine a s old rule (rule_lines a s old rule) choice new
 
--- a text has these lines, as `str::lines` divides it, and no control stands in any of them
+-- `str::lines` divides a text into these lines, and none of them has a control
 pub record HasTheseLines (text : List ℕ) (told : List (List ℕ)) : Type 0 where
   pub lines_are : lines text ≡ told
   pub no_control : All (NoCharPasses is_control) told
 
--- of a rule that some text spells the lines that are told are those of the told text: so a `when`
--- is one line, and the last line is what stands behind the last line feed but one
+-- for a rule that some text spells, the reported lines are the lines of the report: so a `when` is
+-- one line, and the rule chooses by the report's last line
 abbrev pub WhensAreLines : Type 0
 WhensAreLines = (a : Attributes) (s : AppShape) (text : Text) (rule : List Statement)
     → IsVerdict s text (Ok rule) → (old : List ℕ)

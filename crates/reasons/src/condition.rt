@@ -1,4 +1,4 @@
-//! A condition, read step by step.
+//! Evaluates a condition step by step, with a report.
 
 ghost use Rattle.std.specs.Prelude.{◌≡◌, ◌∷◌, [], Some, IfOk, OnOk, reverse};
 ghost use Rattle.reasons.specs.Reading.{read_steps};
@@ -16,7 +16,7 @@ fn asks_second(goes_on: bool, first: &Part) -> bool
     if goes_on { first.holds } else { !first.holds }
 }
 
-// The newest is negated, if there is one.
+// Negates the newest part, if there is one.
 fn negate(alloc: Global, parts: &mut Vec<Part>) -> Result<(), AllocError>
     ensures { (counters : _) → OnOk result (specs.not_newest (reverse parts.old.items) counters
         ≡ Some (specs.stacked (reverse parts.new.items) counters)) }
@@ -29,8 +29,8 @@ fn negate(alloc: Global, parts: &mut Vec<Part>) -> Result<(), AllocError>
     Ok(())
 }
 
-// The two newest are joined, if there are two: by `and` if the second part is asked where the first
-// holds, and else by `or`.
+// Joins the two newest parts, if there are two: by `and` if `goes_on` is set, so that the second
+// part counts if the first holds, and otherwise by `or`.
 fn join(parts: &mut Vec<Part>, goes_on: bool, counters: &mut PlainPass) -> Result<(), AllocError>
     ensures { OnOk result (specs.join_two goes_on (reverse parts.old.items) counters.old
         ≡ Some (specs.stacked (reverse parts.new.items) counters.new)) }
@@ -105,7 +105,7 @@ fn take_steps(
     Ok(())
 }
 
-// What was read of the one part that steps leave.
+// The one part that the steps leave.
 fn read_whole(
     alloc: Global,
     attrs: &Attrs,
@@ -127,8 +127,8 @@ fn read_whole(
     Ok(whole)
 }
 
-/// Reads a condition on counters, from which its takes are taken. Steps that are no condition are
-/// refused as want of memory is.
+/// Evaluates a condition on counters, including its takes. Also returns an error, like that of a
+/// failed allocation, if the steps aren't a condition.
 #[tactic(auto, using(crate::proofs::Reading::whole))]
 pub(crate) fn read_condition(
     alloc: Global,

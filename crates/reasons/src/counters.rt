@@ -1,5 +1,5 @@
-//! What counters reply, and how what was added is given back. A cell that isn't there has the value
-//! 0 and keeps it.
+//! The replies of counters, and how additions are undone. A cell that doesn't exist has the value 0
+//! and keeps it.
 
 ghost use Rattle.std.specs.Prelude.{◌≡◌, ◌<◌, slice_index, slice_set, option_copied};
 ghost use Rattle.cells.specs.Events.{limit};
@@ -10,7 +10,7 @@ ghost use Rattle.rule_lang.specs.Shapes as shapes;
 use cells::{CellArray, CellNo, CellOp, CellSteps, PlainCells, PlainPass};
 use std::marker::Model;
 
-/// A cell that was taken from, and its value before.
+/// A cell that was taken from, and its previous value.
 #[derive(Clone, Copy, Debug)]
 pub(crate) struct CellTake {
     cell: u32,
@@ -31,7 +31,7 @@ impl Model for CellTake {
     ghost invariant = { λ t. t.value < limit t.cell };
 }
 
-/// The number of an array's cell; 0 where there is no array.
+/// The number of an array's cell; 0 if there is no array.
 pub(crate) fn cell_of(array: Option<&CellArray>, index: u16) -> u32
     ensures { result ≡ shapes.cell_of (option_copied array.entry) index }
 {
@@ -41,7 +41,7 @@ pub(crate) fn cell_of(array: Option<&CellArray>, index: u16) -> u32
     }
 }
 
-/// Adds 1 to a cell. The reply is its value before.
+/// Adds 1 to a cell. The reply is its previous value.
 pub(crate) fn add_one(counters: &mut PlainPass, cell: u32) -> u64
     ensures value { result ≡ slice_index counters.old cell }
     ensures after { counters.new ≡ counters_after counters.old cell (Add 1) }
@@ -55,7 +55,7 @@ pub(crate) fn add_one(counters: &mut PlainPass, cell: u32) -> u64
     }
 }
 
-/// Adds 1 to a cell, which may be given back.
+/// Adds 1 to a cell, so that it can be undone.
 pub(crate) fn take_one(counters: &mut PlainPass, cell: u32) -> CellTake
     ensures taken { result ≡ record { cell = cell; value = slice_index counters.old cell } }
     ensures after { counters.new ≡ counters_after counters.old cell (Add 1) }
@@ -65,14 +65,14 @@ pub(crate) fn take_one(counters: &mut PlainPass, cell: u32) -> CellTake
 }
 
 impl CellTake {
-    /// The value of the cell before.
+    /// The previous value of the cell.
     pub fn value(&self) -> u64
         ensures { result ≡ self.now.value }
     {
         self.value
     }
 
-    /// Gives a cell its value before.
+    /// Restores the cell's previous value.
     pub fn give_back(self, counters: &mut PlainPass)
         ensures { counters.new ≡ slice_set counters.old self.cell self.value }
     {

@@ -1,4 +1,4 @@
-//! What a test found: what an app has where it asks, or the value of its counter.
+//! What a test found: the value of an app's attribute, or of a counter.
 
 ghost use Rattle.std.specs.Prelude.{OnOk};
 ghost use Rattle.printing.specs.Pushed.{Puts};
@@ -14,8 +14,8 @@ use rule_lang::Test;
 use std::alloc::AllocError;
 use std::fmt::Write;
 
-/// Adds a test with its truth, and with what was found. Of a take `value` is the cell's value
-/// before.
+/// Adds a test with its truth, and what was found. For a take, `value` is the cell's previous
+/// value.
 pub(crate) fn push_tested(
     text: &mut String,
     attrs: &Attrs,

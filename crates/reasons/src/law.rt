@@ -1,48 +1,47 @@
-//! Laws of the definitions: what is told is so. Two of them are called, for their clauses alone.
+//! Laws of the definitions: reports are true. Two of the laws are called, only for their clauses.
 
 ghost use Rattle.reasons.specs.Quoted as quoted;
 ghost use Rattle.reasons.specs.Told as specs;
 
-/// A law: each truth that is told of a test is what the test means.
+/// Law: each reported truth of a test is what the test means.
 pub fn truths_are_so()
     ensures { specs.TruthsAreSo }
 {}
 
-/// A law: a condition that is told to hold leads to what comes where it holds, and else to what
-/// comes where it doesn't.
+/// Law: a condition that is reported to hold continues as its meaning does if it holds, and
+/// otherwise as it does if it fails.
 pub fn conditions_are_so()
     ensures { specs.ConditionsAreSo }
 {}
 
-/// A law: a `when` that is told to hold ends the rule with its release, and behind another the rest
-/// of the rule chooses.
+/// Law: a `when` that is reported to hold ends the rule with its release, and after any other the
+/// rest of the rule chooses.
 pub fn whens_decide()
     ensures { specs.WhensDecide }
 {}
 
-/// A law: the line that is told last is the one by which the rule chooses.
+/// Law: the rule chooses by the last reported line.
 pub fn last_line_chooses()
     ensures { specs.LastLineChooses }
 {}
 
-/// A law: of a rule that some text spells, the text that is told has just the lines that are told,
-/// and they have no control. So a `when` is one line, whatever the rule and the client name.
+/// Law: for a rule that some text spells, the report has exactly the reported lines, without
+/// controls. So a `when` is one line, whatever texts the rule and the client have.
 pub fn whens_are_lines()
     ensures { specs.WhensAreLines }
 {}
 
-/// A law: what a rule comes to on counters is what it means.
+/// Law: evaluating a rule on counters gives what the rule means.
 pub fn endings_are_meant()
     ensures { specs.EndingsAreMeant }
 {}
 
-/// A law: a text in quotes has none between them, so it ends where they do.
+/// Law: a quoted text has no quote inside, so it ends at the next quote.
 pub fn quotes_end_texts()
     ensures { quoted.QuotesEndTexts }
 {}
 
-/// A law: two texts in quotes are told alike only where they are the same, whatever stands behind
-/// them.
+/// Law: two texts look the same in quotes only if they are equal, whatever follows them.
 pub fn quotes_tell_apart()
     ensures { quoted.QuotesTellApart }
 {}

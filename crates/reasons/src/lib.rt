@@ -1,20 +1,19 @@
-//! Reasons: why a rule chooses what it chooses, test by test, on counters of some values.
+//! Reasons: why a rule chooses what it chooses, test by test, on counters with given values.
 //!
 //! See docs/PROGRAM.md, "ask".
 #![tactic(auto)]
 
-// How a condition is read. Its tests are told from left to right, until it is decided, as its
-// meaning asks them (`specs/Reading.antt`). Its steps stand in post-fix order, and nothing here
-// calls itself, however deep and long a condition is. So the steps are taken as they stand, and a
-// stack has what was read of each part (`condition.rt`): the second part of an `and` is read before
-// the `and` is seen. Where it turns out that the part isn't asked, its text is dropped, and what
-// its takes added is given back to the counters. A part keeps for that which cells it took from,
-// and their values before.
+// How a condition is evaluated. Its tests are reported from left to right until it is decided, as
+// its meaning evaluates them (`specs/Reading.antt`). Its steps are in post-fix order, and nothing
+// here recurses, however deep and long a condition is. So the steps are evaluated in order, over a
+// stack of parts (`condition.rt`): the second part of an `and` is evaluated before the `and`
+// appears. If that part turns out not to count, its text is dropped, and what its takes added is
+// undone. For this a part keeps the cells that it took from, with their previous values.
 //
-// Laws of the definitions (`law.rt`) say that each truth that is told is that of its test, that a
-// `when` is told in one line, that the last line is the one by which the rule chooses, and that
-// texts of clients in quotes are told apart. A line has no control, since numbers and words have
-// none, a rule's own texts are printable ASCII, and a client's stand in quotes.
+// Laws of the definitions (`law.rt`): each reported truth is that of its test; a `when` is one
+// line; the rule chooses by the last line; different texts of clients look different in quotes. No
+// line has a control: numbers and words have none, a rule's own texts are printable ASCII, and a
+// client's texts are quoted.
 
 mod condition;
 mod counters;

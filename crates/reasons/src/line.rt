@@ -17,7 +17,7 @@ fn first_test_line(steps: &[Step]) -> usize
     }
 }
 
-/// Adds the line of a `when`, of which this was told.
+/// Adds the line of a `when`, whose tests are reported in `told`.
 pub(crate) fn push_when(text: &mut String, steps: &[Step], told: &str) -> Result<(), AllocError>
     ensures { OnOk result
         (Puts text.old text.new (specs.ended (specs.when_line steps.now told.now))) }
@@ -26,7 +26,7 @@ pub(crate) fn push_when(text: &mut String, steps: &[Step], told: &str) -> Result
     writeln!(text, "  line {line}: {told}")
 }
 
-/// Adds the line of the end of a rule.
+/// Adds the line for the end of a rule.
 pub(crate) fn push_otherwise(text: &mut String) -> Result<(), AllocError>
     ensures { OnOk result (Puts text.old text.new (specs.ended specs.otherwise_line)) }
 {

@@ -1,4 +1,4 @@
-//! A part of a condition: what was read of it, and its takes, which can be given back.
+//! A part of a condition: its report, and its takes, which can be undone.
 
 ghost use Rattle.std.specs.Prelude.{◌≡◌, ◌++◌, IfOk, OnOk, string_bytes};
 ghost use Rattle.printing.specs.Pushed.{Puts};
@@ -17,8 +17,7 @@ use std::alloc::{AllocError, Global};
 use std::fmt::Write;
 use std::marker::Model;
 
-/// What was read of a part of a condition: its text, whether it holds, and its takes in their
-/// order.
+/// The report on a part of a condition, whether it holds, and its takes in order.
 #[derive(Drop)]
 pub(crate) struct Part {
     pub text: String,
@@ -51,7 +50,7 @@ fn cell_asked(shape: &Shape, test: &Test) -> Option<u32>
     }
 }
 
-// Takes from a cell, if there is one, and keeps the take.
+// Takes from a cell, if there is one, and records the take.
 fn ask_cell(
     counters: &mut PlainPass,
     cell: Option<u32>,
@@ -70,7 +69,7 @@ fn ask_cell(
     Ok(one.value())
 }
 
-/// Reads a test.
+/// Evaluates a test.
 pub(crate) fn read_test(
     alloc: Global,
     attrs: &Attrs,
@@ -91,7 +90,7 @@ pub(crate) fn read_test(
     Ok(Part { text, holds, taken })
 }
 
-/// The first part and then the second.
+/// The first part, followed by the second.
 pub(crate) fn followed(first: Part, second: Part) -> Result<Part, AllocError>
     ensures { IfOk result (λ p. p ≡ specs.followed first second) }
 {
@@ -110,7 +109,7 @@ pub(crate) fn followed(first: Part, second: Part) -> Result<Part, AllocError>
     })
 }
 
-// The counters as they were before these takes: the last is given back first.
+// Restores the counters, the last take first.
 fn give_back(taken: Vec<CellTake>, counters: &mut PlainPass)
     ensures { counters.new ≡ specs.given_back taken.items counters.old }
 {
@@ -120,7 +119,7 @@ fn give_back(taken: Vec<CellTake>, counters: &mut PlainPass)
     }
 }
 
-/// Drops the second part, which isn't asked.
+/// Drops the second part, which doesn't count.
 pub(crate) fn without(first: Part, second: Part, counters: &mut PlainPass) -> Part
     ensures part { result ≡ first }
     ensures back { counters.new ≡ specs.given_back second.taken counters.old }

@@ -1,4 +1,4 @@
-//! A text of a client in quotes.
+//! A client's text in quotes.
 
 ghost use Rattle.std.specs.Prelude.{◌≡◌, OnOk};
 ghost use Rattle.printing.specs.Pushed.{Puts};
@@ -8,10 +8,10 @@ ghost use Rattle.reasons.specs.Quoted as specs;
 use std::alloc::AllocError;
 use std::fmt::Write;
 
-/// Adds a text in quotes. A quote or a backslash in it, and what isn't printable ASCII, is shown by
-/// its number, as `\u{22}`: so the text ends at the next quote, different texts are told
-/// differently, and a character that can't be seen shows.
-// open: whether memory is refused, its one error, and what the text is then.
+/// Adds a text in quotes. A quote, a backslash and anything but printable ASCII is escaped by its
+/// code point, such as `\u{22}`. So the text ends at the next quote, different texts look
+/// different, and invisible characters are visible.
+// open: whether an allocation fails, which is its one error, and what the text is then.
 pub fn push_quoted(text: &mut String, client: &str) -> Result<(), AllocError>
     ensures { OnOk result (Puts text.old text.new (specs.quoted client.now)) }
 {

@@ -1,4 +1,4 @@
-//! What is told of a rule.
+//! The report on a rule.
 
 ghost use Rattle.std.specs.Prelude.{◌≡◌, IfOk, OnOk, string_bytes};
 ghost use Rattle.printing.specs.Pushed.{Puts};
@@ -15,10 +15,11 @@ use cells::{ArrayName, PlainPass, Shape};
 use rule_lang::{Rule, RuleCondition, Statement, array_named};
 use std::alloc::{AllocError, Global};
 
-/// Adds the lines of a rule to a text: what it tests for an app on counters of some values, up to
-/// the `when` that chooses, or to `otherwise none`. Answers what the rule chooses, 0 for none, and
+/// Adds the lines of a rule to a text: its tests for an app, on counters with given values, up to
+/// the `when` that chooses, or to `otherwise none`. Returns the rule's choice, 0 for none, and
 /// leaves the counters as the rule leaves them.
-// open: whether memory is refused, its one error, and what the text and the counters are then.
+// open: whether an allocation fails, which is its one error, and what the text and the counters are
+// then.
 pub fn tell_rule(
     alloc: Global,
     text: &mut String,
@@ -72,7 +73,7 @@ fn count(shape: &Shape, array: &ArrayName, index: u16, counters: &mut PlainPass)
     let _value = add_one(counters, cell);
 }
 
-// Adds the line of a `when`; answers whether it holds.
+// Adds the line of a `when`, and returns whether it holds.
 fn tell_when(
     alloc: Global,
     text: &mut String,

@@ -1,4 +1,4 @@
-//! A test, as a rule has it.
+//! The text of a test, as a rule may have it.
 
 ghost use Rattle.std.specs.Prelude.{OnOk};
 ghost use Rattle.printing.specs.Pushed.{Puts};

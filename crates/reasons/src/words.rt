@@ -34,7 +34,7 @@ pub(crate) fn push_compared(
     write!(text, " {sign} {number}")
 }
 
-/// Adds the numbers of a version: two, and those behind them up to the last that isn't 0.
+/// Adds a version: its first two numbers, and the others up to the last that isn't 0.
 pub(crate) fn push_numbers(text: &mut String, version: [u32; 4]) -> Result<(), AllocError>
     ensures { OnOk result (Puts text.old text.new (texts.numbers_text version)) }
 {
@@ -72,7 +72,7 @@ pub(crate) fn push_salt(text: &mut String, salt: Option<u64>) -> Result<(), Allo
     }
 }
 
-/// Adds what a bucket is divided by, if it is.
+/// Adds a bucket's modulus, if there is one.
 pub(crate) fn push_modulus(text: &mut String, modulus: Option<u32>) -> Result<(), AllocError>
     ensures { OnOk result (Puts text.old text.new (texts.modulus_text modulus)) }
 {

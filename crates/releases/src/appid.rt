@@ -3,7 +3,7 @@
 ghost use Rattle.std.specs.Prelude.{◌≡◌};
 ghost use Rattle.releases.specs.Appid as specs;
 
-/// The most apps of a manifest, and of a request, which asks for some of them.
+/// The most apps of a manifest, and of a request.
 pub const MOST_APPS: usize = 256;
 
 /// The most bytes of an appid.

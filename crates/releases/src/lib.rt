@@ -1,5 +1,5 @@
-//! Apps and their releases: the appid, and of a release a version, where its files lie, and what
-//! each file is. A reply of Omaha 3.1 tells a client these texts as its manifest has them.
+//! Apps and their releases: the appid, and for each release its version, the URL of its files, and
+//! a description of each file. Replies of Omaha 3.1 have these texts as the manifest has them.
 //!
 //! See docs/DECISIONS.md, "Manifests".
 #![tactic(auto)]

@@ -10,7 +10,7 @@ use std::marker::Model;
 /// How many hexadecimal digits a SHA-256 has.
 const HASH_LENGTH: usize = 64;
 
-/// A file of a release, by the members that a reply has about it.
+/// A file of a release, with the members that a reply has about it.
 #[derive(Drop)]
 pub struct Package {
     name: Text,
@@ -45,9 +45,9 @@ impl Package {
         digits.len() == HASH_LENGTH && are_hex_digits(digits)
     }
 
-    /// The file of this name, hash and length in bytes, which a client has to fetch where it is
-    /// required; it takes no memory.
-    // open: that the hash and the size are those of a file, which no contract can see.
+    /// A file with this name, hash and length in bytes, which a client must fetch if it is
+    /// required. Doesn't allocate.
+    // open: that the hash and the size are those of a file, which no contract can know.
     pub fn new(name: Text, hash_sha256: Text, size: u64, required: bool) -> Package
         requires { specs.IsPackage hash_sha256 size }
         ensures { result ≡ record {
@@ -65,7 +65,7 @@ impl Package {
         }
     }
 
-    /// Its name, below the release's codebase.
+    /// Its name, relative to the release's codebase.
     pub fn name(&self) -> &str
         ensures { result.now ≡ self.now.name }
     {
@@ -86,7 +86,7 @@ impl Package {
         self.size
     }
 
-    /// Whether a client has to fetch it.
+    /// Whether a client must fetch it.
     pub fn required(&self) -> bool
         ensures { result ≡ self.now.required }
     {

@@ -1,4 +1,4 @@
-//! A release, which contracts see as its texts and the list of its packages.
+//! A release; contracts see its texts and the list of its packages.
 
 ghost use Rattle.std.specs.Prelude.{◌≡◌};
 
@@ -31,8 +31,8 @@ impl Model for Release {
 impl Release {
     ghost use Rattle.releases.specs.Release as specs;
 
-    /// The release of these texts and packages; it takes no memory. The version is one that can be
-    /// read, and there are 1 to 16 packages.
+    /// A release with these texts and packages; doesn't allocate. The version must be readable, and
+    /// there must be 1 to 16 packages.
     pub fn new(version: Text, codebase: Text, packages: Vec<Package>) -> Release
         requires { specs.IsRelease version packages.items }
         ensures { result ≡ record {
@@ -55,7 +55,7 @@ impl Release {
         self.version.as_str()
     }
 
-    /// The URL below which its files lie.
+    /// The URL below which its files are.
     pub fn codebase(&self) -> &str
         ensures { result.now ≡ self.now.codebase }
     {

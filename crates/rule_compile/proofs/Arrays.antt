@@ -1,4 +1,5 @@
--- Arrays by their names: where the first of a name stands, and what it has where a rule fits.
+-- Arrays by their names: the number of the first array with a name, and its properties if a rule
+-- fits.
 use Rattle.std.proofs.Common.{◌≡◌, ℕ, suc, ◌+◌, ◌<◌, ◌≤◌, ◌^◌, List, [], ◌∷◌, All, Option}
 use Rattle.std.proofs.Common.{Some, None, Bool, true, false, refl, sym, ap, subst, ◌∙◌, arith}
 use Rattle.std.specs.Prelude.{slice_get, nat_lt, ◌&&◌, not, is_some, if◌then◌else◌}
@@ -24,7 +25,7 @@ not_true false h = refl
 pub lt_of : (i n : ℕ) → nat_lt i n ≡ true → i < n
 lt_of i n h = grind (arith, h)
 
--- the first array of the name stands where it is said to, and is one of the shape's
+-- the first array with this name has this number, and is one of the shape's
 pub record IsFound (name : List ℕ) (arrays : List CellArray) (a : CellArray) : Type 0 where
   pub named : array_named name arrays ≡ Some a
   pub place : slice_get arrays (place_named name arrays) ≡ Some a
@@ -60,7 +61,7 @@ found name (b ∷ rest) a all is = by_name (bytes_eq b.name name) refl
 
 -- ---- what fits
 
--- a cell of the array, of its width
+-- a cell of the array, with the array's width
 cell_fits : (a : CellArray) (index : ℕ) → IsArray a → index < a.length
     → IsCellOf (size_of a.width) (a.base + index)
 cell_fits a index h lt = by_width a.width h.from h.to
@@ -70,7 +71,7 @@ cell_fits a index h lt = by_width a.width h.from h.to
     by_width Bits64 low high = omega (arith, low, high, lt)
     by_width Bits32 low high = (omega (arith, low, high, lt), omega (arith, low, high, lt))
 
--- what a counter needs: its array, and that the cell is one of the array's
+-- what a count needs: its array, and a cell in that array
 pub record CanCount (arrays : List CellArray) (name : List ℕ) (index : ℕ) : Type 0 where
   pub array : CellArray
   pub found : IsFound name arrays array
@@ -105,7 +106,7 @@ can_count_is arrays name index all h = on_found (array_named name arrays) refl h
         count_fits arrays name index a (found name arrays a all is) (lt_of index a.length two.1)
         (not_true (is_some a.quota) two.0)
 
--- what a take needs: besides, the array has a quota, and its cell has 64 bits
+-- what a take needs: also, the array has a quota, and its cell has 64 bits
 pub record CanTake (arrays : List CellArray) (name : List ℕ) (index : ℕ) : Type 0 where
   pub array : CellArray
   pub found : IsFound name arrays array
@@ -148,7 +149,7 @@ can_take_is arrays name index all h = on_found (array_named name arrays) refl h
         take_fits arrays name index a (found name arrays a all is)
         (lt_of index a.length two.1) two.0
 
--- what stands at the place is the array, also where there is none of the name
+-- the array with this number is the one with this name, or neither exists
 pub named_place : (name : List ℕ) (arrays : List CellArray)
     → slice_get arrays (place_named name arrays) ≡ array_named name arrays
 named_place name [] = refl

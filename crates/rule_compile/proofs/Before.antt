@@ -1,4 +1,4 @@
--- What each piece of a rule's code stands in front of: its labels stay.
+-- Each piece of a rule's code is put in front of the rest, whose labels stay.
 use Rattle.std.proofs.Common.{◌≡◌, ℕ, suc, ◌-◌, ◌≤◌, List, [], ◌∷◌, ◌++◌, take, drop, length}
 use Rattle.std.proofs.Common.{Option, Some, None, Bool, true, false, sym, ap, arith}
 use Rattle.std.specs.Prelude.{not, slice_index, if◌then◌else◌}
@@ -153,7 +153,7 @@ end_before s [] = before_one (Some (insn.set_choice 0)) end_code
 end_before s (x ∷ xs) = before_then _ (statements_code s xs) end_code
     (statement_before s x (statements_code s xs)) (end_before s xs)
 
--- ---- no piece is shorter than what it stands in front of
+-- ---- no piece is shorter than its rest
 
 pub stores_longer : (left : ℕ) (text : List ℕ) (q : Program)
     → length q ≤ length (code.stores_code left text q)
@@ -171,7 +171,7 @@ pub statement_longer : (s : AppShape) (x : Statement) (q : Program)
     → length q ≤ length (statement_code s x q)
 statement_longer s x q = (statement_before s x q).longer
 
--- a text of four bytes or more: its first word, and what is behind it
+-- a text of four bytes or more: its first word, and the other bytes
 all_behind : (text : List ℕ) → take (suc (suc (suc (suc (length text)))) - 4) text ≡ text
 all_behind text = let e : suc (suc (suc (suc (length text)))) - 4 ≡ length text = omega arith in
     rw e (take-length text)

@@ -32,7 +32,7 @@ use Rattle.rule_compile.proofs.InsnSteps.{onward}
 
 -- ---- no other array has a cell of this one
 
--- an array without a quota gives its cells none
+-- an array without a quota doesn't give its cells one
 quota_of_cell : (b : CellArray) (c : ℕ) → (is_some b.quota ≡ true → HasCell b c → ⊥)
     → has_quota_cell c b ≡ false
 quota_of_cell b c apart = by_quota (is_some b.quota) refl
@@ -57,7 +57,7 @@ none_of (b ∷ xs) c h =
     let first = h b (0, omega arith, refl) in
     rw first (none_of xs c (λ x has. h x (suc has.0, omega (arith, has.1), has.2)))
 
--- what stands at a place is one of the list
+-- the array at an index is in the list
 pub contains_at : (xs : List CellArray) (k : ℕ) (a : CellArray) → slice_get xs k ≡ Some a
     → Contains xs a
 contains_at [] k a is = absurd cc

@@ -1,5 +1,4 @@
--- Tests of one number: the code of a comparison comes to one behaviour or the other, as the
--- comparison says.
+-- Tests of one number: the comparison decides which of two behaviours the code has.
 use Rattle.std.proofs.Common.{◌≡◌, ℕ, ◌+◌, ◌-◌, ◌%◌, ◌<◌, ◌≤◌, ◌^◌, ◌∷◌, length, Option, Some, None}
 use Rattle.std.proofs.Common.{Bool, true, false, refl, sym, ap, subst, ◌∙◌, arith, inl, inr}
 use Rattle.std.specs.Prelude.{not, nat_le, nat_lt, ◌==◌, bit_and, if◌then◌else◌, IfSome}
@@ -39,7 +38,7 @@ use Rattle.rule_compile.proofs.Fields.{FitFields, bucket_reads, flags_reads}
 
 -- ---- conditions and their opposites
 
--- the six conditions of comparisons; each has its opposite
+-- the six comparisons; each has an opposite
 abbrev pub IsRelation : Condition → Type 0
 IsRelation Eq = Unit {0}
 IsRelation Ne = Unit {0}
@@ -79,7 +78,7 @@ pub turned_if : {A : Type 0} (b : Bool) (x y : A) → (if not b then x else y) �
 turned_if true x y = refl
 turned_if false x y = refl
 
--- a jump on the turned condition is a jump on the condition with its ends exchanged
+-- a jump on the turned condition is a jump on the condition with its targets exchanged
 pub by_sense : {A : Type 0} (condition : Condition) (sense : Bool) (v n : ℕ) (x y : A)
     → IsRelation condition
     → (if compares w32 (turned sense condition) v n then x else y) ≡ (if compares w32 condition v n
@@ -91,7 +90,7 @@ by_sense condition false v n x y h =
 
 -- ---- remainders
 
--- the registers of tests
+-- the registers that tests use
 abbrev pub IsTested : Reg → Type 0
 IsTested R0 = Unit {0}
 IsTested R2 = Unit {0}
@@ -100,7 +99,7 @@ IsTested r = ⊥
 low_half : (n : ℕ) → n < 2 ^ 32 → n % 2 ^ 32 ≡ n
 low_half n h = omega (arith, h)
 
--- a divisor of 0 leaves the dividend in both
+-- a divisor of 0 leaves the dividend unchanged in both definitions
 whole_or : (v m : ℕ) → (if m == 0 then v else v % m) ≡ v % m
 whole_or v m = by_test (m == 0) refl
   where
@@ -118,7 +117,7 @@ divided v m hv hm =
 lower : (u v k : ℕ) → u ≤ v → v < k → u < k
 lower u v k h g = omega (arith, h, g)
 
--- a remainder is no greater
+-- a remainder isn't greater than its dividend
 no_greater : (v m : ℕ) → v < 2 ^ 32 → v % m < 2 ^ 32
 no_greater v m hv = lower (v % m) v (2 ^ 32) (mod-le v m) hv
 
@@ -180,7 +179,7 @@ module _ (p : ShapedProgram) (a : Attributes) where
       (jump_then p a Eq R2 0 (length q - l) (bit_and a.context.flags mask) q choice x y small
       (omega arith) to (knowing p a (Has p a 2 (bit_and a.context.flags mask)) q choice y on)))
 
-  -- ---- a bucket of a salt's own
+  -- ---- a bucket under a salt
 
   salt_then : (salt : ℕ) (q : Program) (choice : ℕ) (b : Behaviour)
       → Comes p a (Has p a 1 salt) q choice b
@@ -213,7 +212,7 @@ module _ (p : ShapedProgram) (a : Attributes) where
         attributes = h.attributes;
       }) refl)
 
-  -- ---- a remainder, in a register of tests
+  -- ---- a remainder, in a register that tests use
 
   writes_remainder : (r : Reg) (m v : ℕ) (s : State) → v < 2 ^ 32 → m < 2 ^ 32
       → s.registers (number_of r) ≡ Some v

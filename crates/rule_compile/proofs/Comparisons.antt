@@ -1,4 +1,4 @@
--- Each test's code runs as the test says.
+-- The code of a comparison runs as the comparison says.
 use Rattle.std.proofs.Common.{◌≡◌, ℕ, ◌<◌, List, [], ◌∷◌, length}
 use Rattle.std.proofs.Common.{Bool, refl, sym, ap, arith, inl, inr}
 use Rattle.std.proofs.lemmas.Bool.{cases_lt}
@@ -152,7 +152,7 @@ unequal_is Less x y = refl
 unequal_is Equal x y = refl
 unequal_is Greater x y = refl
 
--- the four numbers are all
+-- a version has exactly these four numbers
 pub four_is : (w : List ℕ) → length w ≡ 4 → four_of w ≡ w
 four_is [] h = absurd (omega (arith, h))
 four_is (a ∷ []) h = absurd (omega (arith, h))

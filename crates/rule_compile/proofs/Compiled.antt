@@ -1,4 +1,4 @@
--- What `compile` needs of the code that was written, of statements that are the rule's.
+-- What `compile` needs of the generated code.
 use Rattle.std.proofs.Common.{◌≡◌, ℕ, ◌≤◌, List, length, true, sym, ap, subst, ◌∙◌}
 use Rattle.std.specs.List.{AllByRecursion}
 use Rattle.attrs.specs.Attributes.{Attributes}

@@ -111,7 +111,7 @@ abbrev AllInRange : List Tree → Type 0
 AllInRange [] = Unit {0}
 AllInRange (t ∷ ts) = InRange t × AllInRange ts
 
--- what the steps so far make: in range, and with so many tests
+-- what the steps so far make: trees in range, with n tests
 abbrev AreCounted : ℕ → Option (List Tree) → Type 0
 AreCounted n None = Unit {0}
 AreCounted n (Some ts) = AllInRange ts × (tests_of_all ts ≡ n)
@@ -197,7 +197,7 @@ statements_cons : (x : Statement) (xs : List Statement)
 statements_cons (Count name index) xs = omega arith
 statements_cons (When steps release) xs = omega arith
 
--- what the statements from the k-th on cost
+-- the cost of the statements from the k-th on
 pub costs_left : (xs : List Statement) (k : ℕ)
     → 8 * length (drop k xs) + 22 * tests_of (drop k xs) ≤ 8 * length xs + 22 * tests_of xs
 costs_left xs zero = omega arith

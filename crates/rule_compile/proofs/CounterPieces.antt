@@ -41,7 +41,7 @@ module _ (p : ShapedProgram) (a : Attributes) where
 
   -- ---- take, as a piece
 
-  -- the reply is in R2, and the quota in R4
+  -- R2 has the reply, and R4 the quota
   abbrev pub HasBoth : ℕ → ℕ → State → Type 0
   HasBoth r quota s = (s.registers 2 ≡ Some r) × (s.registers 4 ≡ Some quota)
 

@@ -1,4 +1,4 @@
--- Counters: one is added to a cell, and the run goes on, by the reply or whatever it is.
+-- Counters: adds 1 to a cell, and continues by the reply or ignores it.
 use Rattle.std.proofs.Common.{◌≡◌, ℕ, ◌+◌, ◌*◌, ◌<◌, ◌≤◌, pos, ◌∷◌, Option, Some, None}
 use Rattle.std.proofs.Common.{Bool, true, false, refl, ap, subst, ◌∙◌, arith}
 use Rattle.std.specs.Prelude.{nat_le, nat_lt, slice_get, if◌then◌else◌}
@@ -27,7 +27,7 @@ use Rattle.rule_compile.proofs.Runs.{Comes, Nothing, Has, quiet, asks}
 
 -- ---- addresses
 
--- a cell of so many bytes: the first 4096 have eight, the others four
+-- a cell of this size: the first 4096 have eight bytes, the others four
 abbrev pub IsCellOf : AtomicSize → ℕ → Type 0
 IsCellOf Double c = c < 4096
 IsCellOf Word c = (4096 ≤ c) × (c < 8192)
@@ -38,7 +38,7 @@ number_is c = omega arith
 address_is : (c : ℕ) → c < 8192 → is_cell_address (cell_address c) ≡ true
 address_is c h = rw (number_is c, lt-ltb c 8192 h) (grind arith)
 
--- its own address is that of the cell
+-- at offset 0, the address of a cell is its own
 pub own_address : (c : ℕ) → c < 8192 → address_of (cell_address c) (pos 0) ≡ cell_address c
 own_address c h = omega (arith, h)
 
@@ -68,7 +68,7 @@ by_quota true r quota x y = refl
 by_quota false r quota x y = lt_turned r quota x y
 
 module _ (p : ShapedProgram) (a : Attributes) where
-  -- the address of the cell is in R3
+  -- R3 has the address of the cell
   abbrev pub HasCell : ℕ → State → Type 0
   HasCell c s = s.registers 3 ≡ Some (cell_address c)
 
@@ -113,7 +113,7 @@ module _ (p : ShapedProgram) (a : Attributes) where
         attributes = h.attributes;
       }) (known, refl))
 
-  -- the counter that an atomic operation at R3 reaches
+  -- the cell that an atomic operation at R3 uses
   found_cell : (size : AtomicSize) (c : ℕ) → IsCellOf size c
       → cell_at (address_of (cell_address c) (pos 0)) (atomic_count size) ≡ Some c
   found_cell Double c h = rw (own_address c (omega (arith, h))) (reached Double c h)

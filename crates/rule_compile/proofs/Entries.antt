@@ -1,4 +1,4 @@
--- What is known between the pieces of a rule's code, and what a write or a comparison leaves of it.
+-- What is known between the pieces of a rule's code, and after a write or a comparison.
 use Rattle.std.proofs.Common.{ℕ, zero, suc, ◌<◌, ◌≤◌, List, [], ◌∷◌, length, length-set}
 use Rattle.std.proofs.Common.{Bool, false, arith, inl, inr}
 use Rattle.std.specs.Prelude.{IsSome, ◌⊎◌, slice_set}
@@ -32,7 +32,7 @@ frame zero_is one two three four choice set = record {
   set = set;
 }
 
--- any number of a register
+-- a register with any number
 abbrev pub any : Number
 any = full Bits64
 
@@ -62,7 +62,7 @@ forgets a b c d e v set f h = record {
     fewer (suc (suc (suc (suc zero)))) h = tt
     fewer (suc (suc (suc (suc (suc r))))) h = h
 
--- ---- what stands at a place takes what is known
+-- ---- the entry at a place covers what is known
 
 pub record Takes (q : Program) (ds : List Known) (k : ℕ) (d : Known) : Type 0 where
   pub place : IsSome (at q k)

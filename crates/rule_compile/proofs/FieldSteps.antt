@@ -78,7 +78,7 @@ range_small a b k h =
 single_any : (n : ℕ) → n ≤ 2 ^ 32 - 1 → IsWider (Num any) (Num (single n))
 single_any n h = (omega arith, omega arith, omega (arith, h))
 
--- any remainder of numbers of 32 bits, tidy
+-- any remainder of 32-bit numbers, tidied
 tidied_any : (a b : Interval) (p : KnownBits) → a.hi ≤ 2 ^ 32 - 1
     → IsWider (Num any) (Num (tidied (remainder a b) p))
 tidied_any a b p h =

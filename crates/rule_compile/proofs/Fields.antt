@@ -1,4 +1,4 @@
--- What the loads of a rule's code read: each field of the context, as it is.
+-- What the loads of a rule's code read: each field of the context, unchanged.
 use Rattle.std.proofs.Common.{◌≡◌, ℕ, zero, suc, List, [], ◌∷◌, ◌+◌, ◌*◌, ◌/◌}
 use Rattle.std.proofs.Common.{◌%◌, ◌^◌, ◌<◌, take, drop, Some, ap, ◌∙◌, arith}
 use Rattle.std.specs.Prelude.{All, slice_index}
@@ -83,7 +83,7 @@ unfolding part context_bytes
 fourth_part a h = four_bytes (slice_index a.context.version 3) (h.version 3)
 
 module _ (p : ShapedProgram) (a : Attributes) (fit : FitFields a) where
-  -- the same attributes, and the same number
+  -- the attributes stay, so the number is the same
   written : (s : State) (k n v : ℕ) → s.attributes ≡ a → part a k n ≡ v
       → write s 1 R2 (Some (part s.attributes k n)) ≡ write s 1 R2 (Some v)
   written s k n v same is = ap (λ (b : Attributes). write s 1 R2 (Some (part b k n))) same

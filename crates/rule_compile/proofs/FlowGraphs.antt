@@ -1,5 +1,5 @@
--- Code whose instructions are typed is the graph of a program: each edge leads forward to an
--- instruction, and each place is reached.
+-- Typed code is a program's graph: each edge leads forward to an instruction, and each place is
+-- reached.
 use Rattle.std.proofs.Common.{◌≡◌, ℕ, zero, suc, ◌+◌, ◌<◌, ◌≤◌, List, [], ◌∷◌, drop, length, Option}
 use Rattle.std.proofs.Common.{Some, None, Bool, true, false, refl, sym, ap, subst, ◌∙◌, arith, inr}
 use Rattle.std.specs.Prelude.{IsSome, is_some, Contains, option_to_list, slice_get, if◌then◌else◌}
@@ -35,7 +35,7 @@ module _ (shape : AppShape) (p : Program) (ds : List Known) (typed : IsTyped sha
   no_half t some half = let bad : is_some (at p t) ≡ false =
       ap (λ (o : Option (Option Insn)). is_some (o >>= λ x. x)) half in absurd cc
 
-  -- where it jumps, an instruction stands, further on
+  -- a jump leads forward to an instruction
   lands : (s : ℕ) (d : Known) (i : Insn) (es : List Known) (o : Option Distance)
       → JumpsTo o (drop (suc s) p) es d i → (t : ℕ)
       → (o >>= λ distance. landing s (slots_moved distance)) ≡ Some t
@@ -50,7 +50,7 @@ module _ (shape : AppShape) (p : Program) (ds : List Known) (typed : IsTyped sha
             (at_drop p (suc s) h.0 ∙ ap (at p) place) h.2.0,
       )
 
-  -- it lands somewhere
+  -- a jump has a target
   some_target : (s : ℕ) (d : Known) (i : Insn) (es : List Known) (o : Option Distance)
       → JumpsTo o (drop (suc s) p) es d i → IsSome o → (t : ℕ)
       × ((o >>= λ distance. landing s (slots_moved distance)) ≡ Some t)
@@ -98,7 +98,7 @@ module _ (shape : AppShape) (p : Program) (ds : List Known) (typed : IsTyped sha
       (subst (λ (b : Bool). Contains (option_to_list (if b then Some (next_of s i) else None))
       (next_of s i)) (sym on) here)
 
-  -- where something stands behind an instruction, it goes on
+  -- an instruction that has code after it falls through to it
   goes_there : (q : Program) (es : List Known) (d : Known) (i : Insn) (k : ℕ) (b : Bool)
       → GoesOn shape b q es d i → IsSome (at q k) → goes_on i ≡ b → goes_on i ≡ true
   goes_there q es d i k true h some is = is
@@ -113,7 +113,8 @@ module _ (shape : AppShape) (p : Program) (ds : List Known) (typed : IsTyped sha
       subst (Reached p) (next_is n i)
       (along r is (contains_next n i (goes_there q es d i k (goes_on i) next some refl)))
 
-  -- of the places of a rest, where its first place is reached, or what stands behind a second half
+  -- the places of a rest are reached, if its first place is, or for a second half the place after
+  -- it
   record IsReached (q : Program) (n : ℕ) : Type 0 where
     whole : StartsWell q → Reached p n → (k : ℕ) → IsSome (at q k) → Reached p (n + k)
     behind : slice_get q 0 ≡ Some None → StartsWell (drop 1 q) → Reached p (n + 1) → (k : ℕ)

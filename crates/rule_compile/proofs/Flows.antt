@@ -1,5 +1,5 @@
--- A typed program is one that may be verified: its edges lead ahead, and each place is reached from
--- the one before it.
+-- A typed program has a valid graph: its edges lead forward, and each place is reached from the one
+-- before it.
 use Rattle.std.proofs.Common.{◌≡◌, List, [], ◌∷◌, ◌++◌, drop, Option, Some, None}
 use Rattle.std.proofs.Common.{Bool, true, false, refl, sym, ap, subst, ◌∙◌, inl, inr}
 use Rattle.std.specs.Prelude.{IsSome, slice_get, ◌⊎◌}
@@ -20,7 +20,7 @@ use Rattle.rule_compile.proofs.Typed.{GoesOn, HasHalf, halves, IsTyped, at_drop}
 
 -- ---- the instructions
 
--- it ends, or an instruction begins it
+-- it is empty, or begins with an instruction
 abbrev pub StartsWell : Program → Type 0
 StartsWell q = (q ≡ []) ⊎ IsSome (at q 0)
 
@@ -75,7 +75,7 @@ layout_two i q fits two half r = (
   All-cons IsEncodable i r.0 fits r.2,
 )
 
--- of the rest itself, and of what stands behind a second half
+-- the layout of the rest, or of the code after a second half
 pub record IsLaid (q : Program) : Type 0 where
   pub whole : StartsWell q → IsLayout q
   pub behind : slice_get q 0 ≡ Some None → StartsWell (drop 1 q) → IsLayout (drop 1 q)

@@ -1,4 +1,4 @@
--- Code that stands in front of typed code is typed, and every label stays: by tests first.
+-- Code in front of typed code is typed, and every label stays: first for tests.
 use Rattle.std.proofs.Common.{◌≡◌, ℕ, suc, ◌+◌, ◌-◌, ◌*◌, ◌<◌, ◌≤◌, ◌^◌, List, [], ◌∷◌, length}
 use Rattle.std.proofs.Common.{Option, Some, None, Bool, true, false, refl, subst, arith}
 use Rattle.std.specs.Prelude.{if◌then◌else◌, IfSome}
@@ -22,7 +22,7 @@ use Rattle.rule_compile.proofs.InsnSteps.{wide_step, bucket_step}
 use Rattle.rule_compile.proofs.FieldSteps.{load_step, mask_step, remainder_step}
 use Rattle.rule_compile.proofs.JumpSteps.{jump_step}
 
--- what stands first is what its entry says
+-- the first instruction is covered by its entry
 pub takes_here : (i : Insn) (q : Program) (d : Known) (ds : List Known)
     → Takes (Some i ∷ q) (d ∷ ds) 0 d
 takes_here i q d ds = record { place = refl; known = λ f h. h }
@@ -32,7 +32,7 @@ pub takes_behind : (i : Insn) (q : Program) (c d : Known) (ds : List Known)
 takes_behind i q c d ds = record { place = refl; known = λ f h. h }
 
 module _ (shape : AppShape) where
-  -- where a piece may begin, more may be known
+  -- a place where a piece may begin also covers more knowledge
   pub takes_more : (a b c d e : Abs) (set : ℕ → Bool) (q : Program) (ds : List Known) (k : ℕ)
       → Takes q ds k (chosen shape) → Takes q ds k (frame a b c d e (choice shape) set)
   takes_more a b c d e set q ds k h =
@@ -59,7 +59,7 @@ module _ (shape : AppShape) where
             (record { place = h.takes.place; known = h.takes.known });
       }
 
-  -- typed code that a piece may stand in front of
+  -- typed code that may follow a piece
   pub record IsRest (q : Program) (ds : List Known) : Type 0 where
     pub typed : IsTyped shape q ds
     pub first : Takes q ds 0 (chosen shape)
@@ -71,14 +71,14 @@ module _ (shape : AppShape) where
         takes = subst (λ (n : ℕ). Takes q ds n (chosen shape)) e h.first;
       }
 
-  -- ---- code in front of code: typed, and all labels of the rest stay
+  -- ---- code in front of code: it is typed, and all labels of the rest stay
 
   pub record IsTail (q' q : Program) (ds : List Known) : Type 0 where
     pub entries : List Known
     pub typed : IsTyped shape q' entries
     pub keeps : (l : ℕ) → IsLabel q ds l → IsLabel q' entries l
 
-  -- besides, a piece may begin there
+  -- also, a piece may begin there
   pub record IsFront (q' q : Program) (ds : List Known) : Type 0 where
     pub entries : List Known
     pub rest : IsRest q' entries
@@ -132,7 +132,7 @@ module _ (shape : AppShape) where
 
   -- ---- a field of the context
 
-  -- a number is in R2, or in R0
+  -- R2 has a number, or R0
   abbrev pub tested : Known
   tested = frame Unusable Unusable (Num any) Unusable Unusable (choice shape) none_set
 
@@ -193,7 +193,7 @@ module _ (shape : AppShape) where
       (omega (arith, few)) behind.rest
       (behind.keeps out (label_if sense q ds (length q) l (first_label q ds h) label)))
 
-  -- a word that decides at once, or else by what comes behind
+  -- a word that decides at once, or leaves it to the next words
   word_front : (k : ℕ) (strict : Condition) (n there here : ℕ) (rest : Program) (es : List Known)
       → 4 * k + 4 ≤ 64 → IsRest rest es → IsLabel rest es there → IsLabel rest es here
       → IsFront (code.word_code k strict n there
@@ -233,7 +233,7 @@ module _ (shape : AppShape) where
       (behind.keeps there (label_if sense q ds l (length q) label begin))
       (behind.keeps here (label_if sense q ds (length q) l begin label)))
 
-  -- ---- a jump on the answer of a call
+  -- ---- a jump on the result of a call
 
   abbrev pub answer_tail : (condition : Condition) (n l : ℕ) (set : ℕ → Bool) (q : Program)
       (ds : List Known) → IsRest q ds → IsLabel q ds l
@@ -247,7 +247,7 @@ module _ (shape : AppShape) where
 
   -- ---- a bucket
 
-  -- code in front of code, that begins where this is known
+  -- code in front of code, which begins with this knowledge
   record Begins (q' q : Program) (ds : List Known) (d : Known) : Type 0 where
     tail : IsTail q' q ds
     first : Takes q' tail.entries 0 d

@@ -1,4 +1,4 @@
--- Each instruction of a rule's code as a step: no rule fails, and it leads to what is known behind
+-- Each instruction of a rule's code as a step: it breaks no rule, and leads to what is known after
 -- it.
 use Rattle.std.proofs.Common.{◌≡◌, ℕ, zero, suc, ◌+◌, ◌≤◌, ℤ, pos, List, [], ◌∷◌, Some, None}
 use Rattle.std.proofs.Common.{false, refl, sym, ap, subst, arith, length-drop, get_or-drop}
@@ -28,7 +28,7 @@ use Rattle.rule_compile.proofs.Typed.{IsStep, Leads, entry_at}
 use Rattle.rule_compile.proofs.Entries.{any, Takes, writes, knows_write}
 use Rattle.rule_compile.proofs.Narrowings.{wider_at, number_in, tidied_lies}
 
--- what comes of an instruction is what stands behind it takes
+-- the next entry covers the result of an instruction
 pub onward : (q : Program) (ds : List Known) (k : ℕ) (d next : Known) (make : AbsState → AbsState)
     → Takes q ds k next → ((e : AbsState) → Knows d e → Knows next (make e))
     → Leads q ds k d (λ e. Some (make e))
@@ -51,7 +51,7 @@ usable_in (Map c) v some h = ap is_unusable (sym h)
 usable_in (MayCell c) v some h = ap is_unusable (sym h)
 usable_in (Cell c) v some h = ap is_unusable (sym h)
 
--- a copy of a number is tidy once more
+-- a copied number is tidied once more
 copied_within : (c v : Abs) → IsWider c v → IsWider c (copied_value Bits64 v)
 copied_within Unusable v h = tt
 copied_within (Num c) (Num a) h = tidied_lies (least c) (most c) a.range a.bits h
@@ -65,7 +65,7 @@ copied_within (Cell c) v h = subst (λ (x : Abs). Cell c ≡ copied_value Bits64
 
 -- ---- calls
 
--- R0 has an answer, and R1 to R5 are unset
+-- R0 has a result, and R1 to R5 are unset
 abbrev pub calls : Known → Abs → Known
 calls d v = record { registers = called_registers d.registers v; set = d.set }
 

@@ -1,4 +1,4 @@
--- Each jump of a rule's code as a step: both ways lead to what is known there.
+-- Each jump of a rule's code as a step: both edges lead to what is known there.
 use Rattle.std.proofs.Common.{◌≡◌, ℕ, ◌≤◌, ℤ, pos, List, Option, Some, None}
 use Rattle.std.proofs.Common.{Bool, true, false, refl, sym, subst, arith}
 use Rattle.std.specs.Prelude.{option_map}
@@ -85,7 +85,7 @@ module _ (shape : AppShape) where
     );
   }
 
-  -- a jump on two registers, of which nothing need be known behind it
+  -- a jump on two registers, after which nothing about them is needed
   both_pass : (condition : Condition) (n : ℕ) (e : AbsState) (a b : Number) → value_at e 2 ≡ Num a
       → value_at e 4 ≡ Num b → first_rule shape e
       (JumpIf Bits64 condition R2 (Register R4) (pos n)) ≡ None

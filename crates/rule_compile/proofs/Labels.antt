@@ -1,12 +1,11 @@
--- Labels: places of a program by their distance from the end. Code that is put in front moves none
--- of them.
+-- Labels: places of a program by their distance from the end. Prepended code moves none of them.
 use Rattle.std.proofs.Common.{◌≡◌, ℕ, zero, suc, ◌+◌, ◌-◌, ◌≤◌, [], ◌∷◌, ◌++◌, drop, length}
 use Rattle.std.proofs.Common.{Option, Some, refl, sym, ap, subst, ◌∙◌, arith, zero-add}
 use Rattle.std.specs.Prelude.{slice_get}
 use Rattle.bpf_insn.specs.declared.insn.Insn.{Insn}
 use Rattle.bpf_insn.specs.Program.{Program}
 
--- ---- what stands from a slot on
+-- ---- the code from a slot on
 
 drop_nil : (n : ℕ) → drop {A = Option Insn} n [] ≡ []
 drop_nil zero = refl
@@ -55,7 +54,7 @@ pub at_start : (q : Program) → from_label q (length q) ≡ q
 unfolding from_label
 at_start q = let e : length q - length q ≡ 0 = omega arith in rw e refl
 
--- the first stands in front of the second
+-- the first is the second with code in front
 pub record IsBefore (q' q : Program) : Type 0 where
   pub longer : length q ≤ length q'
   pub same : (l : ℕ) → l ≤ length q → from_label q' l ≡ from_label q l

@@ -1,5 +1,4 @@
--- What is known of a register, and what a comparison leaves of two numbers whose ends are
--- in order.
+-- What is known of a register, and how a comparison narrows two numbers whose ends are in order.
 use Rattle.std.proofs.Common.{◌≡◌, ℕ, ◌≤◌, Option, Some, None}
 use Rattle.std.proofs.Common.{Bool, true, false, refl, subst, arith, inl, inr}
 use Rattle.std.specs.Prelude.{◌==◌, ◌||◌, nat_le, nat_lt, option_map, if◌then◌else◌, bit_and}
@@ -46,7 +45,7 @@ number_in c v h = absurd cc
 pub le_of : (m n : ℕ) → nat_le m n ≡ true → m ≤ n
 le_of m n h = grind (arith, h)
 
--- ---- tidy: an end of an interval stays, or moves in
+-- ---- tidy: an end of an interval stays or moves inward
 
 some_order : (a : Number) → is_empty a ≡ false → least a ≤ most a
 some_order a some = grind (arith, some)
@@ -66,7 +65,7 @@ tidied_lies from to a p h = elim (cases_Bool (is_empty (tidy a p))) [
       rw some (omega (arith, h.0, ends.0), order, omega (arith, h.2, ends.1))
 ]
 
--- ---- what a comparison leaves of two numbers whose ends are in order
+-- ---- how a comparison narrows two numbers whose ends are in order
 
 pub record IsNarrower (a b : Number) (p : NumberPair) : Type 0 where
   pub ordered : least p.0 ≤ most p.0
@@ -86,7 +85,7 @@ narrow_if : (t : Bool) (a b : Number) (x p : NumberPair) → (t ≡ false → Is
 narrow_if true a b x p h is = absurd cc
 narrow_if false a b x p h is = let same : x ≡ p = cc in subst (IsNarrower a b) same (h refl)
 
--- what is kept isn't empty, so its ends are in order
+-- a kept number isn't empty, so its ends are in order
 kept_narrow : (a b x y : Number) (p : NumberPair) → most x ≤ most a → most y ≤ most b
     → kept x y ≡ Some p → IsNarrower a b p
 kept_narrow a b x y p h g is = narrow_if (is_empty x || is_empty y) a b (x, y) p (λ some.
@@ -98,7 +97,7 @@ kept_narrow a b x y p h g is = narrow_if (is_empty x || is_empty y) a b (x, y) p
       within_too = g;
     }) is
 
--- ends that don't go up
+-- the upper ends don't grow
 AreLower : Interval → Interval → Option IntervalPair → Type 0
 AreLower a b None = Unit {0}
 AreLower a b (Some p) = (p.0.hi ≤ a.hi) × (p.1.hi ≤ b.hi)

@@ -1,4 +1,4 @@
--- The code of a rule is accepted: by induction over its conditions and statements.
+-- The code of a rule is accepted, by induction over its conditions and statements.
 use Rattle.std.proofs.Common.{◌≡◌, ℕ, ◌<◌, List, length, Bool, true, false, arith}
 use Rattle.std.specs.Prelude.{not, if◌then◌else◌}
 use Rattle.bpf_insn.specs.declared.operand.Condition.TheVariants as jump

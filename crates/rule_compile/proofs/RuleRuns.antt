@@ -1,5 +1,4 @@
--- The code of a rule runs as the rule says: by induction over the condition, and over the
--- statements.
+-- The code of a rule runs as the rule says, by induction over its conditions and statements.
 use Rattle.std.proofs.Common.{◌≡◌, ℕ, ◌≤◌, List, [], ◌∷◌, drop, length, Option, Some, None}
 use Rattle.std.proofs.Common.{Bool, true, false, refl, sym, ap, subst, arith}
 use Rattle.std.specs.Prelude.{option_and_then, if◌then◌else◌}
@@ -35,7 +34,7 @@ use Rattle.rule_compile.proofs.Arrays.{can_count_is, both_true}
 use Rattle.rule_compile.proofs.TestRuns.{test_runs}
 use Rattle.rule_compile.proofs.Before.{tree_before, end_before}
 
--- ---- what holds of the tests of a tree
+-- ---- properties of a tree's tests
 
 abbrev pub Suits : AppShape → Tree → Type 0
 Suits s (Asked line t) = IsInRange t × (test_fits s t ≡ true)
@@ -92,7 +91,7 @@ module _ (p : ShapedProgram) (a : Attributes) (fit : FitFields a) (shape : IsSha
       at_label q' q (length q) choice x before (omega arith)
       (subst (λ (r : Program). Goes r choice x) (sym (at_start q)) h)
 
-  -- ---- conditions: to the label where the condition is of the sense, and else on to the rest
+  -- ---- conditions: a jump to the label if the condition has this truth value, or else the rest
 
   pub tree_runs : (c : Tree) (sense : Bool) (l : ℕ) (q : Program) (choice : ℕ) (x y : Behaviour)
       → Suits p.shape c → l ≤ length q
@@ -130,7 +129,7 @@ module _ (p : ShapedProgram) (a : Attributes) (fit : FitFields a) (shape : IsSha
       tree_runs b true (length q) rest choice y (decide a p.shape c y x) h.0 before.longer
       (at_rest rest q choice y before on) (tree_runs c false l q choice x y h.1 within to on)
 
-  -- the steps of a condition make one tree
+  -- the steps of a condition form one tree
   made_runs : (o : Option (List Tree)) (t : Tree) (l : ℕ) (q : Program) (choice : ℕ)
       (x y : Behaviour) → o ≡ Some (t ∷ []) → MadeSuit p.shape o → l ≤ length q
       → Goes (from_label q l) choice x → Goes q choice y

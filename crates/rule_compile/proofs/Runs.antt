@@ -1,6 +1,5 @@
--- What a run comes to from a place: a behaviour, whatever is replied. Each lemma carries it from
--- the rest to the rest
--- with one instruction more in front.
+-- The behaviour of a run from a place, for any replies. Each lemma extends it from the rest to the
+-- rest with one more instruction in front.
 use Rattle.std.proofs.Common.{◌≡◌, ℕ, ◌+◌, ◌%◌, ◌<◌, ◌^◌, pos, List, [], ◌∷◌, drop}
 use Rattle.std.proofs.Common.{Option, Some, Bool, true, false, refl, sym, ap, subst, ◌∙◌, arith}
 use Rattle.std.specs.Prelude.{if◌then◌else◌}
@@ -40,12 +39,12 @@ module _ (p : ShapedProgram) (a : Attributes) where
     pub top : s.registers 10 ≡ Some stack_top
     pub attributes : s.attributes ≡ a
 
-  -- each run that the behaviour allows is made from the state
+  -- the state has each run that the behaviour allows
   abbrev pub EndsAs : State → Behaviour → Type 0
   EndsAs s b = (es : List CellEvent) (choice : ℕ) → HasTrace b es choice → (count : ℕ)
       × Ends p s es choice count
 
-  -- from each state at this rest of which this is known
+  -- the behaviour of each state at this rest with this knowledge
   abbrev pub Comes : (State → Type 0) → Program → ℕ → Behaviour → Type 0
   Comes known q choice b = (s : State) → IsAt q choice s → known s → EndsAs s b
 
@@ -134,7 +133,7 @@ module _ (p : ShapedProgram) (a : Attributes) where
 
   -- ---- a field of the context
 
-  -- what a load of a field puts in its register
+  -- the number that a load of a field puts into its register
   abbrev pub Reads : LoadKind → ℕ → ℕ → Type 0
   Reads kind offset v = (s : State) → s.attributes ≡ a
       → load s kind R2 (Some context_start) (pos offset) ≡ write s 1 R2 (Some v)

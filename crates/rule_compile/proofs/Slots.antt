@@ -1,4 +1,4 @@
--- Slots that are kept with the last one first.
+-- Slots in reverse order.
 use Rattle.std.proofs.Common.{◌≡◌, Bool, false, List, [], ◌∷◌, length, refl, ◌∙◌, arith}
 use Rattle.std.specs.Prelude.{reverse}
 use Rattle.std.proofs.lemmas.List.{length-reverse}

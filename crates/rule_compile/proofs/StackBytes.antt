@@ -1,4 +1,4 @@
--- Which bytes of the stack a store sets, and that those of a text are set.
+-- Which bytes of the stack a store sets, and that the bytes of a text are set.
 use Rattle.std.proofs.Common.{◌≡◌, ℕ, ◌+◌, ◌*◌, ◌/◌, ◌%◌, ◌<◌, ◌≤◌, ◌^◌}
 use Rattle.std.proofs.Common.{List, length, Bool, true, refl, subst, arith, inl, inr}
 use Rattle.std.specs.Prelude.{◌==◌, ◌&&◌, ◌⊎◌, nat_le, nat_lt, bit_or}
@@ -41,7 +41,7 @@ one_slot place h = elim (cases_lt (place % 8) 4) [
   | inr le ↦ inr (omega (arith, h, le))
 ]
 
--- a byte that was set stays set, and those of the word are
+-- set bytes stay set, and the word's bytes are set
 abbrev IsTouched : ℕ → ℕ → Type 0
 IsTouched place q = (place ≤ q) × (q < place + 4)
 
@@ -81,7 +81,7 @@ new_byte slots place q wide lt four h =
 
 -- ---- the bytes of a text
 
--- so many bytes from 64 below the top on
+-- n bytes, from 64 below the top on
 abbrev pub text_set : ℕ → ℕ → Bool
 text_set n place = nat_le 448 place && nat_lt place (448 + n)
 

@@ -1,4 +1,4 @@
--- Texts: what stores leave on the stack, and what the helper reads there.
+-- Texts: what stores write to the stack, and what the helper reads there.
 use Rattle.std.proofs.Common.{◌≡◌, ℕ, zero, suc, ◌+◌, ◌-◌, ◌*◌, ◌/◌, ◌%◌, ◌<◌, ◌≤◌}
 use Rattle.std.proofs.Common.{◌^◌, pos, negsuc, List, [], ◌∷◌, ◌++◌, length, ℤ}
 use Rattle.std.proofs.Common.{Option, Some, None, Bool, true, false, refl, sym, ap}
@@ -49,7 +49,7 @@ in_stack left low high = rw (
 
 -- ---- the bytes of a word
 
--- sign-extended or not, its low half is the word
+-- with or without sign extension, its low half is the word
 low_of : (b : Bool) (w : ℕ) → w < 2 ^ 32
     → cast_unsigned w64 (sel b (pos w) (negsuc (2 ^ 32 - suc w))) % 2 ^ 32 ≡ w
 low_of true w h = omega (arith, h)
@@ -70,7 +70,7 @@ byte_is : (w i b : ℕ) → w < 2 ^ 32 → i < 4 → w / 256 ^ i % 256 ≡ b
 byte_is w i b h lt is = byte_of (cast_unsigned w64 (cast_signed w32 w)) i lt
     ∙ ap (λ (v : ℕ). v / 256 ^ i % 256) (low_is w h) ∙ is
 
--- the byte that a store of a word at place k puts i places on
+-- the i-th byte of a word that is stored at place k
 stored_byte : (stack : ℕ → Option ℕ) (k w i b : ℕ) → w < 2 ^ 32 → i < 4
     → w / 256 ^ i % 256 ≡ b
     → with_bytes stack k 4 (cast_unsigned w64 (cast_signed w32 w)) (k + i) ≡ Some b
@@ -93,7 +93,7 @@ kept_byte stack k w j lt =
 
 -- ---- texts on the stack
 
--- bytes stand from a place on
+-- the stack has these bytes from place k on
 abbrev pub Stands : List ℕ → ℕ → (ℕ → Option ℕ) → Type 0
 Stands bytes k stack = (i b : ℕ) → slice_get bytes i ≡ Some b → stack (k + i) ≡ Some b
 
@@ -111,7 +111,7 @@ stands_more (x ∷ done) chunk k stack old new (suc i) b is =
     subst (λ (n : ℕ). stack n ≡ Some c) f (old (suc j) c at_j))
     (subst (λ (n : ℕ). Stands chunk n stack) total new) i b is)
 
--- what stands is what is read
+-- these bytes are read back
 pub read_back : (bytes : List ℕ) (k : ℕ) (stack : ℕ → Option ℕ) → Stands bytes k stack
     → set_bytes stack k (length bytes) ≡ Some bytes
 read_back [] k stack h = refl
@@ -123,7 +123,7 @@ read_back (x ∷ bytes) k stack h =
     subst (λ (n : ℕ). stack n ≡ Some b) e (h (suc i) b is)) in
     rw (here, behind) refl
 
--- the bytes of a word of at most four stand where it was stored
+-- the bytes of a word of at most four are at the place of its store
 abbrev pub AreBytes : List ℕ → Type 0
 AreBytes [] = Unit {0}
 AreBytes (b ∷ bytes) = (b < 256) × AreBytes bytes
@@ -153,7 +153,7 @@ get_within (x ∷ bytes) (suc i) b is = let h = get_within bytes i b is in omega
 
 -- ---- stores
 
--- the state after a word was stored at an address of the stack
+-- the state after a word is stored at a stack address
 after_store : State → ℕ → ℕ → State
 after_store s x v = record s {
   stack = with_bytes s.stack (x - stack_start) 4 v;
@@ -177,7 +177,7 @@ store_at s o z x v top address none inside =
 -- ---- a text, stored word by word
 
 module _ (p : ShapedProgram) (a : Attributes) where
-  -- these bytes of the text stand on the stack
+  -- the stack has these bytes of the text
   abbrev pub OnStack : List ℕ → State → Type 0
   OnStack bytes s = Stands bytes 448 s.stack
 
@@ -215,7 +215,7 @@ module _ (p : ShapedProgram) (a : Attributes) where
       })
       (subst (λ (k : ℕ). Stands (done ++ chunk) 448 (with_bytes s.stack k 4 v)) (sym place) both))
 
-  -- the last word, of fewer than four bytes, or of four with more behind it
+  -- the last word, with fewer than four bytes; or four bytes with more after them
   stored : (done chunk rest : List ℕ) (choice : ℕ) (b : Behaviour) (q : Program)
       → Comes p a (OnStack (done ++ (chunk ++ rest))) q choice b
       → Comes p a (OnStack ((done ++ chunk) ++ rest)) q choice b

@@ -1,4 +1,4 @@
--- The code of a statement, and of a whole rule, is typed in front of what follows it.
+-- The code of a statement, and of a whole rule, is typed in front of the code that follows.
 use Rattle.std.proofs.Common.{◌≡◌, ℕ, zero, suc, ◌≤◌, List, [], ◌∷◌, length}
 use Rattle.std.proofs.Common.{Option, Some, true, refl, sym, subst, arith}
 use Rattle.std.specs.Prelude.{nat_le}
@@ -44,7 +44,7 @@ module _ (shape : AppShape) (is_shape : IsShape shape) where
     rest : IsRest shape q entries
     exit : IsLabel shape q entries 2
 
-  -- r0 is the choice
+  -- R0 has the choice
   abbrev given : Known
   given = frame (choice shape) Unusable Unusable Unusable Unusable (choice shape) none_set
 
@@ -119,7 +119,7 @@ module _ (shape : AppShape) (is_shape : IsShape shape) where
 
   -- ---- the rule
 
-  -- where a run starts, and with the context in R6
+  -- the start of a run, and with the context in R6
   abbrev opened : Known
   opened = record {
     registers =

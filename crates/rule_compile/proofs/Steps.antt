@@ -197,7 +197,7 @@ pub all_written : (s : AppShape) (steps : List Step) (label : ℕ) (first : Prog
 all_written s steps label first [] rest h = (h.code, refl, h.range)
 all_written s steps label first (g ∷ gs) rest h = absurd (omega (arith, h.goals))
 
--- ---- the loop as it counts down
+-- ---- the loop, counting down
 
 module _ (s : AppShape) (steps : List Step) (label : ℕ) (first : Program) (k : ℕ) (x : Step)
     (gs : List Goal) (rest : Program)

@@ -1,4 +1,4 @@
--- Each test's code runs as the test says.
+-- The code of each test runs as the test says.
 use Rattle.std.proofs.Common.{◌≡◌, ℕ, ◌<◌, ◌≤◌, ◌^◌, List, [], ◌∷◌, length, Option, Some, None}
 use Rattle.std.proofs.Common.{Bool, true, false, refl, sym, ap, subst, ◌∙◌, arith}
 use Rattle.std.specs.Prelude.{nat_le, ◌==◌, bit_and, bytes_eq, slice_index, if◌then◌else◌}
@@ -45,7 +45,7 @@ use Rattle.rule_compile.proofs.Arrays.{CanTake, can_take_is, both_true}
 use Rattle.rule_compile.proofs.Comparisons.{allows_is, IsOrder, strict_of}
 use Rattle.rule_compile.proofs.Comparisons.{ordered_is, equal_is, unequal_is}
 
--- the numbers of a version but the first
+-- the numbers of a version after the first
 abbrev later_of : List ℕ → List ℕ
 later_of w = slice_index w 1 ∷ slice_index w 2 ∷ slice_index w 3 ∷ []
 

@@ -1,4 +1,4 @@
--- A text on the stack is compared with an attribute: the code's run ends as the comparison does.
+-- Code that compares a text on the stack with an attribute has the comparison's behaviour.
 use Rattle.std.proofs.Common.{◌≡◌, ℕ, ◌+◌, ◌-◌, ◌%◌, ◌<◌, ◌≤◌, ◌^◌, List, [], ◌∷◌, length}
 use Rattle.std.proofs.Common.{Option, Some, None, Bool, true, false, refl, ap, subst, ◌∙◌, arith}
 use Rattle.std.specs.Prelude.{nat_le, ◌==◌, ◌||◌, bytes_eq, if◌then◌else◌}
@@ -26,7 +26,7 @@ use Rattle.rule_compile.proofs.StackTexts.{AreBytes, OnStack, or_true, read_back
 module _ (p : ShapedProgram) (a : Attributes) where
   -- ---- the comparison
 
-  -- the text stands, and the registers so far are the helper's arguments
+  -- the stack has the text, and the registers so far are the helper's arguments
   abbrev pub HasNumber : List ℕ → ℕ → State → Type 0
   HasNumber text n s = OnStack p a text s × (s.registers 1 ≡ Some n)
 

@@ -32,7 +32,7 @@ use Rattle.rule_compile.proofs.Fronts.{put_half, put_first, front_of, asked, ans
 
 -- ---- texts
 
--- the bytes that the stores of a text set: whole words
+-- the bytes that the stores of a text set, in whole words
 abbrev pub padded : List ℕ → ℕ
 padded [] = 0
 padded (a ∷ []) = 4
@@ -48,7 +48,7 @@ padded_longer (a ∷ b ∷ c ∷ []) = omega arith
 padded_longer (a ∷ b ∷ c ∷ d ∷ text) = let h = padded_longer text in omega (arith, h)
 
 module _ (shape : AppShape) where
-  -- between two pieces, with so many bytes of a text set
+  -- between two pieces, with n bytes of a text set
   abbrev pub storing : ℕ → Known
   storing n = with_text (chosen shape) n
 
@@ -66,7 +66,7 @@ module _ (shape : AppShape) where
     });
   }
 
-  -- a tail at whose start so many bytes are set
+  -- a tail at whose start n bytes are set
   record Stores (q' q : Program) (ds : List Known) (n : ℕ) : Type 0 where
     tail : IsTail shape q' q ds
     takes : Takes q' tail.entries 0 (storing n)
@@ -106,7 +106,7 @@ module _ (shape : AppShape) where
       (code.stores_code (left - 4) text q') q ds behind.tail
       (omega (arith, is, short)) four behind.takes
 
-  -- the helper's arguments, one after the other
+  -- the helper's arguments in turn
   abbrev arguments : Abs → Abs → Abs → ℕ → Known
   arguments one two three m = frame Unusable one two three Unusable (choice shape) (text_set m)
 
@@ -163,7 +163,7 @@ module _ (shape : AppShape) where
 
   -- ---- counters
 
-  -- an address of a cell, and numbers
+  -- the address of a cell, and numbers
   abbrev counting : Abs → Abs → Abs → Known
   counting two three four = frame Unusable Unusable two three four (choice shape) none_set
 

@@ -1,6 +1,5 @@
--- A program with an entry a slot, each of whose instructions passes and leads within these entries:
--- it has a table. All is said of an
--- instruction and what stands behind it, so code that is put in front keeps it.
+-- A program with one entry a slot, in which each instruction passes and leads within these entries,
+-- has a table. Only an instruction and the code after it matter, so prepended code keeps it.
 use Rattle.std.proofs.Common.{◌≡◌, ℕ, zero, suc, ◌+◌, pos, List, [], ◌∷◌, ◌++◌, drop, Option, Some}
 use Rattle.std.proofs.Common.{None, Bool, true, false, refl, sym, ap, subst, ◌∙◌, arith, zero-add}
 use Rattle.std.specs.Prelude.{IsSome, slice_index_or, slice_get, if◌then◌else◌}
@@ -20,15 +19,14 @@ use Rattle.bpf_checks.specs.Transfer.{Edge, edge, edges, jumping, going_on}
 use Rattle.bpf_checks.specs.Transfer.{jump_edge, next_edge}
 use Rattle.bpf_verify.specs.Table.{Known, Knows, IsTable}
 
--- past the list nothing is known
+-- after the list nothing is known
 abbrev pub nothing : Known
 nothing = record { registers = []; set = λ place. false }
 
 abbrev pub entry_at : List Known → ℕ → Known
 entry_at ds s = slice_index_or ds s nothing
 
--- an edge leads onto an instruction of the rest, k slots on, and what comes there is within its
--- entry
+-- an edge leads to the instruction k slots further in the rest, whose entry covers the result
 abbrev pub Leads : Program → List Known → ℕ → Known → (AbsState → Option AbsState) → Type 0
 Leads q ds k d make = IsSome (at q k)
     × ((e f : AbsState) → Knows d e → make e ≡ Some f → Knows (entry_at ds k) f)
@@ -38,7 +36,7 @@ abbrev pub halves : Width → ℕ
 halves One = 0
 halves Two = 1
 
--- the second half of a wide instruction stands behind it
+-- a wide instruction is followed by its second half
 abbrev pub HasHalf : Width → Program → Type 0
 HasHalf One q = Unit {0}
 HasHalf Two q = slice_get q 0 ≡ Some None

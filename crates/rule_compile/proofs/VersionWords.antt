@@ -19,7 +19,7 @@ use Rattle.rule_compile.proofs.Labels.{before_one, before_then, before_itself}
 use Rattle.rule_compile.proofs.Runs.{Comes, Nothing, Has, knowing, Reads, load_then, jump_then}
 use Rattle.rule_compile.proofs.Compares.{IsRelation, by_sense, field_runs}
 
--- ---- what stands in front
+-- ---- the code in front
 
 pub equal_before : (k : ℕ) (ns : List ℕ) (sense : Bool) (l : ℕ) (q : Program)
     → IsBefore (code.equal_code k ns sense l q) q
@@ -50,9 +50,9 @@ order_before strict last k (n ∷ m ∷ ns) sense l q =
     (before_then differs rest q (before_one _ rest)
     (order_before strict last (suc k) (m ∷ ns) sense l q)))
 
--- ---- what is decided
+-- ---- the decision
 
--- what comes of words from the k-th on, and of the numbers they are compared with
+-- the behaviour of comparing the words from the k-th on with the numbers
 abbrev pub if_equal : (ℕ → ℕ) → ℕ → List ℕ → Behaviour → Behaviour → Behaviour
 if_equal word k [] met unmet = unmet
 if_equal word k (n ∷ []) met unmet = if compares w32 Eq (word k) n then met else unmet
@@ -75,7 +75,7 @@ module _ (p : ShapedProgram) (a : Attributes) (word : ℕ → ℕ)
   abbrev pub Goes : Program → ℕ → Behaviour → Type 0
   Goes q choice b = Comes p a (Nothing p a) q choice b
 
-  -- at a place further on: a label of the rest
+  -- in longer code: a label of the rest
   at_label : (q' q : Program) (l choice : ℕ) (x : Behaviour) → IsBefore q' q → l ≤ length q
       → Goes (from_label q l) choice x → Goes (from_label q' l) choice x
   at_label q' q l choice x before within h =
@@ -87,7 +87,7 @@ module _ (p : ShapedProgram) (a : Attributes) (word : ℕ → ℕ)
       at_label q' q (length q) choice x before (omega arith)
       (subst (λ (r : Program). Goes r choice x) (sym (at_start q)) h)
 
-  -- each word from the k-th on is read, and each number fits a word
+  -- each word from the k-th on is read, and each number fits in a word
   abbrev pub AreRead : ℕ → List ℕ → Type 0
   AreRead k [] = Unit {0}
   AreRead k (n ∷ ns) = (n < 2 ^ 32) × Reads p a Word (4 * k) (word k) × AreRead (suc k) ns
@@ -115,7 +115,7 @@ module _ (p : ShapedProgram) (a : Attributes) (word : ℕ → ℕ)
       (at_label rest q l choice x (equal_before (suc k) (m ∷ ns) false l q) within to)
       (equal_runs (suc k) m ns false l q choice x y read.2 within to on)
 
-  -- a word that decides at once, or else by what comes behind
+  -- a word that decides at once, or leaves it to the next words
   word_runs : (strict : Condition) (k n there here : ℕ) (rest : Program) (choice : ℕ)
       (x y z : Behaviour) → n < 2 ^ 32 → Reads p a Word (4 * k) (word k)
       → Goes (from_label (Some (insn.jump_if Ne R2 n (length rest - here)) ∷ rest) there) choice x

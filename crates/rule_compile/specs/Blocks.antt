@@ -1,6 +1,7 @@
--- The code of each test, in front of the rest of the program. It goes to the label where the test
--- is of the sense, and else falls on to the rest. A label is a place of the rest by its distance
--- from the end, so it is known before the jump is written, and code in front moves no label.
+-- The code of each test, in front of the rest of the program. It jumps to the label if the test has
+-- the truth value `sense`, and otherwise falls through. A label is a place of the rest by its
+-- distance from the end. So it is known before the jump is written, and prepended code moves no
+-- label.
 use Rattle.std.specs.Prelude.{ℕ, suc, ◌-◌, ◌*◌, List, [], ◌∷◌, length, Option, Some, None}
 use Rattle.std.specs.Prelude.{Bool, true, false, if◌then◌else◌}
 use Rattle.attrs.specs.Context.{bucket_offset, flags_offset}
@@ -17,7 +18,7 @@ use Rattle.bpf_insn.specs.Words.{little_endian}
 use Rattle.bpf_semantics.specs.Helpers.{attr_is_number, bucket_number}
 use Rattle.rule_compile.specs.Instructions as insn
 
--- how many slots a jump in front of this passes over, to come to the label
+-- how many slots a jump in front of `rest` passes over to the label
 abbrev pub slots_to : Program → ℕ → ℕ
 slots_to rest label = length rest - label
 
@@ -45,7 +46,7 @@ flag_code mask false label rest =
 abbrev pub word_code : ℕ → Condition → ℕ → ℕ → Program → Program
 word_code k condition n label rest = field_code Word (4 * k) condition n label rest
 
--- equal in each word from the k-th on
+-- the words from the k-th on are equal to the numbers
 abbrev pub equal_code : ℕ → List ℕ → Bool → ℕ → Program → Program
 equal_code k [] sense label rest = rest
 equal_code k (n ∷ []) sense label rest = word_code k (insn.turned sense Eq) n label rest
@@ -53,7 +54,7 @@ equal_code k (n ∷ m ∷ ns) sense label rest =
     word_code k Ne n (if sense then length rest else label)
     (equal_code (suc k) (m ∷ ns) sense label rest)
 
--- before the numbers in this order, or at its end as the last condition says
+-- the words from the k-th on compare with the numbers: by `strict`, and by `last` for the last word
 abbrev pub order_code : Condition → Condition → ℕ → List ℕ → Bool → ℕ → Program → Program
 order_code strict last k [] sense label rest = rest
 order_code strict last k (n ∷ []) sense label rest =
@@ -72,7 +73,7 @@ remainder_code None condition r n label rest = jump_to (insn.jump_if condition r
 remainder_code (Some m) condition r n label rest =
     Some (insn.take_remainder r m) ∷ jump_to (insn.jump_if condition r n) label rest
 
--- the context's bucket, or that of a salt's own
+-- the context's bucket, or the bucket under a salt
 abbrev pub bucket_code : (salt modulus : Option ℕ) → Condition → ℕ → ℕ → Program → Program
 bucket_code None modulus condition n label rest =
     Some (insn.load_field Half bucket_offset) ∷ remainder_code modulus condition R2 n label rest
@@ -82,8 +83,8 @@ bucket_code (Some salt) modulus condition n label rest =
 
 -- ---- a text: its words are stored, and the helper compares
 
--- the text in words of four bytes, the last one filled with zeroes; the first word is stored 64
--- bytes below the top, and each behind the one before: `left` is how far below, less one
+-- the text in words of four bytes, the last one padded with zeroes. The first word is stored 64
+-- bytes below the top, and the next ones after it: `left` + 1 is the distance from the top
 abbrev pub stores_code : ℕ → List ℕ → Program → Program
 stores_code left [] rest = rest
 stores_code left (a ∷ []) rest = Some (insn.store_word left (little_endian (a ∷ []))) ∷ rest
@@ -95,13 +96,13 @@ stores_code left (a ∷ b ∷ c ∷ d ∷ bytes) rest =
     Some (insn.store_word left (little_endian (a ∷ b ∷ c ∷ d ∷ [])))
     ∷ stores_code (left - 4) bytes rest
 
--- `attr_is` of the attribute and of the bytes that are stored
+-- `attr_is` of the attribute and the stored bytes
 abbrev pub compare_code : ℕ → ℕ → Program → Program
 compare_code attribute size rest =
     Some (insn.set_argument R1 attribute) ∷ Some insn.copy_top ∷ Some insn.point_at_text
     ∷ Some (insn.set_argument R3 size) ∷ Some (insn.call attr_is_number) ∷ rest
 
--- the code of a text that is compared
+-- the code that compares an attribute with a text
 abbrev pub attribute_code : ℕ → List ℕ → Bool → ℕ → Program → Program
 attribute_code attribute text sense label rest =
     stores_code 63 text
@@ -110,13 +111,13 @@ attribute_code attribute text sense label rest =
 
 -- ---- counters
 
--- one is added to the cell
+-- adds 1 to the cell
 abbrev pub count_code : AtomicSize → ℕ → ℕ → Program → Program
 count_code size array index rest =
     Some (insn.load_cell array index) ∷ None ∷ Some (insn.set_argument R2 1)
     ∷ Some (insn.add_to_cell size) ∷ rest
 
--- one is added, and the reply compared with the quota
+-- adds 1 to the cell, and compares the reply with the quota
 abbrev pub take_code : ℕ → ℕ → ℕ → Bool → ℕ → Program → Program
 take_code array index quota sense label rest =
     Some (insn.load_cell array index) ∷ None ∷ Some (insn.set_argument R2 1)

@@ -1,4 +1,4 @@
--- The code of a rule, written from its end: each piece stands in front of the rest.
+-- The code of a rule, generated from its end: each piece is put in front of the rest.
 use Rattle.std.specs.Prelude.{ℕ, suc, List, [], ◌∷◌, length, Option, Some, None, slice_index}
 use Rattle.std.specs.Prelude.{Bool, true, false, not, if◌then◌else◌}
 use Rattle.std.specs.Str.{bytes_eq}
@@ -55,18 +55,18 @@ version_code comparison.Gt ns sense label rest =
 abbrev pub four_of : List ℕ → List ℕ
 four_of w = slice_index w 0 ∷ slice_index w 1 ∷ slice_index w 2 ∷ slice_index w 3 ∷ []
 
--- which of the arrays is the first of a name
+-- the number of the first array with this name
 abbrev pub place_named : List ℕ → List CellArray → ℕ
 place_named name [] = 0
 place_named name (a ∷ rest) = if bytes_eq a.name name then 0 else suc (place_named name rest)
 
--- a take from the first array of a name
+-- a take from the first array with this name
 abbrev pub take_named : AppShape → List ℕ → ℕ → Bool → ℕ → Program → Program
 take_named s name index sense label rest =
     code.take_code (place_named name s.arrays) index (quota_of (array_named name s.arrays)) sense
     label rest
 
--- a test, which goes to a label where it is of this sense, and else falls on
+-- a test, which jumps to the label if it has this truth value, and otherwise falls through
 abbrev pub test_code : AppShape → the_test.Test → Bool → ℕ → Program → Program
 test_code s (test.Version r w) sense label rest = version_code r (four_of w) sense label rest
 test_code s (test.Bucket salt modulus r n) sense label rest =
@@ -82,7 +82,7 @@ test_code s (test.Take name index) sense label rest = take_named s name index se
 
 -- ---- conditions
 
--- a condition, which goes to a label where it is of this sense, and else falls on
+-- a condition, which jumps to the label if it has this truth value, and otherwise falls through
 abbrev pub tree_code : AppShape → Tree → Bool → ℕ → Program → Program
 tree_code s (Asked line t) sense label rest = test_code s t sense label rest
 tree_code s (Negated c) sense label rest = tree_code s c (not sense) label rest
@@ -91,7 +91,7 @@ tree_code s (Both b c) sense label rest =
 tree_code s (Either b c) sense label rest =
     tree_code s b true (if sense then label else length rest) (tree_code s c sense label rest)
 
--- trees in front of the rest, the first one last, each with its goal
+-- trees in front of the rest, the first one last, each for its goal
 abbrev pub trees_code : AppShape → List Tree → List Goal → Program → Program
 trees_code s [] gs rest = rest
 trees_code s (t ∷ ts) [] rest = rest
@@ -110,8 +110,7 @@ abbrev pub steps_code : AppShape → List Step → Bool → ℕ → Program → 
 steps_code s steps sense label rest =
     made_code s (trees_from [] steps) (goal sense label ∷ []) rest
 
--- what is still to be written once a step was put in front: a test is code, and of what is made of
--- conditions these are the goals
+-- the goals after a step is written: a test uses one, and an operator leaves goals for its operands
 abbrev pub step_goals : Step → List Goal → Program → List Goal
 step_goals s [] rest = []
 step_goals (step.Test line t) (g ∷ gs) rest = gs
@@ -125,7 +124,7 @@ abbrev pub step_code : AppShape → Step → List Goal → Program → Program
 step_code s (step.Test line t) (g ∷ gs) rest = test_code s t g.sense g.label rest
 step_code s x gs rest = rest
 
--- ---- statements: the choice is set before its condition is asked, and stays where it holds
+-- ---- statements: the choice is set before its condition is evaluated, and stays if it holds
 
 abbrev pub size_of : CellWidth → AtomicSize
 size_of Bits32 = Word
@@ -135,11 +134,11 @@ abbrev pub array_size : Option CellArray → AtomicSize
 array_size (Some a) = size_of a.width
 array_size None = Double
 
--- the choice becomes the result; this is label 2
+-- returns the choice; this is label 2
 abbrev pub end_code : Program
 end_code = Some give_choice ∷ Some Exit ∷ []
 
--- a count in the first array of a name
+-- a count in the first array with this name
 abbrev pub count_named : AppShape → List ℕ → ℕ → Program → Program
 count_named s name index rest =
     code.count_code (array_size (array_named name s.arrays)) (place_named name s.arrays) index rest

@@ -1,5 +1,5 @@
 -- The instructions of compiled rules. R6 is the address of the context and R7 the choice so far,
--- both over calls; R1 to R4 and R0 are of one test.
+-- both across calls; R0 to R4 are used within one test.
 use Rattle.std.specs.Prelude.{ℕ, ◌*◌, ℤ, pos, negsuc, Bool, true, false}
 use Rattle.std.specs.Int.{w32, cast_signed}
 use Rattle.bpf_insn.specs.declared.reg.Reg.{Reg}
@@ -35,7 +35,7 @@ give_choice = Mov Bits64 R0 (Register R7)
 
 -- ---- comparisons
 
--- a number of 32 bits as the imm whose bits it has
+-- the imm with the bits of a 32-bit number
 abbrev pub imm_of : ℕ → ℤ
 imm_of n = cast_signed w32 n
 
@@ -43,7 +43,7 @@ imm_of n = cast_signed w32 n
 abbrev pub load_field : LoadKind → ℕ → Insn
 load_field kind offset = Load kind R2 R6 (pos offset)
 
--- a jump of low halves over so many slots, where the register compares so with the number
+-- a 32-bit jump over `slots` slots, if the register compares by the condition with the number
 abbrev pub jump_if : Condition → Reg → ℕ → ℕ → Insn
 jump_if condition left n slots = JumpIf Bits32 condition left (Imm (imm_of n)) (pos slots)
 
@@ -57,7 +57,7 @@ take_remainder r n = Alu Bits32 Mod r (Imm (imm_of n))
 
 -- ---- calls
 
--- mov r1, n and the like
+-- mov r1, n and similar
 abbrev pub set_argument : Reg → ℕ → Insn
 set_argument r n = Mov Bits64 r (Imm (pos n))
 
@@ -105,7 +105,7 @@ abbrev pub below : Bool → Condition
 below true = Lt
 below false = Ge
 
--- jlt r2, r4 or jge r2, r4, over so many slots
+-- jlt r2, r4 or jge r2, r4, over `slots` slots
 abbrev pub jump_on_quota : Bool → ℕ → Insn
 jump_on_quota sense slots = JumpIf Bits64 (below sense) R2 (Register R4) (pos slots)
 

@@ -1,4 +1,4 @@
--- What it is for a program to have a rule's meaning.
+-- What it means that a program has a rule's meaning.
 use Rattle.std.specs.Prelude.{ℕ, List}
 use Rattle.attrs.specs.Attributes.{Attributes}
 use Rattle.attrs.specs.Context.{HasContextRanges}
@@ -9,8 +9,8 @@ use Rattle.cells.specs.declared.event.CellEvent.{CellEvent}
 use Rattle.rule_lang.specs.declared.rule.Statement.{Statement}
 use Rattle.rule_lang.specs.Meaning.{behaviour, HasTrace}
 
--- for attributes whose context is in its ranges, and for whatever the cells reply: the run makes
--- the events that the rule means, and ends with its choice
+-- for attributes whose context is in its ranges, and for any replies of cells: the run makes the
+-- events that the rule means, and ends with its choice
 abbrev pub Means : Attributes → List Statement → ShapedProgram → Type 0
 Means a rule p =
     HasContextRanges a.context → (es : List CellEvent) (choice : ℕ)

@@ -1,4 +1,4 @@
--- The numbers of a rule are those that its types hold.
+-- The numbers of a rule are in the ranges of its types.
 use Rattle.std.specs.Prelude.{ℕ, ◌^◌, ◌<◌, List, [], ◌∷◌, Option, slice_index, IfSome}
 use Rattle.rule_lang.specs.Literals.{IsLiteral}
 use Rattle.rule_lang.specs.Trees.{IsCondition}
@@ -38,7 +38,7 @@ abbrev pub IsRuleInRange : List Statement → Type 0
 IsRuleInRange [] = Unit {0}
 IsRuleInRange (x ∷ xs) = IsStatementInRange x × IsRuleInRange xs
 
--- ---- the steps of each condition make one tree
+-- ---- the steps of each condition form one tree
 
 abbrev pub IsMade : Statement → Type 0
 IsMade (Count name index) = Unit {0}

@@ -1,4 +1,4 @@
--- The texts of why a rule isn't compiled, as they are printed.
+-- The printed texts of the faults.
 use Rattle.std.specs.Prelude.{ℕ, List, codes}
 use Rattle.rule_compile.specs.declared.fault.CompileFault.{CompileFault}
 use Rattle.rule_compile.specs.declared.fault.CompileFault.TheVariants.{TooLong, Memory}

@@ -1,4 +1,4 @@
--- How far the writing of a condition has come.
+-- The invariant of writing a condition.
 use Rattle.std.specs.Prelude.{◌≡◌, ℕ, ◌+◌, ◌*◌, ◌≤◌, List, [], length, take, drop, All}
 use Rattle.std.specs.Prelude.{Option, Some, None, true}
 use Rattle.bpf_insn.specs.declared.insn.Insn.{Insn}
@@ -13,7 +13,7 @@ use Rattle.rule_lang.specs.declared.rule.Statement.{Statement}
 use Rattle.rule_compile.specs.Code.{made_code, steps_code, statements_code}
 use Rattle.rule_compile.specs.Ranges.{AreInRange, IsRuleInRange, AreMade}
 
--- a goal a tree
+-- one goal for each tree
 abbrev pub HaveGoals : Option (List Tree) → List Goal → Type 0
 HaveGoals None gs = ⊥
 HaveGoals (Some ts) gs = length ts ≡ length gs
@@ -21,8 +21,8 @@ HaveGoals (Some ts) gs = length ts ≡ length gs
 abbrev pub LieWithin : Program → List Goal → Type 0
 LieWithin rest gs = All (λ g. g.label ≤ length rest) gs
 
--- the steps from the k-th on are written in front of the first rest: what those before it make is
--- still to be written, to these goals
+-- the steps from the k-th on are written in front of `first`; the trees of the steps before are
+-- still to be written, for these goals
 pub record AreWritten (s : AppShape) (steps : List Step) (label : ℕ) (first : Program) (k : ℕ)
     (gs : List Goal) (rest : Program) : Type 0 where
   pub code : made_code s (trees_from [] (take k steps)) gs rest
@@ -42,7 +42,7 @@ pub record IsWrittenFrom (s : AppShape) (xs : List Statement) (k : ℕ) (gs : Li
 
 -- ---- bytes
 
--- a slot's instruction can be encoded; at a second half there is none
+-- a slot's instruction can be encoded; a second half has none
 abbrev pub CanEncode : Option Insn → Type 0
 CanEncode (Some i) = IsEncodable i
 CanEncode None = Unit {0}

@@ -1,5 +1,5 @@
-//! Writing the code of a test in front of the rest: it goes to the label where the test is of the
-//! sense, and else on to the rest.
+//! Writes the code of a test in front of the rest: it jumps to the label if the test has the truth
+//! value `sense`, and otherwise falls through.
 
 ghost use Rattle.std.specs.Prelude.{◌≡◌, ◌<◌, ◌≤◌, ◌+◌, ◌^◌, length, if◌then◌else◌, OnOk};
 ghost use Rattle.std.specs.Prelude.{IfSome};
@@ -38,7 +38,7 @@ pub fn put_jump(
     rest.put(insn::jump_if(condition, left, number, slots))
 }
 
-/// A field of the context against a number.
+/// Compares a field of the context with a number.
 pub fn put_field(
     rest: &mut Code,
     kind: LoadKind,
@@ -56,7 +56,7 @@ pub fn put_field(
     rest.put(insn::load_field(kind, offset))
 }
 
-/// A flag, by its bit.
+/// Tests a flag by its bit.
 pub fn put_flag(rest: &mut Code, mask: u8, sense: bool, label: usize) -> Result<(), CompileFault>
     requires { label ≤ length rest.old }
     ensures code { OnOk result (rest.new ≡ code.flag_code mask sense label rest.old) }
@@ -78,7 +78,7 @@ pub fn put_flag(rest: &mut Code, mask: u8, sense: bool, label: usize) -> Result<
     rest.put(insn::load_field(LoadKind::Byte, Context::FLAGS_OFFSET))
 }
 
-// A register, or its remainder by a modulus, against a number.
+// Compares a register, or its remainder by a modulus, with a number.
 fn put_remainder(
     rest: &mut Code,
     modulus: Option<u32>,
@@ -104,7 +104,7 @@ fn put_remainder(
     }
 }
 
-/// The bucket, or that of a salt's own, against a number; with a modulus its remainder.
+/// Compares the bucket, or the bucket under a salt, with a number; with a modulus, its remainder.
 pub fn put_bucket(
     rest: &mut Code,
     salt: Option<u64>,
@@ -134,7 +134,7 @@ pub fn put_bucket(
     }
 }
 
-/// One is added to a cell.
+/// Adds 1 to a cell.
 pub fn put_count(
     rest: &mut Code,
     size: AtomicSize,
@@ -150,7 +150,7 @@ pub fn put_count(
     rest.put_wide(insn::load_cell(array, index))
 }
 
-/// One is added to a cell, and the reply compared with the quota.
+/// Adds 1 to a cell, and compares the reply with the quota.
 pub fn put_take(
     rest: &mut Code,
     array: u32,

@@ -11,7 +11,7 @@ use flow_check::is_wide;
 use std::alloc::{AllocError, Global};
 
 /// The bytes of a program's slots (RFC 9669, "Instruction Encoding"). Each slot has an instruction,
-/// or at a second half a filler.
+/// or a filler if it is the second half of a wide one.
 pub fn program_bytes(alloc: Global, slots: &[Insn]) -> Result<Vec<u8>, AllocError>
     ensures bytes { IfOk result (λ bytes. bytes.items ≡ flow.program_bytes (laid slots.now)) }
     ensures encodable { OnOk result (AllByRecursion CanEncode (laid slots.now)) }

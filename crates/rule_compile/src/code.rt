@@ -1,4 +1,4 @@
-//! Code that is written from its end, so that the target of each jump exists before the jump.
+//! Code that is generated from its end, so that the target of each jump exists before the jump.
 
 ghost use Rattle.std.specs.Prelude.{◌≡◌, ◌<◌, ◌≤◌, ◌+◌, ◌-◌, [], ◌∷◌, ◌++◌, Some, None};
 ghost use Rattle.std.specs.Prelude.{true, false, length, OnOk};
@@ -9,8 +9,7 @@ use bpf_insn::{Insn, MOST_SLOTS};
 use std::alloc::{AllocError, Global};
 use std::marker::Model;
 
-/// The end of a program: its slots, the last one first. The second half of a wide load has a
-/// filler.
+/// The end of a program: its slots in reverse order. The second half of a wide load is a filler.
 #[derive(Drop)]
 pub struct Code {
     slots: Vec<Insn>,
@@ -28,7 +27,7 @@ impl Model for Code {
     ghost invariant = { λ c. length c.slots.items ≤ 4096 };
 }
 
-/// Adds a filler, and the wide load whose second half it stands for.
+/// Adds a wide load, after a filler for its second half.
 fn push_wide(slots: &mut Vec<Insn>, insn: Insn) -> Result<(), AllocError>
     ensures slots { OnOk result (slots.new.items ≡ slots.old.items ++ Insn.Exit ∷ insn ∷ []) }
     ensures short { length slots.new.items ≤ length slots.old.items + 2 }
@@ -48,7 +47,7 @@ impl Code {
         }
     }
 
-    /// How many slots there are: the label of the place where they begin.
+    /// How many slots there are, which is the label of their beginning.
     pub fn len(&self) -> usize
         ensures length { result ≡ length self.now }
         ensures in_range { result ≤ 4096 }
@@ -56,14 +55,14 @@ impl Code {
         self.slots.len()
     }
 
-    /// What the type keeps. It does nothing: a proof calls it for its clauses.
+    /// Law: the code has at most 4096 slots.
     pub fn keeps(&self)
         ensures { length self.now ≤ 4096 }
     {
         let _count = self.len();
     }
 
-    /// How many slots a jump passes over that is put in front and goes to the label.
+    /// How many slots a jump to the label passes over, if it is put in front.
     pub fn slots_to(&self, label: usize) -> usize
         requires { label ≤ length self.now }
         ensures slots { result ≡ length self.now - label }
@@ -102,8 +101,8 @@ impl Code {
         }
     }
 
-    /// The slots in the program's order: an instruction at the slot where it begins, and a filler
-    /// at a second half.
+    /// The slots in the program's order: each instruction at its first slot, and a filler at a
+    /// second half.
     pub fn into_slots(mut self) -> Vec<Insn>
         ensures { laid result.items ≡ self }
     {

@@ -1,5 +1,5 @@
-//! Writing the code of a condition, from its last step to its first: of what is made of conditions
-//! the goals are kept, the next one last, and a test is written to the next goal.
+//! Writes the code of a condition, from its last step to its first. An operator leaves goals for
+//! its operands, the next one last, and a test is written for the next goal.
 
 ghost use Rattle.std.specs.Prelude.{◌≡◌, ◌<◌, ◌≤◌, ◌∷◌, true, length, All, OnOk, IfErr};
 ghost use Rattle.rule_compile.specs.Code as code;
@@ -13,8 +13,8 @@ use crate::test::put_test;
 use cells::Shape;
 use rule_lang::{RuleCondition, Step};
 
-/// The goals of the two conditions of a chain: the first one leaves the chain where it is of this
-/// sense, and the second one decides.
+/// Adds the goals of two operands: the first one jumps out of the chain if it has the value
+/// `leaves`, and otherwise the second one decides.
 fn put_goals(goals: &mut Goals, goal: Goal, leaves: bool, out: usize) -> Result<(), CompileFault>
     ensures goals { OnOk result (goals.new
         ≡ code.goal goal.sense goal.label ∷ code.goal leaves out ∷ goals.old) }
@@ -24,7 +24,7 @@ fn put_goals(goals: &mut Goals, goal: Goal, leaves: bool, out: usize) -> Result<
     goals.push(goal.sense, goal.label)
 }
 
-/// One step, at a goal.
+/// Writes one step for a goal.
 fn put_at(
     rest: &mut Code,
     shape: &Shape,
@@ -55,7 +55,7 @@ fn put_at(
     }
 }
 
-/// One step, at the next goal.
+/// Writes one step for the next goal.
 pub fn put_step(
     rest: &mut Code,
     shape: &Shape,

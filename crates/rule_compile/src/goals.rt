@@ -1,4 +1,4 @@
-//! Where the code of a condition goes, and the conditions that are still to be written.
+//! Jump targets of conditions, and the conditions that are still to be written.
 
 ghost use Rattle.std.specs.Prelude.{◌≡◌, [], ◌∷◌, OnOk, IfErr, IfSome, IfNone};
 
@@ -6,8 +6,7 @@ use crate::fault::CompileFault;
 use std::alloc::Global;
 use std::marker::Model;
 
-/// The code jumps to the label if its condition has this truth value, and otherwise goes on to the
-/// code after it.
+/// The code jumps to the label if its condition has this truth value, and otherwise falls through.
 #[derive(Clone, Copy, Debug)]
 pub struct Goal {
     pub sense: bool,
@@ -39,7 +38,7 @@ impl Goals {
         }
     }
 
-    /// One goal more, which is the next.
+    /// Adds a goal, which is the next.
     pub fn push(&mut self, sense: bool, label: usize) -> Result<(), CompileFault>
         ensures goals { OnOk result
             (self.new ≡ record { sense = sense; label = label } ∷ self.old) }

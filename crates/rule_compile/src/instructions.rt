@@ -56,7 +56,7 @@ pub fn set_argument(dst: Reg, number: u8) -> Insn
     }
 }
 
-/// A load of the context's field at the offset into R2.
+/// Loads the context's field at the offset into R2.
 pub fn load_field(kind: LoadKind, offset: u8) -> Insn
     ensures { result ≡ insn.load_field kind offset }
 {
@@ -68,7 +68,7 @@ pub fn load_field(kind: LoadKind, offset: u8) -> Insn
     }
 }
 
-/// A jump over so many slots where the register's low half compares so with the number.
+/// A jump over `slots` slots if the register's low half compares by `condition` with the number.
 pub fn jump_if(condition: Condition, left: Reg, number: u32, slots: usize) -> Insn
     requires { slots ≤ 4096 }
     ensures { result ≡ insn.jump_if condition left number slots }
@@ -201,7 +201,7 @@ pub fn load_quota(quota: u64) -> Insn
     }
 }
 
-/// `jlt r2, r4` or `jge r2, r4`, over so many slots.
+/// `jlt r2, r4` or `jge r2, r4`, over `slots` slots.
 pub fn jump_on_quota(sense: bool, slots: usize) -> Insn
     requires { slots ≤ 4096 }
     ensures { result ≡ insn.jump_on_quota sense slots }

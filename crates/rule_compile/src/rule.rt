@@ -1,4 +1,4 @@
-//! The program of a whole rule: its code is written, and is accepted.
+//! The program of a whole rule: its code is generated, and is accepted by proof.
 
 ghost use Rattle.std.specs.Prelude.{◌≡◌, ◌<◌, length, IfOk, true};
 ghost use Rattle.std.specs.List.{AllByRecursion};
@@ -21,7 +21,7 @@ use flow_check::Flow;
 use rule_lang::Rule;
 use std::alloc::{AllocError, Global};
 
-/// The program of slots that are in order, with its bytes.
+/// The program of slots that form a valid graph, with its bytes.
 fn flow_of(alloc: Global, slots: Vec<Insn>) -> Result<Flow, AllocError>
     requires { AllByRecursion CanEncode (laid slots.items) → IsFlow (laid slots.items) }
     ensures { IfOk result (λ flow. flow ≡ laid slots.items) }
@@ -30,13 +30,13 @@ fn flow_of(alloc: Global, slots: Vec<Insn>) -> Result<Flow, AllocError>
     Ok(Flow::known(bytes, slots))
 }
 
-/// The program of a rule that fits the shape, accepted under it. Its run makes the additions to
-/// cells that the rule means, whatever they reply, and ends with the rule's choice.
+/// The program of a rule that fits the shape, accepted under it. For any replies of cells, its run
+/// makes the additions to cells that the rule means, and ends with the rule's choice.
 ///
-/// C1 comes only if the code would exceed 4096 slots, which no rule with a cost of at most 4096
-/// does, and C2 only if memory is refused. (A shape with 2^31 arrays, which an instruction can't
-/// number, counts as refused memory.) The bytes for a file are the program's `bytes`.
-// open: whether memory is refused (C2).
+/// Returns C1 only if the code would exceed 4096 slots; a rule with a cost of at most 4096 never
+/// does. Returns C2 only if an allocation fails. (A shape with 2^31 arrays, which an instruction
+/// can't number, counts as C2.) The bytes for a file are the program's `bytes`.
+// open: whether an allocation fails (C2).
 pub fn compile(alloc: Global, rule: &Rule, shape: &Shape) -> Result<Verified, CompileFault>
     requires { fits shape.now rule.now ≡ true }
     ensures code { IfOk result (λ v. v.code ≡ code.rule_code shape.now rule.now) }

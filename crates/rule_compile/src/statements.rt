@@ -1,4 +1,4 @@
-//! Writing the code of a rule, from its last statement to its first.
+//! Writes the code of a rule, from its last statement to its first.
 
 ghost use Rattle.std.specs.Prelude.{◌≡◌, ◌<◌, ◌≤◌, ◌+◌, ◌*◌, [], ◌∷◌, true};
 ghost use Rattle.std.specs.Prelude.{length, IfOk, OnOk, slice_get};
@@ -20,7 +20,7 @@ use cells::{CellArray, CellWidth, Shape};
 use rule_lang::{RuleCondition, Statement, Step};
 use std::alloc::Global;
 
-/// The steps of a condition, from the last to the first: it goes to the label where it holds.
+/// Writes the steps of a condition, from the last to the first: it jumps to the label if it holds.
 pub fn put_steps(
     rest: &mut Code,
     shape: &Shape,
@@ -47,7 +47,7 @@ pub fn put_steps(
     Ok(())
 }
 
-/// How many bytes an addition to a cell of the array at the place has.
+/// The size of an addition to a cell of the array with this number.
 fn size_at(arrays: &[CellArray], place: usize) -> AtomicSize
     ensures { result ≡ code.array_size (slice_get arrays.now place) }
 {
@@ -60,7 +60,7 @@ fn size_at(arrays: &[CellArray], place: usize) -> AtomicSize
     }
 }
 
-/// A count in the first array of the name.
+/// A count in the first array with this name.
 #[tactic(auto, using(crate::proofs::Arrays::named_place))]
 fn put_named_count(
     rest: &mut Code,
@@ -77,7 +77,7 @@ fn put_named_count(
     put_count(rest, size, array_number(place)?, index)
 }
 
-/// One statement.
+/// Writes one statement.
 #[tactic(auto, using(crate::proofs::Costs::steps_length))]
 fn put_statement(
     rest: &mut Code,
@@ -106,7 +106,7 @@ fn put_statement(
     }
 }
 
-/// The end of each rule: no release, and the choice becomes the result.
+/// The end of each rule: sets no release, and returns the choice.
 fn put_end(rest: &mut Code) -> Result<(), CompileFault>
     requires { rest.old ≡ [] }
     ensures code { OnOk result (rest.new ≡ code.none_code) }

@@ -1,4 +1,4 @@
-//! Writing the code of each test of the language.
+//! Writes the code of each test of the language.
 
 ghost use Rattle.std.specs.Prelude.{◌≡◌, ◌<◌, ◌≤◌, ◌+◌, ◌^◌, ℕ};
 ghost use Rattle.std.specs.Prelude.{length, slice_get, slice_index, OnOk, IfOk, IfErr};
@@ -18,12 +18,12 @@ use bpf_insn::{Condition, LoadKind};
 use cells::{CellArray, Shape};
 use rule_lang::{Comparison, Test};
 
-/// Where the days begin in the context.
+/// The offsets of the days in the context.
 const TODAY: u8 = Context::TODAY_OFFSET;
 
 const INSTALL_DAY: u8 = Context::INSTALL_DAY_OFFSET;
 
-/// The condition of a jump.
+/// The condition of a jump for this comparison.
 fn condition_of(comparison: Comparison) -> Condition
     ensures { result ≡ code.condition_of comparison }
 {
@@ -37,7 +37,7 @@ fn condition_of(comparison: Comparison) -> Condition
     }
 }
 
-/// The place of the first array of a name; of none, how many arrays there are.
+/// The number of the first array with this name, or the number of arrays if there is none.
 pub fn place_named(arrays: &[CellArray], name: &str) -> usize
     ensures { result ≡ code.place_named name.now arrays.now }
 {
@@ -53,7 +53,7 @@ pub fn place_named(arrays: &[CellArray], name: &str) -> usize
     place
 }
 
-/// The place as an instruction holds it, which has 31 bits for it.
+/// The array's number as an instruction has it, in 31 bits.
 pub fn array_number(place: usize) -> Result<u32, CompileFault>
     ensures number { IfOk result (λ n. (n ≡ place) × (n < 2 ^ 31)) }
     ensures memory { IfErr result (λ e. e ≡ CompileFault.Memory) }
@@ -65,7 +65,7 @@ pub fn array_number(place: usize) -> Result<u32, CompileFault>
     }
 }
 
-/// How many takes the array at the place grants.
+/// How many takes the array with this number grants.
 fn quota_at(arrays: &[CellArray], place: usize) -> u64
     ensures { result ≡ shapes.quota_of (slice_get arrays.now place) }
 {
@@ -75,7 +75,7 @@ fn quota_at(arrays: &[CellArray], place: usize) -> u64
     }
 }
 
-/// A comparison of versions.
+/// Compares the version.
 fn put_version(
     rest: &mut Code,
     comparison: Comparison,
@@ -102,7 +102,7 @@ fn put_version(
     }
 }
 
-/// A take of the cell at the index of the first array of the name.
+/// Takes from the cell at this index of the first array with this name.
 #[tactic(auto, using(crate::proofs::Arrays::named_place))]
 fn put_named_take(
     rest: &mut Code,

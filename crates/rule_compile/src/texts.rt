@@ -1,5 +1,5 @@
-//! Writing the code of a comparison of an attribute with a text: the text is stored below the top
-//! of the stack, four bytes at a time, and a helper compares.
+//! Writes the comparison of an attribute with a text: the text is stored below the top of the
+//! stack, four bytes at a time, and a helper compares.
 
 ghost use Rattle.std.specs.Prelude.{◌≡◌, ◌<◌, ◌≤◌, ◌+◌, ◌-◌, [], ◌∷◌, length, OnOk};
 ghost use Rattle.bpf_insn.specs.Words.{little_endian};
@@ -12,24 +12,24 @@ use crate::instructions as insn;
 use bpf_insn::{Condition, Reg};
 use bpf_semantics::helpers::ATTR_IS;
 
-/// The last byte of the first word, below the top of the stack: this many bytes are above it.
+/// The last byte of the first word, as the number of bytes between it and the top of the stack.
 const FIRST: u8 = 63;
 
-/// The word of four bytes, the least first.
+/// The word of four bytes, little-endian.
 fn word_of(a: u8, b: u8, c: u8, d: u8) -> u32
     ensures { result ≡ little_endian (a ∷ b ∷ c ∷ d ∷ []) }
 {
     a as u32 + 256 * (b as u32 + 256 * (c as u32 + 256 * (d as u32)))
 }
 
-/// Where the next word is stored: four bytes nearer to the top.
+/// The place of the next word, four bytes nearer to the top.
 fn word_after(left: u8) -> u8
     ensures { result ≡ left - 4 }
 {
     if left < 4 { 0 } else { left - 4 }
 }
 
-/// The stores of a text, in words that are filled with zeroes.
+/// The stores of a text, in words that are padded with zeroes.
 #[tactic(auto, using(crate::proofs::Before::storing))]
 fn put_stores(rest: &mut Code, left: u8, text: &[u8]) -> Result<(), CompileFault>
     ensures code { OnOk result (rest.new ≡ code.stores_code left text.now rest.old) }
@@ -48,7 +48,7 @@ fn put_stores(rest: &mut Code, left: u8, text: &[u8]) -> Result<(), CompileFault
     }
 }
 
-/// The call that compares the attribute with the text that is stored.
+/// The call that compares the attribute with the stored text.
 fn put_comparison(rest: &mut Code, attribute: u8, size: u8) -> Result<(), CompileFault>
     ensures code { OnOk result (rest.new ≡ code.compare_code attribute size rest.old) }
     ensures long { result ≡ Err CompileFault.TooLong → 4096 < length rest.old + 5 }
@@ -60,7 +60,7 @@ fn put_comparison(rest: &mut Code, attribute: u8, size: u8) -> Result<(), Compil
     rest.put(insn::set_argument(Reg::R1, attribute))
 }
 
-/// Whether an attribute, by its number, is the text.
+/// Tests whether an attribute, by its number, equals the text.
 #[tactic(auto, using(crate::proofs::Before::storing))]
 pub fn put_attribute(
     rest: &mut Code,

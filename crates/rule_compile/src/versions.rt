@@ -1,4 +1,4 @@
-//! Writing the code of a comparison of versions: word by word, the first that differs decides.
+//! Writes the comparison of versions: word by word, and the first different word decides.
 
 ghost use Rattle.std.specs.Prelude.{◌≡◌, ◌<◌, ◌≤◌, ◌+◌, ◌*◌, length, OnOk};
 ghost use Rattle.rule_compile.specs.Blocks as code;
@@ -9,7 +9,7 @@ use crate::fault::CompileFault;
 use crate::instructions::turned;
 use bpf_insn::{Condition, LoadKind, Reg};
 
-/// The k-th word of the version against a number.
+/// Compares the k-th word of the version with a number.
 fn put_word(
     rest: &mut Code,
     k: u8,
@@ -26,7 +26,7 @@ fn put_word(
     put_field(rest, LoadKind::Word, 4 * k, condition, number, label)
 }
 
-/// Whether the words from the k-th on are these numbers.
+/// Tests whether the words from the k-th on equal these numbers.
 #[tactic(auto, using(crate::proofs::VersionWords::equal_longer))]
 pub fn put_equal(
     rest: &mut Code,
@@ -54,8 +54,8 @@ pub fn put_equal(
     }
 }
 
-/// Whether the words from the k-th on are before or after these numbers, as the strict condition
-/// says, or at their end as the last one does.
+/// Compares the words from the k-th on with these numbers: by `strict` for all but the last, and by
+/// `last` for the last.
 #[tactic(auto, using(crate::proofs::VersionWords::order_longer))]
 pub fn put_order(
     rest: &mut Code,

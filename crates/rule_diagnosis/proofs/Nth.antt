@@ -1,4 +1,4 @@
--- An item of a list, or an empty text behind its end.
+-- An item of a list, or an empty text after its end.
 use Rattle.std.proofs.Common.{◌≡◌, ℕ, List, [], Option, Some, None}
 use Rattle.std.proofs.Common.{option_map, unwrap_or, Bor, refl, ap, ◌∙◌}
 

@@ -1,6 +1,5 @@
--- What may stand behind the beginning of a rule. It is asked of the language itself: behind the
--- beginning each follower is tried, in a line of its own, and may stand there where it isn't what
--- the verdict calls misplaced.
+-- What may follow the beginning of a rule, according to the language itself: each follower is tried
+-- on its own line after the beginning, and is possible if the verdict doesn't call it misplaced.
 use Rattle.std.specs.Prelude.{◌≡◌, ℕ, ◌+◌, List, [], ◌∷◌, ◌++◌, codes, Err, Option, Some, None}
 use Rattle.std.specs.Prelude.{Bool, true, false, not, nat_le}
 use Rattle.cells.specs.Arrays.{AppShape}
@@ -14,7 +13,7 @@ use Rattle.rule_lang.specs.Parts.{OrFault}
 use Rattle.rule_lang.specs.Tokens.{Text}
 use Rattle.rule_lang.specs.Verdicts.{IsVerdict}
 
--- each once
+-- each follower once
 abbrev pub all_followers : List Follower
 all_followers =
     follower.When ∷ follower.Count ∷ follower.Otherwise ∷ follower.None ∷ follower.Offer
@@ -24,7 +23,7 @@ all_followers =
     ∷ follower.CloseBracket ∷ follower.Comma ∷ follower.Semicolon ∷ follower.Comparison
     ∷ follower.Name ∷ follower.Number ∷ follower.Numbers ∷ follower.Literal ∷ follower.End ∷ []
 
--- how it is tried; a modulus has its number, since `mod` may also be a name
+-- the text with which it is tried; a modulus has a number, since `mod` may also be a name
 abbrev pub sample : Follower → Text
 sample follower.When = codes "when"
 sample follower.Count = codes "count"
@@ -56,7 +55,7 @@ sample follower.Numbers = codes "1.0"
 sample follower.Literal = codes "\"\""
 sample follower.End = []
 
--- how all tokens of a kind are told
+-- the printed text for all tokens of a kind
 abbrev pub kind_text : Follower → Option Text
 kind_text follower.Modulus = Some (codes "\"mod\"")
 kind_text follower.Comparison = Some (codes "a comparison")
@@ -67,7 +66,7 @@ kind_text follower.Literal = Some (codes "a text in \"\"")
 kind_text follower.End = Some (codes "the text's end")
 kind_text f = None
 
--- a single token as it is written
+-- a single token is printed as it is written
 abbrev pub shown_by : Option Text → Follower → Text
 shown_by (Some text) f = text
 shown_by None f = codes "\"" ++ sample f ++ codes "\""
@@ -75,16 +74,16 @@ shown_by None f = codes "\"" ++ sample f ++ codes "\""
 abbrev pub shown : Follower → Text
 shown f = shown_by (kind_text f) f
 
--- the beginning, and behind it a line of the follower, and an empty one
+-- the beginning, then a line with the follower, and an empty one
 abbrev pub trial : Text → Follower → Text
 trial before f = before ++ codes "\n" ++ sample f ++ codes "\n"
 
--- the line of the trial in which the follower stands; the text's end stands in the last
+-- the follower's line in the trial; the text's end is in the last line
 abbrev pub trial_line : Text → Follower → ℕ
 trial_line before follower.End = line_at before + 2
 trial_line before f = line_at before + 1
 
--- a token is misplaced in one of so many lines
+-- a token is misplaced in a line up to `most`
 abbrev pub stops_by : ℕ → OrFault (List Statement) → Bool
 stops_by most (Err (At line Shape)) = nat_le line most
 stops_by most v = false
@@ -94,7 +93,7 @@ pub record IsTried (s : AppShape) (before : Text) (f : Follower) (may : Bool) : 
   pub is : IsVerdict s (trial before f) verdict
   pub may_is : may ≡ not (stops_by (trial_line before f) verdict)
 
--- one of them, where it may stand
+-- the follower, if it may follow
 abbrev pub follower_if : Bool → Follower → List Follower
 follower_if true f = f ∷ []
 follower_if false f = []
@@ -105,7 +104,7 @@ pub record AddsFollower (s : AppShape) (before : Text) (f : Follower) (old new :
   pub tried : IsTried s before f may
   pub added : new ≡ old ++ follower_if may f
 
--- of these followers those that may stand behind the beginning, behind others that were found
+-- adds those followers of a list that may follow the beginning
 pub data AddsFollowers (s : AppShape) (before : Text)
     : List Follower → (old new : List Follower) → Type 0 where
   none : {old : List Follower} → AddsFollowers s before [] old old
@@ -117,7 +116,7 @@ pub data AddsFollowers (s : AppShape) (before : Text)
 abbrev pub AreFollowers : AppShape → Text → List Follower → Type 0
 AreFollowers s before fs = AddsFollowers s before all_followers [] fs
 
--- ---- told in a row
+-- ---- as a list
 
 abbrev pub separator : List Follower → Text
 separator [] = []
@@ -132,12 +131,12 @@ abbrev pub is_semicolon : Follower → Bool
 is_semicolon follower.Semicolon = true
 is_semicolon f = false
 
--- nothing but a semicolon may stand
+-- only a semicolon is expected
 abbrev pub is_missing_semicolon : List Follower → Bool
 is_missing_semicolon (f ∷ []) = is_semicolon f
 is_missing_semicolon fs = false
 
--- where the word `flag` may stand, a test may
+-- a test is expected if the word `flag` is
 abbrev pub is_flag_word : Follower → Bool
 is_flag_word follower.Flag = true
 is_flag_word f = false

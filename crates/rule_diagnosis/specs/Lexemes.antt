@@ -1,5 +1,5 @@
--- A rule's text as its lexemes: words and numbers, comparisons, texts, and other characters. The
--- text is gone through byte by byte, each of which belongs to a lexeme of some kind or to none.
+-- A rule's text as lexemes: words and numbers, comparisons, texts, and other characters. Each byte
+-- of the text belongs to a lexeme of some kind or to none.
 use Rattle.std.specs.Prelude.{ℕ, zero, suc, ◌+◌, [], ◌∷◌, ◌++◌, nat_le, slice_index_or}
 use Rattle.std.specs.Prelude.{Bool, true, false, ◌==◌, ◌&&◌, ◌||◌, if◌then◌else◌}
 use Rattle.cells.specs.Names.{is_word_byte}
@@ -10,11 +10,11 @@ use Rattle.rule_lang.specs.Tokens.{Text}
 
 -- ---- bytes
 
--- 0 behind the end
+-- 0 after the end
 abbrev pub byte_at : Text → ℕ → ℕ
 byte_at text k = slice_index_or text k 0
 
--- a blank or a line end; a carriage return is one in front of a line feed alone
+-- a blank or a line end; a carriage return is one only before a line feed
 abbrev pub divides : (c next : ℕ) → Bool
 divides c next = (c == 32) || (c == 9) || (c == 10) || ((c == 13) && (next == 10))
 
@@ -24,7 +24,7 @@ is_word c = is_word_byte c || (c == 46)
 abbrev pub is_relation : ℕ → Bool
 is_relation c = (c == 60) || (c == 61) || (c == 62) || (c == 33)
 
--- behind what is whole
+-- after a complete lexeme
 abbrev pub fresh : (c next : ℕ) → Lexeme
 fresh c next =
     if divides c next then Blank
@@ -38,14 +38,14 @@ fresh c next =
 abbrev pub quoted_after : ℕ → Lexeme
 quoted_after c = if c == 34 then Unquote else if c == 10 then Blank else Quoted
 
--- behind a byte of this kind: a remark ends with its line, and a text at its second mark, or with
+-- after a byte of this kind: a comment ends with its line, and a text at its second mark or with
 -- its line
 abbrev pub lexeme_after : Lexeme → (c next : ℕ) → Lexeme
 lexeme_after Remark c next = if c == 10 then Blank else Remark
 lexeme_after Quoted c next = quoted_after c
 lexeme_after l c next = fresh c next
 
--- with a byte of the second kind behind one of the first a lexeme begins
+-- whether a lexeme begins at a byte of the second kind after one of the first
 abbrev pub begins_lexeme : Lexeme → Lexeme → Bool
 begins_lexeme l Blank = false
 begins_lexeme l Remark = false
@@ -60,9 +60,9 @@ begins_lexeme l Quoted = true
 begins_lexeme Foreign Foreign = false
 begins_lexeme l Foreign = true
 
--- ---- a line a lexeme
+-- ---- one lexeme a line
 
--- blanks and remarks are left out
+-- blanks and comments are left out
 abbrev pub is_kept : Lexeme → Bool
 is_kept Blank = false
 is_kept Remark = false
@@ -72,7 +72,8 @@ abbrev pub byte_if : Bool → ℕ → Text
 byte_if true c = c ∷ []
 byte_if false c = []
 
--- a carriage return that stands alone does so in its row, too
+-- a carriage return without a line feed gets a blank after it in its row, so that no line feed
+-- follows
 abbrev pub is_lone : Lexeme → ℕ → Bool
 is_lone Mark c = c == 13
 is_lone l c = false
@@ -87,19 +88,19 @@ spread_from l (c ∷ rest) =
     let now = lexeme_after l c (byte_at rest 0) in
     written l now c ++ spread_from now rest
 
--- the text with a line end before each lexeme and behind the last: so lexeme k, from 0, stands in
--- line k + 2, and the text's end is one more
+-- the text with a line end before each lexeme and after the last: so lexeme k, from 0, is in line k
+-- + 2, and the text's end is one line later
 abbrev pub spread : Text → Text
 spread text = spread_from Blank text
 
--- ---- where a lexeme begins
+-- ---- the place of a lexeme
 
 abbrev pub lexemes_ahead : Bool → ℕ → ℕ
 lexemes_ahead true (suc k) = k
 lexemes_ahead true zero = zero
 lexemes_ahead false k = k
 
--- here begins lexeme 0
+-- whether lexeme 0 begins here
 abbrev pub is_here : Bool → ℕ → Bool
 is_here true zero = true
 is_here true (suc k) = false
@@ -112,6 +113,6 @@ lexeme_start_from k l (c ∷ rest) =
     let starts = begins_lexeme l now in
     if is_here starts k then 0 else 1 + lexeme_start_from (lexemes_ahead starts k) now rest
 
--- how many bytes stand before lexeme k; all, where the text has fewer
+-- how many bytes come before lexeme k; all, if there are fewer lexemes
 abbrev pub lexeme_start : ℕ → Text → ℕ
 lexeme_start k text = lexeme_start_from k Blank text

@@ -1,10 +1,10 @@
--- Places of a text, told by the bytes before them.
+-- Places in a text, each given by the bytes before it.
 use Rattle.std.specs.Prelude.{ℕ, ◌+◌, ◌-◌, [], ◌∷◌, ◌++◌, nat_le, nat_lt, Bool, ◌==◌, ◌&&◌}
 use Rattle.std.specs.Prelude.{slice_get, unwrap_or, if◌then◌else◌}
 use Rattle.std.specs.Str.Lines.{lines}
 use Rattle.rule_lang.specs.Tokens.{Text}
 
--- the text of a line, counted from 1; it is empty behind the last
+-- the text of a line, counted from 1; empty after the last
 abbrev pub line_text : ℕ → Text → Text
 line_text number text = unwrap_or (slice_get (lines text) (number - 1)) []
 
@@ -16,11 +16,11 @@ line_feeds (c ∷ rest) = if c == 10 then 1 + line_feeds rest else line_feeds re
 abbrev pub line_at : Text → ℕ
 line_at before = 1 + line_feeds before
 
--- a byte that begins no character
+-- a byte inside a character
 abbrev pub is_continuation : ℕ → Bool
 is_continuation c = nat_le 128 c && nat_lt c 192
 
--- what stands in the line of a place before it, with a blank for each character but tabs
+-- the part of a line before a place, with a blank for each character except tabs
 abbrev pub padded : Text → ℕ → Text
 padded pad c =
     if c == 10 then []

@@ -1,5 +1,5 @@
--- What is said of a lexeme at which a rule's fault lies, for each kind of fault. Where the place in
--- the grammar matters it is told by the two lexemes before.
+-- The sentence about the lexeme at a rule's fault, for each kind of fault. If the place in the
+-- grammar matters, it follows from the two previous lexemes.
 use Rattle.std.specs.Prelude.{ℕ, ◌+◌, ◌*◌, ◌%◌, List, [], ◌∷◌, ◌++◌, codes, decimal}
 use Rattle.std.specs.Prelude.{Bool, true, ◌==◌, ◌&&◌, ◌||◌, nat_le, nat_lt, if◌then◌else◌}
 use Rattle.std.specs.Prelude.{Option, Some, None, is_some, flat_map, length}
@@ -13,13 +13,13 @@ use Rattle.rule_diagnosis.specs.Lexemes.{byte_at, is_relation, is_word}
 use Rattle.rule_lang.specs.Shapes.{array_named}
 use Rattle.rule_lang.specs.Tokens.{Text}
 
--- ---- how a lexeme is told
+-- ---- printing a lexeme
 
--- the low bits of a byte, and six more of the next
+-- appends the six low bits of the next byte
 abbrev pub continued_by : ℕ → ℕ → ℕ
 continued_by n c = n * 64 + c % 64
 
--- the number of the first character
+-- the code point of the first character
 abbrev pub character_code : Text → ℕ
 character_code text =
     let a = byte_at text 0 in
@@ -32,7 +32,7 @@ character_code text =
     else if nat_lt a 240 then three
     else four
 
--- to four digits
+-- padding to four digits
 abbrev pub code_padding : ℕ → Text
 code_padding n =
     if nat_lt n 16 then codes "000"
@@ -45,8 +45,8 @@ code_text n = codes "U+" ++ code_padding n ++ digits 16 true n
 abbrev pub is_printed : ℕ → Bool
 is_printed c = nat_le 32 c && nat_le c 126
 
--- texts have their marks, and are told as they are printed; a character that isn't printed in ASCII
--- is told by its number
+-- texts keep their marks and are escaped; a character outside printable ASCII is printed by its
+-- code point
 abbrev pub quoted_by : ℕ → Text → Text
 quoted_by c text =
     if c == 34 then printed text
@@ -56,7 +56,7 @@ abbrev pub lexeme_text : Text → Text
 lexeme_text text =
     if length text == 0 then codes "the text's end" else quoted_by (byte_at text 0) text
 
--- ---- L1: a lexeme that is no word of the language
+-- ---- L1: a lexeme that isn't a word of the language
 
 unfoldable pub text_hint : Text
 text_hint = codes ": a text ends in its line, and has at most 64 characters of ASCII, without \\"
@@ -101,7 +101,7 @@ no_word = codes " is no word of a rule"
 abbrev pub token_sentence : Text → Text
 token_sentence found = lexeme_text found ++ no_word ++ hint found
 
--- ---- L2: the name of a flag or an attribute that stands alone where a test is expected
+-- ---- L2: only the name of a flag or an attribute, although a test is expected
 
 abbrev pub names_flag : Text → Bool
 names_flag word = is_some (flag_named word)
@@ -115,7 +115,7 @@ test_hint found =
     else if names_attribute found then
     codes ": an attribute is tested by attr " ++ found ++ codes " is \"..\"" else []
 
--- ---- L3: a name that isn't there, or stands for an array of the other kind
+-- ---- L3: an unknown name, or the name of an array of the other kind
 
 unfoldable pub flags : Text
 flags = codes "version_known, updatecheck, ping, event, cohort_known, installdate_known"
@@ -150,7 +150,7 @@ name_sentence s before found =
     lexeme_text found ++ codes " is no attribute; there are: " ++ attributes
     else array_sentence s found (array_named found s.arrays)
 
--- ---- L4: what is out of its range
+-- ---- L4: out of range
 
 unfoldable pub depth_range : Text
 depth_range = codes "at most 32 of not and ( stand in one another"

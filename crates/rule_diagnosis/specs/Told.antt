@@ -1,5 +1,5 @@
--- What is told of a rule's text that is refused: line and column, what stands there and what is
--- expected, and the line itself with a caret.
+-- The message about a refused rule: line and column, what is there and what is expected, and the
+-- line itself with a caret.
 use Rattle.std.specs.Prelude.{◌≡◌, ◌⊎◌, ◌<◌, ◌≤◌, ℕ, ◌+◌, ◌-◌, List, [], ◌++◌, codes, decimal}
 use Rattle.std.specs.Prelude.{length, take, Err, if◌then◌else◌}
 use Rattle.std.specs.List.{list_any}
@@ -20,19 +20,19 @@ use Rattle.rule_lang.specs.Verdicts.{IsVerdict}
 
 -- ---- the place
 
--- the text with a lexeme a line has its fault in this row, and it is of the same kind; and that
--- row's lexeme stands in the line of the text's own fault
+-- with one lexeme a line, the text has a fault of the same kind in this row; and that row's lexeme
+-- is in the line of the text's own fault
 pub record LiesAt (s : AppShape) (text : Text) (line : ℕ) (k : RuleFaultKind) (row : ℕ)
     : Type 0 where
   pub from : 2 ≤ row
   pub fault : IsVerdict s (spread text) (Err (At row k))
   pub line_is : line_at (take (lexeme_start (row - 2) text) text) ≡ line
 
--- the lexeme in a row; the two before it stand in the rows before
+-- the lexeme in a row; the rows before it have the previous lexemes
 abbrev pub lexeme : Text → ℕ → Text
 lexeme text row = line_text row (spread text)
 
--- how many bytes stand before the lexeme in a row, and to the end of the one before it
+-- how many bytes come before the lexeme in a row, and before the end of the previous one
 abbrev pub row_start : Text → ℕ → ℕ
 row_start text row = lexeme_start (row - 2) text
 
@@ -44,22 +44,23 @@ row_end_before text row = lexeme_start (row - 3) text + length (lexeme text (row
 abbrev pub ended : Text → Text
 ended text = text ++ codes "\n"
 
--- a sentence on a place, the text of its line, and a caret behind the blanks up to the place
+-- a sentence about a place, the text of its line, and a caret after blanks up to the place
 abbrev pub lines_of : (line column : ℕ) → (shown pad sentence : Text) → Text
 lines_of number column shown pad sentence =
     ended (codes "line " ++ decimal number ++ codes ", column " ++ decimal column
     ++ codes ": " ++ sentence)
     ++ ended (codes "  " ++ shown) ++ ended (codes "  " ++ pad ++ codes "^")
 
--- a column is counted in characters; the line is shown as it is printed, and so the caret stands
--- behind all that is printed of what is before the place
+-- columns are counted in characters; the line is escaped, so the caret comes after all that is
+-- printed for the bytes before the place
 abbrev pub told_at : Text → (place : ℕ) → (sentence : Text) → Text
 told_at text place sentence =
     let before = take place text in
     lines_of (line_at before) (length (pad_at before) + 1)
     (printed_lines (line_text (line_at before) text)) (pad_at (printed_lines before)) sentence
 
--- of a token that is misplaced; where a semicolon is missing the place is behind the lexeme before
+-- the sentence about a misplaced token; if a semicolon is missing, the place is after the previous
+-- lexeme
 abbrev pub shape_hint : (found : Text) → List Follower → Text
 shape_hint found fs = if list_any is_flag_word fs then test_hint found else []
 
@@ -72,7 +73,7 @@ abbrev pub shape_place : Text → ℕ → List Follower → ℕ
 shape_place text row fs =
     if is_missing_semicolon fs then row_end_before text row else row_start text row
 
--- of the other kinds, by rows with a lexeme each
+-- the sentences about the other kinds, by rows with one lexeme each
 abbrev pub sentence_in : AppShape → (rows : Text) → RuleFaultKind → ℕ → Text
 sentence_in s rows kind.Token row = token_sentence (line_text row rows)
 sentence_in s rows kind.Shape row = []
@@ -84,14 +85,14 @@ sentence_in s rows kind.Range row =
 abbrev pub sentence : AppShape → Text → RuleFaultKind → ℕ → Text
 sentence s text k row = sentence_in s (spread text) k row
 
--- the lines, by the row of the lexeme
+-- the lines of the message, by the row of the lexeme
 abbrev pub AreLines : AppShape → Text → RuleFaultKind → ℕ → Text → Type 0
 AreLines s text kind.Shape row told =
     (fs : List Follower) × AreFollowers s (take (row_start text row) text) fs
     × (told ≡ told_at text (shape_place text row fs) (shape_sentence (lexeme text row) fs))
 AreLines s text k row told = told ≡ told_at text (row_start text row) (sentence s text k row)
 
--- ---- what is told of a text whose fault has this line and kind
+-- ---- the message about a text whose fault has this line and kind
 
 unfoldable pub rule_too_long : Text
 rule_too_long = codes "a rule has at most 65536 bytes\n"

@@ -1,4 +1,4 @@
-//! A place of a rule's text: its line and column, and the line as it is printed, with a caret.
+//! A place in a rule's text: its line and column, and the printed line with a caret.
 
 ghost use Rattle.std.specs.Prelude.{◌≡◌, IfSome, OnOk, string_bytes};
 ghost use Rattle.printing.specs.Pushed.{Puts};
@@ -12,7 +12,7 @@ use std::alloc::{AllocError, Global};
 use std::fmt::Write;
 use std::str;
 
-/// A sentence on a place, and the line with a caret; None where memory is refused.
+/// A sentence about a place, and its line with a caret. Returns `None` if an allocation fails.
 pub fn tell_at(alloc: Global, text: &str, place: usize, sentence: &str) -> Option<String>
     ensures { IfSome result
         (λ told. string_bytes told ≡ specs.told_at text.now place sentence.now) }
@@ -39,8 +39,8 @@ pub fn tell_at(alloc: Global, text: &str, place: usize, sentence: &str) -> Optio
     }
 }
 
-// Blanks for what is printed before a place in its line; None where memory is refused, or where no
-// text stands before it.
+// Blanks for the printed text before a place in its line. Returns `None` if an allocation fails, or
+// if the bytes before the place aren't UTF-8.
 fn printed_pad(alloc: Global, before: &[u8]) -> Option<String>
     ensures { IfSome result (λ pad. string_bytes pad ≡ pad_at (printed_lines before.now)) }
 {

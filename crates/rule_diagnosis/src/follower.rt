@@ -1,4 +1,4 @@
-//! The words and kinds of words that may follow the beginning of a rule, and how each is printed.
+//! The words and kinds of words that may follow the beginning of a rule, and how they are printed.
 
 ghost use Rattle.std.specs.Prelude.{◌≡◌, ◌++◌, OnOk, option_map};
 ghost use Rattle.std.specs.List.{list_any};
@@ -47,7 +47,7 @@ pub enum Follower {
     End,
 }
 
-/// Each once, in the order in which they are printed.
+/// Each follower once, in the order of printing.
 pub static FOLLOWERS: [Follower; 29] = [
     Follower::When,
     Follower::Count,
@@ -80,7 +80,7 @@ pub static FOLLOWERS: [Follower; 29] = [
     Follower::End,
 ];
 
-/// How it is tried.
+/// The text with which a follower is tried.
 pub fn sample(follower: Follower) -> &'static str
     ensures { result.now ≡ followers.sample follower }
 {
@@ -117,7 +117,7 @@ pub fn sample(follower: Follower) -> &'static str
     }
 }
 
-// How all tokens of a kind are told.
+// The printed text for all tokens of a kind.
 fn kind_text(follower: Follower) -> Option<&'static str>
     ensures { option_map (λ t. t.now) result ≡ followers.kind_text follower }
 {
@@ -155,7 +155,7 @@ fn separator(rest: &[Follower]) -> &'static str
     }
 }
 
-/// Followers in a row, as `"offer", "and" or "or"`.
+/// Adds followers as a list, such as `"offer", "and" or "or"`.
 pub fn tell_listed(text: &mut String, listed: &[Follower]) -> Result<(), AllocError>
     ensures { OnOk result (Puts text.old text.new (followers.listed listed.now)) }
 {
@@ -175,7 +175,7 @@ fn tell_one(text: &mut String, first: Follower, rest: &[Follower]) -> Result<(),
     text.push_str(separator(rest))
 }
 
-/// Whether nothing but a semicolon may stand.
+/// Whether only a semicolon is expected.
 pub fn is_missing_semicolon(listed: &[Follower]) -> bool
     ensures { result ≡ followers.is_missing_semicolon listed.now }
 {
@@ -194,7 +194,7 @@ fn is_flag_word(follower: Follower) -> bool
     }
 }
 
-/// Whether a test may stand.
+/// Whether a test is expected.
 pub fn expects_test(listed: &[Follower]) -> bool
     ensures { result ≡ list_any followers.is_flag_word listed.now }
 {

@@ -1,5 +1,4 @@
-//! What is written in place of a lexeme that is no word of a rule, or is misplaced, where that is
-//! plain.
+//! Hints on what to write instead of an unknown or misplaced lexeme, if that is obvious.
 
 ghost use Rattle.std.specs.Prelude.{◌≡◌, OnOk};
 ghost use Rattle.printing.specs.Pushed.{Puts};
@@ -74,7 +73,7 @@ fn mark_hint(c: u8) -> &'static str
     }
 }
 
-/// What is written in its place; empty where that isn't plain.
+/// What to write instead; empty if that isn't obvious.
 #[tactic(auto, unfolding(crate::specs::Sentences::hint))]
 pub fn hint(lexeme: &str) -> &'static str
     ensures { result.now ≡ sentences.hint lexeme.now }
@@ -106,7 +105,7 @@ fn names_attribute(word: &str) -> bool
     attribute_named(word).is_some()
 }
 
-/// What is written where a test is expected and the name of a flag or an attribute stands alone.
+/// Adds a hint if a test is expected, but there is only the name of a flag or an attribute.
 pub fn tell_test_hint(text: &mut String, lexeme: &str) -> Result<(), AllocError>
     ensures { OnOk result (Puts text.old text.new (sentences.test_hint lexeme.now)) }
 {

@@ -1,14 +1,14 @@
-//! The lexemes of a rule's text, byte by byte: to what kind each belongs, and where one begins.
+//! The lexemes of a rule's text, byte by byte: the kind of each byte, and where a lexeme begins.
 
 ghost use Rattle.std.specs.Prelude.{◌≡◌};
 ghost use Rattle.rule_diagnosis.specs.Lexemes as lexemes;
 
-/// The kind of lexeme to which a byte belongs.
+/// The kind of lexeme that a byte belongs to.
 #[derive(Clone, Copy)]
 pub enum Lexeme {
-    /// None: a blank or a line end.
+    /// No lexeme: a blank or a line end.
     Blank,
-    /// None: from `#` to the line's end.
+    /// No lexeme: a comment, from `#` to the line's end.
     Remark,
     /// Letters, digits, `_` and dots.
     Word,
@@ -18,13 +18,13 @@ pub enum Lexeme {
     Quoted,
     /// The second quotation mark of a text.
     Unquote,
-    /// Characters beyond ASCII.
+    /// Characters outside ASCII.
     Foreign,
-    /// Another character, which is a lexeme of its own.
+    /// Another character, which is a lexeme by itself.
     Mark,
 }
 
-/// A byte of a text, 0 behind its end.
+/// A byte of a text, or 0 after its end.
 pub fn byte_at(text: &[u8], place: usize) -> u8
     ensures { result ≡ lexemes.byte_at text.now place }
 {
@@ -47,7 +47,7 @@ pub fn is_word(c: u8) -> bool
     c.is_ascii_alphabetic() || c == b'_' || c.is_ascii_digit() || c == b'.'
 }
 
-/// A character of comparisons.
+/// A character of a comparison.
 pub fn is_relation(c: u8) -> bool
     ensures { result ≡ lexemes.is_relation c }
 {
@@ -74,7 +74,7 @@ fn fresh(c: u8, next: u8) -> Lexeme
     }
 }
 
-/// The kind of a byte that comes after one of this kind, and before the next byte.
+/// The kind of byte `c`, given the kind of the byte before it and the byte after it.
 pub fn lexeme_after(before: Lexeme, c: u8, next: u8) -> Lexeme
     ensures { result ≡ lexemes.lexeme_after before c next }
 {
@@ -99,7 +99,7 @@ fn quoted_after(c: u8) -> Lexeme
     }
 }
 
-/// Whether a lexeme begins with a byte of the second kind behind one of the first.
+/// Whether a lexeme begins at a byte of kind `now` after a byte of kind `before`.
 pub fn begins_lexeme(before: Lexeme, now: Lexeme) -> bool
     ensures { result ≡ lexemes.begins_lexeme before now }
 {
@@ -113,7 +113,7 @@ pub fn begins_lexeme(before: Lexeme, now: Lexeme) -> bool
     }
 }
 
-/// Whether a byte is a carriage return that stands alone.
+/// Whether a byte is a carriage return without a line feed.
 pub fn is_lone(now: Lexeme, c: u8) -> bool
     ensures { result ≡ lexemes.is_lone now c }
 {

@@ -1,24 +1,25 @@
-//! Why a rule's text is refused, for the person who writes it: the line and column, what stands
-//! there, and what is expected.
+//! Why a rule's text is refused, for its author: the line and column, what is there, and what is
+//! expected.
 //!
 //! See docs/PROGRAM.md, "check".
 #![tactic(auto)]
 
-// The verdict on a text names a line and a kind of fault, and no more. The rest is asked of the
-// language itself, so that it can't differ from it, and no second grammar stands here.
+// The verdict on a text has only a line and a kind of fault. The rest comes from the parser itself,
+// so it can't differ from the language, and there is no second grammar here.
 //
-// Which lexeme it is: the verdict goes by a text's tokens alone, and lines are told of tokens. So
-// the text is written once more with each lexeme on a line of its own, and the line of its fault
-// is the lexeme's number (`spread.rt`). A lexeme is what a person sees as one, a run of letters or
-// digits, which is a token or several; no token lies in two.
+// Which lexeme: a lexeme is a run of characters that a person sees as one word or number; it is one
+// token or several, and no token is in two lexemes. The verdict depends only on a text's tokens and
+// their lines. So the text is written again with each lexeme on its own line, and the line of its
+// fault is the lexeme's number (`spread.rt`).
 //
-// What may stand there: the text up to the lexeme is tried with each word that the language has,
-// and it is told of which the verdict doesn't say that it is misplaced (`trial.rt`).
+// What is expected: the text up to the lexeme is parsed with each word of the language appended.
+// The words that the verdict doesn't call misplaced are expected (`trial.rt`).
 //
-// A name or a number is judged by what it is behind: `offer`, `flag`, a bracket (`sentence.rt`).
+// A wrong name or number is explained by what comes before it, such as `offer`, `flag` or a bracket
+// (`sentence.rt`).
 //
-// What is shown of the text is shown as it is printed, so that a rule of somebody else writes no
-// line of its own and moves no terminal (`caret.rt`, `quoting.rt`).
+// Parts of the text are escaped for printing. So another person's rule can't start a line of its
+// own or control a terminal (`caret.rt`, `quoting.rt`).
 
 mod caret;
 mod follower;

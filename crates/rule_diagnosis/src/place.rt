@@ -1,11 +1,11 @@
-//! Places of a text, told by the bytes before them.
+//! Places in a text, each given by the bytes before it.
 
 ghost use Rattle.std.specs.Prelude.{◌≡◌, ◌≤◌, ◌+◌, length, take, IfOk, OnOk, string_bytes};
 ghost use Rattle.rule_diagnosis.specs.Places as places;
 
 use std::alloc::{AllocError, Global};
 
-/// At most so many bytes of the front.
+/// The first `count` bytes, or all if there are fewer.
 pub fn front(text: &[u8], count: usize) -> &[u8]
     ensures { result.now ≡ take count text.now }
 {
@@ -39,7 +39,7 @@ pub fn line_at(before: &[u8]) -> usize
     line
 }
 
-/// Blanks for what stands before a place in its line; tabs stay.
+/// Blanks for the characters before a place in its line; tabs are kept.
 pub fn pad_at(alloc: Global, before: &[u8]) -> Result<String, AllocError>
     ensures { IfOk result (λ pad. string_bytes pad ≡ places.pad_at before.now) }
 {

@@ -1,4 +1,4 @@
-//! How a lexeme is told: in quotation marks, or by the number of its first character.
+//! How a lexeme is printed: in quotation marks, or by the code point of its first character.
 
 ghost use Rattle.std.specs.Prelude.{◌≡◌, ◌+◌, ◌*◌, ◌<◌, ◌^◌, OnOk};
 ghost use Rattle.printing.specs.Pushed.{Puts};
@@ -17,7 +17,7 @@ fn continued_by(n: u32, c: u8) -> u32
     n * 64 + u32::from(c % 64)
 }
 
-/// The number of the first character of a text.
+/// The code point of the first character of a text.
 pub fn character_code(text: &[u8]) -> u32
     ensures { result ≡ sentences.character_code text.now }
 {
@@ -63,7 +63,7 @@ fn is_printed(c: u8) -> bool
     b' ' <= c && c <= b'~'
 }
 
-/// A lexeme, or the text's end.
+/// Adds a lexeme, or "the text's end".
 pub fn tell_lexeme(text: &mut String, lexeme: &str) -> Result<(), AllocError>
     ensures { OnOk result (Puts text.old text.new (sentences.lexeme_text lexeme.now)) }
 {

@@ -1,4 +1,4 @@
-//! What is said of a number, a `not` or a parenthesis that is out of its range (L4).
+//! Sentences about a number, a `not` or a parenthesis out of range (L4).
 
 ghost use Rattle.std.specs.Prelude.{◌≡◌, OnOk, option_copied};
 ghost use Rattle.printing.specs.Pushed.{Puts};
@@ -92,7 +92,7 @@ fn tell_range_of(
     }
 }
 
-/// What is said of L4, behind the two lexemes before.
+/// Adds the sentence about an L4; `earlier` and `before` are the two previous lexemes.
 pub fn tell_range(
     text: &mut String,
     shape: &Shape,

@@ -1,5 +1,4 @@
-//! What is said of a lexeme that is no word (L1), a name that isn't there (L3), or out of its range
-//! (L4).
+//! Sentences about an unknown lexeme (L1), an unknown name (L3), or a name of the wrong kind.
 
 ghost use Rattle.std.specs.Prelude.{◌≡◌, OnOk, flat_map};
 ghost use Rattle.printing.specs.Pushed.{Puts};
@@ -13,7 +12,7 @@ use rule_lang::array_named;
 use std::alloc::AllocError;
 use std::fmt::Write;
 
-/// What is said of L1.
+/// Adds the sentence about an L1.
 pub fn tell_token(text: &mut String, found: &str) -> Result<(), AllocError>
     ensures { OnOk result (Puts text.old text.new (sentences.token_sentence found.now)) }
 {
@@ -85,7 +84,7 @@ fn tell_names(text: &mut String, arrays: &[CellArray]) -> Result<(), AllocError>
     }
 }
 
-// Of a name that stands where an array is expected.
+// Adds the sentence about a wrong name of an array.
 fn tell_array(text: &mut String, shape: &Shape, found: &str) -> Result<(), AllocError>
     ensures { OnOk result
         (Puts text.old text.new (sentences.array_sentence shape.now found.now
@@ -105,7 +104,7 @@ fn tell_array(text: &mut String, shape: &Shape, found: &str) -> Result<(), Alloc
     }
 }
 
-/// What is said of L3, behind the lexeme before.
+/// Adds the sentence about an L3; `before` is the previous lexeme.
 pub fn tell_name(
     text: &mut String,
     shape: &Shape,

@@ -1,4 +1,4 @@
-//! A rule's text with each lexeme on a line of its own, and where a lexeme begins in the text.
+//! A rule's text with each lexeme on its own line, and the place of a lexeme in the text.
 
 ghost use Rattle.std.specs.Prelude.{◌≡◌, ◌≤◌, ◌++◌, length, IfOk, OnOk};
 ghost use Rattle.rule_diagnosis.specs.Lexemes as lexemes;
@@ -6,7 +6,7 @@ ghost use Rattle.rule_diagnosis.specs.Lexemes as lexemes;
 use crate::lexeme::{Lexeme, begins_lexeme, byte_at, is_kept, is_lone, lexeme_after};
 use std::alloc::{AllocError, Global};
 
-/// The text with a line end before each lexeme and behind the last.
+/// The text with a line end before each lexeme and after the last.
 pub fn spread(alloc: Global, text: &[u8]) -> Result<Vec<u8>, AllocError>
     ensures { IfOk result (λ v. v.items ≡ lexemes.spread text.now) }
 {
@@ -56,7 +56,7 @@ fn is_here(starts: bool, number: usize) -> bool
     starts && number == 0
 }
 
-/// How many bytes stand before the lexeme of this number, from 0; all, where the text has fewer.
+/// How many bytes come before the lexeme with this number, from 0; all, if there are fewer lexemes.
 pub fn lexeme_start(number: usize, text: &[u8]) -> usize
     ensures start { result ≡ lexemes.lexeme_start number text.now }
     ensures within { result ≤ length text.now }

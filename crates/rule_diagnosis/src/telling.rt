@@ -1,4 +1,4 @@
-//! What is told of a rule's text that is refused.
+//! The message about a refused rule.
 
 ghost use Rattle.std.specs.Prelude.{◌≡◌, ◌↔◌, ◌≤◌, ◌<◌, ℕ, List, Err, length};
 ghost use Rattle.std.specs.Prelude.{IfSome, IsTrue, OnOk, string_bytes};
@@ -21,8 +21,8 @@ use rule_lang::{MOST_RULE, RuleFault, RuleFaultKind, parse};
 use std::alloc::{AllocError, Global};
 use std::str;
 
-/// Explains the fault of a text, of which the line and the kind are known, under the shape of its
-/// app. It gives lines, each ended by a line feed, such as
+/// Explains the fault of a text, from its line and kind, under the shape of its app. The result is
+/// some lines, each ended by a line feed, such as
 ///
 /// ```text
 /// line 1, column 31: "when" stands where ";" is expected
@@ -31,11 +31,11 @@ use std::str;
 /// ```
 ///
 /// Columns are counted in characters from 1. A control character in the line is shown as `\u{1b}`,
-/// except for a tab. Where only a semicolon may come, the place is right after the last word. None
-/// if memory is refused, if the fault isn't this text's, or if the text's words, one to a line, are
-/// more than 65536 bytes.
-// open: that there is an answer: None comes where memory is refused, where the fault isn't this
-// text's, and where its words, a line each, are over 65536 bytes.
+/// except for a tab. If only a semicolon is expected, the place is right after the previous word.
+/// Returns `None` if an allocation fails, if this isn't the text's fault, or if the text's words,
+/// one to a line, are more than 65536 bytes.
+// open: that there is a result: it is None if an allocation fails, if the fault isn't this text's,
+// and if its words, a line each, are over 65536 bytes.
 pub fn tell_rule_fault(
     alloc: Global,
     text: &str,
@@ -83,7 +83,7 @@ fn tell_too_long(alloc: Global, kind: RuleFaultKind) -> Option<String>
     }
 }
 
-/// What is told of a rule's text of more than 65536 bytes: a line, ended by a line feed.
+/// The message about a rule's text of more than 65536 bytes: a line, ended by a line feed.
 #[tactic(auto, unfolding(crate::specs::Told::rule_too_long))]
 pub fn rule_too_long() -> &'static str
     ensures { result.now ≡ specs.rule_too_long }
@@ -91,7 +91,7 @@ pub fn rule_too_long() -> &'static str
     "a rule has at most 65536 bytes\n"
 }
 
-// The row of the lexeme at which a fault of this kind lies; None where it has none.
+// The row of the lexeme with a fault of this kind, or `None`.
 fn row_of(alloc: Global, rows: &str, shape: &Shape, kind: RuleFaultKind) -> Option<usize>
     ensures { IfSome result (λ row. (2 ≤ row)
         × IsVerdict shape.now rows.now (Err (RuleFault.At row kind))) }
@@ -108,7 +108,7 @@ fn is_same(kind: RuleFaultKind, other: RuleFaultKind) -> bool
     kind == other
 }
 
-// Of a token that is misplaced.
+// Explains a misplaced token.
 fn tell_shape(alloc: Global, text: &str, shape: &Shape, rows: &str, row: usize) -> Option<String>
     requires { rows.now ≡ lexemes.spread text.now }
     ensures { IfSome result (λ told. specs.AreLines shape.now text.now RuleFaultKind.Shape row
@@ -143,7 +143,7 @@ fn tell_misplaced(text: &mut String, lexeme: &str, found: &[Follower]) -> Result
     }
 }
 
-// Where a semicolon is missing, behind the lexeme before, else at the lexeme.
+// The end of the previous lexeme if a semicolon is missing; otherwise the lexeme's start.
 fn place_of(text: &str, rows: &str, row: usize, found: &[Follower]) -> usize
     requires { rows.now ≡ lexemes.spread text.now }
     ensures { result ≡ specs.shape_place text.now row found.now }
@@ -156,7 +156,7 @@ fn place_of(text: &str, rows: &str, row: usize, found: &[Follower]) -> usize
     }
 }
 
-// Of a fault of another kind.
+// Explains a fault of another kind.
 fn tell_other(
     alloc: Global,
     text: &str,

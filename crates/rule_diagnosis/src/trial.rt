@@ -1,4 +1,4 @@
-//! The followers of a rule's beginning, by trials of the language itself.
+//! The followers of a rule's beginning, found by parsing trials.
 
 ghost use Rattle.std.specs.Prelude.{◌≡◌, ◌++◌, Err, IfOk, IfSome, OnOk};
 ghost use Rattle.rule_diagnosis.specs.Followers as specs;
@@ -39,7 +39,7 @@ fn stops_by(most: usize, line: usize, kind: RuleFaultKind) -> bool
     }
 }
 
-// Whether it may stand behind the beginning; None where memory is refused.
+// Whether this follower may follow the beginning. Returns `None` if an allocation fails.
 fn may_follow(alloc: Global, shape: &Shape, before: &[u8], follower: Follower) -> Option<bool>
     ensures { IfSome result (specs.IsTried shape.now before.now follower) }
 {
@@ -58,7 +58,7 @@ fn may_follow(alloc: Global, shape: &Shape, before: &[u8], follower: Follower) -
     }
 }
 
-// It, behind others that were found, where it may stand.
+// Adds the follower if it may follow.
 fn add_follower(
     alloc: Global,
     shape: &Shape,
@@ -87,7 +87,7 @@ fn push_if(found: &mut Vec<Follower>, may: bool, follower: Follower) -> Result<(
     Ok(())
 }
 
-// Those of a list that may stand, behind others that were found.
+// Adds the followers of a list that may follow.
 fn add_followers(
     alloc: Global,
     shape: &Shape,
@@ -107,8 +107,8 @@ fn add_followers(
     }
 }
 
-/// What may follow the beginning of a rule, which takes a trial for each follower; None if memory
-/// is refused.
+/// What may follow the beginning of a rule, with one trial for each follower. Returns `None` if an
+/// allocation fails.
 pub fn followers_of(alloc: Global, shape: &Shape, before: &[u8]) -> Option<Vec<Follower>>
     ensures { IfSome result (λ v. specs.AreFollowers shape.now before.now v.items) }
 {

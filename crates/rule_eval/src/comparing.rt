@@ -31,7 +31,7 @@ fn compare(left: u64, right: u64) -> Ordering
     left.cmp(&right)
 }
 
-/// Whether a number compares so with another.
+/// Whether the comparison holds between two numbers.
 pub fn compares_so(comparison: Comparison, left: u64, right: u64) -> bool
     ensures { result ≡ meaning.allows comparison (nat_cmp left right) }
 {
@@ -45,7 +45,7 @@ fn compare_place(v: [u32; 4], w: [u32; 4], place: usize) -> Ordering
     compare(v[place] as u64, w[place] as u64)
 }
 
-/// How two versions compare: by their four numbers, in their order.
+/// Compares two versions by their four numbers, in order.
 pub fn compare_versions(v: [u32; 4], w: [u32; 4]) -> Ordering
     ensures { result ≡ meaning.version_cmp v w }
 {

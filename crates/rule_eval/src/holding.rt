@@ -28,8 +28,8 @@ fn remainder(modulus: Option<u32>, number: u64) -> u64
     }
 }
 
-/// The number that a test of the bucket compares: the app's bucket, or that under the salt; with a
-/// modulus its remainder, and with modulus 0 the number itself.
+/// The number that a test of the bucket compares: the app's bucket, or its bucket under the salt;
+/// with a modulus the remainder, and with modulus 0 the number itself.
 pub fn bucket_tested(attrs: &Attrs, salt: Option<u64>, modulus: Option<u32>) -> u64
     ensures { result ≡ meaning.remainder modulus (meaning.bucket_by attrs.now salt) }
 {
@@ -45,8 +45,8 @@ fn quota_of(array: Option<&CellArray>) -> u64
     }
 }
 
-/// The quota of the first array of a name: how many takes a cell of it grants. It is 0 if the array
-/// has none, and if no array has the name.
+/// The quota of the first array with this name: how many takes each cell grants. It is 0 if the
+/// array has no quota, or if there is no such array.
 pub fn quota_named(shape: &Shape, name: &str) -> u64
     ensures { result ≡ shapes.quota_of (shapes.array_named name.now shape.now.arrays) }
 {

@@ -1,13 +1,12 @@
-//! The evaluator of tests: whether a test of a rule holds for an app, and what it read.
+//! The evaluator of tests: whether a test of a rule holds for an app, and which value it read.
 //!
 //! See docs/RULES.md.
 #![tactic(auto)]
 
-// It is for those who look at a rule test by test, and don't run its program. Each contract is the
-// meaning of rules itself (`rule_lang/specs/Meaning.antt`), so this crate has no definitions.
+// It is for tools that evaluate a rule test by test, without running its program. Each contract is
+// the meaning of rules itself (`rule_lang/specs/Meaning.antt`), so this crate has no definitions.
 //
-// A test that takes holds by what its cell replied. So the caller says which reply that is, and
-// what becomes of the cell is the caller's.
+// A take holds by its cell's reply. The caller passes that reply, and updates the cell itself.
 
 mod comparing;
 mod holding;

@@ -1,4 +1,4 @@
--- What each phrase of a condition adds to it.
+-- The effect of each phrase of a condition on its steps.
 use Rattle.std.proofs.Common.{◌≡◌, ℕ, suc, ◌+◌, ◌-◌, List, [], ◌∷◌, ◌++◌, replicate}
 use Rattle.std.proofs.Common.{Bool, true, false, if◌then◌else◌}
 use Rattle.std.proofs.Common.{sym, ap, ◌∙◌, append_assoc, append-nil, arith}
@@ -9,7 +9,7 @@ use Rattle.rule_lang.specs.Reader.Drafts.{Pending, frame, and_step, or_step}
 use Rattle.rule_lang.specs.Says.{steps_of}
 use Rattle.rule_lang.specs.Trees.{Tree, Negated, Both, Either}
 
--- ---- what phrases add
+-- ---- effects of phrases
 
 pub record AddsFact (p : Pending) (c : Tree) (q : Pending) : Type 0 where
   pub steps : q.steps ≡ ((p.steps ++ steps_of c) ++ replicate p.top.nots step.Not) ++ and_step p.top
@@ -27,7 +27,7 @@ pub record AddsCond (p : Pending) (c : Tree) (q : Pending) : Type 0 where
   pub both : q.top.and ≡ false
   pub depth : q.depth ≡ p.depth
 
--- `not`, and the fact that it denies
+-- `not` and its operand
 pub negated : (p q r : Pending) (c : Tree) → q.steps ≡ p.steps → q.top ≡ frame (p.top.nots + 1)
     p.top.and p.top.or → q.depth ≡ p.depth + 1 → AddsFact q c r → AddsFact p (Negated c) r
 negated p q r c steps top depth h =

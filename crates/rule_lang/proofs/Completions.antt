@@ -1,4 +1,4 @@
--- From each place of the machine some tokens complete a rule.
+-- In each state of the machine some tokens complete a rule.
 use Rattle.std.proofs.Common.{◌≡◌, ℕ, zero, suc, List, [], ◌∷◌, ◌++◌, Option, Some, Ok, Err}
 use Rattle.std.proofs.Common.{Bool, true, if◌then◌else◌, refl, sym, ap, ◌∙◌, subst}
 use Rattle.rule_lang.specs.declared.phrase.Want.{Want}
@@ -45,7 +45,7 @@ unfolding filler
 taken_filler (want.Keyword k) = same_word k
 taken_filler w = refl
 
--- with each part that may be left out
+-- with each optional part
 abbrev fill : Phrase → List Placed → List Placed
 fill Ends ts = ts
 fill (Needs w ws) ts = on 0 (filler w) ∷ fill ws ts
@@ -112,7 +112,7 @@ completion x =
       };
     }
 
--- where the machine goes on, the tokens so far begin a rule
+-- if the machine takes all tokens so far, they are the beginning of a rule
 pub begun : (before : List Placed) (x : State) → runs start before ≡ Some x → g.Begins before
 begun before x is =
     let c = completion x in

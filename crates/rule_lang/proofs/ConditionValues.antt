@@ -1,4 +1,4 @@
--- What a condition is read to means what the tree of its tokens means.
+-- The condition that the reader makes equals the tree of its tokens.
 use Rattle.std.proofs.Common.{◌≡◌, ℕ, ◌+◌, List, ◌∷◌, Ok, refl, ap, ◌∙◌}
 use Rattle.cells.specs.Arrays.{AppShape}
 use Rattle.rule_lang.specs.declared.draft.Mode.TheVariants as mode

@@ -1,4 +1,4 @@
--- Each text has a verdict: a phrase that is read leaves fewer tokens, so reading ends.
+-- Each text has a verdict: reading a phrase leaves fewer tokens, so reading ends.
 use Rattle.std.proofs.Common.{◌≡◌, ◌⊎◌, ◌≤◌, ◌<◌, ℕ, zero, suc, List, [], ◌∷◌, length, Option, Some}
 use Rattle.std.proofs.Common.{None, Ok, Err, Bool, true, false, inl, inr, refl, ap, arith, subst}
 use Rattle.std.proofs.Math.Dec.{leb}
@@ -35,7 +35,7 @@ use Rattle.rule_lang.proofs.Machine.{tail}
 use Rattle.rule_lang.proofs.ReadOn.{done_is}
 use Rattle.rule_lang.proofs.Takes.{one_taken}
 
--- ---- what a phrase leaves
+-- ---- tokens after a phrase
 
 abbrev Fewer : List Placed → Draft × List Placed → Type 0
 Fewer ts q = length q.1 < length ts

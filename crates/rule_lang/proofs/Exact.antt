@@ -1,4 +1,4 @@
--- Words, flags and attributes are found by their own texts, and by no others.
+-- Words, flags and attributes are found by their own texts and by no others.
 use Rattle.std.proofs.Common.{◌≡◌, ℕ, List, [], ◌∷◌, Option, Some, IfSome}
 use Rattle.std.proofs.Common.{Bool, true, false, cond, refl, ap, ◌∙◌, subst}
 use Rattle.std.proofs.lemmas.Slice.Eq.{bytes_eq-Decides}
@@ -14,7 +14,7 @@ use Rattle.rule_lang.specs.declared.keyword.Keyword.{Keyword}
 use Rattle.rule_lang.specs.declared.keyword.Keyword.TheVariants as keyword
 use Rattle.rule_lang.specs.Words.{keyword_text, all_keywords, keyword_named, AreExact}
 
--- ---- what is found has the text
+-- ---- a found word has the text
 
 by_test : {A : Type 0} (p : A → Bool) (x : A) (rest : Option A) (b : Bool)
     → p x ≡ b → IfSome rest (λ y. p y ≡ true) → IfSome (cond b (Some x) rest) (λ y. p y ≡ true)
@@ -44,7 +44,7 @@ attribute_found : (w : List ℕ) (a : Attribute) → attribute_named w ≡ Some 
 unfolding attribute_named
 attribute_found w a e = found attribute_text all_attributes w a e
 
--- ---- each is found: a computation a word, the last line of a list for each that is left in turn
+-- ---- each word is found by computation; the last line of a list covers the words not listed above
 
 keyword_is_found : (k : Keyword) → keyword_named (keyword_text k) ≡ Some k
 unfolding keyword_named

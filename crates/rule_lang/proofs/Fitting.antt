@@ -1,4 +1,4 @@
--- A rule that is read fits its shape: each of its parts does.
+-- A rule that was read fits its shape, since each of its parts does.
 use Rattle.std.proofs.Common.{◌≡◌, ℕ, zero, suc, List, [], ◌∷◌, ◌++◌, replicate, Option, Some, None}
 use Rattle.std.proofs.Common.{Ok, Err, Bool, true, false, if◌then◌else◌, refl, ◌∙◌}
 use Rattle.std.specs.Cmp.Derive.{both_true}
@@ -18,7 +18,7 @@ use Rattle.rule_lang.specs.Reader.Reading.{Draft, with_fault_if, counted, with_t
 use Rattle.rule_lang.specs.Reader.Reading.{unless_noted}
 use Rattle.rule_lang.proofs.FittingParts.{release_is, IfRead}
 
--- ---- what a rule so far keeps
+-- ---- the invariant of a draft
 
 pub record Fitting (s : AppShape) (d : Draft) : Type 0 where
   pub statements : list_all (statement_fits s) d.statements ≡ true

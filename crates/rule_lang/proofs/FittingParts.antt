@@ -1,4 +1,5 @@
--- What is read of tests and statements fits the shape: arrays, indexes and releases were asked for.
+-- Tests and statements that were read fit the shape, which was checked for their arrays, indexes
+-- and releases.
 use Rattle.std.proofs.Common.{◌≡◌, ℕ, ◌+◌, List, [], ◌∷◌}
 use Rattle.std.proofs.Common.{Option, Some, None}
 use Rattle.std.proofs.Common.{Ok, Err, Bool, true, false, if◌then◌else◌, refl, sym, ap, ◌∙◌, subst}
@@ -44,7 +45,7 @@ named_is name (b ∷ rest) a is = by_name (bytes_eq b.name name) refl (λ h. nam
     by_name false e go =
         go (ap (λ (t : Bool). if t then Some b else array_named name rest) (sym e) ∙ is)
 
--- an array that a name finds is found by its own name
+-- an array that is found by a name is also found by its own
 named_again : (name : List ℕ) (arrays : List CellArray) (a : CellArray)
     → array_named name arrays ≡ Some a → array_named a.name arrays ≡ Some a
 named_again name arrays a is =
@@ -97,9 +98,9 @@ release_is s p k h =
     let b = bound (number p) (λ n. within (is_release s) p n) k h in
     within_is (is_release s) p b.value k b.after
 
--- ---- what is read fits
+-- ---- values that were read
 
--- of what is read, where nothing is wrong with it
+-- the predicate holds unless there is a fault
 abbrev pub IfRead : {A : Type 0} → (A → Bool) → OrFault A → Type 0
 IfRead holds (Ok x) = holds x ≡ true
 IfRead holds (Err e) = Unit {0}
@@ -139,13 +140,13 @@ take_fits s ts = each (test_fits s) (array s true (part ts 2)) (λ a. index a (p
     (test.Take a.name i)) (λ i k. takes s a i (array_found s true (part ts 2) a h) (index_is a (part
     ts 4) i k)))
 
--- every other test does
+-- all other tests fit
 free : {A : Type 0} (s : AppShape) (o : OrFault A) (f : A → Test) → ((x : A) → test_fits s (f x)
     ≡ true) → IfRead (test_fits s) (o >>? λ x. Ok (f x))
 free s (Ok x) f h = h x
 free s (Err e) f h = tt
 
--- one number of three
+-- the last of three numbers
 free_third : {A B C : Type 0} (s : AppShape) (o : OrFault A) (p : OrFault B) (q : OrFault C)
     (f : A → B → C → Test) → ((x : A) (y : B) (z : C) → test_fits s (f x y z) ≡ true)
     → IfRead (test_fits s) (o >>? λ x. p >>? λ y. q >>? λ z. Ok (f x y z))

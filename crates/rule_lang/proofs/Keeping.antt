@@ -1,4 +1,4 @@
--- Each phrase leaves a rule that is read sound, and some of the tokens.
+-- Each phrase keeps a draft sound, and leaves some of the tokens.
 use Rattle.std.proofs.Common.{◌≡◌, ℕ, suc, zero, ◌+◌, ◌-◌, ◌≤◌, List, [], ◌∷◌, ◌++◌, length, drop}
 use Rattle.std.proofs.Common.{Option, Some, None, Ok, Err, Bool, true, false, if◌then◌else◌, refl}
 use Rattle.std.proofs.Common.{sym, ap, ◌∙◌, arith, subst}
@@ -100,7 +100,7 @@ behind_rest (Maybe w given without) (t ∷ ts) rest h =
     maybe_by given without t ts rest (takes w t.token) h (behind_rest given ts rest)
     (behind_rest without (t ∷ ts) rest)
 
--- ---- what each phrase keeps
+-- ---- the invariant after a phrase
 
 pub record Keeps (ts : List Placed) (q : Draft × List Placed) : Type 0 where
   pub sound : IsSound q.0

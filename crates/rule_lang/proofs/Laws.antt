@@ -1,4 +1,4 @@
--- The verdict of a reader's run is that of the grammar, and no text has two.
+-- The reader's verdict is that of the grammar, and no text has two.
 use Rattle.std.proofs.Common.{◌≡◌, ◌≤◌, inr, List, [], ◌∷◌, ◌++◌, length, Ok, Err, Bool, true}
 use Rattle.std.proofs.Common.{false, refl, sym, ap, ◌∙◌, arith, subst, append_assoc}
 use Rattle.cells.specs.Arrays.{AppShape}
@@ -49,13 +49,13 @@ reads_once s d ts v w (goes_on {e = e} {rest = us} o h r) (goes_on {e = f} {rest
     let same = same_ok (f, xs) (e, us) (sym k ∙ h) in
     reads_once s e us v w r (subst (λ (p : Draft × List Placed). Reads s p.0 p.1 w) same q)
 
--- ---- one place of L2
+-- ---- at most one place for L2
 
 begins_before : (xs ys : List Placed) → Begins (xs ++ ys) → Begins xs
 begins_before xs ys (more, r) =
     (ys ++ more, subst (λ (ts : List Placed). IsRule ts) (append_assoc xs ys more) r)
 
--- where a list leaves what is closed under beginnings
+-- the place at which a list leaves a prefix-closed set is unique
 left_once : (In : List Placed → Type 0) → ((xs ys : List Placed) → In (xs ++ ys) → In xs)
     → (b c a d : List Placed) (p q : Placed) → b ++ (p ∷ a) ≡ c ++ (q ∷ d) → In b → In c
     → (In (b ++ (p ∷ [])) → ⊥) → (In (c ++ (q ∷ [])) → ⊥) → p ≡ q

@@ -1,5 +1,5 @@
--- A phrase that the reader reads is a way of the machine, and a token that it refuses stops the
--- machine.
+-- The reader and the machine agree: the machine takes a phrase that the reader reads, and stops at
+-- a token that the reader refuses.
 use Rattle.std.proofs.Common.{◌≡◌, ℕ, ◌⊎◌, inl, inr, List, [], ◌∷◌, ◌++◌, length}
 use Rattle.std.proofs.Common.{Option, Some, None, Ok, Err, Bool, true, false, if◌then◌else◌}
 use Rattle.std.proofs.Common.{refl, sym, ap, ◌∙◌, subst}
@@ -22,7 +22,7 @@ use Rattle.rule_lang.proofs.Machine.{State}
 use Rattle.rule_lang.proofs.Machine.{state, place_step, wants_step, step, runs}
 use Rattle.rule_lang.proofs.StepsBack.{same_word}
 
--- ---- the place of a rule so far
+-- ---- the machine's state for a draft
 
 abbrev pub place_of : Mode → (parentheses : ℕ) → Place
 place_of mode.Statement n = AtStatement
@@ -113,7 +113,7 @@ is_last Ends = true
 is_last (Needs w ws) = false
 is_last (Maybe w given without) = false
 
--- the text's end is wanted last of all, if at all; and a part that may be left out isn't the last
+-- the text's end comes last, if at all, and an optional part isn't last
 abbrev pub ends_well : Bool → Phrase → Bool
 ends_well b Ends = true
 ends_well b (Needs w ws) = if takes w token.End then b && is_last ws else ends_well b ws
@@ -170,7 +170,7 @@ passed w ws l p ts well fits h = by_test (takes w token.End) refl well
         by_end (inl is) = let wrong : true ≡ false = sym fits ∙ ap (takes w) is ∙ e in absurd cc
         by_end (inr later) = later
 
--- a phrase's first token is taken
+-- the machine takes a phrase's first token
 needs_went : (w : Want) (ws : Phrase) (l : Place) (p : Placed) (ts : List Placed)
     (o : OrFault (List Placed)) → takes w p.token ≡ true → LedBehind (state ws l) l ts o
     → LedBehind (state (Needs w ws) l) l (p ∷ ts) o
@@ -193,7 +193,7 @@ needs_went w ws l p ts (Err f) e k = record {
   fault = k.fault;
 }
 
--- the machine in front of a part that may be left out, with the part or without it
+-- the machine at an optional part, with the part or without it
 abbrev maybe_step : Bool → (given without : Phrase) → Place → Token → Option State
 maybe_step b given without l t = if b then Some (state given l) else wants_step without l t
 
@@ -223,7 +223,7 @@ abbrev last_in : Option State → Bool
 last_in None = true
 last_in (Some x) = is_last x.wants
 
--- what is left of a phrase isn't nothing
+-- the rest of the phrase isn't empty
 some_front : (without : Phrase) (l : Place) (front : List Placed) → is_last without ≡ false
     → runs (state without l) front ≡ Some (state Ends l) → front ≡ [] → ⊥
 some_front without l front more way none = absurd (never (ap last_in (sym (ap (runs (state
@@ -232,7 +232,7 @@ some_front without l front more way none = absurd (never (ap last_in (sym (ap (r
     never : is_last without ≡ true → ⊥
     never e = let wrong : true ≡ false = sym e ∙ more in cc
 
--- without it the first token goes the same way
+-- without the part the first token leads the same way
 way_without : (w : Want) (given without : Phrase) (l : Place) (p q : Placed)
     (ts front rest : List Placed) (o : Option State) → takes w p.token ≡ false
     → p ∷ ts ≡ (q ∷ front) ++ rest → runs (state without l) (q ∷ front) ≡ o
@@ -297,7 +297,7 @@ left_went w given without l p ts (Err f) e more k =
     stuck_without w given without l p k.first ts k.before k.after k.y f e k.whole k.way k.stop
     k.fault
 
--- what `ends_well` says of a part that may be left out
+-- `ends_well` for an optional part
 record MaybeWell (b : Bool) (w : Want) (given without : Phrase) : Type 0 where
   goes_on : takes w token.End ≡ false
   more : is_last without ≡ false
@@ -322,7 +322,7 @@ maybe_well b w given without h =
       left = three.1;
     }
 
--- a token that isn't the end leaves the end behind it
+-- after a token other than the end, the end is still to come
 end_left : (w : Want) (p : Placed) (ts : List Placed) → takes w token.End ≡ false
     → takes w p.token ≡ true → HasEnd (p ∷ ts) → HasEnd ts
 end_left w p ts no_end fits (inl is) =
@@ -370,7 +370,7 @@ led_to : (x : State) (l : Place) (ts : List Placed) (e : Draft) (o : OrFault (Li
 led_to x l ts e (Ok rest) is h = subst (λ (y : State). IsLed x ts y rest) (sym is) h
 led_to x l ts e (Err f) is h = h
 
--- what a phrase leads to, once the rule so far is this
+-- the result of a phrase that leads to this draft
 abbrev pub phrase_next : Phrase → List Placed → Draft → Next
 phrase_next ws ts e = behind ws ts >>? λ rest. Ok (e, rest)
 
@@ -381,12 +381,12 @@ pub rest_led : (ws : Phrase) (l : Place) (ts : List Placed) (e : Draft)
 rest_led ws l ts e well is h =
     led_to (state ws l) l ts e (behind ws ts) is (behind_led ws l ts well (before_of ws l ts h))
 
--- whether a phrase's first token is taken or not
+-- the result of a phrase, by whether its first token is accepted
 abbrev next_if : Bool → Phrase → Placed → List Placed → Draft → Next
 next_if b ws p ts e =
     (if b then behind ws ts else Err (misplaced p.line)) >>? λ rest. Ok (e, rest)
 
--- a phrase whose first token is taken
+-- a phrase whose first token is accepted
 pub first_led : (x y : State) (w : Want) (ws : Phrase) (p : Placed) (after : List Placed)
     (e : Draft) → takes w p.token ≡ true → step x p.token ≡ Some y
     → Led y after (phrase_next ws after e)
@@ -405,7 +405,7 @@ past t p ts is no_end (inl end) =
     let wrong : true ≡ false = ap is_end_token (sym end ∙ is) ∙ no_end in absurd cc
 past t p ts is no_end (inr later) = later
 
--- a phrase by its first word
+-- a phrase that begins with a word
 pub phrase_led : (k : Keyword) (ws : Phrase) (l m : Place) (p : Placed) (after : List Placed)
     (e : Draft) → p.token ≡ token.Keyword k → place_step l (token.Keyword k) ≡ Some (state ws m)
     → state_of e ≡ state Ends m → ends_well (is_end m) ws ≡ true → HasEnd (p ∷ after)

@@ -9,7 +9,7 @@ use Rattle.rule_lang.specs.declared.token.Token.TheVariants as token
 use Rattle.rule_lang.specs.Lexed.{Placed, Lexed, on, ahead, after_piece, lexed}
 use Rattle.rule_lang.specs.Tokens as tokens
 
--- the bytes of the piece before can be taken away
+-- the remaining bytes of the previous piece can be dropped
 passed_over : (n line : ℕ) (s : List ℕ) → lexed n line s ≡ lexed 0 line (drop n s)
 passed_over zero line [] = refl
 passed_over (suc n) line [] = refl
@@ -20,7 +20,7 @@ ahead_twice : (ts us : List Placed) (l : Lexed) → ahead ts (ahead us l) ≡ ah
 ahead_twice ts us (Ok vs) = ap (λ (xs : List Placed). Ok xs) (sym (append_assoc ts us vs))
 ahead_twice ts us (Err e) = refl
 
--- what is read of a text that begins with a piece
+-- reading a text that begins with a piece
 pub first_piece : (all rest : List ℕ) (c line : ℕ) (o : Option tokens.Piece) → all ≡ c ∷ rest
     → o ≡ tokens.piece_of all c rest → lexed 0 line all ≡ after_piece line o (λ n l. lexed (n -
     1) l rest)
@@ -78,7 +78,7 @@ at_end text all ts us line so_far empty more =
     so_far ∙ ap (λ (s : List ℕ). ahead ts (lexed 0 line s)) (is_empty all empty)
     ∙ ap (λ (xs : List Placed). Ok xs) (sym more)
 
--- a line more for a byte less
+-- each new line uses up a byte
 pub fewer : (all rest back : List ℕ) (c n line most : ℕ) → line + length all ≤ most
     → all ≡ c ∷ rest → back ≡ drop (n - 1) rest → line + 1 + length back ≤ most
 fewer all rest back c n line most h whole e =

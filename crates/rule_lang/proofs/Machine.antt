@@ -1,5 +1,5 @@
--- A machine that takes the tokens of a rule one by one: which may stand next, and what goes on from
--- there by the grammar.
+-- A machine that takes the tokens of a rule one by one: which tokens may come next, and how the
+-- grammar continues from there.
 use Rattle.std.proofs.Common.{◌≡◌, ℕ, zero, suc, List, [], ◌∷◌, ◌++◌, Option, Some, None, Ok}
 use Rattle.std.proofs.Common.{if◌then◌else◌, refl}
 use Rattle.std.specs.Option.{option_and_then}
@@ -15,14 +15,14 @@ use Rattle.rule_lang.specs.Tokens.{Token}
 
 -- ---- the machine
 
--- how many parentheses are open
+-- the number of open parentheses
 pub data Place : Type 0 where
   AtStatement : Place
   AtFact : (parentheses : ℕ) → Place
   AtOperator : (parentheses : ℕ) → Place
   AtEnd : Place
 
--- behind a part of a phrase: what is still wanted of it, and the place behind it
+-- within a phrase: the rest of the phrase, and the place after it
 pub record State : Type 0 where
   pub wants : Phrase
   pub place : Place
@@ -40,7 +40,7 @@ tail ws = ws
 abbrev pub phrase : Phrase → Place → Option State
 phrase ws l = Some (state (tail ws) l)
 
--- behind the first word of a test
+-- after the first word of a test
 abbrev pub test_step : (parentheses : ℕ) → Option TestKind → Option State
 test_step n None = None
 test_step n (Some k) = Some (state (rest_phrase k) (AtOperator n))
@@ -86,16 +86,16 @@ pub runs_append : (x : State) (xs ys : List Placed)
 runs_append x [] ys = refl
 runs_append x (p ∷ xs) ys = runs_by (step x p.token) xs ys (λ y. runs_append y xs ys)
 
--- ---- what goes on from a place
+-- ---- continuations of a place
 
--- more of a term, or of a condition, whatever it began with
+-- the rest of a term, or of a condition, for every beginning
 abbrev pub TermGoesOn : List Placed → List Placed → Type 0
 TermGoesOn ts rest = (front : List Placed) → g.IsTerm front ts → g.IsTerm front rest
 
 abbrev pub CondGoesOn : List Placed → List Placed → Type 0
 CondGoesOn ts rest = (front : List Placed) → g.IsCond front ts → g.IsCond front rest
 
--- the rest of a condition, and then what stands behind it
+-- the rest of a condition, and what follows it
 pub record IsRestOfCond (Then : List Placed → Type 0) (ts : List Placed) : Type 0 where
   pub mid : List Placed
   pub end : List Placed
@@ -112,7 +112,7 @@ pub data IsClosed (Then : List Placed → Type 0) : List Placed → Type 0 where
   closed : {p : Placed} {ts : List Placed} → p.token ≡ token.Close → Then ts
       → IsClosed Then (p ∷ ts)
 
--- behind a fact inside so many parentheses
+-- after a fact inside n parentheses
 abbrev pub Follows : ℕ → List Placed → Type 0
 Follows zero ts = IsRestOfCond IsOffered ts
 Follows (suc n) ts = IsRestOfCond (λ us. IsClosed (λ vs. Follows n vs) us) ts

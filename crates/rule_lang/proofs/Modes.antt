@@ -1,4 +1,4 @@
--- Each phrase in each mode of the reader is a way of the machine, or stops it.
+-- In each mode of the reader, the machine takes a phrase that the reader reads, or stops.
 use Rattle.std.proofs.Common.{◌≡◌, ℕ, zero, suc, ◌-◌, List, [], ◌∷◌, ◌++◌, length}
 use Rattle.std.proofs.Common.{Option, Some, None, Ok, Err, Bool, true, false}
 use Rattle.std.proofs.Common.{refl, ap, ◌∙◌}
@@ -70,7 +70,7 @@ pub condition_noted : (b : Bool) (e : RuleFault) (d : Draft)
 condition_noted true e d = refl
 condition_noted false e d = refl
 
--- a test by its first word
+-- a test that begins with a word
 kind_well : (k : TestKind) → ends_well false (rest_phrase k) ≡ true
 kind_well the_kind.Version = refl
 kind_well k = refl
@@ -87,7 +87,7 @@ test_led s d k p after is h =
     phrase_led (row k).word (rest_phrase k) (AtFact n) (AtOperator n) p after e is (word_step n k)
     there (kind_well k) h
 
--- a test, or a token with which none begins
+-- a test, or a token that begins none
 kind_led : (s : AppShape) (d : Draft) (t : Token) (o : Option TestKind) (p : Placed)
     (after : List Placed) → kind_of t ≡ o → p.token ≡ t
     → place_step (AtFact (length d.condition.below)) t ≡ test_step (length d.condition.below) o

@@ -1,5 +1,5 @@
--- What a rule so far keeps of a phrase that says a tree or a fault: the first fault, and where
--- there is none, what the phrase adds to the condition.
+-- What a draft keeps of a phrase whose value is a tree or a fault: the first fault, and without one
+-- what the phrase adds to the condition.
 use Rattle.std.proofs.Common.{◌≡◌, ℕ, ◌+◌, ◌≤◌}
 use Rattle.std.proofs.Common.{Option, Some, None, Ok, Err, Bool, true, false, if◌then◌else◌, refl}
 use Rattle.std.proofs.Common.{sym, ap, ◌∙◌, subst, arith}
@@ -12,7 +12,7 @@ use Rattle.rule_lang.specs.Reader.Reading.{Draft, first_of, with_fault_if, too_d
 use Rattle.rule_lang.specs.Says as says
 use Rattle.rule_lang.specs.Trees.{Tree}
 
--- ---- what is kept
+-- ---- the draft after a phrase
 
 abbrev pub Adds : Type 1
 Adds = Tree → Pending → Type 0
@@ -22,13 +22,13 @@ Noted (Some x) v adds e = e.noted ≡ Some x
 Noted None (Err x) adds e = e.noted ≡ Some x
 Noted None (Ok c) adds e = (e.noted ≡ None) × adds c e.condition
 
--- of another value, where no fault was noted before
+-- for another value, if no fault was noted before
 pub revalued : (o : Option RuleFault) (v w : OrFault Tree) (adds : Adds) (e : Draft)
     → (o ≡ None → v ≡ w) → Noted o v adds e → Noted o w adds e
 revalued (Some x) v w adds e same h = h
 revalued None v w adds e same h = subst (λ (u : OrFault Tree). Noted None u adds e) (same refl) h
 
--- of a later rule so far
+-- for a later draft
 pub readded : (o : Option RuleFault) (v : OrFault Tree) (adds more : Adds) (e f : Draft)
     → f.noted ≡ e.noted → (o ≡ None → (c : Tree) → adds c e.condition → more c f.condition)
     → Noted o v adds e → Noted o v more f
@@ -56,7 +56,7 @@ joined_none (Ok a) (Ok b) k adds also both e f go h g =
     h.0 g in
     (later.0, go a b h.1 later.1)
 
--- one phrase, and then another
+-- one phrase, followed by another
 pub joined : (o : Option RuleFault) (v w : OrFault Tree) (k : Tree → Tree → Tree)
     (adds also both : Adds) (e f : Draft)
     → (o ≡ None → (a b : Tree) → adds a e.condition → also b f.condition
@@ -77,7 +77,7 @@ was_clean (Some x) v adds e none h = let wrong : Some x ≡ None = sym h ∙ non
 was_clean None (Err x) adds e none h = let wrong : Some x ≡ None = sym h ∙ none in absurd cc
 was_clean None (Ok c) adds e none h = record { clean = refl; tree = c; added = h.1 }
 
--- ---- openers
+-- ---- `not` and `(`
 
 pub first_if : Bool → Option RuleFault → RuleFault → Option RuleFault
 first_if true o x = first_of o x
@@ -100,7 +100,7 @@ turned : {A : Type 0} (t : Bool) (a b : A) → (if not t then a else b) ≡ (if 
 turned true a b = refl
 turned false a b = refl
 
--- the fault of an opener comes before what it opens
+-- the fault of an opener counts before faults of what it opens
 pub opener_noted : (d : Draft) (depth : ℕ) (p : Placed) (v : OrFault Tree) (adds : Adds) (e : Draft)
     → (d.noted ≡ None → d.condition.depth ≡ depth)
     → Noted (with_fault_if (too_deep d) (out_of_range p) d).noted v adds e
@@ -131,7 +131,7 @@ shallow_by false x d is h = record { clean = h; below = unturned (nat_lt d.condi
     unturned true k = refl
     unturned false k = absurd cc
 
--- where nothing is noted behind an opener, it was none too many
+-- if nothing is noted after an opener, it wasn't too deep
 pub shallow : (d : Draft) (p : Placed)
     → (with_fault_if (too_deep d) (out_of_range p) d).noted ≡ None → IsShallow d
 shallow d p h = shallow_by (too_deep d) (out_of_range p) d refl h

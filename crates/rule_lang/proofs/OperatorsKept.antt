@@ -1,4 +1,4 @@
--- Behind a fact, each operator leaves a rule that is read sound, and some of the tokens.
+-- After a fact, each operator keeps a draft sound, and leaves some of the tokens.
 use Rattle.std.proofs.Common.{◌≡◌, ℕ, ◌+◌, ◌-◌, List, [], ◌∷◌, ◌++◌, None, Ok, Bool, true, false}
 use Rattle.std.proofs.Common.{refl, sym, ap, arith, subst}
 use Rattle.cells.specs.Arrays.{AppShape}
@@ -34,7 +34,7 @@ joined_trees p h =
     let w = all_waiting p.below in
     recount p.steps (1 + ((one_if p.top.and + o) + w)) ((1 + o) + w) (omega (arith, no_and)) h.trees
 
--- the trees once a term has ended
+-- the trees after the end of a term
 term_trees : (p : Pending) → IsSoundAfter p → HasTrees (p.steps ++ or_step p.top) (1 +
     all_waiting p.below)
 term_trees p h =

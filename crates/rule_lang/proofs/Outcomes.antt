@@ -1,4 +1,4 @@
--- What a reader reads of whole tokens is a rule, or its first token with which no rule goes on.
+-- All tokens of a text are a rule, or have a first token that no rule continues with.
 use Rattle.std.proofs.Common.{◌≡◌, ℕ, zero, suc, ◌+◌, ◌-◌, ◌⊎◌, inl, inr, List, [], ◌∷◌, ◌++◌}
 use Rattle.std.proofs.Common.{length}
 use Rattle.std.proofs.Common.{Option, Some, None, Ok, Err, true, false, refl, sym, ap, ◌∙◌}
@@ -27,7 +27,7 @@ use Rattle.rule_lang.proofs.Machine.{AtStatement, AtEnd, State, state, runs, sta
 use Rattle.rule_lang.proofs.Machine.{runs_append, Completes, CompletesIf}
 use Rattle.rule_lang.proofs.StepsBack.{runs_back, here}
 
--- ---- the end stands behind all tokens
+-- ---- `End` is the last token
 
 more_ends : (ts : List Placed) (us : List Placed) → HasEnd us → HasEnd (ts ++ us)
 more_ends [] us h = h

@@ -1,4 +1,4 @@
--- Each phrase adds to a rule so far only what fits the shape.
+-- Each phrase adds to a draft only what fits the shape.
 use Rattle.std.proofs.Common.{◌≡◌, ℕ, ◌-◌, List, [], ◌∷◌, ◌++◌, Option, Some, None, Ok, Bool, true}
 use Rattle.std.proofs.Common.{false, refl, ap, ◌∙◌, subst}
 use Rattle.std.specs.List.{list_all}
@@ -50,7 +50,7 @@ again s d e same_statements same_steps h = record {
   steps = ap (list_all (step_fits s)) same_steps ∙ h.steps;
 }
 
--- with the same statements
+-- with unchanged statements
 anew : (s : AppShape) (d e : Draft) → e.statements ≡ d.statements → StepsFit s e.condition
     → Fitting s d → Fitting s e
 anew s d e same_statements steps h = record {

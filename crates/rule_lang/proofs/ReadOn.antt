@@ -1,5 +1,5 @@
--- Each step of the reader keeps a rule sound and leaves some of its tokens, and so does the
--- reading as a whole.
+-- Each step of the reader keeps a draft sound and leaves some of the tokens, and so does reading as
+-- a whole.
 use Rattle.std.proofs.Common.{◌≡◌, ℕ, suc, zero, ◌-◌, List, [], ◌∷◌, length, drop, Option, Some}
 use Rattle.std.proofs.Common.{None, Ok, Err, true, false, refl, sym, ap, ◌∙◌, subst, ◌⊎◌, inl, inr}
 use Rattle.cells.specs.Arrays.{AppShape}
@@ -60,7 +60,7 @@ rest_of_rest : (a b c : List Placed) → IsRest a b → IsRest b c → IsRest a 
 rest_of_rest a b c r all = r
 rest_of_rest a b (t ∷ c) r (later q) = later (rest_of_rest a b c r q)
 
--- a phrase at a place, and the place behind it
+-- a phrase at a place, and the place after it
 pub next_place : (s : AppShape) (d e : Draft) (tokens rest back : List (the_placed.Placed Bytes))
     (place : ℕ) → IsSound d → rest ≡ drop place tokens
     → next s d (placed_all rest) ≡ Ok (e, placed_all back)
@@ -87,7 +87,7 @@ pub sound_next : (s : AppShape) (d e : Draft) (ts rest : List Placed) → IsSoun
     → next s d ts ≡ Ok (e, rest) → IsSound e
 sound_next s d e ts rest sound h = (next_keeps s d ts (e, rest) sound h).sound
 
--- ---- how reading ends
+-- ---- the end of reading
 
 pub done_is : (m : Mode) → is_done m ≡ true → m ≡ mode.Done
 done_is mode.Done h = refl

@@ -1,4 +1,4 @@
--- What the tokens of a rule say is what the reader makes of them.
+-- The reader makes the rule that its tokens spell.
 use Rattle.std.proofs.Common.{◌≡◌, ℕ, List, [], ◌∷◌, ◌++◌, Option, Some, None, Ok, Err}
 use Rattle.std.proofs.Common.{refl, sym, ap, ◌∙◌, subst, append_assoc, append-nil}
 use Rattle.cells.specs.Arrays.{AppShape}
@@ -34,7 +34,7 @@ use Rattle.rule_lang.proofs.ConditionValues.{cond_reads}
 
 -- ---- statements
 
--- what a rule so far keeps of a statement
+-- what a draft keeps of a statement
 abbrev Stated : Option RuleFault → OrFault Statement → List Statement → Draft → Type 0
 Stated (Some x) v before e = e.noted ≡ Some x
 Stated None (Err x) before e = e.noted ≡ Some x
@@ -155,7 +155,7 @@ otherwise_back s d (p ∷ ts) rest m h w k =
     going_on s d mode.Statement p ts (e, rest) w m refl (ap (λ (t : Token). statement_next s d t
     p.line (p ∷ ts) ts) is ∙ ap (λ (x : OrFault (List Placed)). x >>? λ us. Ok (e, us)) h) k
 
--- what is told in the end, from a rule so far and what the rest says
+-- the verdict, from a draft and the value of the rest
 abbrev told : Option RuleFault → List Statement → OrFault (List Statement)
     → OrFault (List Statement)
 told (Some x) before v = Err x

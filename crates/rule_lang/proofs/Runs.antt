@@ -16,7 +16,7 @@ run_first : (p : ℕ → Bool) (x : ℕ) (xs : List ℕ) (n : ℕ) (b : Bool) �
 run_first p x xs n true is h = (is, grind (arith, is, h))
 run_first p x xs n false is h = grind (arith, is, h)
 
--- the front of a run of ASCII is ASCII
+-- a prefix of a run of ASCII is ASCII
 ascii_run : (p : ℕ → Bool) → AreAscii p → (xs : List ℕ) (n : ℕ) → n ≤ prefix_len p xs
     → IsAscii (take n xs)
 ascii_run p h xs zero le i = grind arith
@@ -37,7 +37,7 @@ pub run_is_utf8 : (k : Class) (xs : List ℕ) (n : ℕ) → is_ascii k ≡ true
 run_is_utf8 k xs n h le = IsUtf8-from_ascii (take n xs) (ascii_run (is_in k) (are_ascii k h) xs n
     le)
 
--- a run, behind its first bytes
+-- a run, after its first bytes
 pub run_behind : (p : ℕ → Bool) (xs : List ℕ) (n : ℕ) → n ≤ prefix_len p xs
     → prefix_len p xs ≡ n + prefix_len p (drop n xs)
 run_behind p xs zero le = omega arith

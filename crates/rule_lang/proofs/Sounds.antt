@@ -1,4 +1,4 @@
--- The steps of a rule that is read make as many trees as are still to be joined.
+-- The steps of a draft form one tree for each waiting operand.
 use Rattle.std.proofs.Common.{◌≡◌, ℕ, suc, zero, ◌+◌, List, [], ◌∷◌, ◌++◌, length, replicate}
 use Rattle.std.proofs.Common.{Option, Some, None, Bool, true, false, if◌then◌else◌, refl, sym, ap}
 use Rattle.std.proofs.Common.{◌∙◌, arith, append_assoc, append-nil, subst}
@@ -23,7 +23,7 @@ trees_append : (xs ys : List Step) (ts : List Tree)
 trees_append [] ys ts = refl
 trees_append (s ∷ xs) ys ts = trees_by xs ys (with_step s ts) (λ us. trees_append xs ys us)
 
--- trees, and what more steps make of them
+-- trees, followed by more steps
 more : (xs ys : List Step) (ts us : List Tree) → trees_from [] xs ≡ Some ts
     → trees_from ts ys ≡ Some us → trees_from [] (xs ++ ys) ≡ Some us
 more xs ys ts us h e = trees_append xs ys [] ∙ ap (option_and_then (λ vs. trees_from vs ys)) h ∙ e
@@ -79,7 +79,7 @@ or_on xs n (b ∷ a ∷ ts) h e = record {
   count = omega (arith, e);
 }
 
--- an `and` or an `or` that ends
+-- the end of an `and` or an `or`
 and_ended : (xs : List Step) (b : Bool) (m : ℕ) → HasTrees xs (1 + (one_if b + m))
     → HasTrees (xs ++ (if b then step.And ∷ [] else [])) (1 + m)
 and_ended xs true m h = let e = h.count in and_on xs m h.trees h.made (omega (arith, e))
@@ -111,7 +111,7 @@ one_tree xs [] h e = absurd (omega (arith, e))
 one_tree xs (c ∷ []) h e = (c, h)
 one_tree xs (c ∷ b ∷ ts) h e = absurd (omega (arith, e))
 
--- a whole condition
+-- a complete condition
 pub ends_whole : (p : Pending) → IsSoundAfter p → p.below ≡ []
     → IsCondition (p.steps ++ or_step p.top)
 ends_whole p h empty =

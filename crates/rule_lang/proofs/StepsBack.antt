@@ -1,4 +1,5 @@
--- What goes on behind a step of the machine goes on before it.
+-- If tokens complete a rule after a step of the machine, the step's token and these complete it
+-- before the step.
 use Rattle.std.proofs.Common.{◌≡◌, ℕ, zero, suc, List, [], ◌∷◌, ◌++◌, Option, Some, None, Ok, Err}
 use Rattle.std.proofs.Common.{Bool, true, false, if◌then◌else◌, refl, sym, ap, ◌∙◌, subst}
 use Rattle.std.specs.Prelude.{◌==◌}
@@ -59,7 +60,7 @@ word_if (Some k) = (row k).word
 abbrev pub word_token : Option TestKind → Token
 word_token o = token.Keyword (word_if o)
 
--- a token with which a test begins is the first word of its kind
+-- a token that begins a test is the first word of its kind
 pub kind_word : (t : Token) (k : TestKind) → kind_of t ≡ Some k → t ≡ token.Keyword (row k).word
 kind_word (token.Keyword keyword.Version) k h = ap word_token h
 kind_word (token.Keyword keyword.Bucket) k h = ap word_token h
@@ -70,21 +71,21 @@ kind_word (token.Keyword keyword.Attr) k h = ap word_token h
 kind_word (token.Keyword keyword.Take) k h = ap word_token h
 kind_word t k h = absurd cc
 
--- and the machine goes on behind it
+-- the machine continues after it
 pub word_step : (n : ℕ) (k : TestKind)
     → place_step (AtFact n) (token.Keyword (row k).word)
     ≡ Some (state (rest_phrase k) (AtOperator n))
 word_step n the_kind.Version = refl
 word_step n k = refl
 
--- ---- a step back
+-- ---- one step back
 
 taken : (w : Want) (ws : Phrase) (p : Placed) (ts rest : List Placed) → takes w p.token ≡ true
     → behind ws ts ≡ Ok rest → behind (Needs w ws) (p ∷ ts) ≡ Ok rest
 taken w ws p ts rest is h =
     ap (λ (b : Bool). if b then behind ws ts else Err (misplaced p.line)) is ∙ h
 
--- a word, which is a phrase's first token
+-- a word as a phrase's first token
 pub worded : (k : Keyword) (ws : Phrase) (p : Placed) (ts rest : List Placed)
     → p.token ≡ token.Keyword k → behind ws ts ≡ Ok rest
     → behind (Needs (want.Keyword k) ws) (p ∷ ts) ≡ Ok rest
@@ -116,7 +117,7 @@ parted Then p ts rest is f c = record {
   more = c.more;
 }
 
--- nothing more of the condition
+-- the condition ends here
 pub whole : (Then : List Placed → Type 0) (ts : List Placed) → Then ts → IsRestOfCond Then ts
 whole Then ts h = record {
   mid = ts;
@@ -156,7 +157,7 @@ offered p ts is f =
     let c : IsRestOfCond IsOffered f.rest = f.more in
     g.stmt (g.when is (cond_of IsOffered ts f.rest f.fact c) c.more.offer) c.more.rule
 
--- a test by its first word
+-- a test that begins with a word
 tested : (n : ℕ) (k : TestKind) (p : Placed) (ts : List Placed)
     → p.token ≡ token.Keyword (row k).word → Completes (state (rest_phrase k) (AtOperator n)) ts
     → IsFactAhead n (p ∷ ts)
@@ -227,7 +228,7 @@ needs_back true w ws l p ts e h = record {
 }
 needs_back false w ws l p ts e h = absurd h
 
--- what stands behind a part that may be left out
+-- what follows an optional part
 abbrev pub given_or : Bool → (given without : Phrase) → Placed → List Placed
     → OrFault (List Placed)
 given_or b given without p ts = if b then behind given ts else behind without (p ∷ ts)

@@ -20,7 +20,7 @@ use Rattle.rule_lang.proofs.Machine.{state, tail, place_step, wants_step, step, 
 use Rattle.rule_lang.proofs.Machine.{runs_append}
 use Rattle.rule_lang.proofs.StepsBack.{one_word, word_step, given_or}
 
--- ---- rules are taken
+-- ---- the machine takes rules
 
 pub record IsTaken (w : Want) (ws : Phrase) (ts rest : List Placed) : Type 0 where
   pub first : Placed
@@ -45,7 +45,7 @@ one_taken w ws (p ∷ ts) rest h = by_test (takes w p.token) refl
     by_test false e = absurd (no_ok (misplaced p.line) rest (sym (ap (λ (b : Bool). if b then
         behind ws ts else Err (misplaced p.line)) e) ∙ h))
 
--- with a part that may be left out
+-- with an optional part
 given_runs : (b : Bool) (w : Want) (given without : Phrase) (l : Place) (p : Placed)
     (ts rest : List Placed) → takes w p.token ≡ b
     → (behind given ts ≡ Ok rest → runs (state given l) ts ≡ runs (state Ends l) rest)
@@ -75,7 +75,7 @@ one_runs : (l : Place) (x : State) (p : Placed) (ts : List Placed)
     → place_step l p.token ≡ Some x → runs (state Ends l) (p ∷ ts) ≡ runs x ts
 one_runs l x p ts is = ap (option_and_then (λ y. runs y ts)) is
 
--- a phrase, of which the machine takes the first token where it stands
+-- a phrase whose first token the machine takes in this state
 first_runs : (w : Want) (ws us : Phrase) (l m : Place) (ts rest : List Placed)
     → ((t : Token) → takes w t ≡ true → place_step l t ≡ Some (state us m))
     → behind (Needs w ws) ts ≡ Ok rest → ((after : List Placed) → behind ws after ≡ Ok rest
@@ -91,7 +91,7 @@ pub token_is : (k : Keyword) (t : Token) → takes (want.Keyword k) t ≡ true �
 token_is k (token.Keyword l) h = ap (λ (m : Keyword). token.Keyword m) (sym (one_word k l h))
 token_is k t h = absurd cc
 
--- a phrase by its first word
+-- a phrase that begins with a word
 word_runs : (k : Keyword) (ws : Phrase) (l m : Place) (ts rest : List Placed)
     → place_step l (token.Keyword k) ≡ Some (state ws m)
     → behind (Needs (want.Keyword k) ws) ts ≡ Ok rest
@@ -152,7 +152,7 @@ rule_runs (g.otherwise {ts = ts} {rest = rest} h) =
     ∙ end_runs rest
 rule_runs (g.stmt x r) = statement_runs x ∙ rule_runs r
 
--- where the machine doesn't go on, no rule does
+-- if the machine stops, no rule continues
 pub stuck : (before : List Placed) (p : Placed) (x : State) → runs start before ≡ Some x
     → step x p.token ≡ None → g.Begins (before ++ (p ∷ [])) → ⊥
 stuck before p x so_far stop (more, rule) =

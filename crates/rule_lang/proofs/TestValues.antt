@@ -1,4 +1,4 @@
--- What the tokens of a test say is what the reader makes of them.
+-- The reader makes the test that its tokens spell.
 use Rattle.std.proofs.Common.{◌≡◌, ℕ, List, ◌∷◌, Option, Some}
 use Rattle.std.proofs.Common.{None}
 use Rattle.std.proofs.Common.{Ok, Err, Bool, true, false, if◌then◌else◌, refl, ap, ◌∙◌}
@@ -39,7 +39,7 @@ going_on s d m p after q w is going h r =
     goes_on {e = q.0} {rest = q.1} (ap is_done is ∙ going) (ap (λ (k : Mode). next_in s d k p (p ∷
     after) after) is ∙ h) r
 
--- what is reached behind a part of a condition that says a tree or a fault
+-- the draft after a part of a condition whose value is a tree or a fault
 pub record Reached (s : AppShape) (d : Draft) (ts : List Placed) (v : OrFault Tree) (adds : Adds)
     (rest : List Placed) : Type 0 where
   pub last : Draft
@@ -68,7 +68,7 @@ first_taken w ws p ts rest h = by_test (takes w p.token) refl h
 abbrev pub after_test : (d : Draft) (line : ℕ) → OrFault Test → Draft
 after_test d line o = in_mode mode.Operator (with_test line o d)
 
--- a test by its first word
+-- a test that begins with a word
 kind_next : (s : AppShape) (d : Draft) (k : TestKind) (p : Placed) (ts : List Placed)
     → fact_next s d (token.Keyword (row k).word) p (p ∷ ts) ts
     ≡ test_next s d p.line (Some k) (p ∷ ts)

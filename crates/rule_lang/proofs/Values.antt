@@ -1,4 +1,4 @@
--- What the tokens of a condition say is what the reader makes of them.
+-- The reader makes the condition that its tokens spell.
 use Rattle.std.proofs.Common.{◌≡◌, ℕ, ◌+◌, ◌-◌, ◌≤◌, List, ◌∷◌, ◌++◌, Option, None, Ok, true, false}
 use Rattle.std.proofs.Common.{refl, sym, ap, ◌∙◌, subst, arith}
 use Rattle.std.specs.Prelude.{nat_lt}
@@ -20,7 +20,7 @@ use Rattle.rule_lang.proofs.Modes.{condition_noted}
 use Rattle.rule_lang.proofs.Noted.{Noted, was_clean, IsShallow, shallow, one_deeper, nots_below}
 use Rattle.rule_lang.proofs.Adds.{AddsFact, AddsTerm, AddsCond, negated}
 
--- ---- where a part of a condition begins
+-- ---- the beginning of a part of a condition
 
 pub record IsAtFact (d : Draft) (depth : ℕ) : Type 0 where
   pub place : d.mode ≡ mode.Fact
@@ -53,7 +53,7 @@ term_of_cond d depth h = record {
   both = λ none. ap (λ (f : Frame). f.and) (h.top none);
 }
 
--- ---- openers
+-- ---- `not` and `(`
 
 abbrev pub noted_opener : Draft → Placed → Draft
 noted_opener d p = with_fault_if (too_deep d) (out_of_range p) d
@@ -117,7 +117,7 @@ not_adds d depth p q c at none h =
     (nots_not d depth p at low) ∙ ap (λ (x : Pending). frame (d.condition.top.nots + 1) x.top.and
     x.top.or) same) (deep_not d p low) h
 
--- ---- the second part behind `and` and `or`
+-- ---- the second operand, after `and` and `or`
 
 abbrev pub behind_and : Draft → Draft
 behind_and d = in_mode mode.Fact (with_condition (joined d.condition) d)

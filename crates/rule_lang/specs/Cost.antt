@@ -1,5 +1,5 @@
--- The cost of a rule, which bounds the slots of its program: 8, and 8 a statement, and 48 a test.
--- `otherwise none` isn't counted.
+-- The cost of a rule, which bounds the slots of its program: 8, plus 8 for each statement, plus 48
+-- for each test. `otherwise none` isn't counted.
 use Rattle.std.specs.Prelude.{ℕ, ◌+◌, ◌*◌, List, [], ◌∷◌, length}
 use Rattle.rule_lang.specs.declared.condition.Step.{Step}
 use Rattle.rule_lang.specs.declared.condition.Step.TheVariants.{Test}
@@ -16,6 +16,6 @@ tests_of [] = 0
 tests_of (Count name index ∷ rest) = tests_of rest
 tests_of (When steps release ∷ rest) = tests_in steps + tests_of rest
 
--- 8, and 8 a statement, and 48 a test
+-- 8, plus 8 for each statement, plus 48 for each test
 abbrev pub cost : List Statement → ℕ
 cost rule = 8 + 8 * length rule + 48 * tests_of rule

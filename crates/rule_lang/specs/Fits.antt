@@ -1,5 +1,5 @@
--- A rule fits a shape, by names: each array is there, with a quota exactly for `take`, each index
--- is below its array's length, and each release is one of the shape's.
+-- Whether a rule fits a shape: each array exists by its name, with a quota only for `take`, each
+-- index is below its array's length, and the shape has each release.
 use Rattle.std.specs.Prelude.{ℕ, Bool, true, false, ◌&&◌, not, nat_le, nat_lt}
 use Rattle.std.specs.Prelude.{List, Option, Some, None, is_some}
 use Rattle.std.specs.List.{list_all}
@@ -13,12 +13,12 @@ use Rattle.rule_lang.specs.declared.test.Test as the_test
 use Rattle.rule_lang.specs.declared.test.Test.TheVariants as test
 use Rattle.rule_lang.specs.Shapes.{array_named}
 
--- the array is there, with a quota, and has the cell
+-- the array exists, has a quota, and has the cell
 abbrev pub can_take : Option CellArray → (index : ℕ) → Bool
 can_take (Some a) index = is_some a.quota && nat_lt index a.length
 can_take None index = false
 
--- the array is there, without a quota, and has the cell
+-- the array exists, has no quota, and has the cell
 abbrev pub can_count : Option CellArray → (index : ℕ) → Bool
 can_count (Some a) index = not (is_some a.quota) && nat_lt index a.length
 can_count None index = false
@@ -38,6 +38,6 @@ abbrev pub statement_fits : AppShape → Statement → Bool
 statement_fits s (Count name index) = can_count (array_named name s.arrays) index
 statement_fits s (When steps release) = list_all (step_fits s) steps && is_release s release
 
--- each array, index and release that a rule names is one of the shape's
+-- the shape has each array, index and release that a rule names
 abbrev pub fits : AppShape → List Statement → Bool
 fits s rule = list_all (statement_fits s) rule

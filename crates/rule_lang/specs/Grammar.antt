@@ -1,5 +1,5 @@
 -- The grammar of rules over a text's tokens, production by production. `IsFact ts rest` says that
--- the tokens ts begin with a fact, and that rest is what stands behind it; so with the others.
+-- the tokens ts begin with a fact and that rest follows it; the other relations are alike.
 --
 --   rule = { stmt } "otherwise" "none" ";"
 --   stmt = "count" name "[" num "]" ";" | "when" cond "offer" num ";"
@@ -10,8 +10,8 @@
 --        | "today" rel num | "installed" rel num | "flag" name
 --        | "attr" name "is" text | "take" "(" name "," num ")"
 --
--- The words of the grammar aren't names, but for `version` after `attr`; `mod` is one, wherever a
--- name may stand.
+-- The words of the grammar aren't names, except `version` after `attr`. `mod` is a name wherever
+-- names are allowed.
 use Rattle.std.specs.Prelude.{◌≡◌, List, ◌∷◌, ◌++◌, Ok}
 use Rattle.rule_lang.specs.declared.keyword.Keyword.TheVariants as keyword
 use Rattle.rule_lang.specs.declared.test_table.TestKind.{TestKind}
@@ -20,11 +20,11 @@ use Rattle.rule_lang.specs.Lexed.{Placed}
 use Rattle.rule_lang.specs.Phrases.{Phrase, behind, count_phrase, offer_phrase, otherwise_phrase}
 use Rattle.rule_lang.specs.Tests.{test_phrase}
 
--- a phrase: one token for each of its places, in their order
+-- a phrase: one token for each of its places, in order
 abbrev pub IsPhrase : Phrase → List Placed → List Placed → Type 0
 IsPhrase p ts rest = behind p ts ≡ Ok rest
 
--- a test of some kind, as the table of tests has it
+-- a test of some kind, by the table of tests
 pub data IsTest : List Placed → List Placed → Type 0 where
   of : (k : TestKind) → {ts rest : List Placed} → IsPhrase (test_phrase k) ts rest
       → IsTest ts rest
@@ -52,11 +52,11 @@ pub data IsStatement : List Placed → List Placed → Type 0 where
   when : {p : Placed} {ts mid rest : List Placed} → p.token ≡ token.Keyword keyword.When
       → IsCond ts mid → IsPhrase offer_phrase mid rest → IsStatement (p ∷ ts) rest
 
--- the last phrase takes the text's end, too, behind which nothing stands
+-- the last phrase includes the text's end, which is the last token
 pub data IsRule : List Placed → Type 0 where
   otherwise : {ts rest : List Placed} → IsPhrase otherwise_phrase ts rest → IsRule ts
   stmt : {ts rest : List Placed} → IsStatement ts rest → IsRule rest → IsRule ts
 
--- with more tokens behind them these are a rule
+-- some tokens after these complete a rule
 abbrev pub Begins : List Placed → Type 0
 Begins ts = (more : List Placed) × IsRule (ts ++ more)

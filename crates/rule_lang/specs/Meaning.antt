@@ -1,5 +1,5 @@
 -- What a rule means: a choice, or additions to cells and a choice by their replies. A condition is
--- asked from left to right, until it is decided; so its meaning is what comes next.
+-- evaluated from left to right until it is decided, so its meaning takes two continuations.
 use Rattle.std.specs.Prelude.{◌≡◌, ℕ, ◌<◌, ◌^◌, ◌%◌, List, [], ◌∷◌, Option, Some, None}
 use Rattle.std.specs.Prelude.{slice_index}
 use Rattle.std.specs.Prelude.{Bool, true, false, not, nat_lt, ◌==◌, bit_and, if◌then◌else◌}
@@ -25,7 +25,7 @@ use Rattle.rule_lang.specs.Trees.{Tree, Asked, Negated, Both, Either, trees_from
 
 -- ---- numbers and versions
 
--- which orders a comparison allows
+-- the orderings that a comparison allows
 abbrev pub allows : Comparison → Ordering → Bool
 allows Lt Less = true
 allows Le Less = true
@@ -38,34 +38,34 @@ allows Ge Greater = true
 allows Gt Greater = true
 allows r o = false
 
--- by the number at a place
+-- compares the numbers at index k
 abbrev pub place_cmp : List ℕ → List ℕ → ℕ → Ordering
 place_cmp v w k = nat_cmp (slice_index v k) (slice_index w k)
 
--- the four numbers are compared in their order
+-- the four numbers are compared in order
 abbrev pub version_cmp : List ℕ → List ℕ → Ordering
 version_cmp v w =
     ordering_then (place_cmp v w 0)
     (ordering_then (place_cmp v w 1) (ordering_then (place_cmp v w 2) (place_cmp v w 3)))
 
--- the bucket, or that of a salt's own
+-- the bucket, or the bucket under a salt
 abbrev pub bucket_by : Attributes → (salt : Option ℕ) → ℕ
 bucket_by a None = a.context.bucket
 bucket_by a (Some salt) = bucket_of a salt
 
--- the whole number, or its remainder by a modulus
+-- the whole number, or its remainder
 abbrev pub remainder : (modulus : Option ℕ) → ℕ → ℕ
 remainder None n = n
 remainder (Some m) n = n % m
 
 -- ---- behaviours
 
--- it chooses, or it asks a cell and goes on by the reply
+-- it makes a choice, or sends an operation to a cell and continues by the reply
 pub data Behaviour : Type 0 where
   Chooses : ℕ → Behaviour
   Asks : (cell : ℕ) → CellOp → (ℕ → Behaviour) → Behaviour
 
--- these events, whatever their replies, are what it does, and it ends with the choice
+-- with any replies, these are its events, and it ends with this choice
 abbrev pub HasTrace : Behaviour → List CellEvent → ℕ → Type 0
 HasTrace (Chooses k) [] choice = k ≡ choice
 HasTrace (Chooses k) (e ∷ es) choice = ⊥
@@ -75,7 +75,7 @@ HasTrace (Asks cell op next) (e ∷ es) choice =
 
 -- ---- tests and conditions
 
--- whether a test holds; a take by what its cell replied
+-- whether a test holds; for a take, by the cell's reply
 abbrev pub test_holds : Attributes → AppShape → (reply : ℕ) → the_test.Test → Bool
 test_holds a s reply (test.Version r w) = allows r (version_cmp a.context.version w)
 test_holds a s reply (test.Bucket salt modulus r n) =
@@ -86,30 +86,30 @@ test_holds a s reply (test.Flag f) = not (bit_and a.context.flags (flag_bit f) =
 test_holds a s reply (test.Attr n text) = attr_is a (attribute_number n) text == 1
 test_holds a s reply (test.Take name index) = nat_lt reply (quota_of (array_named name s.arrays))
 
--- the cell that a test asks: only a take asks one
+-- the cell that a test uses: only a take uses one
 abbrev pub cell_asked : AppShape → the_test.Test → Option ℕ
 cell_asked s (test.Take name index) = Some (cell_of (array_named name s.arrays) index)
 cell_asked s t = None
 
--- one Add of 1 to the cell, and what comes by its reply; without a cell that is 0
+-- one Add of 1 to the cell, and the continuation on its reply; without a cell the reply is 0
 abbrev pub asks_then : Option ℕ → (ℕ → Behaviour) → Behaviour
 asks_then (Some cell) next = Asks cell (Add 1) next
 asks_then None next = next 0
 
--- what comes where a test holds, or where it doesn't
+-- a test with the continuations if it holds and if it fails
 abbrev pub test_then : Attributes → AppShape → the_test.Test → Behaviour → Behaviour → Behaviour
 test_then a s t met unmet =
     asks_then (cell_asked s t) (λ reply. if test_holds a s reply t then met else unmet)
 
--- a condition, from left to right, until it is decided: what comes where it holds, and where it
--- doesn't
+-- a condition, evaluated from left to right until it is decided, with the continuations if it holds
+-- and if it fails
 abbrev pub decide : Attributes → AppShape → Tree → Behaviour → Behaviour → Behaviour
 decide a s (Asked line t) met unmet = test_then a s t met unmet
 decide a s (Negated c) met unmet = decide a s c unmet met
 decide a s (Both b c) met unmet = decide a s b (decide a s c met unmet) unmet
 decide a s (Either b c) met unmet = decide a s b met (decide a s c met unmet)
 
--- the steps of a condition make one tree
+-- the steps of a condition form one tree
 abbrev pub decide_one : Attributes → AppShape → Option (List Tree) → Behaviour → Behaviour
     → Behaviour
 decide_one a s (Some (c ∷ [])) met unmet = decide a s c met unmet
@@ -120,7 +120,7 @@ decide_steps a s steps met unmet = decide_one a s (trees_from [] steps) met unme
 
 -- ---- rules
 
--- the statements in their order, and then `otherwise none`, which chooses 0
+-- the statements in order, and then `otherwise none`, which chooses 0
 abbrev pub behaviour : Attributes → AppShape → List Statement → Behaviour
 behaviour a s [] = Chooses 0
 behaviour a s (Count name index ∷ rest) =

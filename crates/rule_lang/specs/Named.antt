@@ -1,4 +1,4 @@
--- What the reader's tokens stand for: their texts are the bytes that they point to.
+-- The reader's tokens with their texts, the bytes that they borrow.
 use Rattle.std.specs.Prelude.{◌≡◌, ℕ, List, [], ◌∷◌, ◌++◌, map, Result, Ok, Err}
 use Rattle.std.specs.Borrow.{Bor}
 use Rattle.rule_lang.specs.declared.draft.Draft as the_draft
@@ -44,18 +44,18 @@ placed_named p = on p.line (token_named p.token)
 abbrev pub placed_all : List (the_placed.Placed Bytes) → List Placed
 placed_all tokens = map placed_named tokens
 
--- one token more behind those before
+-- adds one token at the end
 abbrev pub AddsToken : List (the_placed.Placed Bytes) → ℕ → the_token.Token Bytes
     → List (the_placed.Placed Bytes) → Type 0
 AddsToken before line t after =
     placed_all after ≡ placed_all before ++ (on line (token_named t) ∷ [])
 
--- an array that is lent
+-- a borrowed array
 abbrev pub array_given : Result (Bor CellArray) RuleFault → Result CellArray RuleFault
 array_given (Ok a) = Ok a.now
 array_given (Err e) = Err e
 
--- a condition that is read
+-- a pending condition, with its vectors as lists
 abbrev pub seen : the_pending.Pending → Pending
 seen p = record { steps = p.steps.items; below = p.below; top = p.top; depth = p.depth }
 

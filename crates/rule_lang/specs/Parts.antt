@@ -1,5 +1,5 @@
--- What the tokens of a phrase say: numbers within their limits (or L4), and names that are known
--- (or L3). The fault has the line of its token.
+-- The values of a phrase's tokens: numbers within their limits (or L4), and known names (or L3). A
+-- fault has the line of its token.
 use Rattle.std.specs.Prelude.{ℕ, List, [], Option, Some, None, is_some, Result, Ok, Err}
 use Rattle.std.specs.Prelude.{ok_or, slice_index_or}
 use Rattle.std.specs.Prelude.{Bool, true, false, nat_le, nat_lt, if◌then◌else◌}
@@ -37,7 +37,7 @@ unknown p = At p.line kind.Name
 abbrev pub out_of_range : Placed → RuleFault
 out_of_range p = At p.line kind.Range
 
--- the token at a place of a phrase
+-- the token at place k of a phrase
 abbrev pub part : List Placed → ℕ → Placed
 part ts k = slice_index_or ts k (on 0 token.End)
 
@@ -48,7 +48,7 @@ text_of (token.Version w) = w
 text_of (token.Text w) = w
 text_of t = []
 
--- of a token that is one
+-- the comparison of a token
 abbrev pub comparison_of : Token → Comparison
 comparison_of (token.Comparison r) = r
 comparison_of t = comparisons.Eq
@@ -61,14 +61,14 @@ comparison p = comparison_of p.token
 abbrev pub salt : Placed → OrFault ℕ
 salt p = ok_or (magnitude 10 (text_of p.token)) (out_of_range p)
 
--- a number for which a test holds
+-- a number that satisfies a predicate
 abbrev pub within : (ℕ → Bool) → Placed → ℕ → OrFault ℕ
 within holds p n = if holds n then Ok n else Err (out_of_range p)
 
 abbrev pub number : Placed → OrFault ℕ
 number p = salt p >>? λ n. within (λ n. nat_le n 4294967295) p n
 
--- what a bucket is divided by
+-- the divisor of a bucket
 abbrev pub modulus : Placed → OrFault ℕ
 modulus p = number p >>? λ n. within (λ n. nat_le 1 n) p n
 
@@ -90,7 +90,7 @@ abbrev pub attribute_by : Placed → Token → OrFault Attribute
 attribute_by p (token.Keyword keyword.Version) = Ok attributes.Version
 attribute_by p t = ok_or (attribute_named (text_of t)) (unknown p)
 
--- the word `version` is the name of an attribute, too
+-- the word `version` is also the name of an attribute
 abbrev pub attribute : Placed → OrFault Attribute
 attribute p = attribute_by p p.token
 
@@ -103,6 +103,6 @@ abbrev pub array_if : Bool → Placed → Option CellArray → OrFault CellArray
 array_if quota p (Some a) = if same (is_some a.quota) quota then Ok a else Err (unknown p)
 array_if quota p None = Err (unknown p)
 
--- the array of a name, which has a quota or has none
+-- the array with this name, which must have a quota if the flag is set, and none otherwise
 abbrev pub array : AppShape → Bool → Placed → OrFault CellArray
 array s quota p = array_if quota p (array_named (text_of p.token) s.arrays)

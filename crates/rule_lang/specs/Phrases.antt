@@ -1,5 +1,5 @@
--- Phrases: tokens that stand in one order, as the grammar writes them in a row; and what may stand
--- at each of their places.
+-- Phrases: sequences of tokens, some of them optional, as the grammar writes them, and what each of
+-- their places accepts.
 use Rattle.std.specs.Prelude.{ℕ, ◌+◌, List, [], ◌∷◌, Result, Ok, Err}
 use Rattle.std.specs.Prelude.{Bool, true, false, if◌then◌else◌}
 use Rattle.std.specs.Str.{bytes_eq}
@@ -16,14 +16,14 @@ use Rattle.rule_lang.specs.Words.{same_keyword, modulus_word}
 
 -- ---- phrases
 
--- what is wanted next: nothing more; a token; or a token that may be left out with all of its part,
--- and what is wanted behind it and without it
+-- what comes next: nothing; a token; or an optional part by its first token, with what follows with
+-- the part and without it
 pub data Phrase : Type 0 where
   Ends : Phrase
   Needs : Want → Phrase → Phrase
   Maybe : Want → (given without : Phrase) → Phrase
 
--- the places of a phrase, of which `[ "(" num ")" ]` and `[ "mod" num ]` are one each
+-- the places of a phrase; `[ "(" num ")" ]` and `[ "mod" num ]` are one place each
 abbrev pub phrase_of : List Want → Phrase
 phrase_of [] = Ends
 phrase_of (want.Salt ∷ ws) =
@@ -61,9 +61,9 @@ otherwise_phrase =
     want.Keyword keyword.Otherwise ∷ want.Keyword keyword.None ∷ want.Semicolon ∷ want.End ∷ []
     )
 
--- ---- what may stand
+-- ---- accepted tokens
 
--- a token at a place, or at the beginning of a part that may be left out
+-- whether a token may come at a place, or begin it if the place is an optional part
 abbrev pub takes : Want → Token → Bool
 takes (want.Keyword k) (token.Keyword l) = same_keyword k l
 takes want.Name (token.Name w) = true
@@ -85,12 +85,12 @@ takes want.Close token.Close = true
 takes want.End token.End = true
 takes w t = false
 
--- a token with which no rule goes on
+-- the fault of a token that no rule continues with
 abbrev pub misplaced : (line : ℕ) → RuleFault
 misplaced line = fault.At line kind.Shape
 
--- the tokens behind a phrase, or its first token that is misplaced; a part that may be left out is
--- there where its first token is. `End` stands behind all tokens, and no phrase goes on behind it.
+-- the tokens after a phrase, or its first misplaced token; an optional part is present if its first
+-- token is. `End` is the last token, and no phrase continues after it.
 abbrev pub behind : Phrase → List Placed → Result (List Placed) RuleFault
 behind Ends ts = Ok ts
 behind (Needs w ws) [] = Err (misplaced 0)

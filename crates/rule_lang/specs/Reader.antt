@@ -1,5 +1,4 @@
--- What the reader makes of a rule, phrase by phrase: its own account, which the grammar is proved
--- to agree with.
+-- How the reader reads a rule, phrase by phrase. The grammar is proved to agree with it.
 pub mod Drafts
 pub mod Reading
 pub mod Sound

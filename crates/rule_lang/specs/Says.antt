@@ -1,5 +1,5 @@
--- What a rule's tokens say for a shape, by the productions that they are read by: its statements,
--- or the fault of the first name that isn't known (L3) or number out of its range (L4).
+-- The value of a rule's tokens for a shape, by their productions: its statements, or the first
+-- unknown name (L3) or number out of range (L4).
 use Rattle.std.specs.Prelude.{ℕ, ◌+◌, nat_lt, false, List, [], ◌∷◌, ◌++◌, Ok, Err, if◌then◌else◌}
 use Rattle.cells.specs.Arrays.{AppShape}
 use Rattle.rule_lang.specs.declared.condition.Step.{Step}
@@ -13,16 +13,16 @@ use Rattle.rule_lang.specs.Parts.{OrFault, ◌>>?◌, part, array, index, releas
 use Rattle.rule_lang.specs.Tests as tests
 use Rattle.rule_lang.specs.Trees.{Tree, Asked, Negated, Both, Either}
 
--- the test that the productions say, or the first name or number that is wrong
+-- the test of the productions, or the first wrong name or number
 abbrev pub test_says : AppShape → {ts rest : List Placed} → g.IsTest ts rest → OrFault Test
 test_says s (g.of k {ts = ts} h) = (tests.row k).says s ts
 
--- `not` and parentheses are at most 32 deep: an opener, so many being open, and what it opens
+-- `not` and parentheses are at most 32 deep: an opener at `depth`, and what it opens
 abbrev pub within_depth : (depth : ℕ) → Placed → OrFault Tree → OrFault Tree
 within_depth depth p inside = if nat_lt depth 32 then inside else Err (out_of_range p)
 
 abbrev mutual
-  -- of a fact inside so many openers; a test has its first token's line
+  -- the value of a fact at `depth`; a test has its first token's line
   pub fact_says : AppShape → (depth : ℕ) → {ts rest : List Placed} → g.IsFact ts rest
       → OrFault Tree
   fact_says s depth (g.denied {p = p} is f) =
@@ -43,7 +43,7 @@ abbrev mutual
   cond_says s depth (g.or_term c is t) =
       cond_says s depth c >>? λ a. term_says s depth t >>? λ b. Ok (Either a b)
 
--- a condition's steps, in post-fix order
+-- the steps of a tree, in post-fix order
 abbrev pub steps_of : Tree → List Step
 steps_of (Asked line t) = step.Test line t ∷ []
 steps_of (Negated c) = steps_of c ++ (step.Not ∷ [])
@@ -65,7 +65,7 @@ statement_says s (g.when {mid = mid} is c h) =
     release s (part mid 1) >>? λ k.
     Ok (When (steps_of condition) k)
 
--- the statements that the productions say, or the first name or number that is wrong
+-- the statements of the productions, or the first wrong name or number
 abbrev pub rule_says : AppShape → {ts : List Placed} → g.IsRule ts → OrFault (List Statement)
 rule_says s (g.otherwise h) = Ok []
 rule_says s (g.stmt x r) = statement_says s x >>? λ a. rule_says s r >>? λ rest. Ok (a ∷ rest)

@@ -1,14 +1,14 @@
--- The arrays of a shape by their names: of two with one name the first.
+-- The arrays of a shape by their names; the first one counts if two have the same name.
 use Rattle.std.specs.Prelude.{ℕ, ◌+◌, Option, Some, None}
 use Rattle.cells.specs.declared.array.CellArray.{CellArray}
 pub use Rattle.cells.specs.Directory.{array_named}
 
--- the number of an array's cell; 0 stands for an array that isn't there
+-- the number of an array's cell; 0 if there is no array
 abbrev pub cell_of : Option CellArray → (index : ℕ) → ℕ
 cell_of (Some a) index = a.base + index
 cell_of None index = 0
 
--- how many takes an array grants; none without a quota
+-- how many takes an array grants; 0 without a quota
 abbrev pub granted : Option ℕ → ℕ
 granted (Some quota) = quota
 granted None = 0

@@ -1,5 +1,5 @@
--- The table of tests: of each kind its first word, what is wanted behind it, and the test that its
--- tokens say, or the first fault of their parts.
+-- The table of tests: for each kind its first word, what follows it, and the test that its tokens
+-- spell, or the first fault of their parts.
 use Rattle.std.specs.Prelude.{ℕ, ◌+◌, List, [], ◌∷◌, Option, Some, None, Ok, Err}
 use Rattle.std.specs.Prelude.{Bool, true, false, if◌then◌else◌}
 use Rattle.cells.specs.Arrays.{AppShape}
@@ -19,21 +19,21 @@ use Rattle.rule_lang.specs.Parts.{version, flag, attribute, array, index, out_of
 use Rattle.rule_lang.specs.Phrases.{Phrase, phrase_of, takes}
 use Rattle.rule_lang.specs.Tokens.{Token}
 
--- ---- what the tokens of a test say
+-- ---- the test of a phrase's tokens
 
 abbrev pub version_test : List Placed → OrFault Test
 version_test ts = version (part ts 2) >>? λ v. Ok (test.Version (comparison (part ts 1)) v)
 
--- whether a part that may be left out begins at a place
+-- whether an optional part begins at place k
 abbrev pub begins : Want → List Placed → ℕ → Bool
 begins w ts k = takes w (part ts k).token
 
--- the number of a part that may be left out
+-- the number of an optional part
 abbrev pub optional : Bool → OrFault ℕ → OrFault (Option ℕ)
 optional true n = n >>? λ k. Ok (Some k)
 optional false n = Ok None
 
--- the place behind a part of so many tokens, where it is there
+-- the place after a part of `size` tokens, if the part is present
 abbrev pub past : Bool → (size place : ℕ) → ℕ
 past there size place = if there then place + size else place
 
@@ -81,7 +81,7 @@ pub record TestRow : Type 0 where
   pub wants : List Want
   pub says : AppShape → List Placed → OrFault Test
 
--- of each kind of test its first word, what is wanted behind it, and what its tokens say
+-- for each kind of test its first word, what follows it, and the test that its tokens spell
 abbrev pub row : TestKind → TestRow
 -- "version" rel ver
 row the_kind.Version = record {
@@ -113,7 +113,7 @@ row the_kind.Flag = record {
   wants = want.Name ∷ [];
   says = λ s ts. flag_test ts;
 }
--- "attr" name "is" text, of which the name may be the word `version`
+-- "attr" name "is" text; the name may be the word `version`
 row the_kind.Attr = record {
   word = keyword.Attr;
   wants = want.Attribute ∷ want.Keyword keyword.Is ∷ want.Text ∷ [];
@@ -126,7 +126,7 @@ row the_kind.Take = record {
   says = λ s ts. take_test s ts;
 }
 
--- all places of a test, and what stands behind its first word
+-- all places of a test, and those after its first word
 abbrev pub wants_of : TestKind → List Want
 wants_of k = want.Keyword (row k).word ∷ (row k).wants
 
@@ -136,7 +136,7 @@ rest_phrase k = phrase_of (row k).wants
 abbrev pub test_phrase : TestKind → Phrase
 test_phrase k = phrase_of (wants_of k)
 
--- the kind of a test that begins with a token
+-- the kind of test that begins with this token
 abbrev pub kind_of : Token → Option TestKind
 kind_of (token.Keyword keyword.Version) = Some the_kind.Version
 kind_of (token.Keyword keyword.Bucket) = Some the_kind.Bucket

@@ -1,4 +1,4 @@
--- The texts of a rule's faults, as they are printed.
+-- The printed texts of a rule's faults.
 use Rattle.std.specs.Prelude.{ℕ, List, ◌++◌, codes, decimal}
 use Rattle.rule_lang.specs.declared.fault.RuleFault.{RuleFault}
 use Rattle.rule_lang.specs.declared.fault.RuleFault.TheVariants as rule

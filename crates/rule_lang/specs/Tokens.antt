@@ -1,5 +1,5 @@
--- The tokens of a rule's text: each is the longest that can begin at its place. Spaces, tabs, line
--- ends (LF or CR LF) and comments, from # to the line's end, divide them.
+-- The tokens of a rule's text; at each place the longest possible token counts. Spaces, tabs, line
+-- ends (LF or CR LF) and comments, from # to the line's end, separate them.
 use Rattle.std.specs.Prelude.{ℕ, ◌+◌, List, [], ◌∷◌, take, drop, Option, Some, None}
 use Rattle.std.specs.Prelude.{Bool, true, false, ◌&&◌, ◌||◌, not, ◌==◌, if◌then◌else◌}
 use Rattle.std.specs.List.{prefix_len}
@@ -22,7 +22,7 @@ Text = List ℕ
 abbrev pub Token : Type 0
 Token = the_token.Token Text
 
--- what stands at a place, with its number of bytes
+-- a blank, a line's end or a token, with its number of bytes
 abbrev pub Piece : Type 0
 Piece = the_piece.Piece Text
 
@@ -35,12 +35,12 @@ is_in class.Number c = is_ascii_digit c || (c == 46)
 is_in class.Literal c = is_literal_byte c
 is_in class.Line c = not (c == 10)
 
--- all bytes of the class are ASCII
+-- all bytes of this class are ASCII
 abbrev pub is_ascii : the_class.Class → Bool
 is_ascii class.Line = false
 is_ascii k = true
 
--- this byte stands at a place
+-- whether the byte at place k is this one
 abbrev pub has_at : Text → ℕ → ℕ → Bool
 has_at s k c = starts_so (drop k s)
   where
@@ -54,23 +54,23 @@ abbrev pub word_token : Text → Option Keyword → Token
 word_token w (Some k) = token.Keyword k
 word_token w None = token.Name w
 
--- at the front of so many bytes as a word may have
+-- the word at the front of s, which has at most the bytes of a longest word
 abbrev pub word_of : Text → Piece
 word_of s =
     let n = prefix_len (is_in class.Name) s in
     piece.Token (word_token (take n s) (keyword_named (take n s))) n
 
--- ---- numbers: digits; and up to four of them joined by dots
+-- ---- numbers: digits, or two to four of these joined by dots
 
 abbrev pub digits_in : Text → ℕ
 digits_in s = prefix_len (is_in class.Digit) s
 
--- a dot and digits, which go on with a number
+-- the length of a dot with digits after it, which continues a number
 abbrev pub part_len : Text → ℕ
 part_len [] = 0
 part_len (c ∷ rest) = if (c == 46) && not (digits_in rest == 0) then 1 + digits_in rest else 0
 
--- the first n bytes, and one part more behind them
+-- the first n bytes and one more part
 abbrev pub with_part : Text → ℕ → ℕ
 with_part s n = n + part_len (drop n s)
 
@@ -84,7 +84,7 @@ number_at s =
 
 -- ---- literals: up to 64 bytes between quotation marks
 
--- behind the first of them
+-- after the opening quotation mark
 abbrev pub text_at : Text → Option Piece
 text_at rest =
     let s = take 64 rest in
@@ -108,7 +108,7 @@ mark_at c =
 abbrev pub longer : Token → Option Piece
 longer t = Some (piece.Token t 2)
 
--- an equals sign stands behind the character, or not
+-- a comparison by its first character, followed by an equals sign or not
 abbrev pub comparison_at : ℕ → Bool → Option Piece
 comparison_at c true =
     if c == 60 then longer (token.Comparison Le)
@@ -128,7 +128,7 @@ symbol_at c equals = or_else (mark_at c) (comparison_at c equals)
 
 -- ---- the front of a text
 
--- of s, which begins with c before the rest; None where no token can begin
+-- the piece at the front of s, which is c followed by rest; None if no token begins there
 abbrev pub piece_of : Text → ℕ → Text → Option Piece
 piece_of s c rest =
     if (c == 32) || (c == 9) then Some (piece.Blank 1)

@@ -1,4 +1,4 @@
--- The tree of a condition, whose steps are kept in post-fix order.
+-- The tree of a condition, from its steps in post-fix order.
 use Rattle.std.specs.Prelude.{◌≡◌, ℕ, List, [], ◌∷◌, Option, Some, None, option_and_then}
 use Rattle.rule_lang.specs.declared.test.Test.{Test}
 use Rattle.rule_lang.specs.declared.condition.Step.{Step}
@@ -11,7 +11,7 @@ pub data Tree : Type 0 where
   Both : Tree → Tree → Tree
   Either : Tree → Tree → Tree
 
--- the trees after one step more, the newest first
+-- the trees after one more step, the newest first
 abbrev pub with_step : Step → List Tree → Option (List Tree)
 with_step (step.Test line t) ts = Some (Asked line t ∷ ts)
 with_step step.Not (c ∷ ts) = Some (Negated c ∷ ts)

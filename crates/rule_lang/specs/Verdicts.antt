@@ -1,7 +1,7 @@
 -- The verdict on a text: the rule that its tokens spell, or the fault that counts. A text over
--- 65536 bytes is L4 at line 1 before all else; then the first place counts at which no token begins
--- (L1); then the first token with which no rule goes on (L2); then the first name that isn't known
--- (L3) or number out of its range (L4).
+-- 65536 bytes is L4 at line 1 before anything else. Next are the first place without a token (L1),
+-- and the first token that no rule continues with (L2). Last is the first unknown name (L3) or
+-- number out of range (L4).
 use Rattle.std.specs.Prelude.{◌≡◌, ◌⊎◌, ◌<◌, ◌≤◌, List, [], ◌∷◌, ◌++◌, length, Ok, Err}
 use Rattle.cells.specs.Arrays.{AppShape}
 use Rattle.rule_lang.specs.declared.fault.RuleFault.{RuleFault}
@@ -20,14 +20,14 @@ pub data IsVerdict (s : AppShape) (text : Text) : OrFault (List Statement) → T
   too_long : 65536 < length text → IsVerdict s text (Err (At 1 Range))
   no_token : {e : RuleFault} → length text ≤ 65536 → tokens_in text ≡ Err e
       → IsVerdict s text (Err e)
-  -- the tokens before begin some rule, and with this one they begin none
+  -- the tokens before it are the beginning of some rule, and with it they aren't
   no_rule : (before after : List Placed) (p : Placed) → length text ≤ 65536
       → tokens_in text ≡ Ok (before ++ (p ∷ after)) → Begins before
       → (Begins (before ++ (p ∷ [])) → ⊥) → IsVerdict s text (Err (misplaced p.line))
   a_rule : {ts : List Placed} → length text ≤ 65536 → tokens_in text ≡ Ok ts → (r : IsRule ts)
       → IsVerdict s text (rule_says s r)
 
--- the fault that counts, or a growth that was refused
+-- the fault that counts, or a failed allocation
 abbrev pub IsRuleFault : AppShape → Text → RuleFault → Type 0
 IsRuleFault s text e = (e ≡ Memory) ⊎ IsVerdict s text (Err e)
 
@@ -35,7 +35,7 @@ IsRuleFault s text e = (e ≡ Memory) ⊎ IsVerdict s text (Err e)
 abbrev pub HasVerdict : AppShape → Text → Type 0
 HasVerdict s text = (v : OrFault (List Statement)) × IsVerdict s text v
 
--- no text has two
+-- no text has two verdicts
 abbrev pub RuleHasOneVerdict : AppShape → Text → Type 0
 RuleHasOneVerdict s text = (v w : OrFault (List Statement)) → IsVerdict s text v
     → IsVerdict s text w

@@ -1,4 +1,4 @@
--- The words of the grammar, which are no names.
+-- The words of the grammar, which aren't names.
 use Rattle.std.specs.Prelude.{◌≡◌, ◌↔◌, ℕ, List, [], ◌∷◌, codes, Option, Some, Bool, ◌==◌}
 use Rattle.std.specs.Str.{bytes_eq}
 use Rattle.std.specs.List.{find}
@@ -10,7 +10,7 @@ use Rattle.rule_lang.specs.declared.keyword.Keyword.TheVariants as keyword
 
 -- ---- texts
 
--- the words of the grammar, as they are written
+-- the text of each word
 abbrev pub keyword_text : Keyword → List ℕ
 keyword_text keyword.Otherwise = codes "otherwise"
 keyword_text keyword.None = codes "none"
@@ -29,11 +29,11 @@ keyword_text keyword.Attr = codes "attr"
 keyword_text keyword.Is = codes "is"
 keyword_text keyword.Take = codes "take"
 
--- the word before a modulus; it isn't kept from names
+-- the word before a modulus; it is also allowed as a name
 abbrev pub modulus_word : List ℕ
 modulus_word = codes "mod"
 
--- ---- each once
+-- ---- each word once
 
 abbrev pub all_keywords : List Keyword
 all_keywords =
@@ -41,21 +41,21 @@ all_keywords =
     ∷ keyword.And ∷ keyword.Not ∷ keyword.Version ∷ keyword.Bucket ∷ keyword.Today
     ∷ keyword.Installed ∷ keyword.Flag ∷ keyword.Attr ∷ keyword.Is ∷ keyword.Take ∷ []
 
--- ---- what a text is: the one that has this text, if any has
+-- ---- the word with a given text
 
 unfoldable pub keyword_named : List ℕ → Option Keyword
 keyword_named w = find (λ k. bytes_eq w (keyword_text k)) all_keywords
 
--- a law: each word, flag and attribute is found by its own text, and by no other
+-- law: each word, flag and attribute is found by its own text and by no other
 pub record AreExact : Type 0 where
   pub keywords : (w : List ℕ) (k : Keyword) → (keyword_named w ≡ Some k) ↔ (w ≡ keyword_text k)
   pub flags : (w : List ℕ) (f : Flag) → (flag_named w ≡ Some f) ↔ (w ≡ flag_text f)
   pub attributes :
       (w : List ℕ) (a : Attribute) → (attribute_named w ≡ Some a) ↔ (w ≡ attribute_text a)
 
--- ---- whether two words are one
+-- ---- equality of words
 
--- two words are one where they have one number
+-- a number for each word; equal numbers mean equal words
 abbrev pub keyword_number : Keyword → ℕ
 keyword_number keyword.Otherwise = 0
 keyword_number keyword.None = 1

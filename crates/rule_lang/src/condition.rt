@@ -6,7 +6,7 @@ ghost use Rattle.rule_lang.specs.Trees.{IsCondition};
 use crate::test::Test;
 use std::marker::Model;
 
-/// One step of a condition: a test, with its line in the rule's text from 1, or what is made of the
+/// One step of a condition: a test, with its line in the rule's text from 1, or an operator on the
 /// one or two conditions before it.
 #[derive(Debug, Drop)]
 pub enum Step {
@@ -16,8 +16,8 @@ pub enum Step {
     Or,
 }
 
-/// A condition in post-fix order: `a and not b` is the steps `a`, `b`, `Not`, `And`. So a chain of
-/// any length is read, kept and let go by loops.
+/// A condition in post-fix order: `a and not b` is the steps `a`, `b`, `Not`, `And`. So loops read,
+/// keep and drop a chain of any length.
 #[derive(Debug, Drop)]
 pub struct RuleCondition {
     steps: Vec<Step>,

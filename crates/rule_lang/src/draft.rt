@@ -1,4 +1,4 @@
-//! A rule that is read up to some token.
+//! A draft: a rule that is read up to some token.
 
 ghost use Rattle.std.specs.Prelude.{◌≡◌, OnOk, None};
 ghost use Rattle.rule_lang.specs.Named.{seen, draft_seen};
@@ -13,19 +13,19 @@ use crate::rule::Statement;
 use std::alloc::{AllocError, Global};
 use std::mem;
 
-/// What may stand at the next token.
+/// What may come next.
 #[derive(Clone, Copy)]
 pub enum Mode {
     Statement,
-    /// Of a condition: a test, `not` or `(`.
+    /// In a condition: a test, `not` or `(`.
     Fact,
-    /// Of a condition: what follows a fact.
+    /// In a condition: what follows a fact.
     Operator,
     /// The text has ended.
     Done,
 }
 
-/// The statements so far, the condition that is read, and the first L3 or L4.
+/// The statements so far, the current condition, and the first L3 or L4.
 #[derive(Drop)]
 pub struct Draft {
     pub mode: Mode,
@@ -34,7 +34,7 @@ pub struct Draft {
     pub noted: Option<RuleFault>,
 }
 
-/// A rule of which nothing is read.
+/// An empty draft.
 pub fn first_draft(alloc: Global) -> Draft
     ensures { draft_seen result ≡ reading.first_draft }
 {
@@ -51,7 +51,7 @@ pub fn first_draft(alloc: Global) -> Draft
     }
 }
 
-/// A fault, where no earlier one is noted.
+/// Notes a fault, unless an earlier one is noted.
 pub fn note(draft: &mut Draft, fault: RuleFault)
     ensures { draft_seen draft.new ≡ reading.with_fault fault (draft_seen draft.old) }
 {
@@ -60,7 +60,7 @@ pub fn note(draft: &mut Draft, fault: RuleFault)
     }
 }
 
-/// A fault, where it holds.
+/// Notes a fault, if `holds` is set.
 pub fn note_if(draft: &mut Draft, holds: bool, fault: RuleFault)
     ensures { draft_seen draft.new ≡ reading.with_fault_if holds fault (draft_seen draft.old) }
 {
@@ -69,7 +69,7 @@ pub fn note_if(draft: &mut Draft, holds: bool, fault: RuleFault)
     }
 }
 
-/// One statement more.
+/// Adds a statement.
 pub fn add(draft: &mut Draft, statement: Statement) -> Result<(), AllocError>
     ensures { OnOk result (draft_seen draft.new ≡ reading.with_statement statement (draft_seen
         draft.old)) }
@@ -78,7 +78,7 @@ pub fn add(draft: &mut Draft, statement: Statement) -> Result<(), AllocError>
     Ok(())
 }
 
-// The steps of a condition, which is left without.
+// Takes the steps out of a condition.
 fn take_steps(alloc: Global, pending: &mut Pending) -> Vec<Step>
     ensures steps { result.items ≡ pending.old.steps.items }
     ensures emptied { seen pending.new ≡ reading.emptied (seen pending.old) }
@@ -86,7 +86,7 @@ fn take_steps(alloc: Global, pending: &mut Pending) -> Vec<Step>
     mem::replace(&mut pending.steps, Vec::new(alloc))
 }
 
-/// The statement whose condition has ended, unless a fault is noted.
+/// Adds the statement whose condition has ended, unless a fault is noted.
 pub fn add_when(alloc: Global, draft: &mut Draft, release: u8) -> Result<(), AllocError>
     requires { draft.old.noted ≡ None → IsCondition draft.old.condition.steps.items }
     ensures { OnOk result (draft_seen draft.new ≡ reading.with_when release (draft_seen

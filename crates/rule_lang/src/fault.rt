@@ -1,4 +1,4 @@
-//! Why a text is no rule.
+//! Why a text isn't a rule.
 
 ghost use Rattle.std.specs.Prelude.{◌≡◌, Some};
 ghost use Rattle.rule_lang.specs.Texts.{rule_kind_text, rule_fault_text};
@@ -8,22 +8,22 @@ use std::alloc::AllocError;
 use std::error::Error;
 use std::fmt;
 
-/// What is wrong with a line, with the numbers L1 to L4 that are printed.
+/// What is wrong with a line, with the printed numbers L1 to L4.
 #[derive(Clone, Copy, Debug, PartialEq, Eq)]
 pub enum RuleFaultKind {
-    /// A character where no token begins.
+    /// No token begins at this character.
     Token,
-    /// A token with which no rule goes on.
+    /// No rule continues with this token.
     Shape,
-    /// An array, a flag or an attribute that isn't there, or an array with a quota where `count`
-    /// stands, or without one where `take` does.
+    /// An unknown array, flag or attribute, or an array with a quota in `count` or without one in
+    /// `take`.
     Name,
-    /// A number, an index, a release or a depth out of its range, or a text over 65536 bytes.
+    /// A number, an index, a release or a depth out of range, or a text over 65536 bytes.
     Range,
 }
 
 impl RuleFaultKind {
-    /// The number and the name, as they are printed.
+    /// The number and the name, as printed.
     pub fn name(self) -> &'static str
         ensures { result.now ≡ rule_kind_text self }
     {
@@ -36,12 +36,12 @@ impl RuleFaultKind {
     }
 }
 
-/// The fault of a text, or the refusal of memory.
+/// The fault of a text, or a failed allocation.
 #[derive(Clone, Copy, Debug, PartialEq, Eq)]
 pub enum RuleFault {
     /// The fault that counts, with its line from 1.
     At { line: usize, kind: RuleFaultKind },
-    /// A growth was refused.
+    /// An allocation failed.
     Memory,
 }
 

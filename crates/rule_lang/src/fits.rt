@@ -1,4 +1,4 @@
-//! Whether a rule can be compiled for a shape: a rule knows arrays by their names alone.
+//! Whether a rule can be compiled for a shape: a rule knows arrays only by their names.
 
 ghost use Rattle.std.specs.Prelude.{◌≡◌, option_copied};
 ghost use Rattle.std.specs.List.{list_all};
@@ -10,7 +10,7 @@ use crate::rule::{Rule, Statement};
 use crate::test::Test;
 use cells::{CellArray, Shape};
 
-/// The first array of a name.
+/// The first array with this name.
 pub fn array_named<'a>(arrays: &'a [CellArray], name: &str) -> Option<&'a CellArray>
     ensures { option_copied result ≡ shapes.array_named name.now arrays.now }
 {
@@ -22,7 +22,7 @@ pub fn array_named<'a>(arrays: &'a [CellArray], name: &str) -> Option<&'a CellAr
     None
 }
 
-/// Whether a rule may take from the array at the index.
+/// Whether a rule may take from the array at this index.
 pub fn can_take(array: Option<&CellArray>, index: u16) -> bool
     ensures { result ≡ the_fits.can_take (option_copied array.entry) index }
 {
@@ -32,7 +32,7 @@ pub fn can_take(array: Option<&CellArray>, index: u16) -> bool
     }
 }
 
-/// Whether a rule may count in the array at the index.
+/// Whether a rule may count in the array at this index.
 pub fn can_count(array: Option<&CellArray>, index: u16) -> bool
     ensures { result ≡ the_fits.can_count (option_copied array.entry) index }
 {
@@ -42,7 +42,7 @@ pub fn can_count(array: Option<&CellArray>, index: u16) -> bool
     }
 }
 
-/// Whether the shape has the release.
+/// Whether the shape has this release.
 pub fn is_release(shape: &Shape, release: u8) -> bool
     ensures { result ≡ the_fits.is_release shape.now release }
 {
@@ -97,8 +97,8 @@ fn statements_fit(shape: &Shape, statements: &[Statement]) -> bool
 }
 
 impl Rule {
-    /// Whether the rule can be compiled for the shape: its arrays are there by their names, with a
-    /// quota exactly for `take`, and its indexes and releases are within the shape.
+    /// Whether the rule can be compiled for the shape: its arrays exist by their names, with a
+    /// quota only for `take`, and its indexes and releases are within the shape.
     pub fn fits(&self, shape: &Shape) -> bool
         ensures { result ≡ the_fits.fits shape.now self.now }
     {

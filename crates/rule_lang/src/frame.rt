@@ -1,4 +1,4 @@
-//! The openers of a condition that aren't closed yet.
+//! The open parentheses and operators of a condition.
 
 ghost use Rattle.std.specs.Prelude.{◌≡◌, [], ◌∷◌, OnOk};
 ghost use Rattle.rule_lang.specs.Reader.Drafts as drafts;
@@ -6,8 +6,8 @@ ghost use Rattle.rule_lang.specs.Reader.Drafts as drafts;
 use std::alloc::{AllocError, Global};
 use std::marker::Model;
 
-/// Of a condition, up to the place that is read: how many `not`s stand before the next fact, and
-/// whether it is the right side of an `and`, and its term that of an `or`.
+/// The state of a condition at the current token: how many `not`s precede the next fact; whether
+/// the fact is the right side of an `and`; whether its term is the right side of an `or`.
 #[derive(Clone, Copy)]
 pub struct Frame {
     pub nots: u8,
@@ -15,7 +15,7 @@ pub struct Frame {
     pub or: bool,
 }
 
-/// The conditions round the one that is read, the innermost first.
+/// The conditions around the current one, the innermost first.
 #[derive(Drop)]
 pub struct Frames {
     frames: Vec<Frame>,
@@ -31,7 +31,7 @@ impl Model for Frames {
 }
 
 impl Frames {
-    /// None.
+    /// No frames.
     pub fn new(alloc: Global) -> Frames
         ensures { result ≡ [] }
     {
@@ -40,7 +40,7 @@ impl Frames {
         }
     }
 
-    /// One more, inside the others.
+    /// Adds a frame inside the others.
     pub fn push(&mut self, frame: Frame) -> Result<(), AllocError>
         ensures { OnOk result (self.new ≡ frame ∷ self.old) }
     {
@@ -48,14 +48,14 @@ impl Frames {
         Ok(())
     }
 
-    /// Takes the innermost.
+    /// Removes the innermost frame.
     pub fn pop(&mut self) -> Option<Frame>
         ensures { drafts.Pops self.old result self.new }
     {
         self.frames.pop()
     }
 
-    /// Whether there is none.
+    /// Whether there are no frames.
     pub fn is_empty(&self) -> bool
         ensures { result ≡ drafts.is_empty self.now }
     {
@@ -63,7 +63,7 @@ impl Frames {
     }
 }
 
-/// The frame of a condition that begins.
+/// The frame at the beginning of a condition.
 pub fn first_frame() -> Frame
     ensures { result ≡ drafts.first_frame }
 {

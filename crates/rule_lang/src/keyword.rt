@@ -26,7 +26,7 @@ pub enum Keyword {
     Take,
 }
 
-/// Every word of the grammar once.
+/// Every word of the grammar, once.
 pub static KEYWORDS: [Keyword; 16] = [
     Keyword::Otherwise,
     Keyword::None,
@@ -88,7 +88,7 @@ fn find_keyword(table: &[Keyword], word: &str) -> Option<Keyword>
     table.iter().copied().find(|k| is_keyword(word, *k))
 }
 
-/// The word of the grammar that a text is.
+/// The word of the grammar with this text.
 #[tactic(auto, unfolding(crate::specs::Words::keyword_named))]
 pub fn keyword_named(word: &str) -> Option<Keyword>
     ensures { result ≡ words.keyword_named word.now }

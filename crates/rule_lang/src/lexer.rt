@@ -15,7 +15,7 @@ pub struct Placed<N> {
     pub token: Token<N>,
 }
 
-// What stands behind a piece of so many bytes, of which the first is passed already.
+// What follows a piece of `bytes` bytes, given that the first is already passed.
 fn behind(s: &[u8], bytes: usize) -> &[u8]
     ensures is { result.now ≡ drop (bytes - 1) s.now }
     ensures within { length result.now ≤ length s.now }
@@ -35,8 +35,8 @@ fn add<'a>(
     Ok(())
 }
 
-/// The tokens of a text of at most 65536 bytes, and `End` behind them; or L1 at the first place
-/// where no token begins.
+/// The tokens of a text of at most 65536 bytes, followed by `End`; or L1 at the first place without
+/// a token.
 pub fn tokens_of<'a>(alloc: Global, text: &'a [u8]) -> Result<Vec<Placed<&'a str>>, RuleFault>
     requires { length text.now ≤ 65536 }
     ensures tokens { IfOk result (λ v. tokens_in text.now ≡ Ok (map placed_named v.items)) }

@@ -1,49 +1,49 @@
-//! Rules: a small language in which an operator says which apps get which release.
+//! Rules: a small language that says which apps get which release.
 //!
 //! See docs/DECISIONS.md, "Rules".
 #![tactic(auto)]
 
-// The method. One language has three accounts here, each for what the others can't do.
+// The method. The language has three definitions here, each for what the others can't do.
 //
-// The grammar says what a rule is. It is a relation between a text's tokens and what stands behind
-// them, a constructor for each production (`specs/Grammar.antt`). What a rule says is told along
-// its productions (`specs/Says.antt`), and what is answered of a text by both
-// (`specs/Verdicts.antt`). That `and` binds more tightly than `or` is said by the productions
-// alone. But the grammar tells no way to read: a token is misplaced where those before it begin
-// some rule, and with it they begin none, whatever may follow.
+// The grammar defines what a rule is. It is a relation between a text's tokens and the tokens that
+// remain after them, with a constructor for each production (`specs/Grammar.antt`). The value of a
+// rule's tokens is defined along its productions (`specs/Says.antt`), and the verdict on a text by
+// both (`specs/Verdicts.antt`). Only the productions say that `and` binds more tightly than `or`.
+// But the grammar isn't an algorithm: a token is misplaced if the tokens before it are the
+// beginning of some rule, and with it they aren't, whatever follows.
 //
-// The machine says how a rule is read (`specs/Reader`). Of a rule that is read up to some token, a
-// `Draft`, it tells what the phrase that stands there makes of it, and which tokens are left. It is
-// a function, and knows neither memory nor loans. What a function of the code has to do is one of
-// its steps, so most of them prove with no proof file.
+// The reader defines how a rule is read (`specs/Reader`). A `Draft` is a rule that is read up to
+// some token. The reader says what the next phrase makes of the draft, and which tokens remain. It
+// is a function without memory or borrows. Each function of the code does one of its steps, so most
+// of them need no proof file.
 //
-// The code does the same to vectors and borrowed texts, and may be refused memory (L5).
+// The code does the same on vectors and borrowed texts, and may run out of memory (L5).
 //
-// That the machine reads the grammar is proved of the definitions (`proofs/Laws.antt`), by way of a
-// still smaller machine, which takes tokens one by one and knows only which may stand next
-// (`proofs/Machine.antt`): where it goes on, some tokens complete a rule, and where it stops, none
-// do. So the first token that the reader refuses is the one that the grammar calls misplaced. Two
-// laws say that each text has a verdict (`some_verdict`), and no other (`one_verdict`).
+// That the reader follows the grammar is proved of the definitions (`proofs/Laws.antt`). The proof
+// uses a smaller machine, which takes tokens one by one and knows only which may come next
+// (`proofs/Machine.antt`). If it takes a token, some continuation completes a rule, and if it
+// stops, none does. So the first token that the reader refuses is the one that the grammar calls
+// misplaced. By two laws each text has a verdict (`some_verdict`), and only one (`one_verdict`).
 //
 // The words, the phrases and the table of tests are written out in `specs/Words.antt`,
-// `specs/Phrases.antt` and `specs/Tests.antt`, and the tables of the code are proved to be the
-// same. A law, `words_are_exact`, says that each word is found by its own text and by no other. A
-// new word is a row in the definition and a row in the code. So is a new kind of tests, whose row
-// says what is wanted and what is made of it.
+// `specs/Phrases.antt` and `specs/Tests.antt`. The tables of the code are proved equal to them. By
+// the law `words_are_exact` each word is found by its own text and by no other. A new word is a row
+// in the definition and a row in the code. So is a new kind of tests, whose row has the tokens that
+// it needs and the test that they make.
 //
-// `mod` is no word of the grammar, but a name that one place of `bucket` takes for one. So it stays
-// a name wherever one may stand, and a text that has such a name keeps its meaning.
+// `mod` isn't a word of the grammar, but a name that only `bucket` treats as a word. So it is still
+// allowed wherever a name is, and a text that uses it as a name keeps its meaning.
 //
-// A fault's place is the line of its token; the text's end stands in the last line. All tokens are
-// made before a phrase is read, so a place where none begins (L1) counts first. An unknown name
-// (L3) or a number out of its range (L4) is noted, the first of them, and reading goes on, for a
-// token that is misplaced further down (L2) counts before it.
+// The line of a fault is that of its token; the text's end is in the last line. All tokens are made
+// before a phrase is read, so a place without a token (L1) counts first. The first unknown name
+// (L3) or number out of range (L4) is only noted, and reading continues: a misplaced token (L2)
+// further down counts before it.
 //
-// So reading goes on behind the 33rd parenthesis, too, which is an L4, and a text may open
-// thousands. Nothing here calls itself for one: the conditions round the one that is read are
-// frames in a list (`frame.rt`), and a step of a condition is written as soon as what it joins is
-// whole (`pending.rt`). So the steps stand in post-fix order, and a rule is read, compiled and let
-// go by loops, however deep and long it is.
+// So reading also continues after the 33rd parenthesis, which is an L4, and a text may open
+// thousands. Nothing here recurses on them. The conditions around the current one are frames in a
+// list (`frame.rt`). A step of a condition is written as soon as its operands are complete
+// (`pending.rt`). So the steps are in post-fix order, and a rule is read, compiled and dropped by
+// loops, however deep and long it is.
 
 mod condition;
 mod draft;

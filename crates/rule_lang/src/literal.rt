@@ -49,8 +49,8 @@ impl Literal {
         are_literal(bytes) && bytes.len() <= MOST_BYTES
     }
 
-    /// A text as a literal.
-    // open: whether memory is refused.
+    /// A literal with this text.
+    // open: whether an allocation fails.
     pub fn of(alloc: Global, text: &str) -> Result<Literal, AllocError>
         requires { IsLiteral text.now }
         ensures { IfOk result (λ l. l ≡ text.now) }

@@ -14,13 +14,17 @@ use std::alloc::Global;
 /// The most bytes of a rule's text.
 pub const MOST_RULE: usize = 65536;
 
-/// The rule that a text spells, for apps of the shape.
+/// The rule that a text spells, for apps of the shape; it fits the shape. Faults, in order of
+/// precedence:
 ///
-/// Refused are a text over 65536 bytes (L4 at line 1); else the first place where no token begins
-/// (L1); else the first token with which no rule goes on (L2, at the text's end in its last line);
-/// else the first name that isn't known (L3) or number out of its range (L4), a 33rd open `not` or
-/// parenthesis being L4. L5 where memory is refused. A rule that is answered fits the shape.
-// open: whether memory is refused (L5).
+/// - L4 at line 1: a text over 65536 bytes;
+/// - L1: the first place without a token;
+/// - L2: the first token that no rule continues with; the text's end is in its last line;
+/// - L3 or L4: the first unknown name, or number out of range. A 33rd open `not` or parenthesis is
+///   L4.
+///
+/// Returns L5 if an allocation fails.
+// open: whether an allocation fails (L5).
 pub fn parse(alloc: Global, text: &str, shape: &Shape) -> Result<Rule, RuleFault>
     ensures rule { IfOk result (λ r. IsVerdict shape.now text.now (Ok r)) }
     ensures fits { IfOk result (λ r. fits shape.now r ≡ true) }

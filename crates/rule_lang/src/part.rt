@@ -1,4 +1,4 @@
-//! What the tokens of a phrase say: numbers within their limits, and names that are known.
+//! The values of a phrase's tokens: numbers within their limits, and known names.
 
 ghost use Rattle.std.specs.Prelude.{◌≡◌};
 ghost use Rattle.rule_lang.specs.Named.{token_named, placed_named, placed_all, array_given};
@@ -14,7 +14,7 @@ use attrs::{Attribute, Flag, attribute_named, flag_named, read_version};
 use cells::{CellArray, Shape};
 use lexing::magnitude;
 
-/// The token at a place of a phrase.
+/// The token at `place` in a phrase.
 pub fn part<'a>(tokens: &[Placed<&'a str>], place: usize) -> Placed<&'a str>
     ensures { placed_named result ≡ parts.part (placed_all tokens.now) place }
 {
@@ -37,7 +37,7 @@ pub fn text_of<'a>(token: Token<&'a str>) -> &'a str
     }
 }
 
-/// A comparison.
+/// The comparison of a token.
 pub fn comparison<'a>(placed: Placed<&'a str>) -> Comparison
     ensures { result ≡ parts.comparison (placed_named placed.entry) }
 {
@@ -47,7 +47,7 @@ pub fn comparison<'a>(placed: Placed<&'a str>) -> Comparison
     }
 }
 
-/// The fault of a name that isn't known.
+/// The fault of an unknown name.
 pub fn unknown<'a>(placed: Placed<&'a str>) -> RuleFault
     ensures { result ≡ parts.unknown (placed_named placed.entry) }
 {
@@ -57,7 +57,7 @@ pub fn unknown<'a>(placed: Placed<&'a str>) -> RuleFault
     }
 }
 
-/// The fault of what is out of its range.
+/// The fault of a value out of range.
 pub fn out_of_range<'a>(placed: Placed<&'a str>) -> RuleFault
     ensures { result ≡ parts.out_of_range (placed_named placed.entry) }
 {
@@ -67,7 +67,7 @@ pub fn out_of_range<'a>(placed: Placed<&'a str>) -> RuleFault
     }
 }
 
-/// A number to 2 to the 64, less 1.
+/// A number up to 2 to the 64, less 1.
 pub fn salt<'a>(placed: Placed<&'a str>) -> Result<u64, RuleFault>
     ensures { result ≡ parts.salt (placed_named placed.entry) }
 {
@@ -75,7 +75,7 @@ pub fn salt<'a>(placed: Placed<&'a str>) -> Result<u64, RuleFault>
     magnitude(10, text.as_bytes()).ok_or(out_of_range(placed))
 }
 
-/// A number to 4294967295.
+/// A number up to 4294967295.
 pub fn number<'a>(placed: Placed<&'a str>) -> Result<u32, RuleFault>
     ensures { result ≡ parts.number (placed_named placed.entry) }
 {
@@ -87,7 +87,7 @@ pub fn number<'a>(placed: Placed<&'a str>) -> Result<u32, RuleFault>
     }
 }
 
-/// A number from 1 on.
+/// A number of at least 1.
 pub fn modulus<'a>(placed: Placed<&'a str>) -> Result<u32, RuleFault>
     ensures { result ≡ parts.modulus (placed_named placed.entry) }
 {
@@ -106,14 +106,14 @@ pub fn version<'a>(placed: Placed<&'a str>) -> Result<[u32; 4], RuleFault>
     read_version(text_of(placed.token)).ok_or(out_of_range(placed))
 }
 
-/// The flag of a name.
+/// The flag with this name.
 pub fn flag<'a>(placed: Placed<&'a str>) -> Result<Flag, RuleFault>
     ensures { result ≡ parts.flag (placed_named placed.entry) }
 {
     flag_named(text_of(placed.token)).ok_or(unknown(placed))
 }
 
-/// The attribute of a name, or of the word `version`.
+/// The attribute with this name, which may be the word `version`.
 pub fn attribute<'a>(placed: Placed<&'a str>) -> Result<Attribute, RuleFault>
     ensures { result ≡ parts.attribute (placed_named placed.entry) }
 {
@@ -135,7 +135,7 @@ pub fn release<'a>(shape: &Shape, placed: Placed<&'a str>) -> Result<u8, RuleFau
     }
 }
 
-/// The array of a name, which has a quota or has none.
+/// The array with this name, which must have a quota if `quota` is set, and none otherwise.
 pub fn array<'s, 'a>(
     shape: &'s Shape,
     quota: bool,
@@ -149,7 +149,7 @@ pub fn array<'s, 'a>(
     }
 }
 
-/// An index of the array.
+/// An index into the array.
 pub fn index<'a>(array: &CellArray, placed: Placed<&'a str>) -> Result<u16, RuleFault>
     ensures { result ≡ parts.index array.now (placed_named placed.entry) }
 {

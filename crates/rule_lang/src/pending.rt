@@ -1,4 +1,5 @@
-//! A condition that is read up to some token: its steps so far, and what is still to be joined.
+//! A condition that is read up to some token: its steps so far, and the operators that wait for a
+//! right side.
 
 ghost use Rattle.std.specs.Prelude.{◌≡◌, ◌++◌, ◌∷◌, [], OnOk, replicate, if◌then◌else◌};
 ghost use Rattle.rule_lang.specs.Reader.Drafts as drafts;
@@ -9,11 +10,11 @@ use crate::condition::Step;
 use crate::frame::{Frame, Frames, first_frame};
 use std::alloc::AllocError;
 
-/// How deep `not` and parentheses may stand.
+/// The most levels of `not` and parentheses.
 pub const MOST_DEPTH: u8 = 32;
 
-/// The steps so far, the conditions round the one that is read, its own frame, and how many openers
-/// are open, up to 32.
+/// The steps so far, the frames of the enclosing conditions, the current frame, and the number of
+/// open `not`s and parentheses, up to 32.
 #[derive(Drop)]
 pub struct Pending {
     pub steps: Vec<Step>,
@@ -50,7 +51,7 @@ fn push_nots(steps: &mut Vec<Step>, count: u8) -> Result<(), AllocError>
     Ok(())
 }
 
-// What a fact ends.
+// Writes the operators that a fact completes.
 fn fact_done(pending: &mut Pending) -> Result<(), AllocError>
     ensures { OnOk result (seen pending.new ≡ drafts.fact_done (seen pending.old)) }
 {
@@ -66,7 +67,7 @@ fn fact_done(pending: &mut Pending) -> Result<(), AllocError>
     Ok(())
 }
 
-/// A condition begins.
+/// Begins a condition.
 pub fn begin(pending: &mut Pending, below: Frames)
     requires { below ≡ [] }
     ensures { seen pending.new ≡ drafts.begin }
@@ -77,7 +78,7 @@ pub fn begin(pending: &mut Pending, below: Frames)
     pending.depth = 0;
 }
 
-/// `not`.
+/// Reads `not`.
 pub fn deny(pending: &mut Pending)
     ensures { seen pending.new ≡ drafts.denied (seen pending.old) }
 {
@@ -85,7 +86,7 @@ pub fn deny(pending: &mut Pending)
     pending.depth = deeper(pending.depth);
 }
 
-/// `(`.
+/// Reads `(`.
 pub fn open(pending: &mut Pending) -> Result<(), AllocError>
     ensures { OnOk result (seen pending.new ≡ drafts.opened (seen pending.old)) }
 {
@@ -96,7 +97,7 @@ pub fn open(pending: &mut Pending) -> Result<(), AllocError>
     Ok(())
 }
 
-/// A test.
+/// Reads a test.
 pub fn test(pending: &mut Pending, step: Step) -> Result<(), AllocError>
     ensures { OnOk result (seen pending.new ≡ drafts.tested step (seen pending.old)) }
 {
@@ -104,14 +105,14 @@ pub fn test(pending: &mut Pending, step: Step) -> Result<(), AllocError>
     fact_done(pending)
 }
 
-/// `and`.
+/// Reads `and`.
 pub fn join(pending: &mut Pending)
     ensures { seen pending.new ≡ drafts.joined (seen pending.old) }
 {
     pending.top.and = true;
 }
 
-/// `or`.
+/// Reads `or`.
 pub fn part(pending: &mut Pending) -> Result<(), AllocError>
     ensures { OnOk result (seen pending.new ≡ drafts.parted (seen pending.old)) }
 {
@@ -121,7 +122,7 @@ pub fn part(pending: &mut Pending) -> Result<(), AllocError>
     Ok(())
 }
 
-/// `)`. Where no parenthesis is open it answers `false` and changes nothing.
+/// Reads `)`. Returns `false`, with no change, if no parenthesis is open.
 pub fn close(pending: &mut Pending) -> Result<bool, AllocError>
     ensures { drafts.Closes (seen pending.old) result (seen pending.new) }
 {
@@ -136,7 +137,7 @@ pub fn close(pending: &mut Pending) -> Result<bool, AllocError>
     Ok(true)
 }
 
-/// The end of a condition, at `offer`. Where a parenthesis is open it answers `false`.
+/// Ends a condition, at `offer`. Returns `false` if a parenthesis is open.
 pub fn end(pending: &mut Pending) -> Result<bool, AllocError>
     ensures { drafts.Finishes (seen pending.old) result (seen pending.new) }
 {

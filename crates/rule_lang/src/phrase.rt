@@ -1,4 +1,4 @@
-//! Phrases: tokens that stand in one order, as `offer` number `;`.
+//! Phrases: sequences of tokens, some of them optional, such as `offer` number `;`.
 
 ghost use Rattle.std.specs.Prelude.{◌≡◌, ◌≤◌, ◌+◌, ◌∷◌, length, List, IfOk, IfErr, Ok, Err};
 ghost use Rattle.rule_lang.specs.Named.{token_named, placed_all};
@@ -9,7 +9,7 @@ use crate::keyword::{Keyword, is_modulus_word};
 use crate::lexer::Placed;
 use crate::token::Token;
 
-/// What may stand at a place of a phrase.
+/// What a place of a phrase accepts.
 #[derive(Clone, Copy)]
 pub enum Want {
     Keyword(Keyword),
@@ -21,9 +21,9 @@ pub enum Want {
     Version,
     Text,
     Comparison,
-    /// `(`, a number and `)`, or none of them.
+    /// `(`, a number and `)`, or nothing.
     Salt,
-    /// The name `mod` and a number, or neither.
+    /// The name `mod` and a number, or nothing.
     Modulus,
     Semicolon,
     Comma,
@@ -52,7 +52,7 @@ pub static OTHERWISE: [Want; 4] = [
     Want::End,
 ];
 
-/// Whether a token may stand there, or begin what may be left out.
+/// Whether a token may come at a place, or begin it if the place is an optional part.
 pub fn takes<'a>(want: Want, token: Token<&'a str>) -> bool
     ensures { result ≡ phrases.takes want (token_named token.entry) }
 {
@@ -78,7 +78,7 @@ pub fn takes<'a>(want: Want, token: Token<&'a str>) -> bool
     }
 }
 
-/// The fault of a token with which no rule goes on.
+/// The fault of a token that no rule continues with.
 pub fn misplaced<'a>(placed: Placed<&'a str>) -> RuleFault
     ensures { result ≡ phrases.misplaced placed.entry.line }
 {
@@ -88,7 +88,7 @@ pub fn misplaced<'a>(placed: Placed<&'a str>) -> RuleFault
     }
 }
 
-/// The fault where not even `End` is left; no phrase goes on behind it.
+/// The fault if no token is left, not even `End`; no phrase continues after `End`.
 pub fn ended() -> RuleFault
     ensures { result ≡ phrases.misplaced 0 }
 {
@@ -98,7 +98,7 @@ pub fn ended() -> RuleFault
     }
 }
 
-// The tokens behind one that is wanted; or L2 at another.
+// The tokens after one that is accepted; or L2 at another token.
 fn behind_one<'t, 'a>(
     want: Want,
     tokens: &'t [Placed<&'a str>],
@@ -119,7 +119,7 @@ fn behind_one<'t, 'a>(
     }
 }
 
-// The tokens behind `(`, a number and `)`, or all where the first isn't `(`.
+// The tokens after `(`, a number and `)`, or all tokens if the first isn't `(`.
 fn behind_salt<'t, 'a>(tokens: &'t [Placed<&'a str>]) -> Result<&'t [Placed<&'a str>], RuleFault>
     ensures rest { IfOk result (λ rest. (ws : List Want) → phrases.behind (phrases.phrase_of
         (Want.Salt ∷ ws)) (placed_all tokens.now) ≡ phrases.behind (phrases.phrase_of ws)
@@ -149,7 +149,7 @@ fn behind_salt<'t, 'a>(tokens: &'t [Placed<&'a str>]) -> Result<&'t [Placed<&'a 
     Ok(rest)
 }
 
-// The tokens behind `mod` and a number, or all where the first isn't `mod`.
+// The tokens after `mod` and a number, or all tokens if the first isn't `mod`.
 fn behind_modulus<'t, 'a>(tokens: &'t [Placed<&'a str>]) -> Result<&'t [Placed<&'a str>], RuleFault>
     ensures rest { IfOk result (λ rest. (ws : List Want) → phrases.behind (phrases.phrase_of
         (Want.Modulus ∷ ws)) (placed_all tokens.now) ≡ phrases.behind (phrases.phrase_of ws)
@@ -173,7 +173,7 @@ fn behind_modulus<'t, 'a>(tokens: &'t [Placed<&'a str>]) -> Result<&'t [Placed<&
     Ok(rest)
 }
 
-// The tokens behind one place of a phrase.
+// The tokens after one place of a phrase.
 fn behind_place<'t, 'a>(
     want: Want,
     tokens: &'t [Placed<&'a str>],
@@ -193,7 +193,8 @@ fn behind_place<'t, 'a>(
     }
 }
 
-/// The tokens after a phrase, which is short; or L2 at the first token that doesn't belong to it.
+/// The tokens after a phrase of constant length; or L2 at the first token that doesn't belong to
+/// it.
 pub fn behind<'t, 'a>(
     wants: &[Want],
     tokens: &'t [Placed<&'a str>],

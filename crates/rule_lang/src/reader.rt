@@ -28,7 +28,7 @@ use crate::token::Token;
 use cells::Shape;
 use std::alloc::Global;
 
-// `not` or `(`, of which 32 may be open.
+// Checks the depth of `not` or `(`, of which 32 may be open.
 fn read_opener<'a>(draft: &mut Draft, first: Placed<&'a str>)
     ensures { draft_seen draft.new ≡ reading.with_fault_if (reading.too_deep (draft_seen
         draft.old)) (out_of (placed_named first.entry)) (draft_seen draft.old) }
@@ -37,7 +37,7 @@ fn read_opener<'a>(draft: &mut Draft, first: Placed<&'a str>)
     note_if(draft, too_deep, out_of_range(first));
 }
 
-// A test.
+// Reads a test.
 fn read_test<'a>(
     alloc: Global,
     shape: &Shape,
@@ -62,7 +62,7 @@ fn read_test<'a>(
     }
 }
 
-// One phrase where a fact may stand.
+// Reads one phrase in place of a fact.
 fn read_fact<'t, 'a>(
     alloc: Global,
     shape: &Shape,
@@ -100,7 +100,7 @@ fn read_fact<'t, 'a>(
     }
 }
 
-// The release behind `offer`.
+// Reads the release after `offer`.
 fn read_offer<'a>(
     alloc: Global,
     shape: &Shape,
@@ -120,7 +120,7 @@ fn read_offer<'a>(
     }
 }
 
-// One phrase behind a fact.
+// Reads one phrase after a fact.
 fn read_operator<'t, 'a>(
     alloc: Global,
     shape: &Shape,
@@ -167,7 +167,7 @@ fn read_operator<'t, 'a>(
     }
 }
 
-// One phrase.
+// Reads one phrase.
 #[tactic(auto, unfolding(crate::specs::Reader::Reading::next))]
 fn read_next<'t, 'a>(
     alloc: Global,
@@ -191,7 +191,7 @@ fn read_next<'t, 'a>(
     }
 }
 
-// One phrase at a place; it answers the place behind it.
+// Reads one phrase at a place, and returns the place after it.
 fn advance<'a>(
     alloc: Global,
     shape: &Shape,

@@ -1,4 +1,4 @@
-//! Rules: statements in their order.
+//! Rules: statements in order.
 
 ghost use Rattle.std.specs.Prelude.{◌≡◌};
 
@@ -14,14 +14,14 @@ pub enum Statement {
         array: ArrayName,
         index: u16,
     },
-    /// Ends with the release, from 1, where the condition holds.
+    /// Ends with the release, from 1, if the condition holds.
     When {
         condition: RuleCondition,
         release: u8,
     },
 }
 
-/// A rule: its statements in their order, and then `otherwise none`.
+/// A rule: its statements in order, and then `otherwise none`.
 #[derive(Debug, Drop)]
 pub struct Rule {
     statements: Vec<Statement>,
@@ -37,14 +37,14 @@ impl Model for Rule {
 }
 
 impl Rule {
-    /// The rule of these statements.
+    /// A rule of these statements.
     pub fn of(statements: Vec<Statement>) -> Rule
         ensures { result ≡ statements.items }
     {
         Rule { statements }
     }
 
-    /// The statements, in their order.
+    /// The statements, in order.
     pub fn statements(&self) -> &[Statement]
         ensures { result.now ≡ self.now }
     {

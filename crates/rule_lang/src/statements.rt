@@ -1,4 +1,4 @@
-//! One phrase where a statement may stand: `count`, or the beginning of `when` or `otherwise`.
+//! The phrases of a statement: `count`, or the beginning of `when` or `otherwise`.
 
 ghost use Rattle.std.specs.Prelude.{◌≡◌, ◌<◌, length, IfOk, IfErr, Ok};
 ghost use Rattle.rule_lang.specs.Named.{token_named, placed_all, draft_seen};
@@ -34,7 +34,7 @@ fn count_of<'a>(
     Ok(Statement::Count { array, index })
 }
 
-// `count`.
+// Reads `count`.
 fn read_count<'a>(
     alloc: Global,
     shape: &Shape,
@@ -54,7 +54,7 @@ fn read_count<'a>(
     }
 }
 
-/// Reads the phrase; it answers the tokens behind it.
+/// Reads the phrase, and returns the tokens after it.
 pub fn read_statement<'t, 'a>(
     alloc: Global,
     shape: &Shape,

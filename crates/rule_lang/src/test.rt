@@ -18,13 +18,13 @@ pub enum Comparison {
 /// One test of an app. Days are counted from 2007-01-01 UTC.
 #[derive(Debug, Drop)]
 pub enum Test {
-    /// The app's version against four numbers, which are compared in their order.
+    /// The app's version against four numbers, compared in order.
     Version {
         comparison: Comparison,
         version: [u32; 4],
     },
-    /// The app's bucket, 0 to 9999, or that under a salt, against a number; with a modulus, which
-    /// is at least 1 in a text, its remainder.
+    /// The app's bucket, 0 to 9999, or its bucket under a salt, against a number. With a modulus,
+    /// which is at least 1 in a text, the remainder is compared.
     Bucket {
         salt: Option<u64>,
         modulus: Option<u32>,
@@ -36,19 +36,19 @@ pub enum Test {
         comparison: Comparison,
         number: u32,
     },
-    /// The day of installation, 4294967295 where it isn't known, against a number.
+    /// The day of installation, 4294967295 if unknown, against a number.
     Installed {
         comparison: Comparison,
         number: u32,
     },
-    /// Whether the flag is set.
+    /// Whether this flag is set.
     Flag(Flag),
-    /// Whether an attribute is this text.
+    /// Whether this attribute equals the text.
     Attr {
         attribute: Attribute,
         text: Literal,
     },
-    /// Adds 1 to a cell of an array with a quota. It holds where the cell was below the quota.
+    /// Adds 1 to a cell of an array with a quota, and holds if the cell was below the quota.
     Take {
         array: ArrayName,
         index: u16,

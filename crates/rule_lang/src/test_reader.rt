@@ -30,14 +30,14 @@ fn version_test<'a>(tokens: &[Placed<&'a str>]) -> Result<Test, RuleFault>
     })
 }
 
-// Whether a part that may be left out begins at a place.
+// Whether an optional part begins at this place.
 fn begins<'a>(want: Want, tokens: &[Placed<&'a str>], place: usize) -> bool
     ensures { result ≡ tests.begins want (placed_all tokens.now) place }
 {
     takes(want, part(tokens, place).token)
 }
 
-// The place behind a part of so many tokens, where it is there.
+// The place after a part of `size` tokens, if the part is present.
 fn past(there: bool, size: usize, place: usize) -> usize
     requires { place + size ≤ 16 }
     ensures { result ≡ tests.past there size place }
@@ -141,7 +141,7 @@ fn take_test<'a>(
     Ok(Test::Take { array, index })
 }
 
-/// The test of a kind that a phrase says, or the first L3 or L4 of its parts.
+/// The test that a phrase of this kind spells, or the first L3 or L4 of its parts.
 pub fn test_of<'a>(
     alloc: Global,
     shape: &Shape,

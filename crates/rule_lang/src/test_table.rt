@@ -9,7 +9,7 @@ use crate::keyword::Keyword;
 use crate::phrase::Want;
 use crate::token::Token;
 
-/// A kind of tests, by its first word.
+/// A kind of test, by its first word.
 #[derive(Clone, Copy)]
 pub enum TestKind {
     Version,
@@ -65,7 +65,7 @@ static TAKE: [Want; 6] = [
     Want::Close,
 ];
 
-/// The kind of a test that begins with a token.
+/// The kind of test that begins with this token.
 pub fn kind_of<'a>(first: Token<&'a str>) -> Option<TestKind>
     ensures { result ≡ tests.kind_of (token_named first.entry) }
 {
@@ -81,7 +81,7 @@ pub fn kind_of<'a>(first: Token<&'a str>) -> Option<TestKind>
     }
 }
 
-/// What stands at the places of a test.
+/// What the places of a test accept.
 pub fn wants_of(kind: TestKind) -> &'static [Want]
     ensures wants { result.now ≡ tests.wants_of kind }
     ensures some { 1 ≤ fewest result.now }

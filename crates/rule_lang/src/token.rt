@@ -1,4 +1,4 @@
-//! The tokens of a rule's text: each is the longest that can begin at its place.
+//! The tokens of a rule's text. At each place the longest possible token counts.
 
 ghost use Rattle.std.specs.Prelude.{◌≡◌, ◌≤◌, ◌∷◌, take, length, option_map, true};
 ghost use Rattle.std.specs.List.{prefix_len};
@@ -10,8 +10,8 @@ use crate::keyword::{Keyword, keyword_named};
 use crate::test::Comparison;
 use lexing::{is_letter, is_word_byte};
 
-/// One token, with the texts of names, numbers and literals of type `N`: here parts of the text, in
-/// definitions lists of bytes.
+/// One token. The texts of names, numbers and literals have type `N`: slices of the text here,
+/// lists of bytes in definitions.
 #[derive(Clone, Copy)]
 pub enum Token<N> {
     Keyword(Keyword),
@@ -20,7 +20,7 @@ pub enum Token<N> {
     Number(N),
     /// Two to four numbers, joined by dots.
     Version(N),
-    /// What stands between quotation marks.
+    /// The text between quotation marks.
     Text(N),
     Comparison(Comparison),
     Semicolon,
@@ -33,7 +33,7 @@ pub enum Token<N> {
     End,
 }
 
-/// What stands at a place of the text, with its number of bytes.
+/// A blank, a line's end or a token, with its number of bytes.
 #[derive(Drop)]
 pub enum Piece<N> {
     Blank(usize),
@@ -49,7 +49,7 @@ pub enum Class {
     /// Digits and dots.
     Number,
     Literal,
-    /// All but the line's end, and of these alone not only ASCII.
+    /// All bytes but the line's end; the only class that isn't only ASCII.
     Line,
 }
 
@@ -65,7 +65,7 @@ fn is_in(class: Class, c: u8) -> bool
     }
 }
 
-// How many bytes of a class stand at the front.
+// How many bytes at the front are in the class.
 fn run_length(class: Class, s: &[u8]) -> usize
     ensures is { result ≡ prefix_len (tokens.is_in class) s.now }
     ensures within { result ≤ length s.now }
@@ -77,21 +77,21 @@ fn run_length(class: Class, s: &[u8]) -> usize
     n
 }
 
-// At most so many bytes of the front.
+// The first `n` bytes, or all if there are fewer.
 fn front(s: &[u8], n: usize) -> &[u8]
     ensures { result.now ≡ take n s.now }
 {
     if n < s.len() { &s[..n] } else { s }
 }
 
-// Whether this byte stands at a place.
+// Whether the byte at this place is `c`.
 fn has_at(s: &[u8], place: usize, c: u8) -> bool
     ensures { result ≡ tokens.has_at s.now place c }
 {
     place < s.len() && s[place] == c
 }
 
-// The front of a run of ASCII, as a text.
+// The first `n` bytes of a run of ASCII, as a text.
 fn text_in(class: Class, s: &[u8], n: usize) -> &str
     requires ascii { tokens.is_ascii class ≡ true }
     requires run { n ≤ prefix_len (tokens.is_in class) s.now }
@@ -104,7 +104,7 @@ fn text_in(class: Class, s: &[u8], n: usize) -> &str
     }
 }
 
-// The word at the front of so many bytes as a word may have.
+// The word at the front of `s`, which has at most the bytes of a longest word.
 fn word_of<'a>(s: &'a [u8]) -> Piece<&'a str>
     ensures { piece_named result ≡ tokens.word_of s.now }
 {
@@ -116,7 +116,7 @@ fn word_of<'a>(s: &'a [u8]) -> Piece<&'a str>
     }
 }
 
-// A dot and digits, which go on with a number.
+// The length of a dot with digits after it, which continues a number.
 fn part_length(s: &[u8]) -> usize
     ensures is { result ≡ tokens.part_len s.now }
     ensures within { result ≤ length s.now }
@@ -130,7 +130,7 @@ fn part_length(s: &[u8]) -> usize
     }
 }
 
-// The first bytes of a number, and one part more behind them.
+// The length of a number's first n bytes and one more part.
 fn with_part(s: &[u8], n: usize) -> usize
     requires within { n ≤ length s.now }
     requires run { n ≤ prefix_len (tokens.is_in number) s.now }
@@ -157,7 +157,7 @@ fn number_at<'a>(s: &'a [u8]) -> Piece<&'a str>
     }
 }
 
-// A literal, behind its first quotation mark.
+// A literal, after its opening quotation mark.
 fn text_at<'a>(rest: &'a [u8]) -> Option<Piece<&'a str>>
     ensures { option_map piece_named result ≡ tokens.text_at rest.now }
 {
@@ -171,7 +171,7 @@ fn text_at<'a>(rest: &'a [u8]) -> Option<Piece<&'a str>>
     }
 }
 
-// A comparison that stands at the front, where an equals sign may stand behind its first character.
+// The comparison with this first character, which may be followed by an equals sign.
 fn comparison_at<'a>(c: u8, equals: bool) -> Option<Piece<&'a str>>
     ensures { option_map piece_named result ≡ tokens.comparison_at c equals }
 {
@@ -209,8 +209,8 @@ fn symbol_at<'a>(c: u8, equals: bool) -> Option<Piece<&'a str>>
     }
 }
 
-/// The blank, the line's end or the token that stands at the front of a text, if any does. The text
-/// is given whole, and as its first byte and the rest.
+/// The blank, line's end or token at the front of a text, if there is one. The text is passed
+/// whole, and also as its first byte and the rest.
 pub fn piece_of<'a>(s: &'a [u8], c: u8, rest: &'a [u8]) -> Option<Piece<&'a str>>
     requires { s.now ≡ c ∷ rest.now }
     ensures { option_map piece_named result ≡ tokens.piece_of s.now c rest.now }

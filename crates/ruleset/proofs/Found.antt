@@ -1,4 +1,4 @@
--- An app is found at the place of its appid among the appids.
+-- An app is found at the place of its appid in the index.
 use Rattle.std.proofs.Common.{◌≡◌, ℕ, zero, suc, ◌<◌, ◌≤◌, List, [], ◌∷◌, length, get_or}
 use Rattle.std.proofs.Common.{Option, Some, None, Bool, true, false, cond, Bor, Contains}
 use Rattle.std.proofs.Common.{IfSome, IfNone, refl, sym, ap, ◌∙◌, arith}
@@ -19,7 +19,7 @@ use Rattle.ruleset.proofs.Places.{first-map}
 
 -- ---- the place
 
--- the first app of an appid stands where the appid stands first
+-- the first app with an appid is at the first place of the appid
 first_app : (apps : List AppRule) (appid : List ℕ)
     → position_or_len (bytes_eq appid) (appids_of apps)
     ≡ position_or_len (λ app. bytes_eq app.appid appid) apps
@@ -62,7 +62,7 @@ nothing_at apps appid is =
 texts_equal : (a b : List ℕ) → bytes_eq a b ≡ true → a ≡ b
 texts_equal a b = (bytes_eq-Decides a b).0
 
--- an app that is found is listed, under the appid
+-- a found app is listed, with this appid
 found_in : (apps : List AppRule) (appid : List ℕ) (x : AppRule)
     → app_in apps appid ≡ Some x → Contains apps x × (x.appid ≡ appid)
 found_in [] appid x found = absurd (none-some x found)
@@ -83,7 +83,7 @@ found_in (app ∷ rest) appid x found =
         let there = behind (sym here ∙ found) in
         ((suc there.0.0, omega (arith, there.0.1), there.0.2), there.1)
 
--- an app of another appid in front changes nothing
+-- an app with another appid in front changes nothing
 behind_other : (app : AppRule) (rest : List AppRule) (appid : List ℕ) (x : AppRule)
     → bytes_eq app.appid appid ≡ false → x.appid ≡ appid
     → ((k : ℕ) → k < length rest → get_or rest k x ≡ x → ⊥)
@@ -94,7 +94,7 @@ behind_other app rest appid x other same behind zero within is =
 behind_other app rest appid x other same behind (suc k) within is =
     behind k (omega (arith, within)) is
 
--- where none is found none of the appid is listed
+-- if none is found, no app with this appid is listed
 none_in : (apps : List AppRule) (appid : List ℕ) (x : AppRule)
     → app_in apps appid ≡ None → x.appid ≡ appid
     → (k : ℕ) → k < length apps → get_or apps k x ≡ x → ⊥

@@ -1,4 +1,4 @@
--- Apps in a list: an appid has one app, and a list of appids at a place.
+-- Apps in a list: an appid has one app, and the list of appids has each app's appid at its place.
 use Rattle.std.proofs.Common.{◌≡◌, ◌<◌, ℕ, List, [], length, map, get_or}
 use Rattle.std.proofs.Common.{inl, inr, sym, ap, ◌∙◌, Contains, arith}
 use Rattle.std.proofs.lemmas.List.{get_or-map, get_or_default, length-map}
@@ -9,7 +9,7 @@ pub map_at : {X Y : Type 0} (f : X → Y) (xs : List X) (k : ℕ) (x : X) (d : Y
     → x ≡ get_or xs k x → get_or (map f xs) k d ≡ f x
 map_at f xs k x d within is = get_or-map f xs k x d within ∙ ap f (sym is)
 
--- an appid at two places stands twice
+-- an appid at two places is a duplicate
 twice : (apps : List AppRule) (i j : ℕ) (a b : AppRule) → a.appid ≡ b.appid → i < j
     → j < length apps
     → a ≡ get_or apps i a → b ≡ get_or apps j b → HasTwice (appids_of apps)
@@ -22,7 +22,7 @@ twice apps i j a b same apart within left right = record {
       (map_at (λ c. c.appid) apps j b [] within right);
 }
 
--- where no appid stands twice, apps of one appid are one
+-- if the appids are distinct, apps with the same appid are the same
 one_app : (apps : List AppRule) → ¬ HasTwice (appids_of apps) → (a b : AppRule)
     → a.appid ≡ b.appid → Contains apps a → Contains apps b → a ≡ b
 one_app apps once a b same left right = elim (cases_order left.0 right.0) [

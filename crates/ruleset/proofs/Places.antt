@@ -1,5 +1,5 @@
--- The place of an appid: among texts it is that among their bytes. An appid either is one of those
--- before it, or is put behind them.
+-- The place of an appid among texts is that among their bytes. An appid is either a duplicate of an
+-- earlier one or appended.
 use Rattle.std.proofs.Common.{◌≡◌, ℕ, ◌+◌, ◌<◌, List, [], ◌∷◌, ◌++◌, length, map, take, get_or}
 use Rattle.std.proofs.Common.{Option, Some, None, Bool, true, false, cond, not, if◌then◌else◌}
 use Rattle.std.proofs.Common.{String, string_bytes, string_eq, refl, sym, ap, subst, ◌∙◌, arith}
@@ -31,11 +31,11 @@ pub place_by_text : {Z : Type 0} (texts : List (String Z)) (appid : List ℕ) (p
     → place ≡ place_of (map string_bytes texts) appid
 place_by_text texts appid place is = is ∙ sym (position-map string_bytes (bytes_eq appid) texts)
 
--- the text of the next place, and those of the places before it
+-- the text at the next place, and those before it
 module _ {Z : Type 0} (appids : List (List ℕ)) (texts : List (String Z)) (text : String Z) (i : ℕ)
     (so_far : map string_bytes texts ≡ take i appids)
     (within : i < length appids) (next : string_bytes text ≡ get_or appids i []) where
-  -- it is one of them
+  -- it is a duplicate
   pub stands_twice : list_any (string_eq text) texts ≡ true → HasTwice appids
   stands_twice among =
       let any = Any-from_list_any (string_eq text) texts among in
@@ -59,7 +59,7 @@ module _ {Z : Type 0} (appids : List (List ℕ)) (texts : List (String Z)) (text
         same = stands ∙ sym equal ∙ next;
       }
 
-  -- it is another one
+  -- it is new
   pub appid_more : list_any (string_eq text) texts ≡ false
       → map string_bytes (insert_key string_eq texts text) ≡ take (i + 1) appids
   appid_more other =
@@ -69,7 +69,7 @@ module _ {Z : Type 0} (appids : List (List ℕ)) (texts : List (String Z)) (text
       ∙ ap (λ (t : List ℕ). take i appids ++ t ∷ []) next
       ∙ sym (take_more appids i [] within)
 
--- ---- where no two texts are equal no appid stands twice
+-- ---- if the texts are distinct, so are the appids
 
 others_differ : {Z : Type 0} (text : String Z) (texts : List (String Z))
     → AllByRecursion (λ (t : String Z). string_eq text t ≡ false) texts

@@ -1,4 +1,4 @@
--- A ruleset: the apps that a server knows, in order, each with its program and its releases.
+-- A ruleset: the apps of a server, in order, each with its program and its releases.
 use Rattle.std.specs.Prelude.{◌≡◌, ℕ, ◌<◌, List, [], length, map, slice_index_or, All, Contains}
 use Rattle.std.specs.Prelude.{Option, Some, None, IsTrue}
 use Rattle.std.specs.List.{find, position}
@@ -18,40 +18,40 @@ pub record AppRule : Type 0 where
   pub program : ShapedProgram
   pub releases : List Release
 
--- a server's text, and its apps in order
+-- a server's name, and its apps in order
 pub record Rules : Type 0 where
   pub server : List ℕ
   pub apps : List AppRule
 
--- the ruleset has the app of this appid
+-- the ruleset has this app, with this appid
 pub record ListsApp (rules : Rules) (appid : List ℕ) (app : AppRule) : Type 0 where
   pub listed : Contains rules.apps app
   pub appid_is : app.appid ≡ appid
 
--- it has this program for the appid: that of its app
+-- the ruleset has this program for the appid: that of its app
 pub record Offers (rules : Rules) (appid : List ℕ) (program : ShapedProgram) : Type 0 where
   pub app : AppRule
   pub known : ListsApp rules appid app
   pub program_is : app.program ≡ program
 
--- it has no program for the appid
+-- the ruleset has no program for the appid
 abbrev pub OffersNone : Rules → List ℕ → Type 0
 OffersNone rules appid = (program : ShapedProgram) → ¬ Offers rules appid program
 
--- of an appid it has at most one app
+-- the ruleset has at most one app for an appid
 abbrev pub HasOneApp : Rules → Type 0
 HasOneApp rules = (appid : List ℕ) (a b : AppRule)
     → ListsApp rules appid a → ListsApp rules appid b → a ≡ b
 
--- the appid of the app for which attributes are: the text of number 0
+-- the appid of the app that these attributes describe: the text with number 0
 abbrev pub appid_of : Attributes → List ℕ
 appid_of a = slice_index_or a.texts 0 []
 
--- the app of an appid
+-- the app with this appid
 abbrev pub app_in : List AppRule → List ℕ → Option AppRule
 app_in apps appid = find (λ app. bytes_eq app.appid appid) apps
 
--- the first app of an appid
+-- the first app with this appid
 abbrev pub app_of : Rules → List ℕ → Option AppRule
 app_of rules appid = app_in rules.apps appid
 
@@ -62,7 +62,7 @@ appids_of apps = map (λ a. a.appid) apps
 abbrev pub place_of : List (List ℕ) → List ℕ → Option ℕ
 place_of appids appid = position (bytes_eq appid) appids
 
--- an appid stands at two places
+-- an appid occurs at two places
 pub record HasTwice (appids : List (List ℕ)) : Type 0 where
   pub first : ℕ
   pub second : ℕ
@@ -70,13 +70,12 @@ pub record HasTwice (appids : List (List ℕ)) : Type 0 where
   pub within : second < length appids
   pub same : slice_index_or appids first [] ≡ slice_index_or appids second []
 
--- these are all of the appids, where none stands twice, and there are none where one does
+-- all of the appids, if they are distinct; `None` if one is a duplicate
 abbrev pub StandOnce : List (List ℕ) → Option (List (List ℕ)) → Type 0
 StandOnce appids (Some all) = (all ≡ appids) × (¬ HasTwice appids)
 StandOnce appids None = HasTwice appids
 
--- whatever the attributes, whose texts are short, a run of the program ends, with 0 or one of its
--- releases
+-- for any attributes with short texts, a run of the program ends with 0 or one of its releases
 unfoldable pub AlwaysEndsWell : ShapedProgram → Type 0
 AlwaysEndsWell program = (a : Attributes) → AreShort a.texts → EndsWell program (opening a)
 
@@ -84,9 +83,9 @@ AlwaysEndsWell program = (a : Attributes) → AreShort a.texts → EndsWell prog
 abbrev pub ChoosesAmong : ShapedProgram → List Release → Type 0
 ChoosesAmong program releases = length releases ≡ program.shape.releases
 
--- what an app keeps: its appid is one; each run of its program opens in a state that is covered,
--- from such a state each step is safe, and the whole run ends well; and its releases are those that
--- it chooses among
+-- the invariant of an app: its appid is valid; each run of its program starts in a covered state,
+-- each step from a covered state is safe, and the whole run ends well; and its program chooses
+-- among its releases
 pub record IsApp (app : AppRule) : Type 0 where
   pub named : IsTrue (is_appid app.appid)
   pub opens : (a : Attributes) → AreShort a.texts → IsCovered app.program (opening a)
@@ -94,18 +93,17 @@ pub record IsApp (app : AppRule) : Type 0 where
   pub ends : AlwaysEndsWell app.program
   pub all : ChoosesAmong app.program app.releases
 
--- what the apps of a ruleset keep, which are looked up in a list of their appids
+-- the invariant of a ruleset's apps and of its index of appids
 pub record AppsAreKept (appids : List (List ℕ)) (apps : List AppRule) : Type 0 where
   pub listed : appids ≡ appids_of apps
   pub once : ¬ HasTwice (appids_of apps)
   pub each : All IsApp apps
 
--- what a ruleset keeps for its runs: it is sound, with at most one app of an appid, each of which
--- keeps what an app keeps
+-- what a ruleset guarantees for its runs: at most one app for an appid, and each app's invariant
 pub record IsRuleset (rules : Rules) : Type 0 where
   pub one : HasOneApp rules
   pub each : All IsApp rules.apps
 
--- the ruleset's programs know no arrays but these
+-- the ruleset's programs know only these arrays
 abbrev pub KnowsOnly : List CellArray → Rules → Type 0
 KnowsOnly arrays rules = All (λ app. All (HasArray arrays) app.program.shape.arrays) rules.apps

@@ -1,4 +1,4 @@
--- How an app is told: a line that is ended by a line feed.
+-- The line about an app, ended by a line feed.
 use Rattle.std.specs.Prelude.{ℕ, List, ◌++◌, length, codes, decimal}
 use Rattle.ruleset.specs.Rules.{AppRule}
 

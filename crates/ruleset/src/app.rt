@@ -9,8 +9,8 @@ use releases::Release;
 use std::marker::Model;
 use std::sync::Arc;
 
-/// An app, its releases, and the program that decides which of them is offered. The program's
-/// choices are their numbers, from 1 on. Its appid has 1 to 1024 bytes.
+/// An app, its releases, and the program that decides which of them is offered. A choice of the
+/// program is the number of a release, from 1. The appid has 1 to 1024 bytes.
 #[derive(Drop)]
 pub struct App {
     appid: String,
@@ -42,8 +42,8 @@ impl App {
     ghost use Rattle.std.specs.Prelude.{string_bytes};
     ghost use Rattle.ruleset.specs.Rules.{IsApp, ChoosesAmong};
 
-    /// The app of this appid, which runs this program to choose among these releases; it takes no
-    /// memory. The program's shape has as many releases.
+    /// An app with this appid and these releases, of which the program chooses one; doesn't
+    /// allocate. The program's shape must have as many releases.
     pub fn new(appid: String, program: Arc<Verified>, releases: Vec<Release>) -> App
         requires named { IsTrue (is_appid (string_bytes appid)) }
         requires all { ChoosesAmong (arc_value program) releases.items }
@@ -60,30 +60,30 @@ impl App {
         }
     }
 
-    /// What the type keeps. It does nothing: a proof calls it for its clauses.
+    /// Law: the invariant of an app.
     pub fn keeps(&self)
-        // The appid is one. Every run of its program asks of counters only what its arrays allow,
-        // ends, and chooses 0 or one of its releases.
+        // The appid is valid. Every run of its program only does operations on counters that its
+        // arrays allow, ends, and chooses 0 or one of its releases.
         ensures { IsApp self.now }
     {
         let _releases = &self.releases;
     }
 
-    /// The text by which a client names the app.
+    /// The text by which clients name the app.
     pub fn appid(&self) -> &str
         ensures { result.now ≡ self.now.appid }
     {
         self.appid.as_str()
     }
 
-    /// The program that its runs run, which any number of them share.
+    /// The program that all its runs share.
     pub fn program(&self) -> &Arc<Verified>
         ensures { arc_value result.now ≡ self.now.program }
     {
         &self.program
     }
 
-    /// Its releases, at most 64; a choice is the place of one, from 1 on.
+    /// Its releases, at most 64; a choice is the number of a release, from 1.
     pub fn releases(&self) -> &[Release]
         ensures lent { result.now ≡ self.now.releases }
         ensures all { ChoosesAmong self.now.program result.now }

@@ -1,4 +1,4 @@
-//! The appids of a ruleset's apps, by which an app's place is found without walking the apps.
+//! The appids of a ruleset's apps, as an index from an appid to its app's place.
 
 ghost use Rattle.std.specs.Prelude.{◌≡◌, IfOk};
 
@@ -24,7 +24,7 @@ impl Model for AppidSet {
 impl AppidSet {
     ghost use Rattle.ruleset.specs.Rules.{StandOnce, appids_of, place_of};
 
-    /// The appids of apps; none where one stands twice.
+    /// The appids of these apps, or `None` if one is a duplicate.
     pub fn of(alloc: Global, apps: &[App]) -> Result<Option<AppidSet>, AllocError>
         ensures { IfOk result (StandOnce (appids_of apps.now)) }
     {
@@ -41,7 +41,7 @@ impl AppidSet {
         Ok(Some(AppidSet { texts }))
     }
 
-    /// The place of the app of an appid, from 0.
+    /// The place of the app with this appid, from 0.
     #[tactic(auto, using(crate::proofs::Places::place_by_text))]
     pub fn place(&self, appid: &str) -> Option<usize>
         ensures { result ≡ place_of self.now appid.now }

@@ -1,4 +1,5 @@
-//! Rulesets: the apps that a server knows, each with a verified program and its releases.
+//! Rulesets: the configuration of a server, which is its apps, each with a verified program and its
+//! releases.
 //!
 //! See docs/DECISIONS.md, "The world".
 #![tactic(auto)]

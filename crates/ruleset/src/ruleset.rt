@@ -1,4 +1,4 @@
-//! The apps of a server, found by their appids.
+//! A server's apps, by their appids.
 
 ghost use Rattle.std.specs.Prelude.{◌≡◌, ◌↔◌, IfOk, IfSome, IfNone, IsNone, All, option_copied};
 ghost use Rattle.ruleset.specs.Rules.{IsApp};
@@ -8,8 +8,7 @@ use crate::appid_set::AppidSet;
 use std::alloc::AllocError;
 use std::marker::Model;
 
-/// The apps that a server knows, in order, and the text that names the server. No appid stands
-/// twice.
+/// A server's apps, in order and with distinct appids, and the server's name.
 #[derive(Drop)]
 pub struct Ruleset {
     server: String,
@@ -33,9 +32,9 @@ impl Ruleset {
     ghost use Rattle.ruleset.specs.Rules.{HasTwice, IsRuleset, ListsApp, OffersNone};
     ghost use Rattle.ruleset.specs.Rules.{app_of, appids_of};
 
-    /// The ruleset of these apps, for a server of this name; none exactly where an appid stands
-    /// twice.
-    // open: whether memory is refused.
+    /// A ruleset of these apps, for a server with this name; `None` exactly if an appid is a
+    /// duplicate.
+    // open: whether an allocation fails.
     pub fn new(server: String, apps: Vec<App>) -> Result<Option<Ruleset>, AllocError>
         ensures apps { IfOk result (λ o. IfSome o (λ r. r.apps ≡ apps.items)) }
         ensures server { IfOk result (λ o. IfSome o (λ r. r.server ≡ string_bytes server)) }
@@ -52,8 +51,8 @@ impl Ruleset {
         }
     }
 
-    /// The ruleset of apps, of which the caller knows that no appid occurs twice.
-    // open: whether memory is refused.
+    /// A ruleset of apps that are known to have distinct appids.
+    // open: whether an allocation fails.
     pub fn known(server: String, apps: Vec<App>) -> Result<Ruleset, AllocError>
         requires { ¬ HasTwice (appids_of apps.items) }
         ensures apps { IfOk result (λ r. r.apps ≡ apps.items) }
@@ -65,11 +64,11 @@ impl Ruleset {
         }
     }
 
-    /// What the type keeps. It does nothing: a proof calls it for its clauses.
+    /// Law: the invariant of a ruleset.
     pub fn keeps(&self)
         ensures once { ¬ HasTwice (appids_of self.now.apps) }
-        // So an appid has one app. A run of its program asks of counters only what the program's
-        // arrays allow, and ends with 0 or a release of the app.
+        // So an appid has one app. A run of its program only does operations on counters that the
+        // program's arrays allow, and ends with 0 or a release of the app.
         ensures sound { IsRuleset self.now }
     {
         let _apps = &self.apps;
@@ -82,14 +81,14 @@ impl Ruleset {
         self.apps.as_slice()
     }
 
-    /// The text that names the server.
+    /// The server's name.
     pub fn server(&self) -> &str
         ensures { result.now ≡ self.now.server }
     {
         self.server.as_str()
     }
 
-    /// The app of an appid.
+    /// The app with this appid.
     #[tactic(auto, using(crate::proofs::Found::is_listed, crate::proofs::Found::offers_none))]
     pub fn find(&self, appid: &str) -> Option<&App>
         ensures found { option_copied result ≡ app_of self.now appid.now }
@@ -99,7 +98,7 @@ impl Ruleset {
         self.app_at_place(appid)
     }
 
-    // The app at the place of an appid.
+    // The app at the place of this appid.
     #[tactic(auto, using(crate::proofs::Found::nothing_at))]
     fn app_at_place(&self, appid: &str) -> Option<&App>
         ensures { option_copied result ≡ app_of self.now appid.now }
@@ -111,7 +110,7 @@ impl Ruleset {
     }
 }
 
-// What each app keeps.
+// Law: the invariant of each app.
 fn are_apps(apps: &[App])
     ensures { All IsApp apps.now }
 {

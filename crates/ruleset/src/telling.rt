@@ -1,4 +1,4 @@
-//! How apps are told: a line each.
+//! Lines about apps.
 
 ghost use Rattle.std.specs.Prelude.{◌≡◌, ◌++◌, flat_map, OnOk, string_bytes};
 ghost use Rattle.ruleset.specs.Texts.{app_line};
@@ -8,9 +8,9 @@ use bpf_verify::Verified;
 use std::alloc::AllocError;
 use std::fmt::Write;
 
-/// Puts a line for each app behind a text: its appid, how many releases it has, and how many slots
-/// its program has.
-// open: whether memory is refused.
+/// Appends a line for each app: its appid, the number of its releases, and the number of its
+/// program's slots.
+// open: whether an allocation fails.
 pub fn tell_apps(text: &mut String, apps: &[App]) -> Result<(), AllocError>
     ensures { OnOk result
         (string_bytes text.new ≡ string_bytes text.old ++ flat_map app_line apps.now) }

@@ -1,4 +1,4 @@
--- What files in memory give by their names.
+-- Reading files in memory by their names.
 use Rattle.std.specs.Prelude.{ℕ, List, [], ◌∷◌, Bool, Option, Some, None, if◌then◌else◌}
 use Rattle.std.specs.Str.{bytes_eq}
 use Rattle.bounded_files.specs.Files.{KnownFile}
@@ -8,7 +8,7 @@ pub record MemFile : Type 0 where
   pub bytes : Option (List ℕ)
   pub is_regular : Bool
 
--- the first file of the name
+-- the first file with this name
 abbrev pub found : List MemFile → List ℕ → Option MemFile
 found [] name = None
 found (file ∷ files) name = if bytes_eq file.name name then Some file else found files name
@@ -17,7 +17,7 @@ abbrev pub of_kind : Bool → Option (List ℕ) → Option KnownFile
 of_kind is_regular None = None
 of_kind is_regular (Some bytes) = Some (record { bytes = bytes; is_regular = is_regular })
 
--- what is known of it, if it can be read
+-- its known contents, if it is readable
 abbrev pub if_readable : Option MemFile → Option KnownFile
 if_readable None = None
 if_readable (Some file) = of_kind file.is_regular file.bytes

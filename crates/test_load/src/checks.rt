@@ -1,4 +1,4 @@
-//! Checks: a manifest of two apps with its files, and what is told of a manifest whose files are in
+//! Checks: a manifest of two apps with its files, and the messages about a manifest with files in
 //! other folders.
 
 mod lines;
@@ -37,7 +37,7 @@ appid = "y"
 rule = "y.rule"
 "#;
 
-/// Texts by the names of their files.
+/// Texts, by their file names.
 const RULES: &str = r#"
 y.rule: otherwise none;
 /abs/token.rule: # a comment / otherwise none; $
@@ -63,8 +63,8 @@ fn told_of_refusal(alloc: Global, refused: &Refused) -> Result<String, AllocErro
     one_line(alloc, text.as_str())
 }
 
-/// What is told, with ` / ` for each line feed: the text of a manifest that is accepted, or the
-/// refusal and its reason.
+/// The messages, with ` / ` for each line feed: the text of an accepted manifest, or the refusal
+/// and its reason.
 fn told(alloc: Global, files: &mut MemFiles, manifest: &str) -> Result<String, AllocError> {
     match checked(alloc, files, manifest) {
         Ok(text) => one_line(alloc, text.as_str()),
@@ -80,7 +80,7 @@ fn is_told(alloc: Global, files: &mut MemFiles, row: &str) -> Result<(), Fail> {
     must(row, told.as_str(), told.trim() == want.trim())
 }
 
-/// Each row: what is changed in the sample, and what is told, where a new line is a blank.
+/// Each row: changes of the sample, and the messages; a line feed of the row counts as a blank.
 fn each_is_told(alloc: Global, rows: &str) -> Result<(), Fail> {
     let mut files = files(alloc, RULES)?;
     for row in rows.split("\n- ").skip(1) {

@@ -1,4 +1,4 @@
-//! Files of a device, of each kind that a test can find.
+//! Files of a device, of each kind that a test can create.
 
 use crate::sample::must;
 use bounded_files::{Device, Disk, KeptBytes, ResourceFault, may_write_over, write_file};
@@ -8,8 +8,8 @@ use std::os::unix::fs::{PermissionsExt, symlink};
 use std::rt::Files;
 use std::test::Fail;
 
-/// A path, what is read of it at most 3 bytes long, and what of a regular file there: the number of
-/// bytes, that there are more, or the refusal.
+/// A path, the result of reading at most 3 bytes there, and the result for regular files only: the
+/// number of bytes, that there are more, or the refusal.
 const PATHS: [(&str, &str, &str); 5] = [
     ("three", "3", "3"),
     ("four", "more", "more"),
@@ -50,7 +50,7 @@ fn each_kind(rt: HostRuntime) -> Result<(), Fail> {
 }
 
 /// A path, and what is kept of a regular file there, at most 3 bytes: how many, of how many, and
-/// whether all are a text; or the refusal. Files are read by pieces of 65536 bytes.
+/// whether all of the file is a text; or the refusal. Files are read in pieces of 65536 bytes.
 const KEPT: [(&str, &str); 9] = [
     ("three", "3"),
     ("four", "3 of 4 true"),
@@ -92,8 +92,8 @@ fn write_texts<R: Files + AllocGlobal>(rt: &R) -> Result<(), Fail> {
     write(rt, "cut", text.as_slice())
 }
 
-/// A file that is kept is told to its end: a character stands across two pieces, and its second
-/// half is cut.
+/// A file that is kept is checked to its end: a character may span two pieces, and the file may end
+/// within a character.
 #[test]
 fn kept(rt: HostRuntime) -> Result<(), Fail> {
     write_texts(&rt)?;
@@ -107,7 +107,7 @@ fn kept(rt: HostRuntime) -> Result<(), Fail> {
     Ok(())
 }
 
-/// A file that is written anew stands where its link leads, with its mode, and nothing beside it.
+/// A rewritten file is where its link leads, has its mode, and leaves no other file there.
 #[test]
 fn written(rt: HostRuntime) -> Result<(), Fail> {
     fs::create_dir(&rt, "place")?;
@@ -129,7 +129,7 @@ fn written(rt: HostRuntime) -> Result<(), Fail> {
     )
 }
 
-/// What a picture may be written over.
+/// What a picture may overwrite.
 #[test]
 fn written_over(rt: HostRuntime) -> Result<(), Fail> {
     for (bytes, may) in [

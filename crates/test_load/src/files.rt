@@ -1,4 +1,4 @@
-//! Files in memory, some of which can't be read, or are no regular ones.
+//! Files in memory, some of which are unreadable or not regular.
 
 ghost use Rattle.std.specs.Prelude.{◌≡◌, List, ℕ, option_copied};
 ghost use Rattle.bounded_files.specs.Files.{Gives, KnownFiles, ReadsAtMost, bytes_of, if_regular};
@@ -9,7 +9,7 @@ use load::Files;
 use std::alloc::{AllocError, Global};
 use std::marker::Model;
 
-/// A file; one without bytes can't be read, and one that isn't regular is as a FIFO is.
+/// A file. Without bytes it is unreadable, and one that isn't regular is like a FIFO.
 #[derive(Drop)]
 pub(crate) struct MemFile {
     name: String,
@@ -53,7 +53,7 @@ impl MemFile {
     }
 }
 
-/// Files by their names, of which the first counts. A name that no file has can't be read.
+/// Files by their names; the first file with a name counts. A name without a file is unreadable.
 #[derive(Drop)]
 pub(crate) struct MemFiles {
     alloc: Global,
@@ -70,12 +70,12 @@ impl MemFiles {
         }
     }
 
-    /// Adds a regular file behind the others.
+    /// Adds a regular file at the end.
     pub(crate) fn add(&mut self, name: &str, bytes: Option<Vec<u8>>) -> Result<(), AllocError> {
         self.add_of_kind(name, bytes, true)
     }
 
-    /// Adds a file that is no regular one.
+    /// Adds a file that isn't regular.
     pub(crate) fn add_fifo(&mut self, name: &str, bytes: Vec<u8>) -> Result<(), AllocError> {
         self.add_of_kind(name, Some(bytes), false)
     }
@@ -142,7 +142,7 @@ impl Disk for MemFiles {
     }
 }
 
-// A copy of the bytes of a file, if it can be read; None where it has more than so many.
+// A copy of the bytes of a file, if it is readable; `None` if it has more than `most` bytes.
 fn copied(alloc: Global, found: Option<&[u8]>, most: u32) -> Result<Option<Vec<u8>>, ResourceFault>
     ensures { (known : KnownFiles) (path : List ℕ) → Gives known path (option_copied found.entry)
         → ReadsAtMost most known path result }

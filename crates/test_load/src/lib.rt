@@ -1,6 +1,6 @@
-//! Tests of loads that no command shows: how many tables a manifest has, what good manifests give
-//! with their files, what refused ones leave, files in other folders, and files of each kind. What
-//! `check` and `replay` print is rows of the program `rows`.
+//! Tests of what no command prints about loads: the number of tables in a manifest, the results of
+//! good manifests, the state after refused loads, files in other folders, and files of each kind.
+//! The output of `check` and `replay` is in rows of the program `rows`.
 #![tactic(auto)]
 
 #[cfg(test)]

@@ -1,4 +1,4 @@
-//! Loads: a manifest of two apps with its files, and what comes of a load.
+//! Loads: a manifest of two apps with its files, and the result of a load.
 
 mod counts;
 mod digests;
@@ -45,7 +45,7 @@ size = 3
 required = false
 "#;
 
-/// Texts by the names of their files.
+/// Texts, by their file names.
 const RULES: &str = r#"
 y.rule: when take(q, 0) offer 1; otherwise none;
 token.rule: otherwise none; $
@@ -61,7 +61,7 @@ fn ruleset_from(
     load_ruleset(alloc, manifest.as_bytes(), files, directory)
 }
 
-/// What loads take: the files, and a directory.
+/// The state of a loader: the files, and a directory.
 #[derive(Drop)]
 struct Loader {
     files: MemFiles,
@@ -69,7 +69,7 @@ struct Loader {
 }
 
 impl Loader {
-    /// All files, and no array yet.
+    /// All files, and no arrays.
     fn new(alloc: Global) -> Result<Loader, Fail> {
         Ok(Loader {
             files: files(alloc, RULES)?,

@@ -1,4 +1,4 @@
-//! Manifests, and what is told of one.
+//! Manifests, and the result of reading one.
 
 mod counts;
 
@@ -7,7 +7,7 @@ use manifest::{Manifest, ManifestFault, read_manifest};
 use std::alloc::{AllocError, Global};
 use std::test::Fail;
 
-/// The manifest that bytes are. It has no clauses, so that no proof reads the bytes of a test.
+/// The manifest of these bytes. It has no clauses, so that no proof reads the bytes of a test.
 fn read(alloc: Global, bytes: &[u8]) -> Result<Manifest, ManifestFault> {
     read_manifest(alloc, bytes)
 }
@@ -20,7 +20,7 @@ fn refusal(alloc: Global, fault: &ManifestFault) -> Result<String, AllocError> {
     }
 }
 
-/// What is told of a manifest: that it is one, or the refusal and where it is.
+/// The result of reading a manifest: that it is one, or the refusal and its place.
 fn told(alloc: Global, bytes: &[u8]) -> Result<String, AllocError> {
     match read(alloc, bytes) {
         Ok(_) => String::from_str(alloc, "ok"),
@@ -28,7 +28,7 @@ fn told(alloc: Global, bytes: &[u8]) -> Result<String, AllocError> {
     }
 }
 
-/// Fails unless that is told of a manifest.
+/// Fails unless reading a manifest has this result.
 fn must_tell(alloc: Global, row: &str, manifest: &[u8], want: &str) -> Result<(), Fail> {
     let told = told(alloc, manifest)?;
     must(row, told.as_str(), told.as_str() == want)

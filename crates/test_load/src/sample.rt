@@ -1,11 +1,11 @@
-//! The files that manifests name, texts that are changed, and the rows of tables.
+//! The files that manifests name, changes of texts, and the rows of tables.
 
 use crate::files::MemFiles;
 use bpf_text::assemble;
 use std::alloc::{AllocError, Global};
 use std::test::Fail;
 
-/// Programs by the names of their files; ` / ` ends a line, too.
+/// Programs, by their file names; ` / ` also ends a line.
 const PROGRAMS: &str = r#"
 - x.bpf: ldcell r6, 0, 0 / mov r2, 1 / fadddw [r6+0], r2 / jge r2, 2, +2 / mov r0, 1 / exit
 mov r0, 0 / exit
@@ -15,15 +15,15 @@ mov r0, 0 / exit
 - ../back.bpf: mov r0, 0 / ja -2
 "#;
 
-/// Files by their bytes: no byte, a part of an instruction, and a text whose last line is empty.
+/// Files by their bytes: none, a part of an instruction, and a text whose last line is empty.
 const BYTES: [(&str, &[u8]); 3] = [
     ("empty.bpf", b""),
     ("truncated.bpf", b"\xb7\0\0\0\x01\0\0"),
     ("ended.rule", b"count n[0];\n"),
 ];
 
-/// All files that the manifests of the tests name, but for those that aren't there. The rules are
-/// lines of a file's name and its text, of which ` / ` ends a line.
+/// All files that the manifests of the tests name, except missing ones. Each line of the rules is a
+/// file's name and its text, in which ` / ` ends a line.
 pub(crate) fn files(alloc: Global, rules: &str) -> Result<MemFiles, Fail> {
     let mut files = MemFiles::new(alloc);
     add_files(alloc, &mut files, rules)?;
@@ -61,7 +61,7 @@ fn add_bytes(alloc: Global, files: &mut MemFiles) -> Result<(), AllocError> {
     Ok(())
 }
 
-/// Adds the program of a text in which the mark ends a line.
+/// Adds the program with this text, in which the mark ends a line.
 pub(crate) fn add_program(
     alloc: Global,
     files: &mut MemFiles,
@@ -73,12 +73,12 @@ pub(crate) fn add_program(
     Ok(files.add(name, Some(assemble(alloc, text.as_str())?))?)
 }
 
-/// The text so many times. It has no clauses, so that no proof computes with it.
+/// A text `count` times. It has no clauses, so that no proof evaluates it.
 pub(crate) fn repeated(alloc: Global, count: usize, text: &str) -> Result<String, AllocError> {
     text.repeat(alloc, count)
 }
 
-/// A text with these changes: `OLD => NEW`, divided by ` & `; ` / ` ends a line.
+/// A text with these changes: `OLD => NEW`, separated by ` & `; ` / ` ends a line.
 pub(crate) fn changed(alloc: Global, whole: &str, changes: &str) -> Result<String, Fail> {
     let mut text = String::from_str(alloc, whole)?;
     if !changes.is_empty() {
@@ -96,12 +96,12 @@ fn changed_once(alloc: Global, whole: &str, change: &str) -> Result<String, Fail
     Ok(format!(in alloc; "{before}{new}{after}")?)
 }
 
-/// What stands before the first mark of a row, and behind it.
+/// The parts of a row before and after the first mark.
 pub(crate) fn halves<'a>(row: &'a str, mark: &str) -> Result<(&'a str, &'a str), Fail> {
     Ok(row.split_once(mark).ok_or("a row of another form")?)
 }
 
-/// Fails with the row and what is found of it, unless that is right.
+/// Fails with the row and what was found, unless `is_right` is set.
 pub(crate) fn must(row: &str, found: &str, is_right: bool) -> Result<(), Fail> {
     if is_right {
         return Ok(());

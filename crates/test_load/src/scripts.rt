@@ -1,5 +1,5 @@
-//! Scripts of a manifest and its program whose files are no regular ones: as a manifest, and as a
-//! file of one, they count as files that can't be read, and a script is read of any kind.
+//! Scripts with a manifest and its program, of which one isn't a regular file. Such a manifest or
+//! program counts as unreadable, and a script may be of any kind.
 
 use crate::files::MemFiles;
 use crate::sample::{add_program, must};
@@ -10,10 +10,10 @@ use std::test::Fail;
 
 const PROGRAM: &str = "mov r0, 0\nexit";
 
-/// A server of the app x, whose program lies beside the manifest.
+/// A server with the app x, whose program is next to the manifest.
 const MANIFEST: &[u8] = b"server = \"\"\n[[app]]\nappid = \"x\"\nprogram = \"x.bpf\"\n";
 
-/// A file, its bytes, and what is printed where it is there before all others, as a FIFO.
+/// A file, its bytes, and what is printed if it comes before all others, as a FIFO.
 const FILES: [(&str, &[u8], &str); 3] = [
     ("script.txt", b"step 0", "refused E3 Idle\n"),
     ("m.toml", b"", "B3 File"),
@@ -39,7 +39,7 @@ fn push_replies(text: &mut String, replies: &[Reply]) -> Result<(), AllocError> 
     Ok(())
 }
 
-/// What the script prints.
+/// The output of the script.
 fn printed(alloc: Global, disk: &MemFiles) -> Result<String, AllocError> {
     let mut text = String::new(alloc);
     match replies(alloc, disk) {

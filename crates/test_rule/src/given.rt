@@ -1,11 +1,11 @@
-//! What the tests read and compile rules for: a shape, and long texts; and the rows of tables.
+//! The shape and the long texts of these tests, and the rows of tables.
 
 use cells::{ArrayNo, CellWidth, CellsFault, Directory, Shape};
 use std::alloc::{AllocError, Global};
 use std::test::Fail;
 
-/// So many releases, and four arrays: `q` has one cell of 64 bits with a quota of 2, `c` four of 32
-/// bits, `w` two of 64, and `mod` one with a quota.
+/// A shape with `releases` releases and four arrays: `q` with one 64-bit cell and a quota of 2, `c`
+/// with four 32-bit cells, `w` with two 64-bit cells, and `mod` with a quota.
 pub(crate) fn shape(alloc: Global, releases: u8) -> Result<Shape, CellsFault> {
     let mut directory = Directory::new(alloc);
     declare_all(alloc, &mut directory)?;
@@ -34,12 +34,12 @@ fn shape_over(alloc: Global, releases: u8, directory: &Directory) -> Result<Shap
     Shape::of(alloc, releases.min(64), directory, &numbers)
 }
 
-/// A text so many times. It has no clauses, so that no proof computes with it.
+/// A text `times` times. It has no clauses, so that no proof evaluates it.
 fn repeated(alloc: Global, times: usize, text: &str) -> Result<String, AllocError> {
     text.repeat(alloc, times)
 }
 
-/// The front, the link so many times, and the back.
+/// The front, the link `times` times, and the back.
 pub(crate) fn chain(
     alloc: Global,
     front: &str,
@@ -51,12 +51,12 @@ pub(crate) fn chain(
     format!(in alloc; "{front}{links}{back}")
 }
 
-/// What stands before the first mark of a row, and behind it.
+/// The parts of a row before and after the first mark.
 pub(crate) fn halves<'a>(row: &'a str, mark: &str) -> Result<(&'a str, &'a str), Fail> {
     Ok(row.split_once(mark).ok_or("a row of another form")?)
 }
 
-/// Fails with what is found, and the row of which it is, unless that is right.
+/// Fails with what was found and its row, unless `is_right` is set.
 pub(crate) fn must(row: &str, found: &str, is_right: bool) -> Result<(), Fail> {
     if is_right {
         return Ok(());

@@ -1,6 +1,6 @@
-//! Tests of rules that no command shows: the longest texts as they are read, the slots that each
-//! kind of test takes, what words stand for in programs, and memory that is refused. Other texts,
-//! and what their programs choose, are rows of the program `rows`.
+//! Tests of what no command prints about rules: reading the longest texts, the slots of each kind
+//! of test, the meaning of words in programs, and failed allocations. Other texts, and what their
+//! programs choose, are rows of the program `rows`.
 #![tactic(auto)]
 
 #[cfg(test)]

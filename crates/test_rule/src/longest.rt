@@ -1,4 +1,4 @@
-//! The longest texts of each kind of chain: they are read and let go by loops.
+//! The longest texts of each kind of chain, which loops read and drop.
 
 use crate::given::{chain, halves, must};
 use crate::told::must_tell;
@@ -14,8 +14,7 @@ fn fill(text: &mut String) -> Result<(), AllocError> {
     Ok(())
 }
 
-/// As many links between the two ends as a text has room for, and then blanks up to its full
-/// length.
+/// As many links between the two ends as fit in a text, and then blanks up to the most bytes.
 fn filled(alloc: Global, front: &str, link: &str, back: &str) -> Result<String, AllocError> {
     let room = MOST_BYTES
         .saturating_sub(front.len())
@@ -26,7 +25,7 @@ fn filled(alloc: Global, front: &str, link: &str, back: &str) -> Result<String, 
     Ok(text)
 }
 
-/// The ends with the link between them, and what is told.
+/// The ends with the link between them, and the result.
 const CHAINS: &str = r#"
 when today<1|and today<1| offer 1;otherwise none; => 1
 when today<1|or today<1| offer 1;otherwise none; => 1
@@ -43,7 +42,7 @@ fn links_of(row: &str) -> Option<(&str, &str, &str)> {
     Some((front, link, back))
 }
 
-/// What is told of the longest text, and that it is too long with one byte more.
+/// Checks the result for the longest text, and that one byte more is too long.
 fn must_tell_both(alloc: Global, text: &mut String, want: &str) -> Result<(), Fail> {
     must(want, "another length", text.len() == MOST_BYTES)?;
     must_tell(alloc, text.as_str(), 1, want)?;

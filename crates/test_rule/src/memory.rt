@@ -1,7 +1,6 @@
-//! Memory that is refused once, to `parse` or to `compile`. What is told of a text is asked for
-//! again where memory was refused, and the second answer is the untroubled one. A refusal of the
-//! two is printed. So these tests pass with ample memory, and wherever one growth of theirs is
-//! refused.
+//! One failed allocation in `parse` or in `compile`. If it occurs, the call is made again, and its
+//! second result is the normal one. A failure in one of the two calls is printed. So these tests
+//! pass if no allocation fails, and if any one does.
 
 use crate::given::{halves, must};
 use crate::told::{told, told_as_read};
@@ -15,12 +14,12 @@ when flag ping or flag colour offer 1; otherwise none; => L3 Name at line 1
 when (flag ping offer 1; otherwise none; => L2 Shape at line 1
 "#;
 
-/// The slots of a text's program: those of its conditions, and 6 more.
+/// The slots of a text's program: those of its condition, and 6 more.
 const COMPILED: &str = r#"
 when attr ap is "abc" and not take(q, 0) offer 1; otherwise none; => 20 slots
 "#;
 
-/// Whether memory was refused: to a call, which is then printed, or to the test itself.
+/// Whether an allocation failed: in a call, which is then printed, or in the test itself.
 fn is_refused<R: Print>(rt: &R, told: &Result<String, AllocError>) -> Result<bool, Fail> {
     match told {
         Ok(told) if told.as_str() == "L5 Memory" => {

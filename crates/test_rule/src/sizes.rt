@@ -1,4 +1,4 @@
-//! How many slots the code of each test takes in each sense, and that no jump leads to a jump.
+//! How many slots the code of each test has for each truth value, and that no jump leads to a jump.
 
 use crate::given::{halves, must};
 use crate::told::program;
@@ -8,7 +8,7 @@ use flow_check::jump_target;
 use std::alloc::Global;
 use std::test::Fail;
 
-/// The slots of the condition, and those of its opposite. A rule with one `when` has 6 more.
+/// The slots of the condition, and of its negation. A rule with one `when` has 6 more.
 const ROWS: &str = r#"
 2 2 | bucket < 1
 2 2 | today == 4294967295
@@ -38,7 +38,7 @@ fn is_jump(insn: Option<Insn>) -> bool {
     matches!(insn, Some(Insn::Jump { .. } | Insn::JumpIf { .. }))
 }
 
-/// Whether the jump at a slot, if one is there, leads to a jump.
+/// Whether there is a jump at this slot that leads to a jump.
 fn leads_to_jump(program: &Verified, slot: usize) -> bool {
     match program.at(slot) {
         Some(insn) if slot < 4096 => match jump_target(slot, insn) {
@@ -49,7 +49,7 @@ fn leads_to_jump(program: &Verified, slot: usize) -> bool {
     }
 }
 
-/// How many slots a program has; 0 where a jump leads to a jump.
+/// How many slots a program has; 0 if a jump leads to a jump.
 fn length_of(program: &Verified) -> usize {
     for slot in 0..program.len() {
         if leads_to_jump(program, slot) {
@@ -64,7 +64,7 @@ fn length_of_text(alloc: Global, text: &str) -> Result<usize, Fail> {
     Ok(length_of(&program))
 }
 
-/// The slots of the condition alone.
+/// The slots of only the condition.
 fn slots_of(alloc: Global, condition: &str) -> Result<usize, Fail> {
     let text = format!(in alloc; "when {condition} offer 1; otherwise none;")?;
     Ok(length_of_text(alloc, text.as_str())?.saturating_sub(6))

@@ -1,5 +1,5 @@
-//! What is told of a rule's text, once it is read and once it is compiled. The calls have no clauses
-//! here, so that no proof reads the bytes of a test.
+//! The results of reading and of compiling a rule's text. The calls have no clauses here, so that
+//! no proof reads the bytes of a test.
 
 use crate::given::{must, shape};
 use bpf_verify::Verified;
@@ -15,7 +15,7 @@ fn read(alloc: Global, text: &str, shape: &Shape) -> Result<Rule, RuleFault> {
     parse(alloc, text, shape)
 }
 
-/// The number of a rule's statements; none where the rule doesn't fit its shape.
+/// The number of a rule's statements; `None` if the rule doesn't fit its shape.
 fn statements_of(alloc: Global, text: &str, shape: &Shape) -> Result<Option<usize>, RuleFault> {
     let rule = read(alloc, text, shape)?;
     Ok(if rule.fits(shape) {
@@ -33,7 +33,7 @@ fn told_over(alloc: Global, text: &str, shape: &Shape) -> Result<String, AllocEr
     }
 }
 
-/// What is told of a text that is read for an app of so many releases: the number of its rule's
+/// The result of reading a text for an app with `releases` releases: the number of its rule's
 /// statements, or the fault.
 pub(crate) fn told_as_read(alloc: Global, text: &str, releases: u8) -> Result<String, AllocError> {
     match shape(alloc, releases) {
@@ -42,13 +42,13 @@ pub(crate) fn told_as_read(alloc: Global, text: &str, releases: u8) -> Result<St
     }
 }
 
-/// Fails unless that is told of a text that is read.
+/// Fails unless reading the text has this result.
 pub(crate) fn must_tell(alloc: Global, text: &str, releases: u8, want: &str) -> Result<(), Fail> {
     let found = told_as_read(alloc, text, releases)?;
     must(text, found.as_str(), found.as_str() == want)
 }
 
-/// The program of a rule; none where the rule doesn't fit its shape.
+/// The program of a rule; `None` if the rule doesn't fit its shape.
 fn compiled(alloc: Global, rule: &Rule, shape: &Shape) -> Result<Option<Verified>, CompileFault> {
     Ok(if rule.fits(shape) {
         Some(compile(alloc, rule, shape)?)
@@ -62,7 +62,7 @@ fn program_over(alloc: Global, text: &str, shape: &Shape) -> Result<Verified, Fa
     Ok(compiled(alloc, &rule, shape)?.ok_or(UNFIT)?)
 }
 
-/// The program of a text, for an app of one release.
+/// The program of a text, for an app with one release.
 pub(crate) fn program(alloc: Global, text: &str) -> Result<Verified, Fail> {
     let shape = shape(alloc, 1)?;
     program_over(alloc, text, &shape)
@@ -83,7 +83,7 @@ fn told_of_text(alloc: Global, text: &str, shape: &Shape) -> Result<String, Allo
     }
 }
 
-/// What is told of a text that is compiled: the slots of its program, or the fault.
+/// The result of compiling a text: the slots of its program, or the fault.
 pub(crate) fn told(alloc: Global, text: &str) -> Result<String, AllocError> {
     match shape(alloc, 1) {
         Ok(shape) => told_of_text(alloc, text, &shape),

@@ -1,5 +1,5 @@
-//! Rows of what the words of rules stand for in programs: the bit of a flag, the number of an
-//! attribute, and the array of a name. The calls have no clauses here.
+//! Rows for the words of rules in programs: the bit of a flag, the number of an attribute, and the
+//! array of a name. The calls have no clauses here.
 
 use crate::given::{must, shape};
 use attrs::{Attribute, Flag};

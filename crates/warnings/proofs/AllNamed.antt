@@ -1,4 +1,4 @@
--- The name of each kind of warning is one of those that are known.
+-- Each kind's name is a warning name.
 use Rattle.std.proofs.Common.{refl}
 use Rattle.warnings.specs.declared.warning.WarningKind.TheVariants as kind
 use Rattle.warnings.specs.Names.{AllAreNamed, is_warning_name}

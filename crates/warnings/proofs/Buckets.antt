@@ -1,4 +1,4 @@
--- Whether something holds of some number below another, and of the app of some bucket.
+-- Whether a property holds for some number below a bound, and for the app of some bucket.
 use Rattle.std.proofs.Common.{◌≡◌, ℕ, zero, suc, ◌+◌, ◌<◌, List, Bool, true, false, ◌||◌}
 use Rattle.std.proofs.Common.{Option, refl, sym, ap, ◌∙◌, subst, arith, inl, inr, add-one}
 use Rattle.std.proofs.lemmas.Bool.{cases_Bool, cases_lt, or_right}
@@ -21,7 +21,7 @@ pub none_more : (p : ℕ → Bool) (n : ℕ) → any_below p n ≡ false → p n
 none_more p n before here =
     subst (λ m. any_below p m ≡ false) (sym (add-one n)) (none_below_suc p n before here)
 
--- one is enough
+-- one number is enough
 pub any_found : (p : ℕ → Bool) (m n : ℕ) → m < n → p m ≡ true → any_below p n ≡ true
 unfolding any_below
 any_found p m zero within here = absurd (omega (arith, within))
@@ -32,14 +32,14 @@ any_found p m (suc n) within here =
           or_right (any_below p n) (p n) (subst (λ k. p k ≡ true) same here)
     ]
 
--- none holds
+-- no number has the property
 pub none_at : (p : ℕ → Bool) (n m : ℕ) → m < n → any_below p n ≡ false → p m ≡ false
 none_at p n m within none = elim (cases_Bool (p m)) [
   | inl holds ↦ absurd (let both = sym (any_found p m n within holds) ∙ none in cc)
   | inr fails ↦ fails
 ]
 
--- one that holds
+-- a number that has the property
 pub record Witness (p : ℕ → Bool) (n : ℕ) : Type 0 where
   pub number : ℕ
   pub below : number < n
@@ -63,7 +63,7 @@ some_at p (suc n) some = elim (cases_Bool (any_below p n)) [
 abbrev pub moved : Attributes → ℕ → Attributes
 moved a bucket = record a { context = record a.context { bucket = bucket } }
 
--- who asks is the app of some bucket
+-- with its bucket set, `a` is the plain app of that bucket
 abbrev pub IsAsker : List ℕ → Option (List ℕ) → Attributes → Type 0
 IsAsker appid version a = (bucket : ℕ) → moved a bucket ≡ plain appid version bucket
 

@@ -1,4 +1,4 @@
--- What a test comes to, for an app of those for which it was asked, is what it may come to.
+-- The result of a test, for an app that the evaluation stands for, is a possible result.
 use Rattle.std.proofs.Common.{◌≡◌, ℕ, ◌<◌, ◌≤◌, ◌%◌, List, [], ◌∷◌, ◌++◌, ◌⊎◌, inl, inr, Option}
 use Rattle.std.proofs.Common.{Some, None, Bool, true, false, not, ◌||◌, cond}
 use Rattle.std.proofs.Common.{refl, sym, ap, ◌∙◌, arith}
@@ -25,14 +25,14 @@ use Rattle.warnings.specs.Possible.{day_possible, decided}
 use Rattle.warnings.specs.Possible.{open_possible, undecided}
 use Rattle.warnings.specs.Spots.{spot_at, spot_cmp}
 
--- ---- what comes where a condition holds, or where it doesn't
+-- ---- the behaviour if a condition holds, or if it fails
 
--- some events lead to the choice
+-- some events lead to this choice
 abbrev pub Leads : Behaviour → ℕ → Type 0
 Leads b choice = (events : List CellEvent) × HasTrace b events choice
 
--- it goes on only as it may: where it can't hold, it is no matter what comes then; where it can't
--- fail, likewise; and a run comes to one of both
+-- the condition chooses between two behaviours only as `p` allows: if it can't hold, the first one
+-- doesn't matter; if it can't fail, the second; and each run follows one of both
 pub record Comes (p : Possible) (go : Behaviour → Behaviour → Behaviour) : Type 0 where
   pub no_met : p.holds ≡ false → (m n u : Behaviour) → go m u ≡ go n u
   pub no_unmet : p.fails ≡ false → (m u v : Behaviour) → go m u ≡ go m v
@@ -81,7 +81,7 @@ by_take cell holds = record {
   leads = after_take cell holds;
 }
 
--- one of three stands for a day
+-- one of three results is that of the day
 abbrev among_three : Bool → Bool → Bool → Possible
 among_three p q r = record { holds = p || q || r; fails = not p || not q || not r }
 
@@ -130,15 +130,15 @@ by_day last r day n within =
       | inr (inr above) ↦ by_last p q l b (ap (allows r) (like_last last day n within above))
     ]
 
--- ---- an app of those for which it was asked
+-- ---- an app that the evaluation stands for
 
--- the bucket is the one that was asked for, and days are in their ranges
+-- the bucket is that of the evaluation, and days are in their ranges
 pub record IsOneOf (spot : Spot) (asked a : Attributes) : Type 0 where
   pub bucket : a.context.bucket ≡ asked.context.bucket
   pub today : a.context.today ≤ 2919382
   pub install_day : a.context.install_day ≤ 4294967295
 
--- the version answers a test as the spot does
+-- the version has the same result in a test as the spot
 abbrev pub AnswersAlike : Spot → (version : List ℕ) → Test → Type 0
 AnswersAlike spot version (test.Version r w) = spot_cmp spot (spot_at w) ≡ version_cmp version w
 AnswersAlike spot version t = Unit {0}

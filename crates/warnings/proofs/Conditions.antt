@@ -1,4 +1,4 @@
--- What a condition comes to, where each of its tests comes to what it may.
+-- The result of a condition, if the result of each of its tests is a possible one.
 use Rattle.std.proofs.Common.{List, [], ◌∷◌, inl, inr, Option, Some, None}
 use Rattle.std.proofs.Common.{false, ◌&&◌, refl, ap, ◌∙◌}
 use Rattle.std.proofs.lemmas.Bool.{and_cases, or_left, or_parts, or_right}

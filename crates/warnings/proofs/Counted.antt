@@ -1,4 +1,4 @@
--- How many buckets a test holds for.
+-- The number of buckets for which a test holds.
 use Rattle.std.proofs.Common.{◌≡◌, ℕ, zero, suc, ◌+◌, ◌-◌, ◌<◌, ◌≤◌, ◌%◌, Option, None, Some}
 use Rattle.std.proofs.Common.{Bool, true, false, cond, refl, sym, ap, subst, arith, inl, inr}
 use Rattle.std.specs.Prelude.{if◌then◌else◌, min}
@@ -21,7 +21,7 @@ use Rattle.warnings.specs.declared.warning.WarningKind.TheVariants as kind
 
 -- ---- numbers
 
--- those below n pass, and no others
+-- exactly the numbers below n pass
 pub record PassesBelow (p : ℕ → Bool) (n : ℕ) : Type 0 where
   pub passes : (m : ℕ) → m < n → p m ≡ true
   pub fails : (m : ℕ) → n ≤ m → p m ≡ false
@@ -83,7 +83,7 @@ bucket_within : (a : Attributes) → MayAsk a → (salt : Option ℕ) → bucket
 bucket_within a may None = may.ranges.bucket
 bucket_within a may (Some salt) = remainder_within _
 
--- ---- what is told of a test
+-- ---- warnings on a test
 
 module _ (app line n : ℕ) (salt : Option ℕ) where
   below_few : is_few n ≡ true → IsSoOfTest app line (test.Bucket salt None Lt n)

@@ -1,4 +1,4 @@
--- What a rule does, for an app of those for which it was asked, is what it may do.
+-- The behaviour of a rule is a possible one, for an app that the evaluation stands for.
 use Rattle.std.proofs.Common.{◌≡◌, ℕ, ◌<◌, ◌≤◌, List, [], ◌∷◌, ◌++◌, inl, inr}
 use Rattle.std.proofs.Common.{Option, Some, None, false, ◌&&◌, sym, ap, ◌∙◌}
 use Rattle.std.proofs.Common.{arith}
@@ -82,7 +82,7 @@ module _ (of : Test → Possible) (a : Attributes) (s : AppShape) where
 
   -- ---- a rule
 
-  -- behind statements that are never passed nothing matters
+  -- statements that are never passed make the rest irrelevant
   pub never_past : (before : List Statement) → RuleTests (TestComes of a s) before
       → goes_past of before ≡ false → (rest other : List Statement)
       → behaviour a s (before ++ rest) ≡ behaviour a s (before ++ other)
@@ -99,7 +99,7 @@ module _ (of : Test → Possible) (a : Attributes) (s : AppShape) where
             (never_past before all.1 later rest other)
       ]
 
-  -- what is the same behind some statements is the same with them
+  -- equal behaviour after some statements is equal behaviour with them
   behind : (before rest other : List Statement) → behaviour a s rest ≡ behaviour a s other
       → behaviour a s (before ++ rest) ≡ behaviour a s (before ++ other)
   behind [] rest other same = same
@@ -109,7 +109,7 @@ module _ (of : Test → Possible) (a : Attributes) (s : AppShape) where
   behind (When steps release ∷ before) rest other same =
       ap (decide_steps a s steps (Chooses release)) (behind before rest other same)
 
-  -- what a `when` offers that never holds doesn't matter
+  -- the release of a `when` that never holds doesn't matter
   pub never_held : (before : List Statement) (steps : List Step)
       → RuleTests (TestComes of a s) before → StepsTests (TestComes of a s) steps
       → (goes_past of before && (steps_possible of steps).holds) ≡ false
@@ -129,7 +129,7 @@ module _ (of : Test → Possible) (a : Attributes) (s : AppShape) where
   chosen k choice ([], h) = h
   chosen k choice (e ∷ events, h) = absurd h
 
-  -- a release that a rule may not offer, nor a later one, isn't chosen
+  -- if a rule may offer neither a release nor a later one, it isn't chosen
   pub never_chosen : (rule : List Statement) (number choice : ℕ)
       → RuleTests (TestComes of a s) rule → may_offer of rule number ≡ false → number ≤ choice
       → 0 < number → Leads (behaviour a s rule) choice → ⊥

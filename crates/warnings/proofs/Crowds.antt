@@ -1,4 +1,4 @@
--- Crowds that grow: by a bucket, and by all buckets of a spot; their marks are those of all.
+-- Crowds that grow by a bucket, and by all buckets of a spot; their marks are those of all clients.
 use Rattle.std.proofs.Common.{◌≡◌, ℕ, ◌+◌, ◌<◌, ◌≤◌, List, [], ◌∷◌, ◌++◌, length, map}
 use Rattle.std.proofs.Common.{Bool, true, false, ◌||◌, None, arith, refl, sym, ap, ◌∙◌, subst}
 use Rattle.std.specs.List.{list_all}
@@ -46,7 +46,7 @@ module _ (r : RuleOfApp) where
         (λ more st. end_same crowd other same more st);
   }
 
-  -- marks that are all set stay so
+  -- marks that are all set don't change
   set_stay : (f g : List Statement → Statement → Bool) (before rest : List Statement)
       → ((b : List Statement) (st : Statement) → f b st ≡ true → g b st ≡ true)
       → list_all (λ (m : Bool). m) (each_by f before rest) ≡ true
@@ -87,7 +87,7 @@ module _ (r : RuleOfApp) where
         (subst (λ (l : List Bool). list_all (λ (m : Bool). m) l ≡ true) h.ends_are all_ended);
   }
 
-  -- nobody was asked
+  -- the marks of the empty crowd
   nobody_reached : (before rest : List Statement)
       → map is_count rest ≡ each_by (is_reached r nobody) before rest
   nobody_reached before [] = refl
@@ -118,7 +118,7 @@ module _ (r : RuleOfApp) where
     ap length h.ends_are ∙ len_each (is_ended r crowd) [] r.rule,
   )
 
-  -- ---- those of the buckets of a spot so far
+  -- ---- the buckets of a spot so far
 
   abbrev with_below : Crowd → Spot → ℕ → Crowd
   with_below crowd spot n asks =

@@ -46,7 +46,7 @@ same_each f g before (x ∷ xs) same =
     (λ more st. subst (λ (b : List Statement). f b st ≡ g b st)
     (sym (append_assoc before (x ∷ []) more)) (same (x ∷ more) st)))
 
--- those so far by the one, and those that are left by the other
+-- marks by `g` for the statements so far, and by `f` for the rest
 abbrev pub half : (f g : Mark) (before left : List Statement) → List Bool
 half f g before left = each_by g [] before ++ each_by f before left
 
@@ -58,7 +58,7 @@ half_more f g before rest st =
     ∙ ap (λ (l : List Bool). l ++ each_by f (before ++ st ∷ []) rest)
     (sym (each_more g [] before st))
 
--- the mark of the next statement is set, or is right as it was
+-- setting the next statement's mark
 pub half_set : (f g : Mark) (before rest : List Statement) (st : Statement) (place : ℕ)
     (value : Bool) (marks : List Bool) → length before ≡ place → marks ≡ half f g before (st ∷ rest)
     → value ≡ g before st → slice_set marks place value ≡ half f g (before ++ st ∷ []) rest

@@ -44,7 +44,7 @@ pub record LeadsFresh (b : Behaviour) (choice : ℕ) : Type 0 where
 abbrev asked_once : ℕ → CellEvent
 asked_once cell = record { cell = cell; op = Add 1; reply = 0 }
 
--- a cell that replies 0, and then what comes
+-- a cell that replies 0, and the run after it
 asks_on : (cell : ℕ) (next : ℕ → Behaviour) (choice : ℕ) → LeadsFresh (next 0) choice
     → LeadsFresh (Asks cell (Add 1) next) choice
 asks_on cell next choice h = record {
@@ -60,7 +60,7 @@ here k = record {
   run = refl;
 }
 
--- it goes on as it is told
+-- the condition chooses as `p` says
 record Goes (p : Possible) (go : Behaviour → Behaviour → Behaviour) : Type 0 where
   sure : p.fails ≡ not p.holds
   met : p.holds ≡ true → (m u : Behaviour) (choice : ℕ) → LeadsFresh m choice

@@ -1,4 +1,4 @@
--- Who is asked marks the statements on his way, and the marks are those of one more.
+-- A client marks the statements that it reaches, and the marks are those of the crowd with it.
 use Rattle.std.proofs.Common.{◌≡◌, ℕ, ◌+◌, List, [], ◌∷◌, ◌++◌, length, arith}
 use Rattle.std.proofs.Common.{Bool, true, false, ◌&&◌, ◌||◌, refl, sym, ap, ◌∙◌, subst}
 use Rattle.std.proofs.Common.{append_assoc, append-nil}
@@ -58,7 +58,7 @@ module _ (r : RuleOfApp) (asker : Asker) (a : Attributes) where
       same_end crowd before st
       (ap (λ b. arrives r before asker a && b) fails ∙ and-false (arrives r before asker a))
 
-  -- behind where he stops nothing is his
+  -- a client reaches nothing after the statement that ends the rule for it
   never_more : (before more : List Statement) → arrives r before asker a ≡ false
       → arrives r (before ++ more) asker a ≡ false
   never_more before more never =
@@ -73,7 +73,7 @@ module _ (r : RuleOfApp) (asker : Asker) (a : Attributes) where
   same_reach crowd before (When steps release) never =
       sym (ap (λ b. crowd (arrives r before) || b) never ∙ or-false (crowd (arrives r before)))
 
-  -- the marks of the statements so far are those with him
+  -- the marks of the statements so far include this client
   pub record AreHalfMarked (crowd : Crowd) (before left : List Statement)
       (reached ends : List Bool) : Type 0 where
     pub reached_are : reached
@@ -81,7 +81,7 @@ module _ (r : RuleOfApp) (asker : Asker) (a : Attributes) where
     pub ends_are : ends
         ≡ half (is_ended r crowd) (is_ended r (with_one crowd asker a)) before left
 
-  -- he has come so far
+  -- the client has reached this statement
   pub record IsOnWay (reached_first ends_first : List Bool) (place : ℕ) (left : List Statement)
       (reached ends : List Bool) : Type 0 where
     pub before : List Statement
@@ -193,7 +193,7 @@ module _ (r : RuleOfApp) (asker : Asker) (a : Attributes) where
               (never_more (h.before ++ st ∷ []) more gone)));
         }
 
-  -- behind the last statement
+  -- after the last statement
   pub arrived : (reached_first ends_first : List Bool) (place : ℕ) (left : List Statement)
       (reached ends : List Bool) → IsOnWay reached_first ends_first place left reached ends
       → left ≡ [] → (crowd : Crowd) → AreMarked r crowd reached_first ends_first

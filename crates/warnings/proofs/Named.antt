@@ -1,4 +1,4 @@
--- Each version that a rule names has its two spots among those of the rule.
+-- Each version that a rule names has its two spots among the rule's spots.
 use Rattle.std.proofs.Common.{◌≡◌, ℕ, List, [], ◌∷◌, ◌++◌, true, ap}
 use Rattle.std.proofs.Common.{◌||◌, false}
 use Rattle.std.specs.Ordering.{is_eq}
@@ -34,7 +34,7 @@ module _ (P Q : Test → Type 0) (to : (t : Test) → P t → Q t) where
   of_rule (Count name index ∷ rest) h = of_rule rest h
   of_rule (When steps release ∷ rest) h = (of_steps steps h.0, of_rule rest h.1)
 
--- of a rule, and so of the statements before another one, and of that
+-- from a rule to the statements before one of them, and to that one
 module _ (P : Test → Type 0) (steps : List Step) (release : ℕ) (rest : List Statement) where
   pub of_before : (before : List Statement) → RuleTests P (before ++ When steps release ∷ rest)
       → RuleTests P before
@@ -48,7 +48,7 @@ module _ (P : Test → Type 0) (steps : List Step) (release : ℕ) (rest : List 
   of_next (Count name index ∷ before) h = of_next before h
   of_next (When others k ∷ before) h = of_next before h.1
 
--- ---- the spots of a test are kept
+-- ---- the spots of a test stay in the list
 
 abbrev HasBoth : List Spot → Test → Type 0
 HasBoth spots (test.Version r w) =
@@ -116,7 +116,7 @@ named_rule spots (When steps release ∷ rest) =
       named_rule here rest,
     )
 
--- ---- the highest spot that isn't above a version answers all tests of the rule as it does
+-- ---- the highest spot that isn't above a version has the same test results as the version
 
 pub has_lowest : (rule : List Statement) → has_spot (spots_of rule) lowest_spot ≡ true
 has_lowest rule =

@@ -1,4 +1,4 @@
--- What is told of a rule is so.
+-- Warnings on a rule are true.
 use Rattle.std.proofs.Common.{◌≡◌, ℕ, ◌<◌, ◌≤◌, ◌/◌, ℤ, pos, negsuc, List, ◌∷◌, ◌++◌, Some, None}
 use Rattle.std.proofs.Common.{Bool, true, false, refl, sym, subst, arith}
 use Rattle.attrs.specs.Attributes.{Attributes, plain}
@@ -31,7 +31,7 @@ use Rattle.warnings.proofs.Fresh.{first_chosen}
 use Rattle.warnings.proofs.Named.{all_alike, has_lowest, of_before, of_next, of_rule}
 use Rattle.warnings.proofs.Versions.{Highest, highest}
 
--- a moment's day is one that was asked for
+-- a moment's day is within the range of evaluation
 within_days : (n : ℕ) → n ≤ 252234691199 → n / 86400 ≤ 2919382
 within_days n h = omega arith
 
@@ -42,10 +42,10 @@ elapsed_within (negsuc second) = omega arith
 day_within : (moment : ℤ) → elapsed_days moment ≤ 2919382
 day_within moment = within_days (elapsed moment) (elapsed_within moment)
 
--- ---- of an app that may ask
+-- ---- an app that a server may evaluate a rule for
 
 module _ (r : RuleOfApp) (a : Attributes) (may : MayAsk a) where
-  -- the spot that stands for its version, and the app that was asked for in its place
+  -- the spot that represents its version, and the app that was evaluated for it
   place : Highest (spots_of r.rule) a.context.version
   place = highest (spots_of r.rule) a.context.version (has_lowest r.rule)
 
@@ -68,7 +68,7 @@ module _ (r : RuleOfApp) (a : Attributes) (may : MayAsk a) where
       (test_comes place.spot asked a one_of r.shape) r.rule
       (all_alike r.rule a.context.version place)
 
-  -- what nobody does it doesn't do
+  -- what no client does this client doesn't do
   nor_it : (asks : Asker → Attributes → Bool) → someone r (spots_of r.rule) asks ≡ false
       → asks (AllAt place.spot) asked ≡ false
   nor_it asks nobody =
@@ -139,7 +139,7 @@ pub releases_so : ReleasesAreSo
 releases_so app number r some =
     release_so app number r some (someone r (spots_of r.rule) (may_give r number)) refl
 
--- ---- who has a version
+-- ---- clients that have a version
 
 got_so : (r : RuleOfApp) (by : Comparison) (version : List ℕ)
     → in_some_bucket r (gets r by version One) (Some version) ≡ true → MayGet r by version

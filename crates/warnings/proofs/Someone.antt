@@ -1,4 +1,5 @@
--- Whether somebody says yes: to one of two questions, and to that for a release, by the marks.
+-- Properties of some client: a disjunction of two properties, and whether a release is given, by
+-- the marks.
 use Rattle.std.proofs.Common.{◌≡◌, ℕ, zero, suc, ◌+◌, ◌<◌, ◌≤◌, List, [], ◌∷◌, ◌++◌}
 use Rattle.std.proofs.Common.{Bool, true, false, ◌&&◌, ◌||◌, None, arith, add-one}
 use Rattle.std.proofs.Common.{refl, sym, ap, ◌∙◌}
@@ -87,7 +88,7 @@ none_given [] [] release none = refl
 none_given (m ∷ ms) [] release none = refl
 none_given ends (st ∷ rest) release none = absurd cc
 
--- ---- somebody
+-- ---- some client
 
 module _ (r : RuleOfApp) (spots : List Spot) where
   same_someone : (f g : Asks) → ((asker : Asker) (a : Attributes) → f asker a ≡ g asker a)
@@ -130,7 +131,7 @@ module _ (r : RuleOfApp) (spots : List Spot) where
 
   -- ---- a release that is given
 
-  -- who arrives there goes on to give it
+  -- a client that reaches these statements may get the release from them
   abbrev gives_on : (before rest : List Statement) → ℕ → Asks
   gives_on before rest release asker a =
       arrives r before asker a && may_offer (tests_for r asker a) rest release

@@ -16,7 +16,7 @@ pub empty : (ps : List Possible) → length ps ≡ 0 → reverse ps ≡ []
 empty [] none = refl
 empty (p ∷ ps) none = absurd (omega (arith, none))
 
--- ---- what is left
+-- ---- the remaining element
 
 pub single : (ps : List Possible) (d : Possible) → length ps ≡ 1
     → get_or ps 0 d ≡ one_left (Some (reverse ps))
@@ -51,7 +51,7 @@ pub condition : (of : Test → Possible) (ss : List Step)
     → one_left (after_steps of [] ss) ≡ steps_possible of ss
 condition of ss = ap one_left (all_steps of [] ss) ∙ one_tree of (trees_from [] ss)
 
--- ---- a step more
+-- ---- one more step
 
 pub goes_on : (of : Test → Possible) (s : Step) (ps qs : List Possible) (ss : List Step)
     → stepped of s ps ≡ Some qs → after_steps of ps (s ∷ ss) ≡ after_steps of qs ss

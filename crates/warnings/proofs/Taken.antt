@@ -1,4 +1,4 @@
--- Room that is taken statement by statement.
+-- The budget, spent statement by statement.
 use Rattle.std.proofs.Common.{◌≡◌, ℕ, ◌+◌, ◌*◌, ◌-◌, ◌<◌, List, ◌∷◌, Option, Some, ◌∙◌}
 use Rattle.std.proofs.Common.{length, take, drop, get_or, sym, ap, arith}
 use Rattle.std.specs.Prelude.{option_and_then}
@@ -15,7 +15,7 @@ taken_next : (versions : ℕ) (st : Statement) (rest : List Statement)
     → room_taken versions (st ∷ rest) ≡ versions * step_count st + room_taken versions rest
 taken_next versions st rest = grind (arith, sum_by-cons step_count st rest)
 
--- behind the first of those that are left
+-- what is left after the first of the remaining statements
 module _ (versions room : ℕ) (left : List Statement) (st : Statement) (behind : Option ℕ)
     (some : 0 < length left) (is : st ≡ get_or left 0 st)
     (one : behind ≡ room_less (versions * step_count st) room) where

@@ -1,4 +1,4 @@
--- What is told of a statement, and of releases, is what the parts of it tell.
+-- The warnings of a list of statements, or of releases, are those of its elements in order.
 use Rattle.std.proofs.Common.{◌≡◌, ℕ, ◌+◌, ◌-◌, ◌<◌, List, [], ◌∷◌, ◌++◌, length, take, drop}
 use Rattle.std.proofs.Common.{get_or, Bool, false, refl, sym, ap, ◌∙◌, arith, append_assoc}
 use Rattle.std.proofs.Common.{append-nil}
@@ -13,7 +13,7 @@ use Rattle.warnings.specs.Asked.{statement_warning, statements_from}
 use Rattle.warnings.specs.Asking.{RuleOfApp, may_give, someone}
 use Rattle.warnings.specs.Marks.{AreMarked, each_by, is_ended, is_reached}
 
--- what is told of a statement goes by its marks
+-- a statement's warning by its marks is its warning
 marked_is : (app : ℕ) (r : RuleOfApp) (spots : List Spot) (before : List Statement) (st : Statement)
     → marked_warning app (is_ended r (someone r spots) before st)
     (is_reached r (someone r spots) before st) st
@@ -30,7 +30,7 @@ behind [] = []
 behind (m ∷ ms) = ms
 
 module _ (app : ℕ) (r : RuleOfApp) (spots : List Spot) (first : List Warning) where
-  -- what is told of those that are left, by their marks, behind the text is what is told of all
+  -- the warnings so far, followed by those of the remaining statements, are the warnings of all
   pub record AreTold (left : List Statement) (reached ends : List Bool) (text : List Warning)
       : Type 0
     where
@@ -87,7 +87,7 @@ module _ (app : ℕ) (r : RuleOfApp) (spots : List Spot) (first : List Warning) 
       ∙ ap (λ (l : List Statement). text ++ statements_from app r spots h.before l) (sym none)
       ∙ h.told
 
--- ---- the first, and the others
+-- ---- the first element, and the others
 
 pub first_rest : {X : Type 0} (xs : List X) (x : X) → 0 < length xs → x ≡ get_or xs 0 x
     → xs ≡ x ∷ take (length xs - 1) (drop 1 xs)

@@ -1,4 +1,4 @@
--- For each version there is a spot of a rule that answers its tests alike.
+-- For each version there is a spot of a rule with the same results in all its tests.
 use Rattle.std.proofs.Common.{◌≡◌, ℕ, zero, suc, ◌<◌, List, [], ◌∷◌, ◌++◌, ◌⊎◌, inl, inr}
 use Rattle.std.proofs.Common.{Bool, true, false, ◌||◌, refl, sym, ap, ◌∙◌, arith, replicate}
 use Rattle.std.specs.Prelude.{slice_index, if◌then◌else◌}
@@ -15,7 +15,7 @@ use Rattle.rule_lang.specs.Meaning.{place_cmp, version_cmp}
 use Rattle.warnings.specs.declared.spot.Spot.{Spot}
 use Rattle.warnings.specs.Spots.{add_spot, spot_at, has_spot, just_above, lowest_spot, spot_cmp}
 
--- ---- versions and spots are in order
+-- ---- versions and spots are totally ordered
 
 place_total : (k : ℕ) → IsTotalOrder (λ (v w : List ℕ). place_cmp v w k)
 place_total k = on_total (λ (v : List ℕ). slice_index v k) nat_cmp_total
@@ -51,7 +51,7 @@ leveled Equal h k = refl
 leveled Less h k = absurd cc
 leveled Greater h k = absurd cc
 
--- a spot that is the same one lies where it does
+-- equal spots compare alike
 alike_to : (x s t : Spot) → is_eq (spot_cmp x s) ≡ true → spot_cmp s t ≡ spot_cmp x t
 alike_to x s t same = sym (spot_total.congr x s t ((Equal-is (spot_cmp x s)).0 same))
 
@@ -72,7 +72,7 @@ abbrev AllAbove : List Spot → List ℕ → Type 0
 AllAbove spots v = (s : Spot) → has_spot spots s ≡ true → is_gt (spot_cmp s (spot_at v)) ≡ true
 
 module _ (x : Spot) (xs : List Spot) (v : List ℕ) where
-  -- the first of them is above
+  -- the first spot is above the version
   over : is_gt (spot_cmp x (spot_at v)) ≡ true → (s : Spot) → is_eq (spot_cmp x s) ≡ true
       → is_gt (spot_cmp s (spot_at v)) ≡ true
   over above s same = ap is_gt (alike_to x s (spot_at v) same) ∙ above
@@ -171,16 +171,16 @@ highest spots v has = elim (find_highest spots v) [
   | inr all ↦ absurd (let both = sym (all lowest_spot has) ∙ lowest_within v in cc)
 ]
 
--- ---- it answers each test of a version as the version does
+-- ---- the spot has the same result as the version in each test of a version
 
--- what lies just above a version lies above it
+-- the spot just above a version is above it
 rises : (w : List ℕ) → spot_cmp (spot_at w) (just_above w) ≡ Less
 rises w = ap (λ o. ordering_then o Less) (tied_itself version_total w)
 
 module _ (spots : List Spot) (v w : List ℕ) (h : Highest spots v)
     (has_at : has_spot spots (spot_at w) ≡ true)
     (has_above : has_spot spots (just_above w) ≡ true) where
-  -- the version is the one that is named
+  -- the version is a named one
   answers_same : spot_cmp (spot_at v) (spot_at w) ≡ Equal → spot_cmp h.spot (spot_at w) ≡ Equal
   answers_same same =
       let back = tied_back spot_total (spot_at v) (spot_at w) same in
@@ -189,14 +189,14 @@ module _ (spots : List Spot) (v w : List ℕ) (h : Highest spots v)
       (ap is_gt (sym (spot_total.antisymm (spot_at w) h.spot))
       ∙ h.most (spot_at w) has_at (ap is_gt back))
 
-  -- it lies below
+  -- the version is below the named one
   answers_below : (r : Ordering) → spot_cmp h.spot (spot_at v) ≡ r
       → spot_cmp (spot_at v) (spot_at w) ≡ Less → spot_cmp h.spot (spot_at w) ≡ Less
   answers_below Less is below = spot_total.trans h.spot (spot_at v) (spot_at w) is below
   answers_below Equal is below = spot_total.congr h.spot (spot_at v) (spot_at w) is ∙ below
   answers_below Greater is below = absurd (let both = sym h.within ∙ ap is_gt is in cc)
 
-  -- it lies above
+  -- the version is above the named one
   climbs : (r : Ordering) → spot_cmp (just_above w) h.spot ≡ r
       → is_gt (spot_cmp (just_above w) h.spot) ≡ false → spot_cmp (spot_at w) h.spot ≡ Less
   climbs Less is low = spot_total.trans (spot_at w) (just_above w) h.spot (rises w) is
@@ -223,7 +223,7 @@ module _ (spots : List Spot) (v w : List ℕ) (h : Highest spots v)
   pub answers_alike : spot_cmp h.spot (spot_at w) ≡ version_cmp v w
   answers_alike = answers_by (version_cmp v w) refl
 
--- ---- a spot that is added
+-- ---- an added spot
 
 pub added : (spots : List Spot) (s : Spot) → has_spot (add_spot spots s) s ≡ true
 added spots s = by (has_spot spots s) refl

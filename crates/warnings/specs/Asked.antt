@@ -1,5 +1,5 @@
--- What is warned of in an app's rule: its tests, which are read, and its `when`s and releases, for
--- which it is asked.
+-- Warnings on an app's rule: on its tests, which are read, and on its `when`s and releases, for
+-- which it is evaluated.
 use Rattle.std.specs.Prelude.{ℕ, ◌+◌, ◌-◌, ◌*◌, List, [], ◌∷◌, ◌++◌, not}
 use Rattle.std.specs.Prelude.{length, Bool, true, false, ◌&&◌, nat_le, nat_lt, if◌then◌else◌}
 use Rattle.std.specs.Prelude.{Option, Some, None, unwrap_or}
@@ -25,18 +25,18 @@ use Rattle.warnings.specs.Asking.{may_end, may_give, someone}
 use Rattle.warnings.specs.Spots.{spots_of}
 use Rattle.warnings.specs.Warnings.{warned, warned_if}
 
--- ---- a test whose number is hardly meant, with a salt or without: who means 5 percent writes 500,
--- and not 5; who means 25 percent 2500, and not 25000
+-- ---- a test whose number is probably wrong, with or without a salt: 5 percent is 500, not 5; 25
+-- percent is 2500, not 25000
 
--- fewer than one percent, and not none
+-- less than one percent, but not none
 abbrev pub is_few : (buckets : ℕ) → Bool
 is_few buckets = nat_lt 0 buckets && nat_lt buckets 100
 
--- more than there are, so that the test holds for all
+-- more than there are buckets, so the test holds for all
 abbrev pub is_above_all : (number : ℕ) → Bool
 is_above_all number = nat_lt all_buckets number
 
--- the test by this sign and number holds for so many
+-- the test with this sign and number holds for `buckets` buckets
 abbrev pub part_warning : WarningPlace → (up_to : Bool) → (number buckets : ℕ) → List Warning
 part_warning at up_to number buckets =
     if is_few buckets then warned at (kind.FewBuckets up_to number buckets)
@@ -49,7 +49,7 @@ test_warning app line (test.Bucket salt None Le n) =
     part_warning (place.Line app line) true n (n + 1)
 test_warning app line t = []
 
--- whatever stands around it: `not`, or what never holds
+-- whatever surrounds it, such as `not` or a condition that never holds
 abbrev pub parts_of_step : (app : ℕ) → Step → List Warning
 parts_of_step app (step.Test line t) = test_warning app line t
 parts_of_step app s = []
@@ -58,7 +58,7 @@ abbrev pub parts_of_steps : (app : ℕ) → List Step → List Warning
 parts_of_steps app [] = []
 parts_of_steps app (s ∷ ss) = parts_of_step app s ++ parts_of_steps app ss
 
--- ---- a take before the version: it is done whatever the version is
+-- ---- a take before the version, which counts whatever the version is
 
 abbrev pub tests_version : Step → Bool
 tests_version (step.Test line (test.Version r version)) = true
@@ -69,7 +69,7 @@ take_warning app (step.Test line (test.Take name index)) later =
     warned_if later (place.Line app line) kind.TakeBeforeVersion
 take_warning app s later = []
 
--- each before the first test of the version, where there is one
+-- each take before the first test of the version, if there is one
 abbrev pub takes_of_steps : (app : ℕ) → List Step → List Warning
 takes_of_steps app [] = []
 takes_of_steps app (s ∷ ss) =
@@ -90,7 +90,7 @@ abbrev pub first_line : List Step → ℕ
 first_line (step.Test line t ∷ steps) = line
 first_line steps = 0
 
--- no app gets to it; or those that get to it go on behind it
+-- no app reaches it; or the apps that reach it continue after it
 abbrev pub when_warning : (app : ℕ) → (ends reached : Bool) → List Step → List Warning
 when_warning app true reached steps = []
 when_warning app false true steps = warned (place.Line app (first_line steps)) kind.NeverHolds
@@ -103,12 +103,12 @@ statement_warning app r spots before (When steps release) =
     when_warning app (someone r spots (may_end r before (When steps release)))
     (someone r spots (arrives r before)) steps
 
--- by its marks
+-- a statement's warning by its marks
 abbrev pub marked_warning : (app : ℕ) → (ends reached : Bool) → Statement → List Warning
 marked_warning app ends reached (Count name index) = []
 marked_warning app ends reached (When steps release) = when_warning app ends reached steps
 
--- of the statements behind these
+-- the warnings of the statements `rest`, which come after `before`
 abbrev pub statements_from : (app : ℕ) → RuleOfApp → List Spot → (before rest : List Statement)
     → List Warning
 statements_from app r spots before [] = []
@@ -117,11 +117,11 @@ statements_from app r spots before (st ∷ rest) =
 
 -- ---- a release
 
--- neither it nor a later one is given
+-- neither this release nor a later one is given
 abbrev pub ungiven_warning : (given : Bool) → (app number : ℕ) → List Warning
 ungiven_warning given app number = warned_if (not given) (place.Release app number) kind.NoBucket
 
--- who has this version and says no more gets a release whose version compares so with it
+-- a client that sends only this version gets a release whose version compares by `by` with it
 abbrev pub got_at : WarningPlace → RuleOfApp → Comparison → (version : List ℕ) → WarningKind
     → List Warning
 got_at at r by version what =
@@ -144,18 +144,17 @@ asked_from app number r spots (release ∷ later) =
     given_warnings app number r (someone r spots (may_give r number)) release
     ++ asked_from app (number + 1) r spots later
 
--- ---- how much is asked
+-- ---- the budget of evaluation
 
 abbrev pub step_count : Statement → ℕ
 step_count (Count name index) = 0
 step_count (When steps release) = length steps
 
--- a rule takes room for each step of its conditions, wherever a version may lie and for who has
--- each release
+-- a rule costs one unit for each step of its conditions, at each spot and for each release
 abbrev pub room_taken : (versions : ℕ) → List Statement → ℕ
 room_taken versions rule = versions * sum_by step_count rule
 
--- None where there is too little
+-- `None` if the budget is too small
 abbrev pub room_less : (taken room : ℕ) → Option ℕ
 room_less taken room = if nat_le taken room then Some (room - taken) else None
 
@@ -163,7 +162,7 @@ abbrev pub room_after : RuleOfApp → (room : ℕ) → Option ℕ
 room_after r room =
     room_less (room_taken (length (spots_of r.rule) + length r.releases) r.rule) room
 
--- what all rules of a manifest have
+-- the budget of all rules of a manifest
 abbrev pub all_room : ℕ
 all_room = 10000
 
@@ -174,15 +173,15 @@ asked_warnings app r =
     statements_from app r (spots_of r.rule) [] r.rule
     ++ asked_from app 1 r (spots_of r.rule) r.releases
 
--- there is too little room for it, or it is asked
+-- evaluated if the budget is enough, else the warning that it isn't
 abbrev pub told_in : Option ℕ → (app : ℕ) → RuleOfApp → List Warning
 told_in (Some left) app r = asked_warnings app r
 told_in None app r = warned (place.App app) kind.NotAsked
 
--- of its tests in any case
+-- tests are read in any case
 abbrev pub rule_warnings : (app room : ℕ) → RuleOfApp → List Warning
 rule_warnings app room r = parts_of_rule app r.rule ++ told_in (room_after r room) app r
 
--- a rule that isn't asked takes no room
+-- a rule that isn't evaluated costs nothing
 abbrev pub room_left : (room : ℕ) → RuleOfApp → ℕ
 room_left room r = unwrap_or (room_after r room) room

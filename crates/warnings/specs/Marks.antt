@@ -1,4 +1,4 @@
--- What is known of each statement of a rule, of all who were asked so far: a mark a statement.
+-- Two marks for each statement of a rule, for all clients so far.
 use Rattle.std.specs.Prelude.{◌≡◌, ℕ, List, [], ◌∷◌, ◌++◌, Bool, true, false, nat_le, ◌&&◌, ◌||◌}
 use Rattle.std.specs.Prelude.{None}
 use Rattle.attrs.specs.Attributes.{Attributes}
@@ -10,7 +10,7 @@ use Rattle.warnings.specs.declared.spot.Spot.{Spot}
 use Rattle.warnings.specs.Asking.{RuleOfApp, arrives, in_some_bucket, may_end}
 use Rattle.warnings.specs.Course.{offered}
 
--- ---- who was asked: of a question whether one of them says yes
+-- ---- a crowd: for a property of clients, whether one of the clients so far has it
 
 abbrev pub Crowd : Type 0
 Crowd = (Asker → Attributes → Bool) → Bool
@@ -18,28 +18,28 @@ Crowd = (Asker → Attributes → Bool) → Bool
 abbrev pub nobody : Crowd
 nobody asks = false
 
--- and this one
+-- the crowd with one more client
 abbrev pub with_one : Crowd → Asker → Attributes → Crowd
 with_one crowd asker a asks = crowd asks || asks asker a
 
--- and those of each bucket whose version lies there
+-- the crowd with the clients of each bucket whose version lies at `spot`
 abbrev pub with_buckets : RuleOfApp → Crowd → Spot → Crowd
 with_buckets r crowd spot asks = crowd asks || in_some_bucket r (asks (AllAt spot)) None
 
 -- ---- marks
 
--- of these statements, each by those before it
+-- for each statement of `rest`, `f` of it and the statements before it
 abbrev pub each_by : (List Statement → Statement → Bool) → (before rest : List Statement)
     → List Bool
 each_by f before [] = []
 each_by f before (st ∷ rest) = f before st ∷ each_by f (before ++ st ∷ []) rest
 
--- one of the crowd gets to it; of a `count`, of which nothing is told, that isn't asked
+-- some client of the crowd reaches it; a `count`, which has no warnings, is always marked
 abbrev pub is_reached : RuleOfApp → Crowd → (before : List Statement) → Statement → Bool
 is_reached r crowd before (Count name index) = true
 is_reached r crowd before (When steps release) = crowd (arrives r before)
 
--- it may end the rule for one of the crowd
+-- it may end the rule for some client of the crowd
 abbrev pub is_ended : RuleOfApp → Crowd → (before : List Statement) → Statement → Bool
 is_ended r crowd before (Count name index) = true
 is_ended r crowd before (When steps release) = crowd (may_end r before (When steps release))
@@ -48,12 +48,12 @@ pub record AreMarked (r : RuleOfApp) (crowd : Crowd) (reached ends : List Bool) 
   pub reached_are : reached ≡ each_by (is_reached r crowd) [] r.rule
   pub ends_are : ends ≡ each_by (is_ended r crowd) [] r.rule
 
--- those that are set before anybody is asked
+-- the marks before the first client
 abbrev pub is_count : Statement → Bool
 is_count (Count name index) = true
 is_count (When steps release) = false
 
--- ---- what they say
+-- ---- what marks imply
 
 -- one of the statements that may end the rule gives this release or a later one
 abbrev pub is_given : (ends : List Bool) → List Statement → (release : ℕ) → Bool

@@ -1,4 +1,4 @@
--- The names of warnings, and which of them count.
+-- The names of warnings, and which warnings count.
 use Rattle.std.specs.Prelude.{ℕ, List, [], ◌∷◌, Bool, true, false, not, ◌≡◌}
 use Rattle.std.specs.Borrow.{Bor}
 use Rattle.std.specs.List.{list_any}
@@ -19,11 +19,11 @@ all_kinds =
 unfoldable pub is_warning_name : List ℕ → Bool
 is_warning_name text = list_any (λ k. bytes_eq text (name_of k)) all_kinds
 
--- a law: each kind's name is one
+-- law: each kind's name is a warning name
 abbrev pub AllAreNamed : Type 0
 AllAreNamed = (k : WarningKind) → is_warning_name (name_of k) ≡ true
 
--- its name is among those that are allowed
+-- its name is allowed
 abbrev pub is_allowed : (allowed : List (Bor (List ℕ))) → Warning → Bool
 is_allowed allowed w = list_any (λ name. bytes_eq name.now (name_of w.kind)) allowed
 

@@ -1,5 +1,5 @@
--- What a condition may come to, for all apps in a bucket whose version lies somewhere, or for one
--- app where each counter replies 0.
+-- Possible results of a condition: for all clients in a bucket whose version lies at a spot, or for
+-- one client with each counter replying 0.
 use Rattle.std.specs.Prelude.{ℕ, List, [], ◌∷◌, Option, Some, min}
 use Rattle.std.specs.Prelude.{Bool, true, false, not, ◌&&◌, ◌||◌}
 use Rattle.std.specs.Ordering.{nat_cmp}
@@ -17,7 +17,7 @@ use Rattle.warnings.specs.declared.possible.Asker.TheVariants.{AllAt, One}
 use Rattle.warnings.specs.declared.spot.Spot.{Spot}
 use Rattle.warnings.specs.Spots.{spot_at, spot_cmp}
 
--- it comes to this alone, or to either
+-- only this result is possible, or either
 abbrev pub decided : Bool → Possible
 decided b = record { holds = b; fails = not b }
 
@@ -26,16 +26,16 @@ undecided = record { holds = true; fails = true }
 
 -- ---- tests
 
--- the last day on which a server is asked, that of 9999-12-31
+-- the last day at which a server evaluates rules, that of 9999-12-31
 abbrev pub last_today : ℕ
 last_today = 2919382
 
--- the last day of installation; one that isn't known is told as this, too
+-- the last day of installation; an unknown day has this number also
 abbrev pub last_install_day : ℕ
 last_install_day = 4294967295
 
--- how a day from 0 to the last one may compare with a number: as the first one does, the last one,
--- or the number itself, if it is such a day
+-- how a day from 0 to `last` may compare with a number: as 0 does, as `last` does, or as the day
+-- nearest to the number
 abbrev pub day_possible : (last : ℕ) → Comparison → ℕ → Possible
 day_possible last r n =
     let at_first = allows r (nat_cmp 0 n) in
@@ -46,7 +46,7 @@ day_possible last r n =
       fails = not at_first || not at_nearest || not at_last;
     }
 
--- the version lies there, the bucket is known, and all else is open
+-- the version lies at the spot, the bucket is known, and other attributes are open
 abbrev pub open_possible : Spot → Attributes → AppShape → Test → Possible
 open_possible spot a s (test.Version r w) = decided (allows r (spot_cmp spot (spot_at w)))
 open_possible spot a s (test.Bucket salt modulus r n) =
@@ -76,7 +76,7 @@ tree_possible of (Negated c) = negated (tree_possible of c)
 tree_possible of (Both b c) = both (tree_possible of b) (tree_possible of c)
 tree_possible of (Either b c) = either (tree_possible of b) (tree_possible of c)
 
--- the steps of a condition make one tree
+-- the steps of a condition form one tree
 abbrev pub one_possible : (Test → Possible) → Option (List Tree) → Possible
 one_possible of (Some (c ∷ [])) = tree_possible of c
 one_possible of trees = decided false

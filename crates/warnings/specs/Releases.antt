@@ -1,4 +1,4 @@
--- What is warned of in appids and in releases that are accepted.
+-- Warnings on accepted appids and releases.
 use Rattle.std.specs.Prelude.{ℕ, ◌+◌, List, [], ◌∷◌, ◌++◌, codes, nat_eq}
 use Rattle.std.specs.Prelude.{Bool, not, ◌==◌, ◌&&◌, ◌||◌, Option, Some, None, false}
 use Rattle.std.specs.Prelude.{slice_index}
@@ -13,13 +13,13 @@ use Rattle.warnings.specs.Warnings.{warned_if}
 
 -- ---- an appid
 
--- what prints it raw, as the reply to a client does, prints its controls
+-- the reply to a client has the appid unescaped, with its controls
 abbrev pub appid_warning : (app : ℕ) → (appid : List ℕ) → List Warning
 appid_warning app appid = warned_if (has_control appid) (place.App app) kind.UnprintedAppid
 
 -- ---- a release
 
--- place by place
+-- number by number
 abbrev pub same_numbers : List ℕ → List ℕ → Bool
 same_numbers v w =
     (slice_index v 0 == slice_index w 0) && (slice_index v 1 == slice_index w 1)
@@ -30,17 +30,17 @@ same_version (Some v) (Some w) = same_numbers v w
 same_version (Some v) None = false
 same_version None w = false
 
--- by its four numbers, so 2.0 is 2.0.0.0
+-- by all four numbers, so 2.0 is 2.0.0.0
 abbrev pub has_version : List ℕ → Release → Bool
 has_version version release = same_version (version_of version) (version_of release.version)
 
--- a later one has the same version
+-- a later release has the same version
 abbrev pub version_warning : (app number : ℕ) → Release → (later : List Release) → List Warning
 version_warning app number release later =
     warned_if (list_any (has_version release.version) later) (place.Release app number)
     kind.SameVersion
 
--- a client puts the name of a package behind the codebase
+-- a client appends a package's name to the codebase
 abbrev pub ends_in_slash : List ℕ → Bool
 ends_in_slash url = ends_with nat_eq url (codes "/")
 

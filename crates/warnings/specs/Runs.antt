@@ -1,4 +1,4 @@
--- What the warnings on a rule say of its runs, by what rules mean.
+-- What the warnings on a rule imply about its runs, by the meaning of rules.
 use Rattle.std.specs.Prelude.{◌≡◌, ℕ, ◌<◌, ◌≤◌, ℤ, List, [], ◌∷◌, ◌++◌, Option, Some, None, true}
 use Rattle.std.specs.Prelude.{All, false}
 use Rattle.std.specs.List.{count_by, range_with_len}
@@ -26,34 +26,34 @@ use Rattle.warnings.specs.declared.warning.Warning.{Warning}
 use Rattle.warnings.specs.declared.warning.WarningKind.{WarningKind}
 use Rattle.warnings.specs.declared.warning.WarningKind.TheVariants as kind
 
--- an app that a server may be asked for: its context is in the ranges of that type, and its day is
--- that of a moment
+-- an app that a server may evaluate a rule for: its context is in the ranges of that type, and its
+-- day is that of a moment
 pub record MayAsk (a : Attributes) : Type 0 where
   pub ranges : HasContextRanges a.context
   pub moment : ℤ
   pub today : a.context.today ≡ elapsed_days moment
 
--- ---- of a test
+-- ---- a test
 
--- how many of the bucket numbers, 0 to 9999, compare so with this number
+-- how many of the bucket numbers, 0 to 9999, compare by `r` with this number
 abbrev pub buckets_that : Comparison → ℕ → ℕ
 buckets_that r n = count_by (λ bucket. allows r (nat_cmp bucket n)) (range_with_len 0 all_buckets)
 
--- whoever asks, it holds
+-- the test holds for every client
 abbrev pub AlwaysHolds : Test → Type 0
 AlwaysHolds t =
     (a : Attributes) → MayAsk a → (s : AppShape) (met unmet : Behaviour)
     → test_then a s t met unmet ≡ met
 
--- ---- what is denied of all runs
+-- ---- what no run does
 
--- whatever stood behind these statements, it would be the same
+-- the statements after these don't affect the behaviour
 abbrev pub IsNeverPassed : AppShape → List Statement → Type 0
 IsNeverPassed s before =
     (a : Attributes) → MayAsk a → (rest other : List Statement)
     → behaviour a s (before ++ rest) ≡ behaviour a s (before ++ other)
 
--- whatever the `when` of this condition behind them offered, it would be the same
+-- the release of a `when` with this condition, after `before`, doesn't affect the behaviour
 abbrev pub NeverHolds : AppShape → (before : List Statement) → List Step → Type 0
 NeverHolds s before steps =
     (a : Attributes) → MayAsk a → (rest : List Statement) (release other : ℕ)
@@ -66,10 +66,10 @@ IsNeverChosen s rule release =
     (a : Attributes) → MayAsk a → (events : List CellEvent)
     → HasTrace (behaviour a s rule) events release → ⊥
 
--- ---- what is said of a run
+-- ---- what some run does
 
--- there is a run of an app that says no more than this version, in which each counter replies 0,
--- and it gets a release whose version compares so with its own
+-- some run for a client that sends only this version, with each counter replying 0, gets a release
+-- whose version compares by `by` with it
 pub record MayGet (r : RuleOfApp) (by : Comparison) (version : List ℕ) : Type 0 where
   pub bucket : ℕ
   pub within : bucket < 10000
@@ -80,10 +80,11 @@ pub record MayGet (r : RuleOfApp) (by : Comparison) (version : List ℕ) : Type 
       choice
   pub compares : choice_compares by r.releases version choice ≡ true
 
--- ---- warnings that are so
+-- ---- true warnings
 
--- it says for how many buckets the test holds, or for how many of those under a salt, and these are
--- some, and fewer than one percent; or that it holds for all, and it always does
+-- a warning of few buckets names for how many buckets the test holds, under its salt if there is
+-- one: more than none, and less than one percent. A warning of all buckets is on a test that always
+-- holds
 pub data IsSoOfTest (app line : ℕ) : Test → List Warning → Type 0 where
   nothing : (t : Test) → IsSoOfTest app line t []
   few_below : (salt : Option ℕ) (n : ℕ) → 0 < buckets_that Lt n → buckets_that Lt n < 100
@@ -122,24 +123,24 @@ pub data IsSoOfVersion (app number : ℕ) (r : RuleOfApp) (by : Comparison) (ver
 
 -- ---- the laws
 
--- what is told of a test of a rule is so
+-- warnings on a test of a rule are true
 abbrev pub TestsAreSo : Type 0
 TestsAreSo = (app line : ℕ) (t : Test) → IsSoOfTest app line t (test_warning app line t)
 
--- what is told of a `when` of a rule is so
+-- warnings on a `when` of a rule are true
 abbrev pub WhensAreSo : Type 0
 WhensAreSo = (app : ℕ) (r : RuleOfApp) (before rest : List Statement) (steps : List Step)
     (release : ℕ) → r.rule ≡ before ++ When steps release ∷ rest
     → IsSoOfWhen app r before steps
     (statement_warning app r (spots_of r.rule) before (When steps release))
 
--- what is told of a release that no bucket gets is so
+-- warnings on a release that no bucket gets are true
 abbrev pub ReleasesAreSo : Type 0
 ReleasesAreSo = (app number : ℕ) (r : RuleOfApp) → 0 < number
     → IsSoOfRelease app number r
     (ungiven_warning (someone r (spots_of r.rule) (may_give r number)) app number)
 
--- what is told of who has a version is so
+-- warnings on clients that have a version are true
 abbrev pub VersionsAreSo : Type 0
 VersionsAreSo = (app number : ℕ) (r : RuleOfApp) (by : Comparison) (version : List ℕ)
     (what : WarningKind)

@@ -1,5 +1,5 @@
--- Where the versions lie for which a rule is asked. Between two versions that it names, with none
--- between them, all versions answer each of its tests alike.
+-- Spots: the versions at which a rule is evaluated. All versions between two neighbours among those
+-- that the rule names have the same results in its tests.
 use Rattle.std.specs.Prelude.{List, [], ◌∷◌, ◌++◌, ℕ, Bool, true, false, replicate, if◌then◌else◌}
 use Rattle.std.specs.List.{list_any}
 use Rattle.std.specs.Ordering.{bool_cmp, is_eq, ordering_then}
@@ -12,7 +12,7 @@ use Rattle.rule_lang.specs.declared.test.Test.TheVariants as test
 use Rattle.rule_lang.specs.Meaning.{version_cmp}
 use Rattle.warnings.specs.declared.spot.Spot.{Spot}
 
--- a version itself, and what lies above it and below each higher one that is named
+-- a version itself, and what lies above it and below the next higher one that is named
 abbrev pub spot_at : List ℕ → Spot
 spot_at version = record { version = version; above = false }
 
@@ -22,7 +22,7 @@ just_above version = record { version = version; above = true }
 abbrev pub spot_cmp : Spot → Spot → Ordering
 spot_cmp s t = ordering_then (version_cmp s.version t.version) (bool_cmp s.above t.above)
 
--- ---- those of a rule, each once
+-- ---- the spots of a rule, without duplicates
 
 abbrev pub has_spot : List Spot → Spot → Bool
 has_spot spots spot = list_any (λ s. is_eq (spot_cmp s spot)) spots
@@ -46,7 +46,7 @@ add_statements spots [] = spots
 add_statements spots (Count name index ∷ rest) = add_statements spots rest
 add_statements spots (When steps release ∷ rest) = add_statements (add_steps spots steps) rest
 
--- the lowest version is that of an app which tells none, too
+-- a client that sends no version has the lowest version
 abbrev pub lowest_spot : Spot
 lowest_spot = spot_at (replicate 4 0)
 

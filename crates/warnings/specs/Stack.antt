@@ -1,5 +1,4 @@
--- A condition, step by step, over a stack of what the conditions so far may come to, the newest
--- first.
+-- Evaluation of a condition step by step, over a stack of possible results, the newest first.
 use Rattle.std.specs.Prelude.{List, [], ◌∷◌, Option, Some, None, option_and_then, false}
 use Rattle.rule_lang.specs.declared.condition.Step.{Step}
 use Rattle.rule_lang.specs.declared.condition.Step.TheVariants as step
@@ -25,7 +24,7 @@ abbrev pub after_steps : (Test → Possible) → List Possible → List Step →
 after_steps of ps [] = Some ps
 after_steps of ps (s ∷ ss) = option_and_then (λ qs. after_steps of qs ss) (stepped of s ps)
 
--- the one that is left
+-- the only element
 abbrev pub one_left : Option (List Possible) → Possible
 one_left (Some (p ∷ [])) = p
 one_left ps = decided false

@@ -11,12 +11,12 @@ use Rattle.warnings.specs.declared.warning.WarningKind.TheVariants as kind
 abbrev pub warned : WarningPlace → WarningKind → List Warning
 warned place kind = record { place = place; kind = kind } ∷ []
 
--- where something holds
+-- a warning, if a condition holds
 abbrev pub warned_if : Bool → WarningPlace → WarningKind → List Warning
 warned_if true place kind = warned place kind
 warned_if false place kind = []
 
--- ---- names, which stay
+-- ---- names, which are stable
 
 abbrev pub name_of : WarningKind → List ℕ
 name_of kind.UnprintedAppid = codes "unprinted-appid"
@@ -55,7 +55,7 @@ abbrev pub few_percent : (buckets : ℕ) → List ℕ
 few_percent buckets =
     codes "0." ++ decimal (buckets / 10) ++ decimal (buckets % 10) ++ codes " percent"
 
--- a test, and for which part of the buckets it holds
+-- a test, and the part of the buckets for which it holds
 abbrev pub part_text : WarningKind → List ℕ
 part_text (kind.FewBuckets up_to number buckets) =
     codes ": bucket " ++ sign_of up_to ++ codes " " ++ decimal number ++ codes " is "
@@ -64,7 +64,7 @@ part_text (kind.AllBuckets up_to number) =
     codes ": bucket " ++ sign_of up_to ++ codes " " ++ decimal number ++ codes " is all"
 part_text k = []
 
--- what stands behind the place, and behind a test's part
+-- what comes after the place, and after a test's part
 unfoldable pub said_of : WarningKind → List ℕ
 said_of kind.UnprintedAppid = codes ".appid: it has a character that isn't printed"
 said_of kind.UnusedArray = codes ": no program uses it, and no rule"
@@ -86,7 +86,7 @@ said_of kind.OfferedLower = codes ".version: in some bucket who has it may get a
 said_of kind.NotAsked =
     codes ".rule: not asked which releases it gives, since that would take long"
 
--- where it is, and what
+-- its place, and what it says
 abbrev pub warning_text : Warning → List ℕ
 warning_text w = place_text w.place ++ part_text w.kind ++ said_of w.kind
 
@@ -96,6 +96,6 @@ line_start k = codes "warning " ++ name_of k ++ codes ": "
 abbrev pub warning_line : Warning → List ℕ
 warning_line w = line_start w.kind ++ warning_text w ++ codes "\n"
 
--- a line each
+-- a line for each warning
 abbrev pub warnings_text : List Warning → List ℕ
 warnings_text warnings = flat_map warning_line warnings

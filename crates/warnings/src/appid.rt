@@ -1,4 +1,4 @@
-//! What is said of an appid.
+//! Warnings on an appid.
 
 ghost use Rattle.std.specs.Prelude.{◌≡◌, ◌++◌, OnOk};
 ghost use Rattle.warnings.specs.Releases as specs;
@@ -7,8 +7,8 @@ use crate::warning::{Warning, WarningKind, WarningPlace, warn_if};
 use printing::has_control;
 use std::alloc::AllocError;
 
-/// A warning on an appid that has a character that isn't printed. Apps are numbered from 1.
-// open: whether memory is refused.
+/// A warning on an appid that has an unprintable character. Apps are numbered from 1.
+// open: whether an allocation fails.
 pub fn tell_appid(warnings: &mut Vec<Warning>, app: usize, appid: &str) -> Result<(), AllocError>
     ensures { OnOk result (warnings.new.items
         ≡ warnings.old.items ++ specs.appid_warning app appid.now) }

@@ -1,4 +1,4 @@
-//! What is asked of an app's rule for who has a release: in each bucket.
+//! Evaluates an app's rule in each bucket, for clients that have a release.
 
 ghost use Rattle.std.specs.Prelude.{◌≡◌, IfOk, Some, option_copied};
 ghost use Rattle.warnings.specs.Asking as specs;
@@ -22,7 +22,7 @@ pub struct AskedRule<'a> {
 }
 
 impl<'a> AskedRule<'a> {
-    /// These, lent.
+    /// Borrows these four.
     pub fn of(
         appid: &'a str,
         shape: &'a Shape,
@@ -55,7 +55,7 @@ fn release_compares(by: Comparison, release: Option<&Release>, version: &str) ->
     }
 }
 
-// The choice is a release whose version compares so with this one.
+// Whether the choice is a release whose version compares by `by` with this version.
 #[tactic(auto, using(crate::proofs::Found::got_at))]
 fn choice_compares(by: Comparison, releases: &[Release], version: &str, choice: u8) -> bool
     ensures { result ≡ specs.choice_compares by releases.now version.now choice }
@@ -80,8 +80,8 @@ fn gets(
     Ok(choice_compares(by, asked.releases, version, choice))
 }
 
-/// Whether in some bucket who says no more than this version gets a release whose version compares
-/// so with it, where each counter replies 0.
+/// Whether, in some bucket, a client that sends only this version gets a release whose version
+/// compares by `by` with it. Each counter replies 0.
 pub(crate) fn gets_in_some_bucket(
     alloc: Global,
     asked: &AskedRule<'_>,

@@ -1,4 +1,4 @@
-//! A condition, by its steps.
+//! Three-valued evaluation of a condition, step by step.
 
 ghost use Rattle.std.specs.Prelude.{◌≡◌, ◌∷◌, [], Some, None, IfOk, if◌then◌else◌, reverse};
 ghost use Rattle.warnings.specs.Possible.{steps_possible, test_possible};
@@ -12,7 +12,7 @@ use cells::Shape;
 use rule_lang::Step;
 use std::alloc::AllocError;
 
-// The newest is negated, if there is one.
+// Negates the newest element, if there is one.
 fn negate(stack: &mut Vec<Possible>) -> Result<bool, AllocError>
     ensures { IfOk result (λ done. specs.not_newest (reverse stack.old.items)
         ≡ (if done then Some (reverse stack.new.items) else None)) }
@@ -24,7 +24,7 @@ fn negate(stack: &mut Vec<Possible>) -> Result<bool, AllocError>
     Ok(true)
 }
 
-// The two newest are joined by `and`, if there are two.
+// Joins the two newest elements by `and`, if there are two.
 fn join_both(stack: &mut Vec<Possible>) -> Result<bool, AllocError>
     ensures { IfOk result (λ done. specs.join_two possible.both (reverse stack.old.items)
         ≡ (if done then Some (reverse stack.new.items) else None)) }
@@ -39,7 +39,7 @@ fn join_both(stack: &mut Vec<Possible>) -> Result<bool, AllocError>
     Ok(true)
 }
 
-// The two newest are joined by `or`, if there are two.
+// Joins the two newest elements by `or`, if there are two.
 fn join_either(stack: &mut Vec<Possible>) -> Result<bool, AllocError>
     ensures { IfOk result (λ done. specs.join_two possible.either (reverse stack.old.items)
         ≡ (if done then Some (reverse stack.new.items) else None)) }
@@ -111,7 +111,7 @@ fn run_steps(
     Ok(one_left(stack.as_slice()))
 }
 
-/// What a condition may come to. The stack is room for it, and is left as it may be.
+/// The possible results of a condition. `stack` is a reused buffer, with any content afterwards.
 #[tactic(auto, using(crate::proofs::Stacks::condition))]
 pub(crate) fn condition_possible(
     stack: &mut Vec<Possible>,

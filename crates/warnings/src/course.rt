@@ -1,4 +1,4 @@
-//! How a rule may go, statement by statement.
+//! The possible paths through a rule, statement by statement.
 
 ghost use Rattle.std.specs.Prelude.{◌≡◌, IfOk};
 ghost use Rattle.warnings.specs.Course as specs;
@@ -11,7 +11,7 @@ use cells::Shape;
 use rule_lang::Statement;
 use std::alloc::AllocError;
 
-/// Whether a statement may end the rule, and whether the rule may go on behind it.
+/// `holds`: the statement may end the rule; `fails`: the rule may continue after it.
 pub(crate) fn statement_possible(
     stack: &mut Vec<Possible>,
     asker: Asker,
@@ -40,7 +40,7 @@ pub(crate) fn offered(statement: &Statement) -> u8
     }
 }
 
-/// The release of the first that may end it, or 0.
+/// The release of the first statement that may end the rule, or 0.
 pub(crate) fn first_offer(
     stack: &mut Vec<Possible>,
     asker: Asker,

@@ -1,5 +1,5 @@
-//! What is told of the releases of a rule that was asked: who gets them, and what who has them may
-//! get.
+//! Warnings on an app's releases: those that no bucket gets, and those that a client may be offered
+//! again or downgraded to.
 
 ghost use Rattle.std.specs.Prelude.{◌≡◌, ◌++◌, List, OnOk};
 ghost use Rattle.warnings.specs.declared.spot.Spot.{Spot};
@@ -14,7 +14,8 @@ use releases::Release;
 use rule_lang::Comparison;
 use std::alloc::{AllocError, Global};
 
-// Who has this version and says no more gets a release whose version compares so with it.
+// A warning if a client that sends only this version gets a release whose version compares by `by`
+// with it.
 fn tell_got(
     alloc: Global,
     warnings: &mut Vec<Warning>,

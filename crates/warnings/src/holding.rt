@@ -1,5 +1,5 @@
-//! What a test may come to, for one app that says this and no more, and for all whose version lies
-//! somewhere.
+//! The possible results of a test: for one client that sends just these attributes, or for all
+//! clients whose version lies at a spot.
 
 ghost use Rattle.std.specs.Prelude.{◌≡◌};
 ghost use Rattle.warnings.specs.Possible as specs;
@@ -11,13 +11,13 @@ use cells::Shape;
 use rule_eval::{allows, compares_so, test_holds};
 use rule_lang::{Comparison, Test};
 
-/// The last day on which a server is asked, that of 9999-12-31.
+/// The last day at which a server evaluates rules: that of 9999-12-31.
 const LAST_TODAY: u64 = Elapsed::LAST_DAY as u64;
-/// The last day of installation. One that isn't known is told as this, too.
+/// The last day of installation. An unknown day has this number also.
 const LAST_INSTALL_DAY: u64 = Context::UNKNOWN_DAY as u64;
 
-// How a day from 0 to the last one may compare with a number: as the first one does, the last one,
-// or the number itself.
+// How a day from 0 to `last` may compare with a number: as 0 does, as `last` does, or as the day
+// nearest to the number.
 fn day_possible(last: u64, comparison: Comparison, number: u32) -> Possible
     ensures { result ≡ specs.day_possible last comparison number }
 {
@@ -31,7 +31,7 @@ fn day_possible(last: u64, comparison: Comparison, number: u32) -> Possible
     }
 }
 
-// Of these attributes the bucket counts, and no more.
+// Only the bucket of these attributes matters.
 fn open_possible(spot: Spot, attrs: &Attrs, shape: &Shape, test: &Test) -> Possible
     ensures { result ≡ specs.open_possible spot attrs.now shape.now test.now }
 {
@@ -52,7 +52,7 @@ fn open_possible(spot: Spot, attrs: &Attrs, shape: &Shape, test: &Test) -> Possi
     }
 }
 
-/// What a test may come to.
+/// The possible results of a test.
 pub(crate) fn test_possible(asker: Asker, attrs: &Attrs, shape: &Shape, test: &Test) -> Possible
     ensures { result ≡ specs.test_possible asker attrs.now shape.now test.now }
 {

@@ -1,14 +1,14 @@
-//! Laws of the definitions: what is told of a rule is so, and each warning has a name. They are
-//! called by nothing.
+//! Laws of the definitions, which nothing calls: warnings on a rule are true, and each warning has
+//! a name.
 
 ghost use Rattle.warnings.specs.Names.{AllAreNamed};
 ghost use Rattle.warnings.specs.Runs.{ReleasesAreSo, TestsAreSo, VersionsAreSo};
 ghost use Rattle.warnings.specs.Runs.{WhensAreSo};
 
-/// A law: no run of a rule does what a line on a `when` or on a release denies, whoever asks and
-/// whatever counters reply; there is a run that does what a line on a version says; and a test
-/// holds for the part of the buckets that a line on it has.
-// open: that counters reply so: of a cell that a rule takes twice, 0 twice.
+/// Law: no run of a rule, for any client and any counter replies, does what a warning on a `when`
+/// or on a release denies. Some run does what a warning on a version says. A test holds for the
+/// part of the buckets that the warning on it names.
+// open: that counters can reply so: for a cell that a rule takes from in two places, 0 both times.
 pub fn warnings_are_so()
     ensures whens { WhensAreSo }
     ensures releases { ReleasesAreSo }
@@ -16,7 +16,7 @@ pub fn warnings_are_so()
     ensures tests { TestsAreSo }
 {}
 
-/// A law: the name of each kind of warning is one of those that are known.
+/// Law: `is_warning_name` holds for the name of each kind of warning.
 pub fn warnings_are_named()
     ensures { AllAreNamed }
 {}

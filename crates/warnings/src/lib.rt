@@ -1,31 +1,33 @@
-//! Warnings: what a manifest may say, and hardly means.
+//! Warnings about what a manifest may say but probably doesn't intend.
 //!
 //! See docs/PROGRAM.md, "check".
 #![tactic(auto)]
 
-// How a rule is asked. Of an app version and bucket are known: a bucket of the 10,000, and where
-// the version lies. Between two neighbours of the versions that a rule names all versions answer
-// its tests alike, so it is asked at each of them, just above each, and at the lowest one
-// (`spot.rt`).
+// How a rule is evaluated. Two things are known of an app: its bucket, one of 10,000, and where its
+// version lies. Take two versions that a rule names, with none named between them: all versions
+// between them have the same results in its tests. So the rule is evaluated at each named version,
+// just above each, and at the lowest version (`spot.rt`).
 //
-// Each test comes to something that is known, or may come to either: a test of version or bucket is
-// decided, one of a day by the range of days, and what else an app says, and whether a counter
-// grants, is open (`holding.rt`). So a condition may hold, or fail, or both (`condition.rt`), and
-// a rule may go on behind a statement, or end with it (`course.rt`). What is never so, in no bucket
-// at no version, is told (`whens.rt`, `given.rt`). For that whoever is asked goes through the rule
-// once, and marks the statements that he gets to, and those that may end it for him (`marks.rt`).
+// Evaluation is three-valued: a condition may hold, may fail, or both (`condition.rt`). A test of
+// version or bucket is decided, and a test of a day is bounded by the range of days. Other
+// attributes are open, and so is whether a counter grants (`holding.rt`). So a rule may continue
+// after a statement, or end with it (`course.rt`). There is a warning if it never does, in any
+// bucket at any version (`whens.rt`, `given.rt`). For these, the rule is walked once for each
+// bucket and spot. The walk marks the statements that are reached, and those that may end the rule
+// (`marks.rt`).
 //
-// That who has a release may get it again, or a lower one, is asked otherwise (`asking.rt`): of an
-// app that says no more, where each counter replies 0, since then each test is decided.
+// A client that has a release may be offered it again, or a lower one. That is evaluated for a
+// client that sends only its version, and with each counter replying 0 (`asking.rt`). Then each
+// test is decided.
 //
-// A test of the bucket whose number is too small or too great to be meant so is read alone, and
-// asks nothing (`parts.rt`); so is a take that stands before the version (`takes.rt`).
+// A bucket test whose number is probably too small or too large is found by reading the rule,
+// without evaluating it (`parts.rt`). So is a take before the test of the version (`takes.rt`).
 //
-// A warning is a place and a kind (`warning.rt`), so that who runs a pipeline may count some and
-// not others by their names; its line is made of both (`line.rt`).
+// A warning is a place and a kind (`warning.rt`), so that a pipeline can allow some by name and
+// count the others. Its line is made of both (`line.rt`).
 //
-// That a warning on a rule is so, whoever asks, is a law (`law.rt`): what is denied is done by no
-// run, and what is said to be is done by some. Of a take no law says more than where it stands.
+// Law (`law.rt`): warnings on a rule are true for all clients. No run does what a warning denies,
+// and some run does what a warning says may happen. No law covers the warning on a take.
 
 mod appid;
 mod asking;

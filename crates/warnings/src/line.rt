@@ -9,8 +9,8 @@ use std::alloc::AllocError;
 use std::fmt::Write;
 
 impl WarningKind {
-    /// Its name, in lower case with hyphens, as `never-holds`: it stays from one release of the
-    /// program to the next.
+    /// Its name in lower case with hyphens, such as `never-holds`. It doesn't change between
+    /// releases of the program.
     pub fn name(self) -> &'static str
         ensures { result.now ≡ specs.name_of self }
     {
@@ -93,7 +93,7 @@ fn sign_of(up_to: bool) -> &'static str
     if up_to { "<=" } else { "<" }
 }
 
-// A test of the bucket, and for which part of the buckets it holds.
+// A test of the bucket, and the part of the buckets for which it holds.
 fn push_part(text: &mut String, kind: WarningKind) -> Result<(), AllocError>
     ensures { OnOk result (Puts text.old text.new (specs.part_text kind)) }
 {
@@ -119,8 +119,9 @@ fn push_part(text: &mut String, kind: WarningKind) -> Result<(), AllocError>
     }
 }
 
-/// What a warning says: where it is, as `app[1].rule: line 3`, and what, without a line end.
-// open: whether memory is refused.
+/// The text of a warning, without a line end: its place, such as `app[1].rule: line 3`, and what it
+/// says.
+// open: whether an allocation fails.
 pub fn push_warning_text(text: &mut String, warning: &Warning) -> Result<(), AllocError>
     ensures { OnOk result (Puts text.old text.new (specs.warning_text warning.now)) }
 {
@@ -144,9 +145,9 @@ fn push_line(text: &mut String, warning: &Warning) -> Result<(), AllocError>
     text.push_str("\n")
 }
 
-/// A line each, ended by a line feed: `warning never-holds: app[1].rule: line 3: this when never
-/// holds`.
-// open: whether memory is refused.
+/// A line for each warning, ended by a line feed, such as `warning never-holds: app[1].rule: line
+/// 3: this when never holds`.
+// open: whether an allocation fails.
 pub fn push_warnings(text: &mut String, warnings: &[Warning]) -> Result<(), AllocError>
     ensures { OnOk result (Puts text.old text.new (specs.warnings_text warnings.now)) }
 {

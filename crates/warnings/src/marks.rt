@@ -1,4 +1,4 @@
-//! Who gets to each statement of a rule, and whether it may end the rule, asked of all at once.
+//! For each statement of a rule: whether a client reaches it, and whether it may end the rule.
 
 ghost use Rattle.std.specs.Prelude.{◌≡◌, ◌<◌, length, map, true, IfOk, OnOk};
 ghost use Rattle.std.specs.Prelude.{◌&&◌, if◌then◌else◌, slice_set};
@@ -15,12 +15,12 @@ use attrs::{Attrs, Bucket};
 use rule_lang::Statement;
 use std::alloc::{AllocError, Global};
 
-// Whoever is asked goes through the rule once, and marks the statements on his way, up to the one
-// that ends it for him. So a rule of many statements takes each of its steps once for each bucket
-// and spot, where to ask of each statement anew would take those before it, too.
+// Each client walks through the rule once, and marks the statements up to the one that ends the
+// rule for it. So each step of a rule is evaluated once for each bucket and spot. Separate
+// evaluations of each statement would repeat all statements before it.
 
-/// A mark for each statement: that somebody gets to it, and that it may end the rule for somebody.
-/// A `count` has both.
+/// Two marks for each statement: some client reaches it, and it may end the rule for some client. A
+/// `count` has both.
 #[derive(Drop)]
 pub(crate) struct Marks {
     pub reached: Vec<bool>,
@@ -39,7 +39,7 @@ fn mark_place(reached: &mut [bool], ends: &mut [bool], place: usize, holds: bool
     }
 }
 
-// The marks with those of one more who is asked.
+// Adds the marks of one more client.
 fn mark_way(
     stack: &mut Vec<Possible>,
     asked: &AskedRule<'_>,
@@ -81,14 +81,14 @@ fn all_set(marks: &[bool]) -> bool
     true
 }
 
-// Whether all are set, so that nobody more would change them.
+// Whether all marks are set, so that no other client changes them.
 fn are_settled(reached: &[bool], ends: &[bool]) -> bool
     ensures { result ≡ (list_all (λ mark. mark) ends.now && list_all (λ mark. mark) reached.now) }
 {
     all_set(ends) && all_set(reached)
 }
 
-// The marks with those of each bucket whose version lies there.
+// Adds the marks of the clients of each bucket whose version lies at `spot`.
 fn mark_buckets(
     alloc: Global,
     asked: &AskedRule<'_>,
@@ -147,7 +147,7 @@ fn is_count(statement: &Statement) -> bool
     }
 }
 
-// The marks before anybody is asked.
+// The marks before the first client.
 fn unmarked(alloc: Global, statements: &[Statement]) -> Result<Vec<bool>, AllocError>
     ensures { IfOk result (λ v. v.items ≡ map specs.is_count statements.now) }
 {
@@ -160,7 +160,7 @@ fn unmarked(alloc: Global, statements: &[Statement]) -> Result<Vec<bool>, AllocE
     Ok(marks)
 }
 
-/// The marks of a rule, of all whose versions lie at one of these spots.
+/// The marks of a rule, for all clients whose versions lie at one of these spots.
 pub(crate) fn marks_of(
     alloc: Global,
     asked: &AskedRule<'_>,

@@ -1,4 +1,4 @@
-//! The names of warnings, and which of them count.
+//! The names of warnings, and which warnings count.
 
 ghost use Rattle.std.specs.Prelude.{◌≡◌};
 ghost use Rattle.warnings.specs.Names as specs;
@@ -43,7 +43,7 @@ fn is_allowed(warning: &Warning, allowed: &[&str]) -> bool
     false
 }
 
-/// Whether one of these warnings counts: its name isn't among those that are allowed.
+/// Whether one of these warnings counts: its name isn't allowed.
 pub fn some_counts(warnings: &[Warning], allowed: &[&str]) -> bool
     ensures { result ≡ specs.some_counts allowed.now warnings.now }
 {

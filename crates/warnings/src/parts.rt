@@ -1,5 +1,5 @@
-//! What is told of the tests of a rule: of those that hold for few of the 10,000 buckets, or whose
-//! number is above that, and of takes. They are read, and the rule isn't asked for them.
+//! Warnings on single tests of a rule: bucket tests that hold for few of the 10,000 buckets or
+//! whose number is above that, and takes. These come from reading the rule, not from evaluating it.
 
 ghost use Rattle.std.specs.Prelude.{◌≡◌, ◌++◌, OnOk};
 ghost use Rattle.warnings.specs.Asked as specs;
@@ -22,7 +22,8 @@ fn is_above_all(number: u32) -> bool
     number > Bucket::COUNT as u32
 }
 
-// The test by this sign and number holds for so many buckets.
+// Warns if a test with this sign and number, which holds for `buckets` buckets, covers few buckets
+// or all of them.
 fn tell_part(
     warnings: &mut Vec<Warning>,
     place: WarningPlace,
@@ -95,8 +96,8 @@ fn tell_steps(warnings: &mut Vec<Warning>, app: usize, steps: &[Step]) -> Result
     Ok(())
 }
 
-/// Warnings on the tests of a rule that hold for few buckets, or whose number is above 10,000, and
-/// on takes before a test of the version: of one `when` after the other.
+/// Warnings on the tests of a rule, `when` by `when`: on tests that hold for few buckets or whose
+/// number is above 10,000, and on takes before a test of the version.
 pub(crate) fn tell_parts_of_rule(
     warnings: &mut Vec<Warning>,
     app: usize,

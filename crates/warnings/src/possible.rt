@@ -1,28 +1,29 @@
-//! What a condition may come to, for apps of which version and bucket are known.
+//! Possible results of a condition, for apps whose version and bucket are known.
 
 ghost use Rattle.std.specs.Prelude.{◌≡◌};
 ghost use Rattle.warnings.specs.Possible as specs;
 
 use crate::spot::Spot;
 
-/// Whether a condition may hold, and whether it may fail; one of them at least.
+/// Whether a condition may hold, and whether it may fail; at least one is set.
 #[derive(Clone, Copy, Debug)]
 pub(crate) struct Possible {
     pub holds: bool,
     pub fails: bool,
 }
 
-/// For whom a rule is asked.
+/// The client for which a rule is evaluated.
 #[derive(Clone, Copy, Debug)]
 pub(crate) enum Asker {
-    /// All apps whose version lies there, whatever else they say and whatever counters reply.
+    /// All clients whose version lies at this spot, with any other attributes and any counter
+    /// replies.
     AllAt(Spot),
-    /// The one app that says this and no more, where each counter replies 0.
+    /// The one client that sends just these attributes, with each counter replying 0.
     One,
 }
 
 impl Possible {
-    /// It comes to this alone.
+    /// Decided: only this result is possible.
     pub fn decided(holds: bool) -> Possible
         ensures { result ≡ specs.decided holds }
     {
@@ -32,7 +33,7 @@ impl Possible {
         }
     }
 
-    /// It may come to either.
+    /// Either result is possible.
     pub fn undecided() -> Possible
         ensures { result ≡ specs.undecided }
     {
@@ -42,7 +43,7 @@ impl Possible {
         }
     }
 
-    /// Of `not`.
+    /// The result of `not`.
     pub fn negated(self) -> Possible
         ensures { result ≡ specs.negated self }
     {
@@ -52,7 +53,7 @@ impl Possible {
         }
     }
 
-    /// Of `and`.
+    /// The result of `and`.
     pub fn both(self, other: Possible) -> Possible
         ensures { result ≡ specs.both self other }
     {
@@ -62,7 +63,7 @@ impl Possible {
         }
     }
 
-    /// Of `or`.
+    /// The result of `or`.
     pub fn either(self, other: Possible) -> Possible
         ensures { result ≡ specs.either self other }
     {

@@ -1,4 +1,4 @@
-//! What is said of releases: of their versions, and of where their files lie.
+//! Warnings on releases: on their versions and their codebases.
 
 ghost use Rattle.std.specs.Prelude.{◌≡◌, ◌++◌, OnOk};
 ghost use Rattle.std.specs.List.{list_any};
@@ -49,7 +49,7 @@ fn has_scheme(url: &[u8]) -> bool
     url.starts_with(b"https://") || url.starts_with(b"http://")
 }
 
-// Warnings on a release, behind which others stand.
+// Warnings on a release; `later` are the releases after it.
 fn tell_release(
     warnings: &mut Vec<Warning>,
     app: usize,
@@ -81,10 +81,10 @@ fn tell_release(
     )
 }
 
-/// Warnings on the releases of an app: of a version that a later release has, too, and of a
+/// Warnings on the releases of an app: on a version that a later release also has, and on a
 /// codebase that doesn't end in `/`, or begins with neither `https://` nor `http://`. Apps and
 /// releases are numbered from 1.
-// open: whether memory is refused.
+// open: whether an allocation fails.
 pub fn tell_releases(
     warnings: &mut Vec<Warning>,
     app: usize,

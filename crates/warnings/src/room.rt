@@ -1,4 +1,4 @@
-//! How much is asked of the rules of a manifest.
+//! The budget of evaluation for all rules of a manifest.
 
 ghost use Rattle.std.specs.Prelude.{◌≡◌, ◌*◌};
 ghost use Rattle.warnings.specs.Asked as specs;
@@ -23,7 +23,8 @@ fn room_behind_one(versions: u64, room: u64, statement: &Statement) -> Option<u6
     room.checked_sub(taken)
 }
 
-/// The room that is left behind a rule that is asked at so many versions, if there is enough.
+/// What is left of the budget after evaluating a rule at `versions` versions, or `None` if the
+/// budget is too small.
 pub(crate) fn room_behind(versions: u64, room: u64, statements: &[Statement]) -> Option<u64>
     ensures { result ≡ specs.room_less (specs.room_taken versions statements.now) room }
 {

@@ -1,4 +1,5 @@
-//! Where the versions lie for which a rule is asked: at those that it names, and just above each.
+//! Spots: the versions at which a rule is evaluated. They are the lowest version, those that the
+//! rule names, and just above each.
 
 ghost use Rattle.std.specs.Prelude.{◌≡◌, OnOk, IfOk};
 ghost use Rattle.std.specs.Ordering.{bool_cmp, is_eq};
@@ -9,7 +10,7 @@ use rule_lang::{Statement, Step, Test};
 use std::alloc::{AllocError, Global};
 use std::cmp::Ordering;
 
-/// A version; or all that lie above it, and below each higher one that a rule names.
+/// A version; or all versions above it, up to the next higher one that a rule names.
 #[derive(Clone, Copy, Debug)]
 pub(crate) struct Spot {
     pub version: [u32; 4],
@@ -27,7 +28,7 @@ impl Spot {
         }
     }
 
-    /// What lies just above it.
+    /// The versions just above this one.
     pub fn just_above(version: [u32; 4]) -> Spot
         ensures { result ≡ specs.just_above version }
     {
@@ -37,7 +38,7 @@ impl Spot {
         }
     }
 
-    /// Which lies higher.
+    /// Orders spots by version; just above a version comes after it.
     pub fn compare(self, other: Spot) -> Ordering
         ensures { result ≡ specs.spot_cmp self other }
     {
@@ -124,7 +125,8 @@ fn add_statements(spots: &mut Vec<Spot>, statements: &[Statement]) -> Result<(),
     Ok(())
 }
 
-/// The lowest version, those that a rule names, and what lies just above each of these; each once.
+/// The lowest version, those that a rule names, and the spots just above each of these, without
+/// duplicates.
 pub(crate) fn spots_of(alloc: Global, statements: &[Statement]) -> Result<Vec<Spot>, AllocError>
     ensures { IfOk result (λ spots. spots.items ≡ specs.spots_of statements.now) }
 {

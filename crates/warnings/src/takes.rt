@@ -1,5 +1,5 @@
-//! What is told of a take that stands before the version in a `when`. Tests are done in their
-//! order, so it is done whatever the version is.
+//! Warnings on takes before the test of the version in a `when`. Tests are evaluated in their
+//! order, so this take counts whatever the version is.
 
 ghost use Rattle.std.specs.Prelude.{◌≡◌, ◌++◌, OnOk};
 ghost use Rattle.std.specs.List.{list_any};
@@ -55,7 +55,7 @@ fn tell_take(
     }
 }
 
-/// A warning on each take before the first test of the version, where there is one.
+/// A warning on each take before the first test of the version, if there is one.
 pub(crate) fn tell_takes(
     warnings: &mut Vec<Warning>,
     app: usize,

@@ -1,4 +1,4 @@
-//! What is told of an app's rule.
+//! All warnings on an app's rule.
 
 ghost use Rattle.std.specs.Prelude.{◌≡◌, ◌++◌, OnOk, IfOk};
 ghost use Rattle.warnings.specs.Asked as specs;
@@ -31,7 +31,7 @@ fn tell_answers(
     tell_all_releases(alloc, warnings, app, asked, &marks)
 }
 
-// Of its answers, where there is room to ask it.
+// Warnings that need evaluation, if the budget is enough.
 fn tell_asked(
     alloc: Global,
     warnings: &mut Vec<Warning>,
@@ -59,23 +59,24 @@ fn tell_asked(
     }
 }
 
-/// Warnings on the rule of an app, which is read, and asked for each bucket; and the room that is
-/// left for other rules. One tells
+/// Adds the warnings on the rule of an app, and returns the budget that is left for other rules. It
+/// warns of
 ///
-/// - of a test `bucket < n` or `bucket <= n`, also under a salt, without a modulus, that it holds
-///   for few buckets, 1 to 99 of the 10,000, or, where its number is above 10,000, for all,
-///   whatever stands around it;
-/// - of a `take` that it stands before the first test of the version in its `when`, so that it is
-///   done whatever the version is;
-/// - of a `when` that it is never reached, or never holds, and of a release that no bucket gets it,
-///   nor a later one: at any version, whatever else an app says, and whatever counters reply;
-/// - of a release that in some bucket who has it may get it again, or a lower one: where the app
-///   says no more than its version and bucket, and each counter replies 0.
+/// - a test `bucket < n` or `bucket <= n` that holds for only 1 to 99 of the 10,000 buckets, or for
+///   all since n is above 10,000. It may have a salt but no modulus, and may be anywhere in a
+///   condition;
+/// - a `take` before the first test of the version in its `when`, since it counts whatever the
+///   version is;
+/// - a `when` that is never reached or never holds, and a release that no bucket gets, nor a later
+///   one: at any version, for any other attributes and any counter replies;
+/// - a release if a client at its version may, in some bucket, be offered that version again or a
+///   lower one: if the client sends only its version and bucket, and each counter replies 0.
 ///
-/// A rule takes room for each step of its conditions: once for the lowest version, for each that it
-/// names, for what lies just above each of these, and for each release. One for which there is too
-/// little is told of, isn't asked, and takes none; its tests are read all the same.
-// open: whether memory is refused; that a rule with such a `when` or release has its warning: one
+/// A rule costs one unit of the budget for each step of its conditions and each evaluation. It is
+/// evaluated at the lowest version, at each version that it names, just above each, and for each
+/// release. A rule that would exceed the budget isn't evaluated and costs nothing, and the warning
+/// says so. Its tests are still read.
+// open: whether an allocation fails; that a rule with such a `when` or release has its warning: one
 // may be missing.
 pub fn tell_rule(
     alloc: Global,

@@ -1,12 +1,11 @@
-//! A warning: where a manifest says what it hardly means, and what that is.
+//! A warning: the place in a manifest, and what is probably not intended there.
 
 ghost use Rattle.std.specs.Prelude.{◌≡◌, ◌++◌, OnOk};
 ghost use Rattle.warnings.specs.Warnings as specs;
 
 use std::alloc::AllocError;
 
-/// Where it is. Arrays, apps and releases are numbered from 1, and so are the lines of an app's
-/// rule.
+/// The place. Arrays, apps and releases are numbered from 1, and so are the lines of an app's rule.
 #[derive(Clone, Copy, Debug)]
 pub enum WarningPlace {
     Array(usize),
@@ -15,14 +14,15 @@ pub enum WarningPlace {
     Line { app: usize, line: usize },
 }
 
-/// What is hardly meant. docs/PROGRAM.md, "check", has when each comes, and what to do.
+/// What is probably not intended. docs/PROGRAM.md, "check", lists when each kind occurs, and what
+/// to do.
 #[derive(Clone, Copy, Debug)]
 pub enum WarningKind {
-    /// An appid has a character that isn't printed.
+    /// An appid has an unprintable character.
     UnprintedAppid,
-    /// No program uses an array, and no rule.
+    /// No program or rule uses an array.
     UnusedArray,
-    /// A later release has the version, too.
+    /// A later release has the same version.
     SameVersion,
     /// A codebase doesn't end in `/`.
     CodebaseSlash,
@@ -34,12 +34,12 @@ pub enum WarningKind {
         number: u32,
         buckets: u64,
     },
-    /// The number of such a test is above 10,000, so that it holds for all.
+    /// The number of such a test is above 10,000, so the test holds for all buckets.
     AllBuckets {
         up_to: bool,
         number: u32,
     },
-    /// A take stands before the first test of the version in a `when`.
+    /// A take comes before the first test of the version in a `when`.
     TakeBeforeVersion,
     /// A `when` is never reached.
     NeverReached,
@@ -47,23 +47,23 @@ pub enum WarningKind {
     NeverHolds,
     /// No bucket gets a release, nor a later one.
     NoBucket,
-    /// Who has a release may get it again.
+    /// A client that has a release may get it again.
     OfferedAgain,
-    /// Who has a release may get one of a lower version.
+    /// A client that has a release may get one of a lower version.
     OfferedLower,
-    /// There is too little room to ask a rule.
+    /// A rule would exceed the budget of evaluation.
     NotAsked,
 }
 
-/// A warning.
+/// A warning: its place and its kind.
 #[derive(Clone, Copy, Debug)]
 pub struct Warning {
     pub place: WarningPlace,
     pub kind: WarningKind,
 }
 
-/// Adds a warning, where something holds.
-// open: whether memory is refused.
+/// Adds a warning, if `holds` is set.
+// open: whether an allocation fails.
 pub fn warn_if(
     warnings: &mut Vec<Warning>,
     holds: bool,

@@ -1,4 +1,4 @@
-//! What is told of the `when`s of a rule that was asked.
+//! Warnings on the `when`s of an evaluated rule.
 
 ghost use Rattle.std.specs.Prelude.{◌≡◌, ◌++◌, List, [], false, OnOk};
 ghost use Rattle.warnings.specs.declared.spot.Spot.{Spot};
@@ -62,8 +62,8 @@ fn tell_when(
     tell_never(warnings, app, reached, condition.steps())
 }
 
-/// Warnings on the `when`s of a rule, in their order, by its marks. Each statement has its own:
-/// were there fewer, nothing would be told.
+/// Warnings on the `when`s of a rule, in their order, by its marks. There are two marks for each
+/// statement; with fewer there would be no warnings.
 pub(crate) fn tell_statements(
     warnings: &mut Vec<Warning>,
     app: usize,

@@ -1,5 +1,5 @@
--- A condition that is read up to some token: its steps so far, and the frames of what is still to
--- be joined. A step is written as soon as what it joins is whole.
+-- A condition that is read up to some token: its steps so far, and the frames with operators that
+-- wait for a right side. A step is written as soon as its operands are complete.
 use Rattle.std.specs.Prelude.{◌≡◌, ℕ, ◌+◌, ◌-◌, List, [], ◌∷◌, ◌++◌, replicate, Option, Some, None}
 use Rattle.std.specs.Prelude.{Bool, true, false, nat_lt, if◌then◌else◌, Result, Ok, Err}
 use Rattle.std.specs.declared.alloc.AllocError.{AllocError}
@@ -7,7 +7,7 @@ use Rattle.rule_lang.specs.declared.condition.Step.{Step}
 use Rattle.rule_lang.specs.declared.condition.Step.TheVariants.{Not, And, Or}
 use Rattle.rule_lang.specs.declared.frame.Frame.{Frame}
 
--- a condition: the frames round it, the innermost first, and its own
+-- a condition: the frames around it, the innermost first, and its own
 pub record Pending : Type 0 where
   pub steps : List Step
   pub below : List Frame
@@ -28,7 +28,7 @@ abbrev pub is_empty : List Frame → Bool
 is_empty [] = true
 is_empty (f ∷ fs) = false
 
--- ---- what is written
+-- ---- steps to write
 
 abbrev pub and_step : Frame → List Step
 and_step f = if f.and then And ∷ [] else []
@@ -40,7 +40,7 @@ or_step f = if f.or then Or ∷ [] else []
 abbrev pub deeper : ℕ → ℕ
 deeper n = if nat_lt n 32 then n + 1 else n
 
--- a fact is whole: the `not`s before it, and the `and` that it ends
+-- a fact is complete: writes the `not`s before it, and the `and` that it ends
 abbrev pub fact_done : Pending → Pending
 fact_done p = record {
   steps = (p.steps ++ replicate p.top.nots Not) ++ and_step p.top;
@@ -49,7 +49,7 @@ fact_done p = record {
   depth = p.depth - p.top.nots;
 }
 
--- a term is whole: the `or` that it ends
+-- a term is complete: writes the `or` that it ends
 abbrev pub term_done : Pending → Pending
 term_done p = record {
   steps = p.steps ++ or_step p.top;
@@ -108,7 +108,7 @@ parted p = record {
   depth = p.depth;
 }
 
--- `)`, which goes on with the condition round this one
+-- `)`, which returns to the enclosing condition
 abbrev pub closed_to : Pending → List Frame → Option Pending
 closed_to p [] = None
 closed_to p (f ∷ fs) = Some (fact_done (record {
@@ -121,7 +121,7 @@ closed_to p (f ∷ fs) = Some (fact_done (record {
 abbrev pub closed : Pending → Option Pending
 closed p = closed_to p p.below
 
--- ---- what a call answers
+-- ---- results of calls
 
 abbrev pub Closes : Pending → Result Bool AllocError → Pending → Type 0
 Closes p (Ok true) q = closed p ≡ Some q

@@ -1,5 +1,5 @@
--- A rule's tokens, read phrase by phrase: what each makes of the rule so far, and which tokens may
--- stand there.
+-- Reading a rule's tokens phrase by phrase: the effect of each phrase on the draft, and the tokens
+-- that are accepted.
 use Rattle.std.specs.Prelude.{◌≡◌, ℕ, List, [], ◌∷◌, ◌++◌, Option, Some, None, Ok, Err}
 use Rattle.std.specs.Prelude.{Bool, true, false, not, nat_lt}
 use Rattle.cells.specs.Arrays.{AppShape}
@@ -37,7 +37,7 @@ abbrev pub first_of : Option RuleFault → RuleFault → Option RuleFault
 first_of (Some e) later = Some e
 first_of None later = Some later
 
--- ---- what may change
+-- ---- changes
 
 abbrev pub with_fault : RuleFault → Draft → Draft
 with_fault e d = record {
@@ -82,7 +82,7 @@ abbrev pub unless_noted : Option RuleFault → Statement → Draft → Draft
 unless_noted None s d = with_statement s d
 unless_noted (Some e) s d = d
 
--- the condition ends; with a fault its steps are none
+-- the condition ends; with a fault it has no steps
 abbrev pub with_when : (release : ℕ) → Draft → Draft
 with_when k d = unless_noted d.noted (When d.condition.steps k) (with_condition (emptied
     d.condition) d)
@@ -108,7 +108,7 @@ statement_next s d t line ts after = Err (misplaced line)
 
 -- ---- conditions
 
--- the 33rd opener is too deep
+-- the 33rd open `not` or parenthesis is too deep
 abbrev pub too_deep : Draft → Bool
 too_deep d = not (nat_lt d.condition.depth 32)
 
@@ -167,7 +167,7 @@ next_in s d mode.Fact p ts after = fact_next s d p.token p ts after
 next_in s d mode.Operator p ts after = operator_next s d p.token p.line ts after
 next_in s d mode.Done p ts after = Err (misplaced p.line)
 
--- what the phrase at the front makes of the rule so far, and the tokens behind it
+-- the draft after the phrase at the front, and the tokens after that phrase
 unfoldable pub next : AppShape → Draft → List Placed → Next
 next s d [] = Err (misplaced 0)
 next s d (p ∷ after) = next_in s d d.mode p (p ∷ after) after
@@ -180,7 +180,7 @@ abbrev pub verdict : Draft → Option RuleFault → OrFault (List Statement)
 verdict d None = Ok d.statements
 verdict d (Some e) = Err e
 
--- from such a rule so far, the tokens lead to the verdict
+-- from this draft, the tokens lead to this verdict
 pub data Reads (s : AppShape) : Draft → List Placed → OrFault (List Statement) → Type 0 where
   ended : {d : Draft} {ts : List Placed} → d.mode ≡ mode.Done → Reads s d ts (verdict d d.noted)
   refused : {d : Draft} {ts : List Placed} {e : RuleFault} → is_done d.mode ≡ false

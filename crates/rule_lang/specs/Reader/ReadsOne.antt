@@ -1,4 +1,4 @@
--- One phrase more of a rule that is read, by places among the tokens.
+-- Reading one more phrase, by places among the tokens.
 use Rattle.std.specs.Prelude.{◌≡◌, ◌⊎◌, ℕ, List, drop, Result, Ok, Err}
 use Rattle.cells.specs.Arrays.{AppShape}
 use Rattle.rule_lang.specs.declared.fault.RuleFault.{RuleFault}

@@ -1,4 +1,4 @@
--- The faults of calls that may also be refused memory.
+-- Results of calls that may also run out of memory.
 use Rattle.std.specs.Prelude.{◌≡◌, ◌⊎◌, ℕ, List, Result, Ok, Err}
 use Rattle.std.specs.Borrow.{Bor}
 use Rattle.cells.specs.Arrays.{AppShape}
@@ -12,17 +12,17 @@ use Rattle.rule_lang.specs.Reader.Reading.{Draft, Next, Reads, first_draft}
 abbrev pub IsFaultOf : {A : Type 0} → Result A RuleFault → RuleFault → Type 0
 IsFaultOf verdict e = (e ≡ Memory) ⊎ (verdict ≡ Err e)
 
--- what a call makes of what it is lent, or that it is refused memory
+-- the new value that a call gives to what it borrows, unless it runs out of memory
 abbrev pub Makes : {A : Type 0} → Result (Unit {0}) RuleFault → A → A → Type 0
 Makes (Ok x) new want = new ≡ want
 Makes (Err e) new want = e ≡ Memory
 
--- the tokens behind a phrase, and what it makes of the rule so far
+-- the draft after a phrase, and the tokens after that phrase
 abbrev pub ReadsTo : Result (Bor (List (the_placed.Placed (Bor (List ℕ))))) RuleFault → Draft
     → Next → Type 0
 ReadsTo (Ok rest) new next = next ≡ Ok (new, placed_all rest.now)
 ReadsTo (Err e) new next = (e ≡ Memory) ⊎ (next ≡ Err e)
 
--- the fault of tokens, or a refusal of memory
+-- the fault of the tokens, or out of memory
 abbrev pub IsReadFault : AppShape → List Placed → RuleFault → Type 0
 IsReadFault s ts e = (e ≡ Memory) ⊎ Reads s first_draft ts (Err e)

@@ -1,4 +1,4 @@
--- What holds of a rule that is read: its steps so far make as many trees as are still to be joined.
+-- The invariant of reading: the steps so far form one tree for each waiting operand.
 use Rattle.std.specs.Prelude.{◌≡◌, ℕ, ◌+◌, List, [], ◌∷◌, length, Some, None, Bool, false}
 use Rattle.std.specs.Prelude.{if◌then◌else◌}
 use Rattle.rule_lang.specs.declared.condition.Step.{Step}
@@ -17,7 +17,7 @@ pub record HasTrees (steps : List Step) (n : ℕ) : Type 0 where
 abbrev pub one_if : Bool → ℕ
 one_if b = if b then 1 else 0
 
--- the left sides that wait for their right
+-- the left operands that wait for their right one
 abbrev pub waiting : Frame → ℕ
 waiting f = one_if f.and + one_if f.or
 
@@ -25,7 +25,7 @@ abbrev pub all_waiting : List Frame → ℕ
 all_waiting [] = 0
 all_waiting (f ∷ fs) = waiting f + all_waiting fs
 
--- behind a fact
+-- after a fact
 pub record IsSoundAfter (p : Pending) : Type 0 where
   pub joined : p.top.and ≡ false
   pub trees : HasTrees p.steps (1 + all_waiting (p.top ∷ p.below))
@@ -36,6 +36,6 @@ IsSoundIn mode.Operator p = IsSoundAfter p
 IsSoundIn mode.Statement p = Unit {0}
 IsSoundIn mode.Done p = Unit {0}
 
--- nothing is said where a fault is noted
+-- nothing is claimed once a fault is noted
 abbrev pub IsSound : Draft → Type 0
 IsSound d = d.noted ≡ None → IsSoundIn d.mode d.condition

@@ -1,4 +1,4 @@
-//! The line of each refusal, as the program's page has it.
+//! The line of each refusal, as docs/PROGRAM.md has it.
 
 use crate::sample::must;
 use acceptance::{ProgramFault, RuleTextFault};
@@ -53,7 +53,7 @@ const CELLS: [(CellsFault, &str); 2] = [
     (CellsFault::Redefined, "N2 Redefined"),
 ];
 
-/// The fault is shown in this line.
+/// Checks that the fault is printed as this line.
 fn is_printed(alloc: Global, fault: &LoadFault, want: &str) -> Result<(), Fail> {
     let line = format!(in alloc; "refused {fault}\n")?;
     must(want, line.as_str(), line.as_str() == want)

@@ -1,9 +1,9 @@
-//! Files in other folders: of one outside the manifest's folder no line is shown.
+//! Files in other folders: no line of a file outside the manifest's folder is shown.
 
 use super::each_is_told;
 use std::test::Fail;
 
-/// What is changed in the sample, and what is told.
+/// Changes of the sample, and the messages.
 const ROWS: &str = r#"
 - "y.rule" => "./sub//..token.rule"
  | M6 Rule L1 Token at line 2 in app 2 / app[2].rule: ./sub//..token.rule /

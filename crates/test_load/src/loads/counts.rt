@@ -1,4 +1,4 @@
-//! As many tables as a manifest may have, and each app with its own program.
+//! Manifests with the most tables, and each app with its own program.
 
 use super::Loader;
 use crate::sample::repeated;
@@ -29,7 +29,7 @@ fn push_arrays(text: &mut String, count: usize) -> Result<(), AllocError> {
     Ok(())
 }
 
-/// So many apps with these releases; every second one has a program that chooses the first.
+/// `count` apps with these releases; every second one has a program that chooses the first.
 fn push_apps(text: &mut String, count: usize, releases: &str) -> Result<(), AllocError> {
     for number in 0..count {
         let file = if number % 2 == 0 {
@@ -45,7 +45,7 @@ fn push_apps(text: &mut String, count: usize, releases: &str) -> Result<(), Allo
     Ok(())
 }
 
-/// So many arrays and apps, each app with so many releases.
+/// A manifest with this number of arrays and apps, and of releases for each app.
 fn manifest(
     alloc: Global,
     arrays: usize,
@@ -59,19 +59,19 @@ fn manifest(
     Ok(text)
 }
 
-/// The number of an app's releases, that of its shape's arrays, and the fifth byte of its program:
-/// of `mov r0, N` this is N.
+/// The numbers of an app's releases and of its shape's arrays, and the fifth byte of its program,
+/// which is N in `mov r0, N`.
 fn numbers_of(app: &App) -> (usize, usize, Option<u8>) {
     let program = app.program();
     let choice = program.bytes().get(4).copied();
     (app.releases().len(), program.shape().arrays().len(), choice)
 }
 
-/// Arrays, apps and releases, and the choice of the last app's program.
+/// Numbers of arrays, apps and releases, and the choice of the last app's program.
 type Numbers = (usize, usize, usize, u8);
 
-/// Whether there are so many arrays and apps, each with so many releases and all arrays, of which
-/// the first one's program is `mov r0, 0`, and the last one's has this choice.
+/// Checks the numbers: each app has all releases and arrays, the first app's program is `mov r0,
+/// 0`, and the last one's has this choice.
 fn are_there(directory: &Directory, apps: &[App], numbers: Numbers) -> bool {
     let (arrays, count, releases, choice) = numbers;
     match (apps.first(), apps.last()) {

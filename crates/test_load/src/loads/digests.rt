@@ -1,4 +1,4 @@
-//! The digest of a manifest and of the files that it names.
+//! The digest of a manifest and of its files.
 
 use super::{RULES, SAMPLE};
 use crate::sample::{changed, files, halves, must};
@@ -7,8 +7,8 @@ use load::{digest_of, gather};
 use std::alloc::Global;
 use std::test::Fail;
 
-/// What is changed of the sample, how, and the digest: what the `hashlib` of Python makes of the
-/// manifest and of its two files, each behind its length in eight bytes. `-` stands for none.
+/// The name of a row, changes of the sample, and the digest by Python's `hashlib`: of the manifest
+/// and its two files, each after its length in eight bytes. `-` means no digest.
 const ROWS: &str = r#"
 - other files | "x.bpf" => "truncated.bpf" & "y.rule" => "ended.rule"
  | 38b8077e3f48bc7b0b4a10023ad4633f403efad7876d5471ecc0b3a808984277
@@ -18,7 +18,7 @@ const ROWS: &str = r#"
 - a longer file | "y.rule" => "long.rule" | -
 "#;
 
-/// The digest of what a manifest and its files come to, if they have one.
+/// The digest of a manifest and its files, if they have one.
 fn digest(alloc: Global, manifest: &str) -> Result<String, Fail> {
     let mut files = files(alloc, RULES)?;
     let directory = Directory::new(alloc);

@@ -1,4 +1,4 @@
-//! What a good manifest gives.
+//! The result of a good manifest.
 
 use super::{Loader, SAMPLE};
 use crate::sample::must;
@@ -13,7 +13,7 @@ fn is_x(app: &App) -> bool {
     app.releases().len() == 1 && program.len() == 9 && program.shape().arrays().len() == 1
 }
 
-/// Whether the listing of its program, a line an instruction, takes of the quota.
+/// Whether the listing of its program has a take from the quota.
 fn is_y(alloc: Global, app: &App) -> Result<bool, ListFault> {
     let lines = listing(alloc, app.program().bytes())?;
     Ok(app.releases().len() == 1 && lines.as_str().contains("fadddw"))

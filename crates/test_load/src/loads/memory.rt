@@ -1,6 +1,6 @@
-//! Memory that is refused once: a load that answers M8 prints it, leaves the directory as it was,
-//! and gives the ruleset when it is asked again. So this test passes with ample memory, and
-//! wherever one growth of a load is refused.
+//! One failed allocation. A load that returns M8 is printed, leaves the directory unchanged, and
+//! gives the ruleset when it is repeated. So this test passes if no allocation fails, and if any
+//! one of a load does.
 
 use super::{SAMPLE, ruleset_from};
 use crate::files::MemFiles;
@@ -28,7 +28,7 @@ fn slots_of(rules: &Ruleset, appid: &str) -> Option<usize> {
     }
 }
 
-/// Whether a load gives the ruleset of both apps.
+/// Whether a load gives the ruleset with both apps.
 fn is_loaded(
     alloc: Global,
     files: &mut MemFiles,
@@ -39,7 +39,7 @@ fn is_loaded(
     Ok(are_both && rules.apps().len() == 2)
 }
 
-/// A directory of an array that the manifest doesn't have.
+/// A directory with an array that the manifest doesn't have.
 fn directory_of_one(alloc: Global) -> Result<Directory, CellsFault> {
     let mut directory = Directory::new(alloc);
     let _number = directory.declare(alloc, "old", CellWidth::Bits64, 10, Some(5))?;
@@ -68,8 +68,8 @@ fn has_both(directory: &Directory) -> bool {
     }
 }
 
-/// Whether a load gives the ruleset, asked again where memory was refused and the directory is as
-/// it was.
+/// Whether a load gives the ruleset; it is repeated if an allocation fails and the directory is
+/// unchanged.
 fn is_loaded_again<R: Print>(
     rt: &R,
     alloc: Global,

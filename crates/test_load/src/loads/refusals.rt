@@ -1,4 +1,4 @@
-//! What a refused load leaves: a way to get each kind of refusal, by changes of the sample.
+//! The state after a refused load: changes of the sample for each kind of refusal.
 
 use super::{Loader, SAMPLE};
 use crate::sample::{changed, halves, must};
@@ -6,7 +6,7 @@ use load::Files;
 use std::alloc::Global;
 use std::test::Fail;
 
-/// What is changed, how, and what is told.
+/// The name of a row, changes of the sample, and the result.
 const ROWS: &str = r#"
 - nothing |  | ok
 - no TOML | server = => server | M1 Toml
@@ -21,14 +21,14 @@ width = 64 / length = 4096 / [[app]] | M7 Cells N1 CellsFull in array 2
 - no token | "y.rule" => "token.rule" | M6 Rule L1 Token at line 1 in app 2
 "#;
 
-/// The changes of a row, and what is told.
+/// The changes of a row, and the result.
 fn asked_and_told(row: &str) -> Result<(&str, &str), Fail> {
     let (_name, rest) = halves(row.trim_end(), " | ")?;
     halves(rest, " | ")
 }
 
-/// A load is told as the row says, and then once more. A refused one declares no array, and M4
-/// alone counts a failure.
+/// Checks the result of a load, and of the same load again. A refused load declares no arrays, and
+/// only M4 counts a failure.
 fn must_tell_twice(
     alloc: Global,
     loader: &mut Loader,
@@ -59,7 +59,7 @@ fn each_way(rt: HostRuntime) -> Result<(), Fail> {
     Ok(())
 }
 
-/// A good manifest, and those that follow it in its directory.
+/// A good manifest, and other manifests that are loaded after it into its directory.
 const LATER: &str = r#"
 - a good one |  | ok
 - another quota | quota = 2 => quota = 3 | M7 Cells N2 Redefined in array 1

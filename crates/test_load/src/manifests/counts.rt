@@ -26,7 +26,7 @@ fn push_table(text: &mut String, kind: &str, number: usize) -> Result<(), AllocE
     }
 }
 
-/// What stands before the tables of a kind, and behind them.
+/// The text before the tables of a kind, and the text after them.
 fn ends(kind: &str) -> (&'static str, &'static str) {
     match kind {
         "package" => (
@@ -50,7 +50,7 @@ release = [",
     }
 }
 
-/// A manifest with so many tables of this kind in one list.
+/// A manifest with `count` tables of this kind in one list.
 fn manifest_of(alloc: Global, kind: &str, count: usize) -> Result<String, AllocError> {
     let (front, back) = ends(kind);
     let mut text = String::from_str(alloc, front)?;
@@ -61,7 +61,7 @@ fn manifest_of(alloc: Global, kind: &str, count: usize) -> Result<String, AllocE
     Ok(text)
 }
 
-/// The tables of a list, and what is told.
+/// The number of tables in a list, and the result.
 const COUNTS: &str = r#"
 package 0 => M2 app[1].release[1].package: 1 to 16 tables
 package 1 => ok

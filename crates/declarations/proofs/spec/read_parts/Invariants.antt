@@ -3,7 +3,7 @@ use Rattle.std.specs.Prelude.{option_map}
 use Rattle.declarations.specs.Spec as specs
 use Rattle.declarations.proofs.spec.read_parts.Given as goal
 
--- what is declared, and then what the parts that are left declare, is all
+-- the declarations so far, with those of the remaining parts, are all
 abbrev pub invariant-loop-rest : goal.invariant-loop-rest
 invariant-loop-rest l =
     specs.of_parts (map (λ part. part.now) l.parts)

@@ -3,7 +3,7 @@ use Rattle.toml.specs.View.{view}
 use Rattle.manifest.specs.Misfits.{misfits_from}
 use Rattle.manifest.proofs.misfits.push_items.Given as goal
 
--- those so far, and those of the items that are left, are all
+-- the errors so far, and those of the remaining items, are all errors
 abbrev pub invariant-loop-rest : goal.invariant-loop-rest
 invariant-loop-rest g l = record {
   so_far : l.misfits.items

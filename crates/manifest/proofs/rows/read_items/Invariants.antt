@@ -4,7 +4,7 @@ use Rattle.manifest.specs.Rows.{items_from}
 use Rattle.manifest.proofs.Prefix.{behind}
 use Rattle.manifest.proofs.rows.read_items.Given as goal
 
--- the rows so far and those of the rest are all of them
+-- the rows so far, and those of the remaining items, are all rows
 abbrev pub invariant-loop-rest : goal.invariant-loop-rest
 invariant-loop-rest g l = record {
   rows : behind l.rows.items (items_from g.R.TableRow.row_of (length l.rows.items + 1)

@@ -3,7 +3,7 @@ use Rattle.manifest.specs.Twice.{names_twice}
 use Rattle.manifest.proofs.NewNames.{names_new}
 use Rattle.manifest.proofs.twice.push_names_twice.Given as goal
 
--- those so far, and those of the items that are left, are all
+-- the duplicates so far, and those of the remaining items, are all duplicates
 abbrev pub invariant-loop-left : goal.invariant-loop-left
 invariant-loop-left g l = record {
   so_far : l.twices.items

@@ -2,7 +2,7 @@ use Rattle.std.proofs.Common.{◌≡◌, map, length}
 use Rattle.manifest.specs.Twice.{repeated}
 use Rattle.manifest.proofs.twice.repeated_name.Given as goal
 
--- none so far stands again
+-- no name so far occurs again
 abbrev pub invariant-loop-rest : goal.invariant-loop-rest
 invariant-loop-rest g l =
     repeated (map g.N.Named.name_of l.rest) ≡ repeated (map g.N.Named.name_of l.list)

@@ -2,7 +2,7 @@ use Rattle.std.proofs.Common.{◌≡◌, length, reverse}
 use Rattle.reasons.specs.Stack.{after_steps}
 use Rattle.reasons.proofs.condition.take_steps.Given as goal
 
--- the steps that are left bring the stack to what all steps bring it to
+-- the remaining steps complete the stack
 abbrev pub invariant-loop-left : goal.invariant-loop-left
 invariant-loop-left l =
     after_steps l.attrs l.shape (reverse l.parts.items) l.counters l.left

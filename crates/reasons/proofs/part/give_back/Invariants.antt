@@ -2,7 +2,7 @@ use Rattle.std.proofs.Common.{◌≡◌, length}
 use Rattle.reasons.specs.Stack.{given_back}
 use Rattle.reasons.proofs.part.give_back.Given as goal
 
--- giving back those that are left does what giving back all does
+-- undoing the remaining takes completes the undoing
 abbrev pub invariant-loop-one : goal.invariant-loop-one
 invariant-loop-one l =
     given_back l.left.items l.counters ≡ given_back l.fn.taken.items l.initial.counters

@@ -4,7 +4,7 @@ use Rattle.printing.specs.Printed.{printed_char}
 use Rattle.reasons.specs.Quoted.{is_shown_by_number, escaped}
 use Rattle.reasons.proofs.quoted.push_escaped.Given as goal
 
--- with the characters that are left what was added is the whole
+-- the remaining characters complete the text
 abbrev pub invariant-loop-c : goal.invariant-loop-c
 invariant-loop-c l =
     IsUtf8 (chars_rest l.c-iterator)

@@ -4,8 +4,8 @@ use Rattle.reasons.specs.Ending.{ending_on}
 use Rattle.reasons.specs.Told.{rule_text}
 use Rattle.reasons.proofs.telling.tell_statements.Given as goal
 
--- the text so far, and that of the statements that are left, is that of all; and the rule ends as
--- they do on the counters as they are
+-- the text of the remaining statements completes the text, and on the current counters they give
+-- the rule's result
 abbrev pub invariant-loop-left : goal.invariant-loop-left
 invariant-loop-left l =
     (string_bytes l.text ++ rule_text l.attrs l.shape l.counters l.left

@@ -5,7 +5,7 @@ use Rattle.warnings.specs.declared.possible.Asker.TheVariants.{One}
 use Rattle.warnings.specs.Asking.{any_below, gets, rule_of}
 use Rattle.warnings.proofs.asking.gets_in_some_bucket.Given as goal
 
--- no bucket so far, and who asks is the one of some bucket
+-- no bucket so far, and `attrs` is the plain app of some bucket
 abbrev pub invariant-loop-bucket : goal.invariant-loop-bucket
 invariant-loop-bucket l = record {
   within : l.bucket ≤ 10000;

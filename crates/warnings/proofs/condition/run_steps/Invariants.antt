@@ -3,7 +3,7 @@ use Rattle.warnings.specs.Possible.{test_possible}
 use Rattle.warnings.specs.Stack.{after_steps}
 use Rattle.warnings.proofs.condition.run_steps.Given as goal
 
--- the steps that are left bring the stack to what all steps bring none to
+-- the remaining steps give the stack's result
 abbrev pub invariant-loop-left : goal.invariant-loop-left
 invariant-loop-left l =
     after_steps (test_possible l.asker l.attrs l.shape) (reverse l.stack.items) l.left

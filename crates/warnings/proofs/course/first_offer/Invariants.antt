@@ -3,7 +3,7 @@ use Rattle.warnings.specs.Course.{first_offer}
 use Rattle.warnings.specs.Possible.{test_possible}
 use Rattle.warnings.proofs.course.first_offer.Given as goal
 
--- those that are left decide
+-- the remaining statements decide
 abbrev pub invariant-loop-left : goal.invariant-loop-left
 invariant-loop-left l =
     first_offer (test_possible l.asker l.attrs l.shape) l.left

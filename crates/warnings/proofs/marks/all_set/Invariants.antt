@@ -2,7 +2,7 @@ use Rattle.std.proofs.Common.{◌≡◌, Bool, length}
 use Rattle.std.specs.List.{list_all}
 use Rattle.warnings.proofs.marks.all_set.Given as goal
 
--- those that are left decide
+-- the remaining marks decide
 abbrev pub invariant-loop-left : goal.invariant-loop-left
 invariant-loop-left l = list_all (λ (m : Bool). m) l.left ≡ list_all (λ (m : Bool). m) l.marks
 

@@ -2,7 +2,7 @@ use Rattle.std.proofs.Common.{◌≡◌, length}
 use Rattle.warnings.specs.Names.{is_allowed}
 use Rattle.warnings.proofs.names.is_allowed.Given as goal
 
--- those that are left decide
+-- the remaining names decide
 abbrev pub invariant-loop-left : goal.invariant-loop-left
 invariant-loop-left l = is_allowed l.left l.warning ≡ is_allowed l.allowed l.warning
 

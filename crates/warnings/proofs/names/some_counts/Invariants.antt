@@ -2,7 +2,7 @@ use Rattle.std.proofs.Common.{◌≡◌, length}
 use Rattle.warnings.specs.Names.{some_counts}
 use Rattle.warnings.proofs.names.some_counts.Given as goal
 
--- those that are left decide
+-- the remaining warnings decide
 abbrev pub invariant-loop-left : goal.invariant-loop-left
 invariant-loop-left l = some_counts l.allowed l.left ≡ some_counts l.allowed l.warnings
 

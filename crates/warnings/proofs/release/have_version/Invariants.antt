@@ -3,7 +3,7 @@ use Rattle.std.specs.List.{list_any}
 use Rattle.warnings.specs.Releases.{has_version}
 use Rattle.warnings.proofs.release.have_version.Given as goal
 
--- none so far has the version
+-- the remaining releases decide
 abbrev pub invariant-loop-left : goal.invariant-loop-left
 invariant-loop-left l =
     list_any (has_version l.version) l.left ≡ list_any (has_version l.version) l.later

@@ -2,7 +2,7 @@ use Rattle.std.proofs.Common.{◌≡◌, length}
 use Rattle.warnings.specs.Asked.{room_less, room_taken}
 use Rattle.warnings.proofs.room.room_behind.Given as goal
 
--- those that are left decide
+-- the remaining statements decide
 abbrev pub invariant-loop-left : goal.invariant-loop-left
 invariant-loop-left l =
     room_less (room_taken l.versions l.left) l.room

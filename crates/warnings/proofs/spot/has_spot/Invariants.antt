@@ -2,7 +2,7 @@ use Rattle.std.proofs.Common.{◌≡◌, length}
 use Rattle.warnings.specs.Spots.{has_spot}
 use Rattle.warnings.proofs.spot.has_spot.Given as goal
 
--- those that are left decide
+-- the remaining spots decide
 abbrev pub invariant-loop-left : goal.invariant-loop-left
 invariant-loop-left l = has_spot l.left l.spot ≡ has_spot l.spots l.spot
 

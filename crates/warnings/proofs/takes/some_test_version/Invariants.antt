@@ -3,7 +3,7 @@ use Rattle.std.specs.List.{list_any}
 use Rattle.warnings.specs.Asked.{tests_version}
 use Rattle.warnings.proofs.takes.some_test_version.Given as goal
 
--- those that are left decide
+-- the remaining steps decide
 abbrev pub invariant-loop-left : goal.invariant-loop-left
 invariant-loop-left l = list_any tests_version l.left ≡ list_any tests_version l.steps
 
