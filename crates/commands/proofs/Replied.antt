@@ -1,4 +1,4 @@
--- A reply that doesn't begin as a refusal, and why there is none.
+-- A reply that isn't a refusal, and the faults of a reply.
 use Rattle.std.proofs.Common.{◌≡◌, ◌∙◌, refl, sym, ap, subst, ℕ, List, ◌++◌, length, take, drop}
 use Rattle.std.proofs.Common.{Bool, true, false, ◌&&◌, ◌||◌}
 use Rattle.std.proofs.lemmas.List.{take-append-drop}

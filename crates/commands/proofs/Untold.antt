@@ -1,4 +1,4 @@
--- Why nothing is told of an app, by what its files come to.
+-- Why there are no reasons, from the opened files.
 use Rattle.std.proofs.Common.{inr}
 use Rattle.bounded_files.specs.Files.{KnownFiles}
 use Rattle.command_line.specs.declared.request.AskedReply.{AskedReply}

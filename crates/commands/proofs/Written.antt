@@ -1,4 +1,4 @@
--- What is known of what was written.
+-- The line that was written.
 use Rattle.std.proofs.Common.{◌≡◌, subst, ℕ}
 use Rattle.std.specs.Prelude.{List, Option}
 use Rattle.std.specs.Io.KnownBytes.{Appends}

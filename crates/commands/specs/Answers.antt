@@ -1,6 +1,6 @@
--- What each request is answered, and why it is refused: by what the files give, as far as that is
--- known. Of a device's files nothing is known, so of these it is what some bytes come to. What a
--- server replies no contract can say; of memory that was refused no claim is made.
+-- The answer to each request, and why it is refused, by the bytes of the files, as far as they are
+-- known. The bytes of a device's files aren't known, so an answer is one for some bytes. No
+-- contract can say what a server replies, and nothing is claimed for out of memory.
 use Rattle.std.specs.Prelude.{◌≡◌, ◌⊎◌, ◌&&◌, [], false, is_some, length, not, option_copied}
 use Rattle.std.specs.Prelude.{true}
 use Rattle.std.specs.String.{string_bytes}
@@ -99,7 +99,7 @@ module _ (known : KnownFiles) where
       IsRunRefusal known run.path.now run.shape fault
   IsRefused (request.Replay manifest script) (Manifest fault) =
       IsReplayRefusal known manifest.now script.now fault
-  -- which log of a device can't be read, or whether its clock can't, nothing tells
+  -- nothing is known about the logs of a device, nor about its clock
   IsRefused (request.Report asked) (Resource fault) = Unit {0}
   IsRefused (request.Simulate asked) (Manifest fault) =
       IsSimulationRefusal known asked.json (client_told asked.app) asked.manifest.now

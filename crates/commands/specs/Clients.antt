@@ -1,9 +1,9 @@
--- The client of a simulation, as the words tell of it.
+-- The client of a simulation, as the words describe it.
 use Rattle.simulate.specs.declared.client.Client.{Client}
 use Rattle.command_line.specs.Apps.{app_facts, moment, request_facts}
 use Rattle.command_line.specs.declared.told.ToldApp.{ToldApp}
 
--- what its request says of the app, of itself, and when
+-- the facts of its app and of its request, and the moment
 abbrev pub client_told : ToldApp → Client
 client_told told = record {
   app = app_facts told;

@@ -1,5 +1,5 @@
--- What `ask` tells, and why it tells nothing. Which second the clock tells no contract can say, nor
--- which counters a server has.
+-- What `ask` prints, and why it prints nothing. No contract can say which second the clock gives,
+-- nor which counters a server has.
 use Rattle.std.specs.Prelude.{◌≡◌, ◌⊎◌, ℕ, ℤ, List, [], Option, Some, None, IsSome}
 use Rattle.std.specs.Str.Lines.{lines}
 use Rattle.bounded_files.specs.Files.{KnownFiles}
@@ -16,20 +16,20 @@ use Rattle.commands.specs.declared.fault.Fault.{Fault}
 use Rattle.commands.specs.declared.fault.Fault.TheVariants.{Ask, DryRun, Resource}
 use Rattle.commands.specs.declared.fault.Fault.TheVariants as fault
 
--- ---- by a ruleset with its arrays, to a body
+-- ---- from a ruleset with its arrays, for a body
 
--- cells that some reply to `cells` tells, and none without a port
+-- the cells of some reply to `cells`, and none without a port
 abbrev pub AreServed : (port : Option ℕ) → List Told → Type 0
 AreServed None served = served ≡ []
 AreServed (Some port) served =
     (reply : List ℕ) × IsDoneAs sent.Cells reply × (served ≡ told_by (lines reply))
 
--- the moment of the words, or any other without one
+-- the given moment, or any moment without one
 abbrev pub IsAt : (at : Option ℤ) → ℤ → Type 0
 IsAt None moment = Unit {0}
 IsAt (Some at) moment = moment ≡ at
 
--- the reply at that moment, with the counters of that server and of the words
+-- the reply at that moment, with the counters of that server and the given ones
 pub record IsReplyBy (rules : Rules) (arrays : List CellArray) (body : List ℕ)
     (asked : AskedReply) (text : List ℕ) : Type 0 where
   pub moment : ℤ
@@ -38,8 +38,8 @@ pub record IsReplyBy (rules : Rules) (arrays : List CellArray) (body : List ℕ)
   pub told : AreServed asked.operator served
   pub replies : RepliesAsTold rules arrays body moment served asked.cells.items text
 
--- why there is none: the server of the port, where one is told, then the counters and the body; of
--- memory no claim is made
+-- why there is no reply: the server at the port, if one is given, or else the counters or the body;
+-- nothing is claimed for out of memory
 abbrev pub IsReplyFault : List CellArray → (body : List ℕ) → AskedReply → Fault → Type 0
 IsReplyFault arrays body asked (DryRun why) =
     (served : List Told) × AreServed asked.operator served
@@ -51,9 +51,9 @@ IsReplyFault arrays body asked (fault.Told text) =
 IsReplyFault arrays body asked (Resource resource.Memory) = Unit {0}
 IsReplyFault arrays body asked why = ⊥
 
--- ---- by the files
+-- ---- from the files
 
--- the reply to the body that one file has, by the ruleset that the other comes to
+-- the reply to the body in one file, by the ruleset of the manifest in the other
 pub record HasDryRun (known : KnownFiles) (asked : AskedReply) (text : List ℕ) : Type 0 where
   pub rules : Rules
   pub arrays : List CellArray
@@ -61,7 +61,7 @@ pub record HasDryRun (known : KnownFiles) (asked : AskedReply) (text : List ℕ)
   pub opened : AreOpened known asked.manifest.now asked.request.now rules arrays body
   pub reply : IsReplyBy rules arrays body asked text
 
--- why there is none, where the files come to a ruleset and a body
+-- why there is no reply, if the files have a ruleset and a body
 pub record IsUnansweredFile (known : KnownFiles) (asked : AskedReply) (why : Fault)
     : Type 0 where
   pub rules : Rules
@@ -70,7 +70,7 @@ pub record IsUnansweredFile (known : KnownFiles) (asked : AskedReply) (why : Fau
   pub opened : AreOpened known asked.manifest.now asked.request.now rules arrays body
   pub because : IsReplyFault arrays body asked why
 
--- and where they don't: that comes first
+-- why there is no reply; a fault of the files comes first
 abbrev pub IsDryRunRefusal : KnownFiles → AskedReply → Fault → Type 0
 IsDryRunRefusal known asked (DryRun why) =
     IsOpenFault known asked.manifest.now asked.request.now why

@@ -23,7 +23,7 @@ use Rattle.operator.specs.Texts.{ask_text}
 use Rattle.serving.specs.Texts.{cause_of, serving_text}
 use Rattle.workers.specs.Texts.{serving_line}
 
--- what is printed of an answer
+-- the text that is printed for an answer
 abbrev pub answer_text : Answer → List ℕ
 answer_text (Assembled program) = line (decimal (length program.items / 8) ++ codes " slots")
 answer_text (Checked told) = string_bytes told.text
@@ -47,23 +47,23 @@ answer_text (answer.Told text) = string_bytes text
 -- the first generation
 answer_text (Ready server plan) = serving_line 1
 
--- what goes to standard error beside an answer: the warnings of a check
+-- what goes to standard error with an answer: the warnings of a check
 abbrev pub warnings_of : Answer → List ℕ
 warnings_of (Checked told) = string_bytes told.beside
 warnings_of answer = []
 
--- a check may find what counts, and a simulation what is lost; all else passes
+-- a check may find warnings that count, and a simulation lost releases; any other answer passes
 abbrev pub passes : Answer → Bool
 passes (Checked told) = told.passes
 passes (answer.Simulated told does) = does
 passes answer = true
 
--- what is told of where and why a manifest is refused, which goes there behind the refusal
+-- the place and the reason of a manifest's refusal, which are printed after it
 abbrev pub refusal_reason : Fault → List ℕ
 refusal_reason (Manifest (tool.Diagnosed refused)) = string_bytes refused.reason
 refusal_reason fault = []
 
--- what a server's log tells of it beside its text, if it tells more
+-- the cause that a server's log has with the fault's text, if there is one
 abbrev pub fault_cause : Fault → Option (List ℕ)
 fault_cause (Serving fault) = cause_of fault
 fault_cause fault = None
@@ -75,7 +75,7 @@ fault_text (Manifest fault) = manifest.fault_text fault
 fault_text (DryRun fault) = dry_run_text fault
 fault_text (Serving fault) = serving_text fault
 fault_text (Ask fault) = ask_text fault
--- the words of a server, or of who else listens at its port
+-- the words of a server, or of another program that listens at its port
 fault_text (fault.Told text) = printed (string_bytes text)
 
 abbrev pub refused_line : List ℕ → List ℕ

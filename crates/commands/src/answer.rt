@@ -1,4 +1,4 @@
-//! What a request is answered.
+//! The answers to requests.
 
 ghost use Rattle.std.specs.Prelude.{◌≡◌, Some};
 ghost use Rattle.commands.specs.Texts.{answer_text, passes, warnings_of};
@@ -10,17 +10,17 @@ use manifest_tools::{ToldChecks, ToldSimulation};
 use serving::Server;
 use std::{fmt, str};
 
-/// What a request is answered, by lines that are each ended by LF, but for the body of a reply.
+/// The answer to a request: lines, each ended by LF, except for the body of a reply.
 #[derive(Drop)]
 pub enum Answer {
-    /// The text was assembled into these bytes, of which the number of slots is printed.
+    /// The text was assembled into these bytes; their number of slots is printed.
     Assembled {
         program: Vec<u8>,
     },
-    /// What is told of manifests that were checked: of one that comes to a ruleset the lines of its
-    /// arrays and apps, and its warnings; or of several.
+    /// The messages about checked manifests: for one manifest the lines of its arrays and apps, and
+    /// its warnings; or those for several.
     Checked(ToldChecks),
-    /// The rule was compiled into a program of so many slots.
+    /// The rule was compiled into a program of `slots` slots.
     Compiled {
         slots: usize,
     },
@@ -28,11 +28,11 @@ pub enum Answer {
     Explained {
         text: String,
     },
-    /// The listing of the bytes: a line an instruction.
+    /// The listing of the bytes: a line for each instruction.
     Listed {
         text: String,
     },
-    /// The program in order, of which the number of slots is printed.
+    /// The program in order; its number of slots is printed.
     Ordered {
         program: Vec<u8>,
     },
@@ -40,13 +40,13 @@ pub enum Answer {
     Accepted {
         slots: usize,
     },
-    /// The program chose a release, or none, and did so many instructions.
+    /// The program chose a release, or none, after this number of instructions.
     Chosen {
         choice: u8,
         instructions: u32,
     },
-    /// The program chose a release, or none, after so many instructions; the lines of its run come
-    /// first.
+    /// The program chose a release, or none, after this number of instructions; the lines of its
+    /// run are printed first.
     Traced {
         lines: String,
         choice: u8,
@@ -56,9 +56,9 @@ pub enum Answer {
     Replayed {
         text: String,
     },
-    /// What is told of logs, of which the lines are printed, a line a number.
+    /// The report on logs, of which the lines are printed.
     Reported(ToldReport),
-    /// What is told of a simulation, of which the lines are printed, and whether it passes.
+    /// The lines of a simulation, and whether it passes.
     Simulated {
         told: ToldSimulation,
         passes: bool,
@@ -83,7 +83,7 @@ pub enum Answer {
 }
 
 impl Answer {
-    /// The lines that go to standard error beside it: the warnings of a check.
+    /// The lines for standard error: the warnings of a check.
     pub fn warnings(&self) -> &str
         ensures { result.now ≡ warnings_of self.now }
     {
@@ -93,7 +93,7 @@ impl Answer {
         }
     }
 
-    /// Whether a check or a simulation passes; all else does.
+    /// Whether a check or a simulation passes; any other answer does.
     pub fn passes(&self) -> bool
         ensures { result ≡ passes self.now }
     {

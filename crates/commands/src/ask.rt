@@ -1,5 +1,5 @@
-//! `load`, `show`, `cells` and `stop`: a request to a server's operator's port, and its reply. The
-//! end of a server that stops may be waited for, when nobody listens at the port any more.
+//! `load`, `show`, `cells` and `stop`: a request to a server's operator's port, and its reply. A
+//! stop may wait for the server's end, until nothing listens at the port.
 
 ghost use Rattle.std.specs.Prelude.{IfOk, IfErr};
 ghost use Rattle.std.specs.String.{string_bytes};
@@ -16,15 +16,15 @@ use std::net::{IpAddr, Ipv4Addr, Net, SocketAddr, TcpStream};
 use std::time::{Clock, Duration};
 use std::{str, thread};
 
-/// How long it is between two looks whether a server has ended.
+/// The time between two checks whether a server has ended.
 const LOOK_MILLIS: u64 = 100;
 
-/// How long a look may last.
+/// The longest time of a check.
 const LOOK_SECONDS: u64 = 1;
 
-/// The lines of a server's reply, where it did what it was asked. A reply that begins with
-/// `refused ` is the server's refusal.
-// open: that a server answers: tests.
+/// The lines of a server's reply, if it did what was requested. A reply that begins with `refused `
+/// is returned as a fault with the server's words.
+// open: that a server replies: tests.
 pub fn ask_server<R>(rt: &R, request: OperatorRequest<'_>, port: u16) -> Result<String, Fault>
 where
     R: Net<Stream = TcpStream> + AllocGlobal,
@@ -42,8 +42,7 @@ where
 }
 
 /// The reply to a stop, once the server has ended: a connection to its operator's port is refused.
-/// It looks ten times a second, and goes on as long as anybody listens at the port, also another
-/// server.
+/// It checks ten times a second, as long as anything listens at the port, even another server.
 pub fn stop_and_wait<R>(rt: &R, port: u16) -> Result<String, Fault>
 where
     R: Net<Stream = TcpStream> + AllocGlobal + Clock,
@@ -59,8 +58,8 @@ where
     }
 }
 
-// Waits until a connection to the port is refused. Any other failure, as that file descriptors have
-// run out, says nothing of the server.
+// Waits until a connection to the port is refused. Any other failure, such as a lack of file
+// descriptors, says nothing about the server.
 fn wait_for_end<R>(rt: &R, port: u16)
 where
     R: Net<Stream = TcpStream> + Clock,

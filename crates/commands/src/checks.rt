@@ -10,7 +10,7 @@ use load::Disk;
 use manifest_tools::check_files;
 use std::alloc::Global;
 
-/// What is told of the manifests.
+/// The messages about the manifests.
 pub fn checked<D: Disk>(alloc: Global, disk: &D, asked: &AskedCheck<'_>) -> Result<Answer, Fault>
     ensures answer { IfOk result (IsAnswer (D.known disk.now) (CommandRequest.Check asked.now)) }
     ensures fault { IfErr result (IsRefused (D.known disk.now) (CommandRequest.Check asked.now)) }

@@ -22,9 +22,9 @@ use std::net::{Net, TcpStream};
 use std::time::{Clock, SystemTime, UNIX_EPOCH};
 use told_cells::told_lines;
 
-/// The body of the reply, or why each app gets what it gets. The files are opened first, then a
-/// server is asked for its counters, where a port is told.
-// open: which counters a server has, and which second the clock tells: tests.
+/// The body of the reply, or why each app gets what it gets. The files are opened first; then a
+/// server's counters are requested, if a port is given.
+// open: which counters a server has, and which second the clock gives: tests.
 pub fn dry_run_of<R, D>(rt: &R, disk: &D, asked: &AskedReply<'_>) -> Result<Answer, Fault>
 where
     R: AllocGlobal + Clock + Net<Stream = TcpStream>,
@@ -44,7 +44,7 @@ where
     }
 }
 
-// The body of the reply.
+// The body of the reply, from the files.
 fn body_of<R, D>(rt: &R, disk: &D, asked: &AskedReply<'_>) -> Result<Vec<u8>, Fault>
 where
     R: AllocGlobal + Clock + Net<Stream = TcpStream>,
@@ -63,7 +63,7 @@ where
     }
 }
 
-// The body of the reply, by what the files come to.
+// The body of the reply, from the opened files.
 fn reply_to<R>(rt: &R, opened: &Opened, asked: &AskedReply<'_>) -> Result<Vec<u8>, Fault>
 where
     R: AllocGlobal + Clock + Net<Stream = TcpStream>,
@@ -86,7 +86,7 @@ where
     }
 }
 
-/// The lines of a server's counters, and none without a port.
+/// The lines of a server's counters; empty without a port.
 pub fn served_reply<R>(rt: &R, port: Option<u16>) -> Result<String, Fault>
 where
     R: AllocGlobal + Net<Stream = TcpStream>,
@@ -99,7 +99,7 @@ where
     }
 }
 
-/// The moment of the words, or the clock's.
+/// The given moment, or the clock's.
 pub fn moment_of<R: Clock>(rt: &R, at: Option<Moment>) -> Moment
     ensures { specs.IsAt at result }
 {
@@ -109,7 +109,7 @@ pub fn moment_of<R: Clock>(rt: &R, at: Option<Moment>) -> Moment
     }
 }
 
-// The second by the clock; 0 where it can't be read, which counts as the first of 2007.
+// The second by the clock; 0 if it can't be read, which counts as the first of 2007.
 fn unix_second<R: Clock>(rt: &R) -> Moment {
     let Ok(now) = SystemTime::now(rt) else {
         return 0;

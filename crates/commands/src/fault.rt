@@ -12,10 +12,10 @@ use program_tools::ProgramToolFault;
 use serving::ServingFault;
 use std::fmt;
 
-/// What is wrong; it is shown as it is printed, behind `refused `.
+/// The reason, printed after `refused `.
 #[derive(Debug, Drop)]
 pub enum Fault {
-    /// B3: what is to be printed can't be written. B4: memory for the words is refused.
+    /// B3: a file can't be read, or output can't be written. B4: out of memory.
     Resource(ResourceFault),
     /// `asm`, `list`, `compile`, `order`, `verify`, `explain` or `run` is refused.
     Program(ProgramToolFault),
@@ -23,16 +23,16 @@ pub enum Fault {
     Manifest(ManifestToolFault),
     /// B3, B4, B7, M1 to M8, O1 to O5, P5: there is no reply to a request.
     DryRun(DryRunFault),
-    /// There is no server, or none that serves.
+    /// A server can't be made, or can't serve.
     Serving(ServingFault),
-    /// B1, B4, B5: a server isn't asked.
+    /// B1, B4, B5: a request can't be sent to a server, or gets no reply.
     Ask(AskFault),
-    /// The server refuses, in these words.
+    /// The server's refusal, in its words.
     Told(String),
 }
 
 impl Fault {
-    /// The lines behind the refusal: where and why a manifest is refused.
+    /// The lines after the refusal: the place and the reason of a manifest's refusal.
     pub fn reason(&self) -> &str
         ensures { result.now ≡ refusal_reason self.now }
     {
@@ -42,7 +42,7 @@ impl Fault {
         }
     }
 
-    /// What a server's log tells of it beside its text, if it tells more.
+    /// The cause that a server's log has with the fault's text, if there is one.
     pub fn cause(&self) -> Option<&str>
         ensures { option_copied result ≡ fault_cause self.now }
     {

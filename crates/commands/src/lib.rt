@@ -4,10 +4,10 @@
 //! See docs/PROGRAM.md, "Status".
 #![tactic(auto)]
 
-// How a command goes. Its words are read as a request, or it is told what is wrong with them. The
+// How a command runs. Its words are read as a request, or what is wrong with them is printed. The
 // request is answered: by a command on a program or a manifest, by a server at its operator's port,
-// or, for `serve`, by a server that is ready. The answer's lines are printed; a ready server says
-// that it serves, and does so until it is stopped. The status says whether all this was done.
+// or, for `serve`, by a ready server. The answer's lines are printed. A ready server prints that it
+// serves, and does so until it is stopped. The status says whether all this was done.
 
 mod answer;
 mod ask;

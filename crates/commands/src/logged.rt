@@ -1,5 +1,5 @@
-//! A server with its log: the log's thread is there before the server, and what is still to be
-//! written is waited for behind it, for a while. A start that is refused has a line, too.
+//! A server with its log. The log's thread starts before the server, and the remaining lines are
+//! waited for after the server's end, for a while. A refused start also has a line.
 
 ghost use Rattle.std.specs.Io.KnownBytes.{Appends};
 ghost use Rattle.std.specs.Prelude.{◌⊎◌, OnOk, IfErr};
@@ -20,7 +20,8 @@ use std::sync::Wait;
 use std::thread::Threads;
 use std::time::Clock;
 
-/// Serves by the plan, and logs on standard error. B4 where the log's memory or thread is refused.
+/// Serves by the plan, and logs to standard error. Returns B4 if the log's memory or its thread
+/// fails.
 // open: that the lines of the start are of this manifest, server and outcome: tests.
 pub fn serve_logged<R, D, O>(
     rt: &R,
@@ -57,7 +58,8 @@ where
     outcome
 }
 
-// Why it doesn't serve, if it doesn't. Of a server that has served the log tells the end already.
+// Logs why the server doesn't serve, if it doesn't. After a server has served, its end is logged
+// already.
 fn note_outcome<R>(
     rt: &R,
     queue: &LogQueue,
@@ -75,8 +77,8 @@ where
     }
 }
 
-/// Logs that a server doesn't start, and why, where a log was asked for. The line is lost where
-/// memory is refused.
+/// Logs that a server doesn't start, and why, if a log was requested. The line is lost if an
+/// allocation fails.
 // open: that the line is of this request and fault: tests.
 pub fn note_refusal<R>(rt: &R, request: &CommandRequest<'_>, fault: &Fault)
 where

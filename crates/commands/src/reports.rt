@@ -11,7 +11,7 @@ use log_tools::report_logs;
 use std::rt::Files;
 use std::time::Clock;
 
-/// What the logs come to.
+/// The report on the logs.
 pub fn reported<R>(rt: &R, asked: &AskedReport<'_>) -> Result<Answer, Fault>
 where
     R: Files + AllocGlobal + Clock + Eprint,

@@ -22,8 +22,8 @@ use std::net::{Net, TcpListener, TcpStream};
 use std::rt::Files;
 use std::time::Clock;
 
-/// Does what is asked, with files of the disk; what is made is written as a file of the runtime. A
-/// server of a manifest is made ready, and doesn't serve yet.
+/// Does what is requested, with files of the disk; output files are written by the runtime. For
+/// `serve`, the server of a manifest is made ready, and doesn't serve yet.
 // open: which bytes a device's file gives: no contract can say what a device does, so the tests run
 // each command on files.
 pub fn answer<R, D>(rt: &R, disk: &D, request: &CommandRequest<'_>) -> Result<Answer, Fault>

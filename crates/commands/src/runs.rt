@@ -10,7 +10,7 @@ use load::Disk;
 use program_tools::{run_file, trace_file};
 use std::alloc::Global;
 
-/// What the run comes to.
+/// The result of the run.
 pub fn chosen<D: Disk>(alloc: Global, disk: &D, asked: &AskedRun<'_>) -> Result<Answer, Fault>
     ensures answer { IfOk result (IsAnswer (D.known disk.now) (CommandRequest.Run asked.now)) }
     ensures fault { IfErr result (IsRefused (D.known disk.now) (CommandRequest.Run asked.now)) }
@@ -22,7 +22,7 @@ pub fn chosen<D: Disk>(alloc: Global, disk: &D, asked: &AskedRun<'_>) -> Result<
     })
 }
 
-/// As `chosen`, with a line before it for each of its instructions.
+/// As `chosen`, preceded by a line for each instruction.
 pub fn traced<D: Disk>(alloc: Global, disk: &D, asked: &AskedRun<'_>) -> Result<Answer, Fault>
     ensures answer { IfOk result (IsAnswer (D.known disk.now) (CommandRequest.Trace asked.now)) }
     ensures fault { IfErr result (IsRefused (D.known disk.now) (CommandRequest.Trace asked.now)) }

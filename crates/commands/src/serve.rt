@@ -1,4 +1,4 @@
-//! `serve`: a server that is ready, to its operator's stop.
+//! `serve`: a server, from ready to its operator's stop.
 
 ghost use Rattle.std.specs.Duration.{as_nanos};
 ghost use Rattle.std.specs.Io.KnownBytes.{Appends};
@@ -18,11 +18,11 @@ use std::thread::Threads;
 use std::time::{Clock, Duration};
 use workers::Service;
 
-/// Makes all that a server serves by, and serves by the plan until the operator stops it, with its
-/// log or without one. Once all is made, `out` is told that the first generation is served. S1, H1
-/// or B4 where memory is refused before, B4 where memory or a thread is, B3 where `out` can't be
-/// written, and H2 where a server that has ended can't give its counters.
-// open: what a connection brings, and that a server answers: tests.
+/// Makes all that a server needs, and serves by the plan until the operator stops it, with its log
+/// or without one. Once all is made, `out` gets the ready line of generation 1. Returns S1, H1 or
+/// B4 if out of memory before that; B4 if an allocation or a thread fails; B3 if `out` can't be
+/// written; and H2 if a watcher can't be read after the server's end.
+// open: what a connection sends, and that a server answers: tests.
 pub fn serve_until_stopped<R, D, O>(
     rt: &R,
     disk: &D,
@@ -40,7 +40,8 @@ where
         (Appends (O.contents out.old) (O.contents out.new) (serving_line 1)) }
     ensures fault { IfErr result (λ e. IsStaffFault e ⊎ IsEndFault e) }
 {
-    // Whoever waits for the server's end is to see it behind the last line of the log.
+    // The port stays open until the log is written. So a client that waits for the server's end
+    // gets it after the log's last line.
     let _open = server.ports().operator_handle();
     if plan.log {
         serve_logged(rt, disk, server, manifest, plan, out)
@@ -49,7 +50,7 @@ where
     }
 }
 
-/// As `serve`, with a queue for the lines of the log, if there is one.
+/// Serves by the plan, with a queue for the lines of the log, if there is one.
 pub fn serve_by<R, D, O>(
     rt: &R,
     disk: &D,

@@ -47,7 +47,7 @@ where
     }
 }
 
-// The client of which the words tell.
+// The client that the words describe.
 fn client_told(alloc: Global, told: &ToldApp<'_>) -> Result<Client, AllocError>
     ensures { IfOk result (λ client. client ≡ client_told told.now) }
 {

@@ -28,20 +28,20 @@ use std::sync::Wait;
 use std::thread::Threads;
 use std::time::Clock;
 
-/// The command did what it was asked.
+/// The command did what was requested.
 const DONE: u8 = 0;
-/// What was asked is refused, or its answer couldn't be written.
+/// The request is refused, or its answer couldn't be written.
 const REFUSED: u8 = 1;
 /// The words are wrong.
 const USAGE: u8 = 2;
 
-/// Does what the words ask, the first of which is the program's name, with files of the disk.
-/// Results go to `out`, and refusals, usage and the warnings of `check` to `err`, which is left
-/// alone by all else that is done. A simulation that takes over a second says by the runtime itself
-/// how far it is. The status is 0 done, 1 refused, after a failed write, or where a check or a
-/// simulation doesn't pass, 2 usage. A server has served once the status is there.
-// open: `clap`'s texts; that it doesn't give up with 1, since a read or a write may fail at any
-// time: the tests compare each command's lines and status.
+/// Does what the words request, the first of which is the program's name, with files of the disk.
+/// Results go to `out`; refusals, usage and the warnings of `check` go to `err`, and nothing else
+/// does. A simulation that takes over a second prints its progress by the runtime itself. The
+/// status is 0 if the request was done; 1 if it was refused, a write failed, or a check or a
+/// simulation doesn't pass; and 2 for usage. A server has served once the status is returned.
+// open: `clap`'s texts; that the status isn't 1, since a read or a write may fail at any time: the
+// tests compare each command's lines and status.
 pub fn command<R, D, S, O, E>(rt: &R, disk: &D, words: &[S], out: &mut O, err: &mut E) -> u8
 where
     R: Files + Threads + Wait + AllocGlobal + Clock + LogOutput,
@@ -65,7 +65,7 @@ where
     }
 }
 
-// Does what a request asks, and prints the answer or the refusal.
+// Does what is requested, and prints the answer or the refusal.
 fn perform<R, D, O, E>(
     rt: &R,
     disk: &D,
@@ -98,7 +98,7 @@ where
     }
 }
 
-// The manifest that is to be served; the log tells its path.
+// The manifest that is to be served, for the log.
 fn manifest_of<'a>(request: &CommandRequest<'a>) -> &'a str {
     match request {
         CommandRequest::Serve { manifest, .. } => manifest,
@@ -120,7 +120,7 @@ fn print_answer<O: Write, E: Write>(answer: &Answer, out: &mut O, err: &mut E) -
     }
 }
 
-// Prints warnings, where there are any; and whether what was asked passes, with them.
+// Prints warnings, if there are any, and returns the status: whether the answer passes.
 fn print_warnings<E: Write>(warnings: &str, passes: bool, err: &mut E) -> u8
     ensures within { result ≤ 1 }
     ensures given { result ≡ 0 → IsGiven E.contents err.old err.new warnings.now }
@@ -135,14 +135,14 @@ fn print_warnings<E: Write>(warnings: &str, passes: bool, err: &mut E) -> u8
     }
 }
 
-// The status of what is printed and passes, or doesn't.
+// The status of an answer that was printed.
 fn passed(passes: bool) -> u8
     ensures { result ≡ (if passes then 0 else 1) }
 {
     if passes { DONE } else { REFUSED }
 }
 
-// Serves until the operator stops the server, which says when it does.
+// Serves until the operator stops the server. Prints a line once it serves.
 fn serve<R, D, O, E>(
     rt: &R,
     disk: &D,
@@ -171,7 +171,7 @@ where
     }
 }
 
-/// What words are answered that can't be read: their memory was refused, or one isn't UTF-8.
+/// Prints why words can't be read, and returns the status: out of memory, or a word isn't UTF-8.
 // open: the text on `err`.
 pub fn unreadable_words<E: Write>(error: &io::Error, err: &mut E) -> u8
     ensures within { (1 ≤ result) × (result ≤ 2) }
@@ -183,8 +183,8 @@ pub fn unreadable_words<E: Write>(error: &io::Error, err: &mut E) -> u8
     }
 }
 
-/// What words are answered that are no request: help, what is wrong with them, or that memory was
-/// refused.
+/// Prints why words aren't a request, and returns the status: help, what is wrong with them, or out
+/// of memory.
 // open: the texts on `err`.
 pub fn usage<O: Write, E: Write>(fault: &WordsFault, out: &mut O, err: &mut E) -> u8
     ensures within { result ≤ 2 }
@@ -203,7 +203,7 @@ pub fn usage<O: Write, E: Write>(fault: &WordsFault, out: &mut O, err: &mut E) -
     }
 }
 
-// The status of what was to be printed. Where it couldn't be written, that is the refusal.
+// The status of what was to be printed. If it couldn't be written, that is refused.
 fn printed<E: Write>(err: &mut E, written: bool) -> u8
     ensures status { result ≡ (if written then 0 else 1) }
     ensures within { result ≤ 1 }
@@ -215,8 +215,8 @@ fn printed<E: Write>(err: &mut E, written: bool) -> u8
     refused(err, &Fault::Resource(ResourceFault::File))
 }
 
-// Prints of a program that `explain` is told to the fault what is known, on standard output, and
-// the refusal.
+// Prints a refusal. For a program that `explain` shows up to its fault, what is known is printed on
+// standard output first.
 fn refused_for<O: Write, E: Write>(out: &mut O, err: &mut E, fault: &Fault) -> u8
     ensures { result ≡ 1 }
 {
@@ -232,7 +232,7 @@ fn refused<E: Write>(err: &mut E, fault: &Fault) -> u8
     status_of(tell_refusal(err, fault).is_ok(), REFUSED)
 }
 
-// Prints a refusal, and behind it where and why a manifest is refused.
+// Prints a refusal, followed by the place and the reason of a manifest's refusal.
 fn tell_refusal<E: Write>(err: &mut E, fault: &Fault) -> io::Result<()>
     ensures { OnOk result (TellsRefusal fault.now (E.contents err.old) (E.contents err.new)) }
 {
@@ -253,7 +253,7 @@ fn print_refusal<E: Write>(err: &mut E, fault: &Fault) -> io::Result<()>
     writeln!(err, "refused {fault}")
 }
 
-// The status of what was written, or after a failed write.
+// The status, or `REFUSED` if the write failed.
 fn status_of(written: bool, status: u8) -> u8
     requires { status ≤ 2 }
     ensures { result ≡ (if written then status else 1) }

@@ -1,5 +1,5 @@
-//! `ask --why`: why each app of a request gets what it gets, and the digest of the files by which
-//! that is told.
+//! `ask --why`: why each app of a request gets what it gets, and the digest of the files that give
+//! the reasons.
 
 ghost use Rattle.std.specs.Prelude.{◌≡◌, ◌++◌, IfOk, IfErr};
 ghost use Rattle.std.specs.String.{string_bytes};
@@ -20,9 +20,10 @@ use std::net::{Net, TcpStream};
 use std::time::Clock;
 use told_cells::told_lines;
 
-/// Why each app gets what it gets, and last the line `digest ..` that `check` has of the manifest.
-/// The files are opened first, then a server is asked for its counters, where a port is told.
-// open: which counters a server has, and which second the clock tells: tests.
+/// Why each app gets what it gets, and last the line `digest ..` that `check` prints for the
+/// manifest. The files are opened first; then a server's counters are requested, if a port is
+/// given.
+// open: which counters a server has, and which second the clock gives: tests.
 #[tactic(auto, using(crate::proofs::Untold::untold))]
 pub fn why_of<R, D>(rt: &R, disk: &D, asked: &AskedReply<'_>) -> Result<String, Fault>
 where
@@ -42,7 +43,7 @@ where
     }
 }
 
-// The same, by what the files come to.
+// Why each app gets what it gets, from the opened files.
 fn told_why<R>(rt: &R, opened: &OpenedWhy, asked: &AskedReply<'_>) -> Result<String, Fault>
 where
     R: AllocGlobal + Clock + Net<Stream = TcpStream>,
@@ -70,7 +71,7 @@ where
     }
 }
 
-// The lines, and behind them that of the digest.
+// The lines, followed by that of the digest.
 fn with_digest(lines: String, digest: [u8; 32]) -> Result<String, AllocError>
     ensures { IfOk result (λ text. string_bytes text ≡ string_bytes lines ++ digest_line digest) }
 {

@@ -1,4 +1,4 @@
--- The lines of one log more are counted.
+-- The lines of one more log are counted.
 use Rattle.std.proofs.Common.{◌≡◌, ◌∙◌, refl, sym, subst, ℕ, ◌+◌, List, [], ◌∷◌, ◌++◌}
 use Rattle.std.proofs.Common.{append_assoc, append-nil, length, flat_map, Option, arith}
 use Rattle.std.proofs.Common.{Bool, is_some, option_map, string_bytes}

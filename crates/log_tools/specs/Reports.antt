@@ -1,5 +1,5 @@
--- What a report of logs tells. Of the files of a device nothing is known, so what each log has are
--- some bytes; and of its clock nothing is, so the window of what was asked is from some times on.
+-- A report on logs. Nothing is known about the files of a device, so each log has some bytes. Nor
+-- is anything known about its clock, so the window is between some times.
 use Rattle.std.specs.Prelude.{◌≡◌, ℕ, List, Option, Some, None, length, flat_map, is_some}
 use Rattle.std.specs.Prelude.{Bool, if◌then◌else◌, option_map, string_bytes}
 use Rattle.moments.specs.declared.moment.NamedTime.{NamedTime}
@@ -13,27 +13,26 @@ use Rattle.report.specs.declared.window.Window.{Window}
 use Rattle.timeline.specs.Pictures.{course_picture}
 use Rattle.log_tools.specs.declared.reporting.ToldReport.{ToldReport}
 
--- the window begins where a beginning was asked for, and ends where an end was
+-- the window has a first time if one was requested, and a last time if one was
 pub record IsWindowOf (since until : Option NamedTime) (window : Window) : Type 0 where
   pub since_is : is_some window.since ≡ is_some since
   pub until_is : is_some window.until ≡ is_some until
 
--- the lines of so many logs are counted, whatever was counted before
+-- the lines of `n` logs are counted, whatever was counted before
 pub record CountsLogs (window : Window) (n : ℕ) (old new : Report) : Type 0 where
   pub logs : List (List ℕ)
   pub each : length logs ≡ n
   pub counted : CountsLines window (flat_map lines_in logs) old new
 
--- as a screen, or as Prometheus reads it
+-- the text: as a screen, or in Prometheus's format
 abbrev pub text_told : Bool → Report → List ℕ
 text_told prometheus report = if prometheus then exposition report else screen report
 
--- and as a picture, where one is drawn
+-- the picture, if one is drawn
 abbrev pub picture_told : Bool → Report → Option (List ℕ)
 picture_told drawn report = if drawn then Some (course_picture report) else None
 
--- What is told of a report that counts the lines of so many logs, each from its first byte to its
--- last.
+-- the report that counts the lines of `n` logs, each from its first byte to its last
 pub record HasReported (n : ℕ) (since until : Option NamedTime) (prometheus drawn : Bool)
     (told : ToldReport) : Type 0 where
   pub window : Window

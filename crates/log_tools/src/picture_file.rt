@@ -1,4 +1,4 @@
-//! The file of a report's picture, which is none of the logs.
+//! The file of a report's picture, which mustn't be one of the logs.
 
 use crate::reporting::path_of;
 use bounded_files::{ResourceFault, may_write_over, write_file};
@@ -6,11 +6,11 @@ use std::fs::{self, Metadata};
 use std::os::unix::fs::MetadataExt;
 use std::rt::Files;
 
-/// How a file begins that a picture may be written over.
+/// The first bytes of a file that a picture may overwrite.
 const BEGINNING: &[u8; 4] = b"<svg";
 
-/// Refuses to draw into a file that is one of the logs, by whatever path, and into one that is no
-/// picture and not empty.
+/// Refuses to draw into a file that is one of the logs, by whatever path, or that isn't empty and
+/// isn't a picture.
 pub(crate) fn require_drawable<R: Files>(
     rt: &R,
     logs: &[&str],
@@ -25,7 +25,7 @@ pub(crate) fn require_drawable<R: Files>(
     Ok(())
 }
 
-/// Writes the picture into the file that is named.
+/// Writes the picture into the named file, if there are both.
 pub(crate) fn write_picture<R: Files + AllocGlobal>(
     rt: &R,
     file: Option<&str>,

@@ -1,13 +1,13 @@
-//! How far the reading of logs is, on standard error.
+//! The progress of reading logs, on standard error.
 
 use report::LogOnlooker;
 use std::time::{Clock, Instant};
 
-/// How many bytes a MiB has.
+/// The bytes of a MiB.
 const MEBIBYTE: u64 = 0x10_0000;
 
-/// Says at most once a second how much of a log has been read. It says nothing where the clock
-/// can't be read.
+/// Prints at most once a second how much of a log has been read, and nothing if the clock can't be
+/// read.
 #[derive(Drop)]
 pub(crate) struct ProgressLines<'a, R> {
     rt: &'a R,
@@ -15,7 +15,7 @@ pub(crate) struct ProgressLines<'a, R> {
 }
 
 impl<'a, R: Clock + Eprint> ProgressLines<'a, R> {
-    /// Of a reading that begins now.
+    /// For a read that begins now.
     pub(crate) fn new(rt: &'a R) -> ProgressLines<'a, R> {
         ProgressLines {
             rt,

@@ -1,4 +1,4 @@
-//! `report`: what the lines of logs come to.
+//! `report`: counts the lines of logs.
 
 ghost use Rattle.std.specs.Prelude.{◌≡◌, IfOk, OnOk, is_some, length, option_map};
 ghost use Rattle.std.specs.String.{string_bytes};
@@ -17,26 +17,25 @@ use std::rt::Files;
 use std::time::{Clock, SystemTime, UNIX_EPOCH};
 use timeline::draw_course;
 
-/// Where standard input stands as a file, which is read in blocks.
+/// The file of standard input, which is read in blocks.
 const STANDARD_INPUT: &str = "/dev/stdin";
 
-/// What is told of logs: a text, and a picture as the text of an SVG file, where a file is named
-/// for one.
+/// A report on logs: a text, and a picture as the text of an SVG file, if a file is named for it.
 #[derive(Drop)]
 pub struct ToldReport {
     pub text: String,
     pub picture: Option<String>,
 }
 
-/// What a report on logs tells, of which `-` is standard input: of the lines from one moment on and
-/// before another, as a screen or as Prometheus reads it; and their course as a picture, which is
-/// written into the file that is named, once all logs are read.
+/// The report on the logs' lines from `since` on and before `until`, as a screen or in Prometheus's
+/// format. A log named `-` is standard input. If `file` names a file, a picture of the lines'
+/// course is written into it once all logs are read.
 ///
-/// B3 comes where the picture would be written over a log, or over what is none and isn't empty;
-/// where a log can't be read, or the clock can't where a moment is told by it; and where the
-/// picture can't be written. B4 comes where memory is refused. A reading that takes over a second
-/// says by the runtime how far it is.
-// open: whether memory is refused; what is told of how far it is; that the file gets the picture.
+/// Returns B3 if the picture would overwrite a log, or a file that isn't empty and isn't a picture;
+/// if a log can't be read; if a moment is given and the clock can't be read; or if the picture
+/// can't be written. Returns B4 if an allocation fails. A read that takes over a second prints its
+/// progress by the runtime.
+// open: whether an allocation fails; which progress is printed; that the file gets the picture.
 pub fn report_logs<R>(
     rt: &R,
     logs: &[&str],
@@ -56,7 +55,7 @@ where
     Ok(told)
 }
 
-// What is told of the logs, of which no picture is written yet.
+// The report, before its picture is written.
 fn told_of_logs<R>(
     rt: &R,
     logs: &[&str],
@@ -122,7 +121,7 @@ fn text_of<'a>(text: &'a Option<String>) -> Option<&'a str>
     }
 }
 
-// The time of a moment, as a log's lines have theirs.
+// The time of a moment, in the form of a log's lines.
 fn time_of<R>(rt: &R, moment: Option<NamedTime>) -> Result<Option<String>, ResourceFault>
 where
     R: AllocGlobal + Clock,
@@ -196,7 +195,7 @@ where
     count_log(rt.alloc(), &mut file, window, report, &mut onlooker)
 }
 
-/// The path of a log, of which a hyphen is standard input.
+/// The path of a log; a hyphen is standard input.
 pub(crate) fn path_of<'a>(path: &'a str) -> &'a str {
     if path == "-" { STANDARD_INPUT } else { path }
 }

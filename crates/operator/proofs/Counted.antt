@@ -1,4 +1,4 @@
--- A pass that grew by loads of cells, and then by those of more.
+-- Ghost tokens (passes) that grow by loads of cells, one after another.
 use Rattle.std.proofs.Common.{Bool, true, ◌≡◌, ℕ, ◌+◌, ◌<◌, ◌≤◌}
 use Rattle.std.proofs.Common.{List, [], ◌∷◌, ◌++◌, get_or, length, take, All, refl}
 use Rattle.std.proofs.Common.{ap, sym, subst, ◌∙◌, arith, append_assoc, append-nil}
@@ -20,7 +20,7 @@ use Rattle.operator.specs.Counters.{ReadsCells, ReadsArrays, no_cell, one_cell}
 use Rattle.operator.specs.Counters.{no_array, one_array, IsLoad, Tells}
 use Rattle.operator.specs.Texts.{cell_text}
 
--- ---- the cells of an array lie among all cells
+-- ---- the cells of an array are within all cells
 
 same : (w : CellWidth) → same_width w w ≡ true
 same Bits32 = refl
@@ -44,7 +44,7 @@ within_cells arrays i array known below found =
     (sum_by_more_le (cells_of w) arrays i array below) in
     omega (arith, known.places i array at, before, known.room w, ends_within w)
 
--- ---- what reads is loads alone
+-- ---- reading consists only of loads
 
 pub cells_are_loaded : {array : CellArray} {count : ℕ} {events : List CellEvent} {lines : List ℕ}
     → ReadsCells array count events lines → All IsLoad events
@@ -90,7 +90,7 @@ module _ {P : Type 0} (grew : P → CellEvent → P → Type 0) where
         };
       }
 
-  -- one cell more was read, and then memory was refused
+  -- one more cell was read, and then an allocation failed
   pub loaded_cell : (p m q : P) (array : CellArray) (index value : ℕ) (first old : List ℕ)
       → GrowsBySnoc grew
       → Grows grew p m (Tells (ReadsCells array index) first old)

@@ -1,4 +1,4 @@
--- Loads that were installed one after the other.
+-- Successive installed loads.
 use Rattle.std.proofs.Common.{List, [], ◌∷◌, ◌++◌, All, refl, sym, ap, ◌∙◌}
 use Rattle.std.proofs.Common.{append_assoc, append-nil}
 use Rattle.std.proofs.lemmas.List.Elements.{All-push, All-same, All-weaker}
@@ -10,7 +10,7 @@ use Rattle.ruleset.specs.Rules.{AppRule, Rules, KnowsOnly}
 use Rattle.operator.specs.Control.{Loading}
 use Rattle.operator.specs.Leading.{LoadsGoOnwards, LoadsKeepToArrays, stays, goes}
 
--- what knows only these arrays knows only those that begin with them
+-- what knows only a prefix of the arrays knows only the arrays
 knows_more : ArraysStay → (old new : List CellArray) → IsPrefix old new → (rules : Rules)
     → KnowsOnly old rules → KnowsOnly new rules
 knows_more law old new grown rules =

@@ -1,4 +1,4 @@
--- The line at the front of what a reader gives, piece by piece, and what it asks.
+-- The first line of a reader's bytes, piece by piece, and what it requests.
 use Rattle.std.proofs.Common.{◌≡◌, ℕ, ◌+◌, ◌-◌, ◌<◌, ◌≤◌, List, ◌++◌, length, take, drop}
 use Rattle.std.proofs.Common.{Bool, Option, Some, None, ap, ◌∙◌, sym, subst, arith, take-take}
 use Rattle.std.proofs.Common.{append_assoc, length-take, length-drop, length-append, take_all}
@@ -28,7 +28,7 @@ further xs ys e =
     grind (arith, prefix_len-append test xs ys, e) in
     ap (λ (n : ℕ). take n (xs ++ ys)) size ∙ take-append-add xs ys (prefix_len test ys)
 
--- a line feed among them
+-- a line feed among the first bytes
 ends : (xs ys : List ℕ) → position_or_len is_line_feed xs < length xs
     → line_of (xs ++ ys) ≡ line_of xs
 ends xs ys h =
@@ -76,7 +76,7 @@ further_piece a b room n some fits bytes e = (some, fits, within a b bytes)
     within (Some xs) None c = absurd c
     within (Some xs) (Some ys) c = ap line_of c ∙ further piece ys all
 
--- ---- one piece behind the other
+-- ---- one piece after the other
 
 goes_further : (a b c : Option (List ℕ)) (seen piece : List ℕ)
     → LineGoesOn a b seen → LineGoesOn b c piece → LineGoesOn a c (seen ++ piece)
@@ -86,7 +86,7 @@ goes_further (Some xs) (Some ys) None seen piece h k = absurd k
 goes_further (Some xs) (Some ys) (Some zs) seen piece h k =
     h ∙ ap (λ (l : List ℕ). seen ++ l) k ∙ sym (append_assoc seen piece (line_of zs))
 
--- a piece was read to the room behind the first bytes
+-- a piece was read to the buffer after the first bytes
 module _ (a b c : Option (List ℕ)) (room part : List ℕ) (size n : ℕ) (fits : size ≤ length room)
     (same : length part ≡ length room - size) (seen : LineGoesOn a b (take size room)) where
   abbrev pub Grown : List ℕ
@@ -121,9 +121,9 @@ module _ (a b c : Option (List ℕ)) (room part : List ℕ) (size n : ℕ) (fits
       subst Of (sym (grown piece.1))
       (goes_further a b c (take size room) (take n part) seen piece.2)
 
--- ---- what the line asks
+-- ---- what the line requests
 
--- one byte more than a line may have shows whether it is longer
+-- one byte more than the longest line shows whether the line is longer
 module _ (line : List ℕ) where
   abbrev Shown : List ℕ
   Shown = take (line_limit + 1) line
@@ -144,7 +144,7 @@ module _ (line : List ℕ) where
       let Of : List ℕ → Type 0 = λ l. SpellsRequest l request in
       subst Of (sym (take_all (line_limit + 1) line (omega (arith, h.short)))) h
 
--- what is found to be asked is what the reader's bytes ask
+-- the request that is found is that of the reader's bytes
 pub is_asked : (told : Option (List ℕ)) (shown : List ℕ) (room : ℕ) (asked : Option OperatorRequest)
     → room ≡ line_limit + 1 → IfSome told (λ sent. shown ≡ take room (line_of sent))
     → IfSome asked (SpellsRequest shown) → IfNone asked (SpellsNoRequest shown)

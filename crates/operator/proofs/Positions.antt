@@ -1,4 +1,4 @@
--- The first place of a list at which a test passes, if there is one.
+-- The first index of a list at which a test passes, if there is one.
 use Rattle.std.proofs.Common.{◌≡◌, ℕ, ◌<◌, ◌≤◌, List, length, Bool, Some, None, arith}
 use Rattle.std.proofs.lemmas.Bool.Decides.{nat_tests}
 use Rattle.std.proofs.lemmas.List.Quantifiers.{position-Some}

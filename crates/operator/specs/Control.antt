@@ -1,4 +1,4 @@
--- What an operator rules: which ruleset was installed last, and the server's arrays.
+-- The operator's state: which ruleset was installed last, and the server's arrays.
 use Rattle.std.specs.Prelude.{◌≡◌, ◌^◌, ◌-◌, ℕ, List, All, Option, Result, Ok, Err}
 use mathlib.Core.List.{IsPrefix}
 use Rattle.cells.specs.declared.array.CellArray.{CellArray}
@@ -10,31 +10,31 @@ use Rattle.operator.specs.declared.reply.OperatorRefusal.{OperatorRefusal}
 use Rattle.operator.specs.declared.reply.OperatorRefusal.TheVariants as refusal
 use Rattle.ruleset.specs.Rules.{Rules, KnowsOnly}
 
--- which ruleset was installed last, the server's arrays, and the digest of what the last load was
--- made of
+-- the rulesets that were published, the server's arrays, and the digest of the last load
 pub record Controlled : Type 0 where
   pub publishing : Publishing
   pub arrays : List CellArray
   pub digest : Option (List ℕ)
 
--- the programs of all that was published know no arrays but the server's
+-- the programs of all published rulesets know only the server's arrays
 abbrev pub KnowOnlyItsArrays : Controlled → Type 0
 KnowOnlyItsArrays c = All (KnowsOnly c.arrays) c.publishing.known.rulesets
 
--- the last generation has been installed; of want of memory nothing is said
+-- why a ruleset isn't installed: the last generation is in use, or out of memory, which has no
+-- condition
 abbrev pub IsUninstallable : Publishing → SwapFault → Type 0
 IsUninstallable publishing swap.Exhausted = publishing.latest.generation ≡ 2 ^ 64 - 1
 IsUninstallable publishing swap.NoPlace = ⊥
 IsUninstallable publishing swap.Memory = Unit {0}
 
--- what may come of a load: the path, the arrays before it, and the ruleset with the arrays after
--- it and its digest, or the fault
+-- relates the path of a load, the arrays before it, and its result: the ruleset with the arrays
+-- after it and its digest, or the fault
 abbrev pub Loading : Type 0 → Type 1
 Loading F = List ℕ → List CellArray → Result Loaded F → Type 0
 
 module _ {F : Type 0} (loads : Loading F) where
-  -- The ruleset that was loaded is installed, and its arrays are declared, under this generation.
-  -- Its programs know no others than the arrays after it, which begin with those before.
+  -- The loaded ruleset is installed, and its arrays are declared, under this generation. Its
+  -- programs know only the arrays after the load, of which the arrays before it are a prefix.
   pub record IsInstalled (path : List ℕ) (old : Controlled) (generation : ℕ) (new : Controlled)
       : Type 0 where
     pub rules : Rules
@@ -44,7 +44,7 @@ module _ {F : Type 0} (loads : Loading F) where
     pub only : KnowsOnly new.arrays rules
     pub grown : IsPrefix old.arrays new.arrays
 
-  -- why nothing is
+  -- why a load is refused
   abbrev pub IsRefusedLoad : List ℕ → Controlled → OperatorRefusal F → Type 0
   IsRefusedLoad path old (refusal.Load fault) = loads path old.arrays (Err fault)
   IsRefusedLoad path old (refusal.Install fault) = IsUninstallable old.publishing fault

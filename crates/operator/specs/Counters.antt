@@ -1,5 +1,5 @@
 -- How the counters are read: by a load of each cell, array after array, with a line for each cell
--- that isn't 0. Each reply is of the moment of its load.
+-- that isn't 0. The value of each cell is that at the moment of its load.
 use Rattle.std.specs.Prelude.{◌≡◌, ℕ, ◌+◌, List, [], ◌∷◌, ◌++◌}
 use Rattle.cells.specs.Events.{event}
 use Rattle.cells.specs.declared.array.CellArray.{CellArray}
@@ -7,7 +7,7 @@ use Rattle.cells.specs.declared.event.CellEvent.{CellEvent}
 use Rattle.cells.specs.declared.event.CellOp.TheVariants.{Load}
 use Rattle.operator.specs.Texts.{cell_text}
 
--- the first so many cells of an array, with the events of their loads, and the lines
+-- the first cells of an array, as many as the number, with the events of their loads and the lines
 pub data ReadsCells (array : CellArray) : ℕ → List CellEvent → List ℕ → Type 0 where
   no_cell : ReadsCells array 0 [] []
   one_cell : {index : ℕ} {events : List CellEvent} {lines : List ℕ} (value : ℕ)
@@ -26,7 +26,7 @@ pub data ReadsArrays : List CellArray → List CellEvent → List ℕ → Type 0
 abbrev pub IsLoad : CellEvent → Type 0
 IsLoad e = e.op ≡ Load
 
--- a text grew by the lines of what was read by the events
+-- a text grew by the lines of what the events read
 pub record Tells (Reads : List CellEvent → List ℕ → Type 0) (old new : List ℕ)
     (events : List CellEvent) : Type 0 where
   pub lines : List ℕ

@@ -1,5 +1,5 @@
--- What a request does: a constructor an outcome. Those for want of memory are open, since nobody
--- knows when memory is refused.
+-- What a request does, with a constructor for each outcome. The outcomes for out of memory have no
+-- condition, since nothing is known about when an allocation fails.
 use Rattle.std.specs.Prelude.{◌≡◌, ℕ, List, [], All, Option, Some, None}
 use Rattle.std.specs.Borrow.{Bor}
 use Rattle.std.specs.String.{string_bytes}
@@ -18,11 +18,11 @@ use Rattle.operator_request.specs.declared.request.OperatorRequest.{OperatorRequ
 use Rattle.operator_request.specs.declared.request.OperatorRequest.TheVariants as sent
 
 module _ {F : Type 0} (loads : Loading F) where
-  -- what was asked, what stood before, the events on cells, the reply, and what stands then
+  -- relates the request, the state before, the events on cells, the reply, and the state after
   pub data Performs
       : Option OperatorRequest → Controlled → List CellEvent → OperatorReply F → Controlled
       → Type 0 where
-    -- the line asks nothing
+    -- the line isn't a request
     wordless : {old : Controlled} → Performs None old [] (reply.Refused refusal.Word) old
     -- a load is installed whole, or changes nothing
     loaded : {old new : Controlled} {generation : ℕ} (path : Bor (List ℕ))
@@ -38,13 +38,13 @@ module _ {F : Type 0} (loads : Loading F) where
         → ReadsArrays old.arrays events (string_bytes lines)
         → Performs (Some sent.Cells) old events (reply.Told lines) old
     stopped : {old : Controlled} → Performs (Some sent.Stop) old [] reply.Stopping old
-    -- memory for the lines is refused; of the cells some were read
+    -- out of memory for the lines; some cells were read
     unshown : {old : Controlled}
         → Performs (Some sent.Show) old [] (reply.Refused refusal.Memory) old
     uncounted : {old : Controlled} {events : List CellEvent} → All IsLoad events
         → Performs (Some sent.Cells) old events (reply.Refused refusal.Memory) old
 
-  -- what a connection is answered, which sends these bytes, if they are told
+  -- the reply to a connection that sends these bytes, if they are known
   pub record AnswersLine (told : Option (List ℕ)) (old : Controlled)
       (events : List CellEvent) (replied : OperatorReply F) (new : Controlled) : Type 0 where
     pub asked : Option OperatorRequest

@@ -1,7 +1,7 @@
--- By what a reply of an operator's port is known: the lines of which it is made. What another port
--- sends, as that of the server's clients, is none. An empty reply to `cells` says that all counters
--- are 0. So a port that closes without a word is taken for that of such a server, and a reply to
--- `cells` or `show` that is cut at the end of a line for a whole one.
+-- The forms of an operator's replies, by which an operator's port is recognized: what another port
+-- sends, such as the clients' port, isn't a reply. An empty reply to `cells` means that all
+-- counters are 0. So a port that closes without sending anything passes for a server with such
+-- counters. A reply to `cells` or `show` that is cut at the end of a line passes for a whole one.
 use Rattle.std.specs.Prelude.{ℕ, ◌-◌, List, [], ◌∷◌, length, take, drop, codes}
 use Rattle.std.specs.Prelude.{Bool, false, ◌==◌, ◌&&◌, ◌||◌, IsTrue, nat_eq, nat_lt, nat_le}
 use Rattle.std.specs.Char.{is_ascii_digit}
@@ -27,7 +27,7 @@ is_decimal text = nat_lt 0 (length text) && list_all is_ascii_digit text
 abbrev pub is_array_name : List ℕ → Bool
 is_array_name text = is_spelled text && nat_le (length text) 32
 
--- a blank, and a number
+-- a space, and a number
 abbrev pub is_blank_and_decimal : List ℕ → Bool
 is_blank_and_decimal [] = false
 is_blank_and_decimal (c ∷ rest) = (c == 32) && is_decimal rest
@@ -49,32 +49,32 @@ abbrev pub is_generation_line : List ℕ → Bool
 is_generation_line text =
     starts_with nat_eq text (codes "generation ") && is_decimal (drop 11 text)
 
--- a line feed ends the bytes, and what stands before it is of this form
+-- the bytes end with a line feed, and those before it have this form
 abbrev pub is_ended : (List ℕ → Bool) → List ℕ → Bool
 is_ended has_form bytes =
     ends_with nat_eq bytes (codes "\n") && has_form (take (length bytes - 1) bytes)
 
--- lines, of which the first tells a generation
+-- lines, of which the first is that of a generation
 abbrev pub begins_with_generation : List ℕ → Bool
 begins_with_generation bytes =
     ends_with nat_eq bytes (codes "\n") && is_generation_line (line_of bytes)
 
--- each line between line feeds is of a cell
+-- each line is that of a cell
 abbrev pub are_cell_lines : List ℕ → Bool
 are_cell_lines text = list_all is_cell_line (slice_split is_line_feed text)
 
--- where all counters are 0 there is no line
+-- lines of cells, or empty, since there is no line if all counters are 0
 abbrev pub are_cells : List ℕ → Bool
 are_cells bytes = (length bytes == 0) || is_ended are_cell_lines bytes
 
--- what is done as asked is told so
+-- the reply to a request that was done
 abbrev pub is_answer : OperatorRequest → List ℕ → Bool
 is_answer (Load path) bytes = is_ended is_generation_line bytes
 is_answer Show bytes = begins_with_generation bytes
 is_answer Cells bytes = are_cells bytes
 is_answer Stop bytes = bytes_eq bytes (line (codes "stopping"))
 
--- and any request may be refused
+-- any request may also be refused
 abbrev pub is_reply : OperatorRequest → List ℕ → Bool
 is_reply request bytes = begins_lines (codes "refused ") bytes || is_answer request bytes
 

@@ -1,4 +1,4 @@
--- The texts that an operator is sent: lines, each ended by a line feed.
+-- The texts that are sent to an operator: lines, each ended by a line feed.
 use Rattle.std.specs.Prelude.{ℕ, List, [], ◌++◌, codes, decimal, Option, Some}
 use Rattle.std.specs.Prelude.{◌==◌, if◌then◌else◌}
 use Rattle.std.specs.List.{flat_map}
@@ -17,7 +17,7 @@ use Rattle.operator.specs.declared.reply.OperatorReply.{OperatorReply}
 use Rattle.operator.specs.declared.reply.OperatorReply.TheVariants as reply
 use Rattle.ruleset.specs.Texts.{line, app_line}
 
--- ---- what is told of a ruleset and of the counters
+-- ---- the lines of a ruleset and of the counters
 
 abbrev pub generation_line : ℕ → List ℕ
 generation_line generation = line (codes "generation " ++ decimal generation)
@@ -25,7 +25,7 @@ generation_line generation = line (codes "generation " ++ decimal generation)
 abbrev pub ruleset_text : Latest → List ℕ
 ruleset_text latest = generation_line latest.generation ++ flat_map app_line latest.rules.apps
 
--- a cell of an array, unless it is 0
+-- the line of an array's cell, unless the cell is 0
 abbrev pub cell_text : CellArray → ℕ → ℕ → List ℕ
 cell_text array index value =
     if value == 0 then []
@@ -38,7 +38,7 @@ ask_text ask.Word = codes "B1 Word"
 ask_text ask.Memory = resource_text resource.Memory
 ask_text ask.Connect = codes "B5 Connect"
 
--- where the text of the loader's fault is known
+-- given the texts of the loader's faults
 module _ {F : Type 0} (fault_text : F → Option (List ℕ)) where
   abbrev pub refusal_text : OperatorRefusal F → Option (List ℕ)
   refusal_text refusal.Word = Some (ask_text ask.Word)

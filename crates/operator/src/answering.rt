@@ -1,5 +1,5 @@
-//! A connection, from the bytes of its line to those of the reply. The line is read into room on
-//! the stack, so that one that came is heard also where memory is refused.
+//! A connection, from the bytes of its line to those of the reply. The line is read into a buffer
+//! on the stack, so that a request is read even if no memory can be allocated.
 
 ghost use Rattle.std.specs.Prelude.{◌≡◌, ◌+◌, ◌-◌, ◌^◌, ◌<◌, IfSome, IfNone, OnOk, OnSome};
 ghost use Rattle.std.specs.Io.KnownBytes.{Appends};
@@ -20,13 +20,13 @@ use std::fmt::Display;
 use std::io::{self, Read, Write};
 use std::sync::Wait;
 
-/// More bytes by one than a line may have, so that a longer one shows.
+/// One byte more than a line may have, so that a longer line is noticed.
 const LINE_ROOM: usize = LINE_LIMIT + 1;
 
-/// Reads a line, does what it requests, and gives the reply. None if the reader failed; then
-/// nothing was done.
-// open: whether memory is refused (B4); which line a socket gave. Of the counters each reply is of
-// the moment of its load.
+/// Reads a line, does what it requests, and returns the reply. Returns `None` if the reader failed;
+/// then nothing was done.
+// open: whether an allocation fails (B4); which line a socket gave. The value of each counter is
+// that at the moment of its load.
 pub fn answer<H: Wait, R: Read, L: Loader, C: CellSteps>(
     rt: &H,
     alloc: Global,
@@ -40,13 +40,13 @@ pub fn answer<H: Wait, R: Read, L: Loader, C: CellSteps>(
     requires reads { reader.old.failures < 2 ^ 64 - 1 }
     ensures belongs { C.belongs cells.now pass.new }
 
-    // A line that came is heard.
+    // A line that was read is performed.
     ensures answers { IfSome result (λ reply. Grows C.grew pass.old pass.new
         (λ events. AnswersLine (L.loads loader.now) (R.remaining reader.old.inner)
         control.old events reply control.new)) }
     ensures heard { OnSome result (reader.new.failures ≡ reader.old.failures) }
 
-    // Or the reader failed, and nothing happened.
+    // Otherwise the reader failed, and nothing happened.
     ensures unheard { IfNone result ((control.new ≡ control.old) × (pass.new ≡ pass.old)) }
     ensures unreadable { IfNone result (reader.new.failures ≡ reader.old.failures + 1) }
 {
@@ -59,8 +59,8 @@ pub fn answer<H: Wait, R: Read, L: Loader, C: CellSteps>(
     Some(reply)
 }
 
-/// Writes a reply; it takes no memory.
-// open: whether memory is refused (B4).
+/// Writes a reply; it allocates nothing.
+// open: whether an allocation fails (B4).
 pub fn write_reply<W: Write, F: Display>(writer: &mut W, reply: &OperatorReply<F>) -> io::Result<()>
     ensures { OnOk result (IfSome (reply_text F.output reply.now)
         (λ text. Appends (W.contents writer.old) (W.contents writer.new) text)) }

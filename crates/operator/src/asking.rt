@@ -1,5 +1,5 @@
-//! The operator's side: a line is sent to a server, and its reply is read and looked at, since
-//! another server may listen at the port.
+//! The operator's side: sends a line to a server, reads its reply and checks the reply's form,
+//! since another server may listen at the port.
 
 ghost use Rattle.std.specs.Prelude.{◌≡◌, ◌↔◌, ◌^◌, ◌≤◌, length, Some, Err, IfOk};
 ghost use Rattle.operator.specs.Replies as specs;
@@ -15,22 +15,22 @@ use std::io::{self, ErrorKind, Read, Write};
 use std::net::{Ipv4Addr, Net, TcpStream};
 use std::time::Duration;
 
-/// The most bytes of a reply: 8192 counters have lines of at most 60 bytes, and 256 apps such of at
-/// most 1052.
+/// The most bytes of a reply: 8192 counters have lines of at most 60 bytes, and 256 apps lines of
+/// at most 1052.
 const REPLY_LIMIT: usize = 0x10_0000;
 
-/// How long a server may send nothing: it may be at another connection, or at a load.
+/// How long a server may send nothing: it may serve another connection, or load a manifest.
 const SILENCE_SECONDS: u64 = 600;
 
 /// Why there is no reply.
 #[derive(Clone, Copy, Debug, Drop, PartialEq, Eq)]
 pub enum AskFault {
-    /// B1: no line asks for it.
+    /// B1: no line can request this.
     Word,
-    /// B4: memory was refused.
+    /// B4: out of memory.
     Memory,
-    /// B5: nobody answers at the port, or not to the end of a line, or nothing came for ten
-    /// minutes, or what came has not the form of a reply.
+    /// B5: the connection fails, the reply has no whole line, nothing arrives for ten minutes, or
+    /// what arrives isn't a reply.
     Connect,
 }
 
@@ -57,11 +57,11 @@ impl fmt::Display for AskFault {
 
 impl std::error::Error for AskFault {}
 
-/// Asks the server whose operator's port this is, on this machine, and gives the lines of its
-/// reply, of at most 1 MiB: those of a refusal begin with `refused `. What has not the form of a
-/// reply is none. But no byte is one to `cells`, as of a server whose counters are all 0. It waits
-/// ten minutes for each piece of the reply; after B5 a load or a stop may still have been done.
-// open: which of B4 and B5 comes; its ten minutes, which nothing tests.
+/// Sends a request to the operator's port of a server on this machine, and returns the lines of its
+/// reply, at most 1 MiB; a refusal begins with `refused `. Returns B5 for anything else, but an
+/// empty reply to `cells` means that all counters are 0. It waits ten minutes for each piece of the
+/// reply; after B5 a load or a stop may still have been done.
+// open: which of B4 and B5 is returned; its ten minutes, which nothing tests.
 pub fn ask<H>(rt: &H, port: u16, request: OperatorRequest<'_>) -> Result<Vec<u8>, AskFault>
 where
     H: Net<Stream = TcpStream> + AllocGlobal,
@@ -89,7 +89,7 @@ fn is_reply(request: OperatorRequest<'_>, bytes: &[u8]) -> bool
     begins_lines(b"refused ", bytes) || is_answer(request, bytes)
 }
 
-// Whether the bytes say that it was done.
+// Whether the bytes report that the request was done.
 fn is_answer(request: OperatorRequest<'_>, bytes: &[u8]) -> bool
     ensures { result ≡ specs.is_answer request.entry bytes.now }
 {
@@ -101,15 +101,14 @@ fn is_answer(request: OperatorRequest<'_>, bytes: &[u8]) -> bool
     }
 }
 
-// Whether these are lines, of which the first begins with this word.
+// Whether the bytes are lines, of which the first begins with this word.
 fn begins_lines(word: &[u8], bytes: &[u8]) -> bool
     ensures { result ≡ specs.begins_lines word.now bytes.now }
 {
     bytes.starts_with(word) && bytes.ends_with(b"\n")
 }
 
-// Sends the line of a request, and reads all that is sent back, unless it is more than a reply may
-// have.
+// Sends the line of a request, and reads the whole reply, unless it is longer than a reply may be.
 fn exchange(
     alloc: Global,
     mut stream: &TcpStream,

@@ -1,5 +1,5 @@
-//! The ruleset and the arrays of a server, which its operator alone changes: both at a load, or
-//! neither.
+//! The ruleset and the arrays of a server. Only its operator changes them, and a load changes both
+//! or neither.
 
 ghost use Rattle.std.specs.Prelude.{◌≡◌, All, IfOk, IfErr, OnErr, None};
 ghost use Rattle.operator.specs.Control.{IsInstalled, IsRefusedLoad};
@@ -13,12 +13,11 @@ use std::alloc::Global;
 use std::marker::Model;
 use std::sync::{Arc, Wait};
 
-/// What installs a server's rulesets, and the arrays that these have declared. It is ended by
-/// `close`.
+/// The publisher of a server's rulesets, and the arrays that these have declared. `close` ends it.
 pub struct Control {
     publisher: Publisher,
     directory: Directory,
-    /// That of the ruleset that was loaded last, if its loader tells one.
+    /// The digest of the last load, if its loader returned one.
     digest: Option<[u8; 32]>,
 }
 
@@ -36,7 +35,7 @@ impl Control {
     ghost use Rattle.hot_swap.specs.Published.{IsLatest};
     ghost use Rattle.ruleset.specs.Rules.{IsRuleset};
 
-    /// The control of a server that serves what this publisher shows, over these arrays.
+    /// The control of a server that serves this publisher's ruleset, over these arrays.
     pub fn new(publisher: Publisher, directory: Directory) -> Control
         ensures publishing { result.publishing ≡ publisher }
         ensures arrays { result.arrays ≡ directory }
@@ -49,7 +48,7 @@ impl Control {
         }
     }
 
-    /// What publisher and directory keep. It does nothing: a proof calls it for its clauses.
+    /// Law. The invariants of the publisher and of the directory.
     pub fn keeps(&self)
         ensures last { IsLatest self.now.publishing.known
             self.now.publishing.latest.generation self.now.publishing.latest.rules }
@@ -74,7 +73,7 @@ impl Control {
         self.publisher.ruleset()
     }
 
-    /// The digest of what that was made of, if it was loaded and its loader tells one.
+    /// The digest of the last load, if there was one and its loader returned a digest.
     pub fn digest(&self) -> Option<[u8; 32]>
         ensures { result ≡ self.now.digest }
     {
@@ -96,10 +95,9 @@ impl Control {
         self.directory.arrays()
     }
 
-    /// Loads the manifest at a path, and installs its ruleset as the next generation. Where it is
-    /// refused nothing changes. It may wait for those who still look at the ruleset before the
-    /// last.
-    // open: whether memory is refused (B4, H1).
+    /// Loads the manifest at a path, and installs its ruleset as the next generation. If the load
+    /// is refused nothing changes. It may wait for readers of the ruleset before the last.
+    // open: whether an allocation fails (B4, H1).
     pub fn load<R: Wait, L: Loader>(
         &mut self,
         rt: &R,
@@ -133,8 +131,8 @@ impl Control {
         }
     }
 
-    /// Waits for those who look at a ruleset, and gives up the publisher and the arrays. Watchers
-    /// of this publisher see nothing more.
+    /// Waits for the readers of a ruleset, and drops the publisher and the arrays. The publisher's
+    /// watchers then get no ruleset.
     pub fn close<R: Wait>(self, rt: &R) {
         let Control {
             publisher,

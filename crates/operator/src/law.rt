@@ -1,12 +1,12 @@
-//! Laws of loads that were installed one after the other, by the definitions alone.
+//! Laws of successive installed loads, by the definitions only.
 
 ghost use Rattle.operator.specs.Leading.{LoadsGoOnwards, LoadsKeepToArrays};
 
 use crate::loader::Loader;
 use cells::arrays_stay;
 
-/// By loads of this loader what is published goes onwards, and programs that know only a server's
-/// arrays do so later. It does nothing: a proof calls it for its clauses.
+/// Law. Loads only append to what is published, and programs that know only a server's arrays still
+/// do so afterwards.
 pub fn loads_go_on<L: Loader>(loader: &L)
     ensures onwards { LoadsGoOnwards (L.loads loader.now) }
     ensures only { LoadsKeepToArrays (L.loads loader.now) }

@@ -1,12 +1,12 @@
 //! The port of a server's operator.
 //!
-//! A connection brings one line: `load PATH`, `show`, `cells` or `stop`. What it asks is done by
-//! the one owner of the publisher of rulesets and of the directory of arrays, and the lines of the
-//! reply are written. A load gives a directory beside its ruleset, which takes the place of the one
-//! before only once the ruleset is installed. So a load that is refused changes nothing.
+//! A connection sends one line: `load PATH`, `show`, `cells` or `stop`. One owner has the publisher
+//! of rulesets and the directory of arrays. It does what is requested, and the lines of the reply
+//! are written. A load makes a new directory with its ruleset, and the directory replaces the
+//! previous one only once the ruleset is installed. So a refused load changes nothing.
 //!
-//! The contract of `perform` is one relation, with a constructor for each outcome of a request: the
-//! reply, what became of ruleset and arrays, and the events by which the cells were read.
+//! The contract of `perform` is one relation, with a constructor for each outcome of a request. It
+//! has the reply, the ruleset and arrays afterwards, and the events by which the cells were read.
 //!
 //! See docs/DECISIONS.md, "The operator's port".
 #![tactic(auto)]

@@ -1,5 +1,5 @@
 //! The line of a connection: the bytes before the first line feed, or before the input's end. It is
-//! read piece by piece into room that the caller has.
+//! read piece by piece into the caller's buffer.
 
 ghost use Rattle.std.specs.Prelude.{◌≡◌, ◌-◌, ◌^◌, ◌<◌, ◌≤◌, length, take, IfOk, IfSome};
 ghost use Rattle.std.specs.List.{position};
@@ -10,18 +10,18 @@ ghost use Rattle.operator.specs.Line.{IsPiece, line_of};
 use net_io::{Counted, Failed};
 use std::io::Read;
 
-/// A piece of a line: so many bytes of it.
+/// A piece of a line, by its number of bytes.
 #[derive(Clone, Copy, Drop)]
 enum Piece {
-    /// The line ends behind it.
+    /// The line ends after the piece.
     Last(usize),
-    /// The line may go on.
+    /// More of the line may follow.
     Further(usize),
 }
 
 /// Reads the bytes before the first line feed, or before the input's end, to the front of `room`,
-/// and gives their number; of a longer line as many as there is room for. No more bytes than that
-/// are asked of the reader.
+/// and returns their number; of a longer line only as many as `room` holds. It requests no more
+/// bytes than that from the reader.
 pub(crate) fn read_line<R: Read>(reader: &mut Counted<R>, room: &mut [u8]) -> Result<usize, Failed>
     requires { reader.old.failures < 2 ^ 64 - 1 }
     ensures within { IfOk result (λ n. n ≤ length room.new) }
@@ -57,7 +57,7 @@ fn read_piece<R: Read>(reader: &mut Counted<R>, room: &mut [u8]) -> Result<Piece
     }
 }
 
-// Where the first line feed stands.
+// The index of the first line feed.
 fn line_feed(bytes: &[u8]) -> Option<usize>
     ensures { result ≡ position is_line_feed bytes.now }
 {

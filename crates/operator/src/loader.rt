@@ -1,46 +1,46 @@
-//! Where a server's rulesets come from: a trait, so that the port is proved over any files, and
-//! tests load from memory.
+//! The source of a server's rulesets: a trait, so that the port is proved over any files, and tests
+//! load from memory.
 
 use cells::Directory;
 use ruleset::Ruleset;
 use std::alloc::Global;
 use std::fmt::Display;
 
-/// What a load comes to.
+/// The result of a load.
 #[derive(Drop)]
 pub struct Loaded {
     pub rules: Ruleset,
-    /// The arrays before it, and behind them its own.
+    /// The directory before the load, followed by the ruleset's own arrays.
     pub directory: Directory,
-    /// The digest of what it was made of, if its loader tells one.
+    /// The digest of all that was loaded, if the loader returns one.
     pub digest: Option<[u8; 32]>,
 }
 
-/// What makes a ruleset of the manifest at a path.
+/// Makes a ruleset from the manifest at a path.
 pub trait Loader {
     ghost use Rattle.std.specs.Prelude.{ℕ, List, Option, option_copied, IfOk};
     ghost use mathlib.Core.List.{IsPrefix};
     ghost use Rattle.ruleset.specs.Rules.{KnowsOnly};
     ghost use Rattle.operator.specs.Control.{Loading};
 
-    /// Why there is none: its text is printed behind `refused `.
+    /// Why a load is refused: its text is printed after `refused `.
     type Fault: Display + Drop;
 
-    /// What may come of a load: the path, the arrays before it, and the ruleset with the arrays
-    /// after it and its digest, or the fault.
+    /// Relates the path of a load, the arrays before it, and its result: the ruleset with the
+    /// arrays after it and its digest, or the fault.
     ghost loads: { Self → Loading Self.Fault };
 
-    /// What may be told of a fault beside its text.
+    /// The causes that may be logged with a fault.
     ghost has_cause: { Self.Fault → Option (List ℕ) → Type 0 };
 
-    /// The ruleset of a manifest, and a directory of the arrays before it and of its own, which are
-    /// all that its programs know.
+    /// The ruleset of a manifest, and a directory of the arrays before the load and the ruleset's
+    /// own. Its programs know only these.
     fn load(&self, alloc: Global, path: &str, directory: &Directory) -> Result<Loaded, Self::Fault>
         ensures outcome { loads self.now path.now directory.now result }
         ensures only { IfOk result (λ loaded. KnowsOnly loaded.directory loaded.rules) }
         ensures grown { IfOk result (λ loaded. IsPrefix directory.now loaded.directory) };
 
-    /// What the log tells of a fault beside its text, if it tells more.
+    /// The cause that is logged with a fault's text, if there is one.
     fn cause<'x>(&self, fault: &'x Self::Fault) -> Option<&'x str>
         ensures { has_cause fault.now (option_copied result) };
 }

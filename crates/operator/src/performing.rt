@@ -1,5 +1,5 @@
-//! What is done for a request: a load, which alone changes anything, or a look at the ruleset or at
-//! the counters.
+//! Performs a request: a load, which is the only request that changes anything, or a read of the
+//! ruleset or of the counters.
 
 ghost use Rattle.operator.specs.Perform.{Performs};
 ghost use Rattle.cells.specs.Grown.{Grows};
@@ -13,8 +13,8 @@ use operator_request::OperatorRequest;
 use std::alloc::Global;
 use std::sync::Wait;
 
-/// Does what is asked, and gives the reply; None is a line that asks nothing. That the server ends
-/// is for the caller to see to.
+/// Does what is requested, and returns the reply; `None` is a line without a request. On `Stop` the
+/// caller has to end the server.
 pub(crate) fn perform<R: Wait, L: Loader, C: CellSteps>(
     rt: &R,
     alloc: Global,

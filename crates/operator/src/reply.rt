@@ -1,5 +1,5 @@
-//! The replies to an operator, as they are printed: lines, of which a refusal's begins with
-//! `refused ` and has the number and name of what is wrong.
+//! The replies to an operator, as they are printed. The line of a refusal begins with `refused `,
+//! followed by the number and name of the fault.
 
 ghost use Rattle.operator.specs.Texts.{refusal_text, reply_text};
 
@@ -11,9 +11,9 @@ use std::fmt::{self, Display};
 /// Why a request is refused.
 #[derive(Debug, Drop)]
 pub enum OperatorRefusal<F> {
-    /// B1: the line is no request.
+    /// B1: the line isn't a request.
     Word,
-    /// B4: memory that the request itself wants is refused.
+    /// B4: an allocation of the request itself fails.
     Memory,
     /// The loader's fault.
     Load(F),
@@ -26,7 +26,7 @@ pub enum OperatorRefusal<F> {
 pub enum OperatorReply<F> {
     /// A ruleset was loaded and installed as this generation.
     Loaded(Generation),
-    /// The lines of what was asked for.
+    /// The requested lines.
     Told(String),
     /// The server ends.
     Stopping,

@@ -15,7 +15,7 @@ use ruleset::{Ruleset, tell_apps};
 use std::alloc::{AllocError, Global};
 use std::fmt::Write;
 
-/// The generation, and a line an app.
+/// The generation, and a line for each app.
 pub fn tell_ruleset(
     alloc: Global,
     generation: Generation,
@@ -29,7 +29,7 @@ pub fn tell_ruleset(
     Ok(text)
 }
 
-/// A line for each cell of the arrays that isn't 0. Where memory is refused, some cells were read.
+/// A line for each cell of the arrays that isn't 0. If an allocation fails, some cells were read.
 pub fn tell_counters<C: CellSteps>(
     alloc: Global,
     arrays: &[CellArray],
@@ -53,7 +53,7 @@ pub fn tell_counters<C: CellSteps>(
     Ok(text)
 }
 
-// Puts the lines of an array's cells behind a text.
+// Appends the lines of an array's cells to a text.
 fn tell_cells<C: CellSteps>(
     text: &mut String,
     array: &CellArray,
@@ -79,7 +79,7 @@ fn tell_cells<C: CellSteps>(
     Ok(())
 }
 
-// Puts the line of a cell behind a text, unless it is 0.
+// Appends the line of a cell to a text, unless the cell is 0.
 fn tell_cell(text: &mut String, array: &CellArray, index: u16, value: u64) -> Result<(), AllocError>
     ensures { OnOk result
         (string_bytes text.new ≡ string_bytes text.old ++ cell_text array.now index value) }

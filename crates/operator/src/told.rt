@@ -1,5 +1,5 @@
 //! The forms of replies: the line of a generation, and lines `NAME[INDEX] VALUE` of cells. Lines
-//! are cut at their line feeds, and a line of a cell at its first `[` and at the first `]` behind.
+//! are cut at their line feeds, and a cell's line at its first `[` and at the first `]` after it.
 
 ghost use Rattle.std.specs.Prelude.{◌≡◌, ◌==◌};
 ghost use Rattle.std.specs.Char.{is_ascii_digit};
@@ -17,7 +17,7 @@ pub(crate) fn is_loaded(bytes: &[u8]) -> bool
     bytes.ends_with(b"\n") && is_generation_line(&bytes[..bytes.len() - 1])
 }
 
-/// Whether they are lines, of which the first is that of a generation.
+/// Whether the bytes are lines, of which the first is that of a generation.
 pub(crate) fn begins_with_generation(bytes: &[u8]) -> bool
     ensures { result ≡ specs.begins_with_generation bytes.now }
 {
@@ -25,7 +25,7 @@ pub(crate) fn begins_with_generation(bytes: &[u8]) -> bool
     bytes.ends_with(b"\n") && is_generation_line(line)
 }
 
-/// Whether they are lines of cells, or none.
+/// Whether the bytes are lines of cells, or empty.
 pub(crate) fn are_cells(bytes: &[u8]) -> bool
     ensures { result ≡ specs.are_cells bytes.now }
 {
@@ -99,7 +99,7 @@ fn has_only_digits(text: &[u8]) -> bool
     text.iter().all(|byte| byte.is_ascii_digit())
 }
 
-// What stands before the first such byte, and after it.
+// The bytes before the first occurrence of `at`, and those after it.
 fn parts_at(bytes: &[u8], at: u8) -> (&[u8], &[u8])
     ensures before { result.0.now ≡ before_first (λ b. b == at) bytes.now }
     ensures after { result.1.now ≡ after_first (λ b. b == at) bytes.now }
@@ -110,7 +110,7 @@ fn parts_at(bytes: &[u8], at: u8) -> (&[u8], &[u8])
     }
 }
 
-// Where the first such byte stands.
+// The index of the first occurrence of `at`.
 fn first_at(bytes: &[u8], at: u8) -> Option<usize>
     ensures { result ≡ position (λ b. b == at) bytes.now }
 {

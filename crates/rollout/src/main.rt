@@ -1,6 +1,6 @@
-//! The program `rollout`: it serves updates by a manifest's rules, asks a server that runs, checks
-//! manifests, replays scripts, and assembles, compiles, lists, verifies and runs single programs.
-//! `command` of the library `commands` does what the words ask.
+//! The program `rollout`: it serves updates by a manifest's rules, and sends requests to a running
+//! server. It also checks manifests, replays scripts, and assembles, compiles, lists, verifies and
+//! runs single programs. `command` of the library `commands` does what the words request.
 #![tactic(auto)]
 
 #[cfg(test)]

@@ -1,5 +1,5 @@
-//! Tests of the command that no row of `crates/rows` can be: servers, the clock, links, pictures,
-//! refused memory, and words with controls. A test runs in a folder of its own, where its files lie.
+//! Tests of the command that can't be rows of `crates/rows`: servers, the clock, links, pictures,
+//! failed allocations, and words with control characters. Each test runs in a folder of its own.
 
 mod asks;
 mod controls;
@@ -18,7 +18,7 @@ use std::sync::Wait;
 use std::thread::Threads;
 use std::time::Clock;
 
-/// What a command came to: its status, and what it printed on standard output and standard error.
+/// The result of a command: its status, and what it printed on standard output and standard error.
 #[derive(Drop)]
 struct Printed {
     status: u8,
@@ -26,7 +26,7 @@ struct Printed {
     err: String,
 }
 
-/// Does the command of a line of words.
+/// Runs the command of a line of words.
 fn told<R>(rt: &R, line: &str) -> io::Result<Printed>
 where
     R: Files + Threads + Wait + AllocGlobal + Clock + LogOutput,
@@ -42,7 +42,7 @@ where
     told_of(rt, words.as_slice())
 }
 
-/// Does the command of these words.
+/// Runs the command of these words.
 fn told_of<R>(rt: &R, words: &[&str]) -> io::Result<Printed>
 where
     R: Files + Threads + Wait + AllocGlobal + Clock + LogOutput,

@@ -5,7 +5,7 @@ ghost use Rattle.std.specs.Prelude.{◌≤◌};
 use anyhow::Result;
 use std::alloc::Global;
 
-/// The value of a hexadecimal digit; that of any other byte is 0.
+/// The value of a hexadecimal digit; 0 for any other byte.
 fn digit(byte: u8) -> u8
     ensures { result ≤ 15 }
 {
@@ -17,7 +17,7 @@ fn digit(byte: u8) -> u8
     }
 }
 
-/// The bytes that a text spells: ` / ` and `\n` are a line feed, and `\r`, `\t`, `\\` and `\xHH` one
+/// The bytes that a text spells: ` / ` and `\n` are a line feed; `\r`, `\t`, `\\` and `\xHH` are one
 /// byte each.
 pub(crate) fn unescape(alloc: Global, text: &str) -> Result<Vec<u8>> {
     let mut bytes = Vec::new(alloc);
@@ -58,7 +58,7 @@ pub(crate) fn unescape(alloc: Global, text: &str) -> Result<Vec<u8>> {
     Ok(bytes)
 }
 
-/// The words of a command: blanks divide them, and what two single quotes enclose is one word.
+/// The words of a command: spaces divide them, and two single quotes enclose one word.
 pub(crate) fn words_of(alloc: Global, line: &str) -> Result<Vec<String>> {
     let mut words = Vec::new(alloc);
     words.push(String::from_str(alloc, "rollout")?)?;

@@ -10,7 +10,7 @@ pub(crate) struct Printed {
     pub(crate) err: String,
 }
 
-/// What is wanted of a command: all that it prints, and texts that are somewhere in it.
+/// What a row wants a command to print: all of its output, and texts that are somewhere in it.
 #[derive(Drop)]
 pub(crate) struct Wanted {
     pub(crate) printed: Printed,

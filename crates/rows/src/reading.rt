@@ -1,7 +1,7 @@
 //! How a file of rows is read. It is a text, and the mark at a line's start says what the line is:
 //!
 //! ```text
-//! -- NAME        writes the file NAME: its text are the lines below, up to the next line that
+//! -- NAME        writes the file NAME: its text is the lines below, up to the next line that
 //!                begins with a mark of a file or of a command
 //! + NAME TEXT    writes the file NAME with this text, in which ` / ` and `\n` are a line feed, and
 //!                `\r`, `\t`, `\\` and `\xHH` one byte each; nothing else ends it
@@ -11,9 +11,9 @@
 //! | LINE         a line of its standard output
 //! ! LINE         a line of its standard error
 //! = N            its status, if that isn't 0
-//! ? LINE         all its output: a line that begins with `refused ` is alone on standard error,
-//!                with status 1; `usage` is `error: ` at the start of standard error, with status
-//!                2; any other line is alone on standard output, with status 0
+//! ? LINE         all its output: a line that begins with `refused ` is on standard error, with
+//!                status 1; `usage` is `error: ` at the start of standard error, with status 2;
+//!                any other line is on standard output, with status 0
 //! ~ TEXT         its standard output or its standard error contains this text
 //! # TEXT         a comment, but not in the text of a file
 //! each           the lines up to `rows` are read once for each line of the table below `rows`,
@@ -21,7 +21,7 @@
 //!                which ` | ` divides; a line of the table that begins with `# ` is a comment
 //! ```
 //!
-//! Blanks divide the words; two single quotes enclose one word, in which the escapes of `+` hold. A
+//! Spaces divide the words; two single quotes enclose one word, in which the escapes of `+` hold. A
 //! wanted output that ends with `...` need only be the beginning. All files of one file of rows are
 //! in one folder, and stay there until they are written again.
 
@@ -29,7 +29,7 @@ use crate::steps::{Step, Steps};
 use anyhow::Result;
 use std::alloc::Global;
 
-/// Which lines are read: each as it is, those of a block, or those of its table.
+/// How lines are read: plain, as the lines of a block, or as those of its table.
 #[derive(Clone, Copy)]
 enum Part {
     Plain,
@@ -37,7 +37,7 @@ enum Part {
     Table,
 }
 
-/// A line of a block, with the columns that it names.
+/// A line of a block, with the columns that it names filled in.
 fn filled(alloc: Global, line: &str, columns: &[&str]) -> Result<String> {
     let mut line = String::from_str(alloc, line)?;
     for (number, column) in columns.iter().enumerate() {
@@ -47,7 +47,7 @@ fn filled(alloc: Global, line: &str, columns: &[&str]) -> Result<String> {
     Ok(line)
 }
 
-/// Reads a block for a line of its table, which has a number.
+/// Reads a block for a line of its table.
 fn read_block(
     alloc: Global,
     steps: &mut Steps,
@@ -66,7 +66,7 @@ fn read_block(
     Ok(())
 }
 
-/// What a file of rows does, step by step.
+/// The steps of a file of rows.
 pub(crate) fn read_steps(alloc: Global, text: &str) -> Result<Vec<Step>> {
     let mut steps = Steps::new(alloc);
     let mut block: Vec<&str> = Vec::new(alloc);

@@ -13,7 +13,7 @@ use std::thread::Threads;
 use std::time::Clock;
 use std::{fs, str};
 
-/// What a command prints.
+/// The output of a command.
 fn printed_of<R>(rt: &R, words: &[String]) -> Result<Printed>
 where
     R: Files + Threads + Wait + AllocGlobal + Clock + LogOutput,
@@ -32,7 +32,7 @@ where
     })
 }
 
-/// Prints a command, what is wanted of it, and what it prints.
+/// Prints a command, its wanted output, and its output.
 fn show_difference<R: Print>(
     rt: &R,
     place: usize,
@@ -54,7 +54,7 @@ fn show_difference<R: Print>(
     Ok(())
 }
 
-/// Whether a command did what is wanted.
+/// Whether a command did what the row wants.
 fn is_right(wanted: &Option<Wanted>, came: &Printed) -> bool {
     match wanted {
         Some(wanted) => wanted.is_met(came),
@@ -62,7 +62,7 @@ fn is_right(wanted: &Option<Wanted>, came: &Printed) -> bool {
     }
 }
 
-/// How many rows there were, and of how many commands the output or the status is another one.
+/// The number of rows, and of commands whose output or status is wrong.
 #[derive(Drop)]
 struct Count {
     rows: u64,
@@ -70,7 +70,7 @@ struct Count {
 }
 
 impl Count {
-    /// What is printed about a file of rows.
+    /// Prints the counts of a file of rows.
     fn show<R: Print>(&self, rt: &R, name: &str) -> Result<()> {
         match self.wrong {
             0 => println!(rt; "{name}: {} rows", self.rows)?,
@@ -107,7 +107,7 @@ where
     Ok(())
 }
 
-/// Runs the rows of a file, and returns whether all of them are right.
+/// Runs the rows of a file, and returns whether all are right.
 fn run_file<R>(rt: &R, name: &str) -> Result<bool>
 where
     R: Files + Threads + Wait + AllocGlobal + Clock + LogOutput + Print,
@@ -135,7 +135,7 @@ where
     Ok(count.wrong == 0)
 }
 
-/// Runs each file that the words name behind the program's name, and returns whether all rows are
+/// Runs each file that the words after the program's name give, and returns whether all rows are
 /// right.
 pub(crate) fn run_files<R>(rt: &R, words: &[String]) -> Result<bool>
 where

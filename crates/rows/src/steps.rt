@@ -13,7 +13,7 @@ pub(crate) enum Step {
         name: String,
         bytes: Vec<u8>,
     },
-    /// Runs a command. If nothing is wanted of it, it prepares: only its status is looked at.
+    /// Runs a command. If `wanted` is `None`, it prepares: only its status is checked.
     Run {
         line: usize,
         words: String,
@@ -27,7 +27,7 @@ pub(crate) struct Steps {
     alloc: Global,
     whole: Vec<Step>,
     last: Option<Step>,
-    /// Whether the lines below are the text of the last step's file.
+    /// Whether the next lines are the text of the last step's file.
     is_text: bool,
 }
 
@@ -62,7 +62,7 @@ impl Steps {
         Ok(())
     }
 
-    /// Reads a line, which has a number and, up to its first blank, a mark.
+    /// Reads a line with its number; the line has a mark up to its first space.
     pub(crate) fn read(&mut self, number: usize, line: &str) -> Result<()> {
         let alloc = self.alloc;
         let (mark, text) = line.split_once(' ').unwrap_or((line, ""));
@@ -102,7 +102,7 @@ impl Steps {
         )
     }
 
-    /// Appends a text to the last file as often as the number before it says.
+    /// Appends a text to the last file as often as the number in front of it says.
     fn repeat(&mut self, text: &str) -> Result<()> {
         self.is_text = false;
         let (times, text) = text.split_once(' ').unwrap_or((text, ""));
@@ -135,7 +135,7 @@ impl Steps {
     }
 }
 
-/// Adds what a line says to what a row wants.
+/// Adds a line's text to what a row wants.
 fn want(alloc: Global, wanted: &mut Wanted, number: usize, mark: &str, text: &str) -> Result<()> {
     match mark {
         "|" => push_line(&mut wanted.printed.out, text)?,
@@ -148,7 +148,7 @@ fn want(alloc: Global, wanted: &mut Wanted, number: usize, mark: &str, text: &st
     Ok(())
 }
 
-/// Passes over a comment or an empty line, and refuses any other one.
+/// Skips a comment or an empty line, and refuses any other line.
 fn pass_over(number: usize, mark: &str) -> Result<()> {
     if mark.is_empty() || mark.starts_with('#') {
         return Ok(());

@@ -1,4 +1,4 @@
--- What the log tells of a load, and its line.
+-- The log's event of a load, and its line.
 use Rattle.std.specs.Prelude.{◌≡◌, ℕ, List, Option, Some, None, IfSome}
 use Rattle.std.specs.Prelude.{option_copied, option_map}
 use Rattle.access_log.specs.Excerpt.{IsExcerpt}
@@ -14,7 +14,7 @@ use Rattle.operator.specs.declared.reply.OperatorRefusal.TheVariants as refusal
 use Rattle.operator.specs.declared.reply.OperatorReply.{OperatorReply}
 use Rattle.operator.specs.declared.reply.OperatorReply.TheVariants as reply
 
--- what is told beside a refusal: what the loader tells of its fault, and of any other nothing
+-- the cause of a refusal: the loader's cause of its fault, and none for any other refusal
 abbrev pub IsToldBeside : {F : Type 0} → (F → Option (List ℕ) → Type 0) → OperatorRefusal F
     → Option (List ℕ) → Type 0
 IsToldBeside has_cause (refusal.Load fault) cause = has_cause fault cause
@@ -26,7 +26,7 @@ IsExcerptOf (Some text) (Some excerpt) = IsExcerpt text excerpt
 IsExcerptOf None None = Unit {0}
 IsExcerptOf text excerpt = ⊥
 
--- of one that is installed: its path, what is served from then on, and its digest
+-- the event of an installed load: its path, the generation that is then served, and its digest
 pub record TellsInstalledLoad (path : List ℕ) (generation : ℕ) (digest : Option (List ℕ))
     (load : Load) : Type 0 where
   pub path_is : IsExcerpt path load.path
@@ -35,7 +35,7 @@ pub record TellsInstalledLoad (path : List ℕ) (generation : ℕ) (digest : Opt
   pub refusal_is : load.refusal ≡ None
   pub cause_is : load.cause ≡ None
 
--- of one that is refused: its path, the text of the refusal, and what is told beside
+-- the event of a refused load: its path, the text of the refusal, and the cause
 pub record TellsRefusedLoad (path text : List ℕ) (cause : Option (List ℕ)) (load : Load)
     : Type 0 where
   pub path_is : IsExcerpt path load.path
@@ -44,16 +44,16 @@ pub record TellsRefusedLoad (path text : List ℕ) (cause : Option (List ℕ)) (
   pub refusal_is : option_copied load.refusal ≡ Some text
   pub cause_is : IsExcerptOf cause load.cause
 
--- the line at a time of a load of which so much is told
+-- the line, at a time, of a load with this property
 pub record IsLoadLine (time : Utc) (Tells : Load → Type 0) (line : List ℕ) : Type 0 where
   pub load : Load
   pub tells : Tells load
   pub line_is : line ≡ event_line time (log.Load load)
 
--- where it is known what a loader's fault has for a cause, and for a text
+-- given the relation of a loader's faults to their causes, and their texts
 module _ {F : Type 0} (has_cause : F → Option (List ℕ) → Type 0)
     (fault_text : F → Option (List ℕ)) where
-  -- of one that is refused so: the refusal's own text, as far as it is known, and its cause
+  -- the event of a load with this refusal: the refusal's text, as far as it is known, and its cause
   pub record TellsReplyRefusal (path : List ℕ) (refused : OperatorRefusal F) (load : Load)
       : Type 0 where
     pub text : List ℕ
@@ -62,8 +62,8 @@ module _ {F : Type 0} (has_cause : F → Option (List ℕ) → Type 0)
     pub cause_is : IsToldBeside has_cause refused cause
     pub tells : TellsRefusedLoad path text cause load
 
-  -- the line of what an operator's request for a load came to, by the reply: of one that is
-  -- installed its generation and its digest, of one that is refused why; no other reply has one
+  -- the line of an operator's request for a load, by the reply: its generation and digest if it is
+  -- installed, or why it is refused; other replies have no line
   abbrev pub IsLineOfReply : Utc → List ℕ → Option (List ℕ) → OperatorReply F
       → Option (List ℕ) → Type 0
   IsLineOfReply time path digest (reply.Loaded generation) (Some line) =

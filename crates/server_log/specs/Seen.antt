@@ -1,4 +1,4 @@
--- What the log has seen of a connection.
+-- What the log keeps of a connection.
 use Rattle.std.specs.Prelude.{◌≡◌, [], None}
 use Rattle.server_log.specs.declared.seen.Seen.{Seen}
 
@@ -11,7 +11,7 @@ pub record IsUnseen (seen : Seen) : Type 0 where
   pub events : seen.events.items ≡ []
   pub apps : seen.apps.items ≡ []
 
--- the same of its request, what it was answered, and whether it is kept
+-- the two agree on the request, its results, and whether they are kept
 pub record IsSameRequest (old new : Seen) : Type 0 where
   pub is_kept : new.is_kept ≡ old.is_kept
   pub generation : new.generation ≡ old.generation

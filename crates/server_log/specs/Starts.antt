@@ -1,4 +1,4 @@
--- What the log tells of a start, and its line.
+-- The log's event of a start, and its line.
 use Rattle.std.specs.Prelude.{◌≡◌, ℕ, List, Option, Some, None, option_copied}
 use Rattle.access_log.specs.Excerpt.{IsExcerpt}
 use Rattle.access_log.specs.Line.{event_line}
@@ -8,7 +8,7 @@ use Rattle.access_log.specs.declared.utc.Utc.{Utc}
 use Rattle.server_log.specs.Loads.{IsExcerptOf}
 use Rattle.server_log.specs.declared.start_line.Starting.{Starting}
 
--- of a server that starts: its manifest, its ports, and the digest of what it serves
+-- the event of a server that starts: its manifest, its ports, and the digest of what it serves
 pub record TellsStart (server : Starting) (digest : Option (List ℕ)) (start : Start)
     : Type 0 where
   pub manifest_is : IsExcerpt server.manifest.now start.manifest
@@ -18,7 +18,7 @@ pub record TellsStart (server : Starting) (digest : Option (List ℕ)) (start : 
   pub refusal_is : start.refusal ≡ None
   pub cause_is : start.cause ≡ None
 
--- of one that doesn't: its manifest, its ports, the text of the refusal, and what is told beside
+-- the event of a refused start: the manifest, the ports, the text of the refusal, and the cause
 pub record TellsRefusedStart (server : Starting) (text : List ℕ) (cause : Option (List ℕ))
     (start : Start) : Type 0 where
   pub manifest_is : IsExcerpt server.manifest.now start.manifest
@@ -28,7 +28,7 @@ pub record TellsRefusedStart (server : Starting) (text : List ℕ) (cause : Opti
   pub refusal_is : option_copied start.refusal ≡ Some text
   pub cause_is : IsExcerptOf cause start.cause
 
--- the line at a time of a start of which so much is told
+-- the line, at a time, of a start with this property
 pub record IsStartLine (time : Utc) (Tells : Start → Type 0) (line : List ℕ) : Type 0 where
   pub start : Start
   pub tells : Tells start

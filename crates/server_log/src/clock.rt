@@ -1,10 +1,10 @@
-//! What the clock tells of a line: its time, how long a connection took, and until when a line
-//! waits for a place. Of clocks nothing is proved.
+//! The times of a log line: when it was made, how long a connection took, and until when the line
+//! waits for a place. Nothing is proved about clocks.
 
 use access_log::Utc;
 use std::time::{Clock, Duration, Instant, SystemTime, UNIX_EPOCH};
 
-/// When 1970 began.
+/// The start of 1970.
 const FIRST: Utc = Utc {
     year: 1970,
     month: 1,
@@ -15,14 +15,14 @@ const FIRST: Utc = Utc {
     millis: 0,
 };
 
-/// The time so many seconds from now on. None where the clock can't tell.
+/// The time in `seconds` seconds; `None` if the clock can't be read.
 pub fn seconds_from_now<H: Clock>(rt: &H, seconds: u64) -> Option<Instant> {
     Instant::now(rt)
         .ok()?
         .checked_add(Duration::from_secs(seconds))
 }
 
-/// Whether a moment is past. It isn't where the clock can't tell.
+/// Whether a moment is past; false if the clock can't be read.
 pub(crate) fn is_past<H: Clock>(rt: &H, moment: Instant) -> bool {
     match Instant::now(rt) {
         Ok(now) => moment <= now,
@@ -30,7 +30,7 @@ pub(crate) fn is_past<H: Clock>(rt: &H, moment: Instant) -> bool {
     }
 }
 
-/// How many microseconds it is since something began; 0 where that isn't known.
+/// The microseconds since `begun`; 0 if unknown.
 pub(crate) fn micros_since<H: Clock>(rt: &H, begun: Option<Instant>) -> u64 {
     let Some(begun) = begun else {
         return 0;
@@ -41,7 +41,7 @@ pub(crate) fn micros_since<H: Clock>(rt: &H, begun: Option<Instant>) -> u64 {
     }
 }
 
-/// The time of a line of the log; 1970's first where the clock can't be read.
+/// The time of a log line; the start of 1970 if the clock can't be read.
 pub(crate) fn utc_now<H: Clock>(rt: &H) -> Utc {
     let since = match SystemTime::now(rt) {
         Ok(now) => now.duration_since(UNIX_EPOCH).unwrap_or(Duration::ZERO),

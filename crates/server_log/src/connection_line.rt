@@ -1,4 +1,4 @@
-//! What the log tells of a client's connection, and of one that couldn't be accepted.
+//! The log lines of a client's connection, and of one that couldn't be accepted.
 
 ghost use Rattle.std.specs.Prelude.{◌≡◌, IfNone};
 
@@ -15,11 +15,11 @@ use std::sync::Wait;
 use std::time::{Clock, Instant};
 use std::{io, slice, str};
 
-/// Puts the line of a connection into a worker's log, where it is kept: for how many microseconds
-/// it had waited before it began, how long it took since, 0 where that isn't known, what came of
-/// it, and what was seen. It is lost where memory is refused.
-// open: what a line tells of a connection, that apps which the server knows come first, and when it
-// is handed on: tests.
+/// Appends the line of a connection to a worker's log, if lines are kept. It has the microseconds
+/// that the connection waited and those that it took from `begun` on (0 if unknown), the outcome,
+/// and the contents of `seen`. The line is lost if an allocation fails.
+// open: the contents of a connection's line, that apps which the server has come first, and when
+// the line is flushed: tests.
 pub fn note_connection<H>(
     rt: &H,
     log: &mut Log<'_>,
@@ -47,7 +47,7 @@ where
     seen.let_go();
 }
 
-// How long a connection took, and how long it had waited before, in microseconds.
+// How long a connection took, and how long it waited before, in microseconds.
 #[derive(Clone, Copy)]
 struct Times {
     micros: u64,
@@ -76,7 +76,7 @@ where
         ..without_texts(refusal_of(outcome), cause_of(outcome, seen))
     };
     let (peer, forwarded) = (seen.peer(addresses), seen.forwarded_text(addresses));
-    // The apps of most requests are one, of which a list takes no memory.
+    // Most requests have one app, and a list of one needs no allocation.
     if let Some(app) = seen.only_app() {
         let apps = slice::from_ref(&app);
         log.note(rt, &connection_event(peer, forwarded, apps, connection));
@@ -87,7 +87,7 @@ where
     Ok(())
 }
 
-// A connection that failed or was refused so, or neither, of which nothing else is told.
+// A connection with this refusal and cause, if any, and nothing else.
 fn without_texts<'x>(refusal: Option<&'x str>, cause: Option<&'x str>) -> Connection<'x> {
     Connection {
         peer: "",
@@ -118,7 +118,7 @@ fn connection_event<'x>(
     })
 }
 
-/// The status of the reply; 0 where there is none, or not all of it was sent.
+/// The status of the reply; 0 if none was sent whole.
 pub(crate) fn status_of(outcome: &Result<Sent, AnswerFault>) -> u16 {
     match outcome {
         Ok(sent) => sent.status,
@@ -126,7 +126,7 @@ pub(crate) fn status_of(outcome: &Result<Sent, AnswerFault>) -> u16 {
     }
 }
 
-// What the client was told in place of Omaha's reply, or why it was told nothing.
+// The refusal that was sent instead of Omaha's reply, or why no reply was sent.
 fn refusal_of(outcome: &Result<Sent, AnswerFault>) -> Option<&'static str> {
     match outcome {
         Ok(sent) => sent_refusal(sent),
@@ -135,7 +135,7 @@ fn refusal_of(outcome: &Result<Sent, AnswerFault>) -> Option<&'static str> {
     }
 }
 
-// How the device failed.
+// How the device failed, if it did.
 fn cause_of(outcome: &Result<Sent, AnswerFault>, seen: &Seen) -> Option<&'static str> {
     match outcome {
         Ok(_) | Err(AnswerFault::Ended) => None,
@@ -150,8 +150,8 @@ fn sent_refusal(sent: &Sent) -> Option<&'static str> {
     str::from_utf8(name).ok()
 }
 
-/// Puts the line of a connection that couldn't be accepted into the queue. It is lost where memory
-/// is refused.
+/// Puts the line of a connection that couldn't be accepted into the queue. The line is lost if the
+/// queue is full or an allocation fails.
 pub fn note_unaccepted<H>(rt: &H, queue: &LogQueue, error: &io::Error)
 where
     H: Wait + AllocGlobal + Clock,

@@ -1,4 +1,4 @@
-//! A device that remembers, for the log: what was read, up to so many bytes, and how it failed.
+//! A device that keeps, for the log, the first bytes that were read and how it failed.
 
 ghost use Rattle.std.specs.Prelude.{◌≡◌, ◌≤◌, ◌-◌, ◌++◌, [], None, true, false, take, vec_len};
 
@@ -11,21 +11,22 @@ use std::net::IpAddr;
 /// The most bytes that are kept: those of a head, and more than those of an operator's line.
 const KEPT_LIMIT: usize = 16384;
 
-/// The header that names the client's address (`Forwarded`, RFC 7239, isn't looked at).
+/// The header that names the client's address (`Forwarded`, RFC 7239, isn't read).
 const FORWARDED: &[u8] = b"x-forwarded-for";
 
-/// A reader or a writer, with the bytes that were read, where they are to be kept.
+/// A reader or a writer, with the first bytes that were read, if they are wanted.
 #[derive(Drop)]
 pub struct Heard<T> {
     inner: T,
-    /// Whether the bytes are the first of what was read. They aren't to be, or memory was refused.
+    /// Whether `bytes` has the first bytes read; false if they aren't wanted or an allocation
+    /// failed.
     is_kept: bool,
     bytes: Vec<u8>,
     failure: Option<ErrorKind>,
 }
 
 impl<T> Heard<T> {
-    /// A device of which nothing is read yet.
+    /// A device from which nothing is read yet.
     pub fn new(alloc: Global, inner: T, is_kept: bool) -> Heard<T>
         ensures inner { result.inner ≡ inner }
         ensures kept { result.is_kept ≡ is_kept }
@@ -35,7 +36,7 @@ impl<T> Heard<T> {
         Heard::in_room(Vec::new(alloc), inner, is_kept)
     }
 
-    /// The same, where there is room for what is read.
+    /// A device from which nothing is read yet, with a buffer for what is read.
     pub(crate) fn in_room(mut room: Vec<u8>, inner: T, is_kept: bool) -> Heard<T>
         ensures inner { result.inner ≡ inner }
         ensures kept { result.is_kept ≡ is_kept }
@@ -51,7 +52,7 @@ impl<T> Heard<T> {
         }
     }
 
-    /// How the device failed, if it did: a time-out, a reset, or otherwise.
+    /// How the device failed, if it did: with a time-out, a reset, or otherwise.
     pub(crate) fn cause(&self) -> Option<&'static str> {
         match self.failure {
             Some(ErrorKind::WouldBlock | ErrorKind::TimedOut) => Some("time-out"),
@@ -61,7 +62,8 @@ impl<T> Heard<T> {
         }
     }
 
-    /// The path of the load that an operator asked for, if one was and all of its line is kept.
+    /// The path of the load that an operator requested, if that is the request and its line was
+    /// kept.
     pub(crate) fn load_path(&self) -> Option<&str> {
         if !self.is_kept {
             return None;
@@ -72,9 +74,9 @@ impl<T> Heard<T> {
         }
     }
 
-    /// The address that `X-Forwarded-For` names, where it is one and no list.
+    /// The address in `X-Forwarded-For`, if it has one address and no list.
     pub(crate) fn forwarded(&self) -> Option<IpAddr> {
-        // Empty lines may stand before a request (RFC 9112, section 2.2).
+        // A request may follow empty lines (RFC 9112, section 2.2).
         let mut rest = self.bytes.trim_ascii_start();
         for _ in 0..KEPT_LIMIT {
             let (line, behind) = split_line(rest)?;
@@ -96,7 +98,7 @@ impl<T> Heard<T> {
         self.inner
     }
 
-    /// The room in which what was read stands.
+    /// The buffer with what was read.
     pub(crate) fn into_room(self) -> Vec<u8>
     where
         T: Drop,
@@ -104,8 +106,8 @@ impl<T> Heard<T> {
         self.bytes
     }
 
-    // Keeps as many of these bytes as there is room for behind the others, while all that was read
-    // before is kept. Once memory is refused nothing more is, so that no text lacks its middle.
+    // Appends as many of these bytes as the limit allows, if all earlier ones are kept. Once an
+    // allocation fails nothing is appended, so that no text has a gap.
     fn keep(&mut self, bytes: &[u8])
         ensures inner { self.new.inner ≡ self.old.inner }
         ensures most { vec_len self.old.bytes ≤ 16384 → vec_len self.new.bytes ≤ 16384 }
@@ -129,7 +131,7 @@ impl<T> Heard<T> {
     }
 }
 
-// As many of the first bytes, or all.
+// The first `count` bytes, or all.
 fn first_bytes(bytes: &[u8], count: usize) -> &[u8]
     ensures { result.now ≡ take count bytes.now }
 {
@@ -139,7 +141,7 @@ fn first_bytes(bytes: &[u8], count: usize) -> &[u8]
     bytes
 }
 
-// The bytes before the first line feed.
+// The bytes before the first line feed, or all.
 fn first_line(bytes: &[u8]) -> &[u8] {
     match bytes.iter().position(|byte| *byte == b'\n') {
         Some(end) => bytes.get(..end).unwrap_or(bytes),
@@ -147,7 +149,7 @@ fn first_line(bytes: &[u8]) -> &[u8] {
     }
 }
 
-// The first line without its end, and what stands behind it; none where no line ends.
+// The first line without its end, and the bytes after it; `None` without a line feed.
 fn split_line(bytes: &[u8]) -> Option<(&[u8], &[u8])> {
     let end = memchr(b'\n', bytes)?;
     let (_, behind) = bytes.get(end..)?.split_first()?;
@@ -157,7 +159,7 @@ fn split_line(bytes: &[u8]) -> Option<(&[u8], &[u8])> {
     }
 }
 
-// What stands behind the colon of the header that names the client's address.
+// The bytes after the colon, if the line is the header that names the client's address.
 fn forwarded_value(line: &[u8]) -> Option<&[u8]> {
     let [b'x' | b'X', ..] = line else {
         return None;

@@ -6,10 +6,10 @@ use access_log::Excerpt;
 use omaha_json::WrittenApp;
 use std::alloc::{AllocError, Global};
 
-/// The members that would be texts.
+/// The members that should be texts.
 const TEXTS: [&str; 5] = ["ap", "brand", "cohort", "lang", "version"];
 
-/// An app.
+/// The details of an app that its facts don't have.
 #[derive(Clone, Copy)]
 pub(crate) struct HeardApp {
     pub(crate) event: Option<KeptExcerpt>,
@@ -18,13 +18,13 @@ pub(crate) struct HeardApp {
 }
 
 impl HeardApp {
-    /// An app of which nothing was heard.
+    /// An app without details.
     pub(crate) const NONE: HeardApp = HeardApp {
         event: None,
         ignored: None,
     };
 
-    /// Keeps what is to be told of an app.
+    /// Keeps the details of an app for its line.
     pub(crate) fn of(
         alloc: Global,
         texts: &mut KeptTexts,

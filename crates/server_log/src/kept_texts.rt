@@ -1,4 +1,4 @@
-//! The texts that a worker keeps of a request, one behind another in one room, which it keeps for
+//! The texts that a worker keeps of a request, one after another in a buffer, which is reused for
 //! the next request.
 
 use itoa::Buffer;
@@ -6,17 +6,17 @@ use std::alloc::{AllocError, Global};
 use std::fmt::Write;
 use std::net::{IpAddr, Ipv4Addr, SocketAddr};
 
-/// The most room that is kept for the next request.
+/// The largest capacity that is kept for the next request.
 const KEPT_ROOM: usize = 65536;
 
-/// Where a text stands.
+/// The range of a text in the buffer.
 #[derive(Clone, Copy)]
 pub(crate) struct TextPlace {
     begin: usize,
     end: usize,
 }
 
-/// Texts, one behind another.
+/// Texts, one after another.
 #[derive(Drop)]
 pub(crate) struct KeptTexts {
     alloc: Global,
@@ -32,7 +32,7 @@ impl KeptTexts {
         }
     }
 
-    /// Lets all texts go, and keeps their room.
+    /// Drops all texts, and keeps a buffer of at most `KEPT_ROOM` bytes.
     pub(crate) fn clear(&mut self) {
         if self.all.capacity() > KEPT_ROOM {
             self.all = String::new(self.alloc);
@@ -40,14 +40,14 @@ impl KeptTexts {
         self.all.clear();
     }
 
-    /// Keeps a text.
+    /// Appends a text.
     pub(crate) fn keep(&mut self, text: &str) -> Result<TextPlace, AllocError> {
         let begin = self.all.len();
         self.all.push_str(text)?;
         Ok(self.since(begin))
     }
 
-    /// Keeps a name behind those of a list of names, divided by blanks.
+    /// Appends a name to a list of names, separated by a space. The list has to be the last text.
     pub(crate) fn keep_name(
         &mut self,
         names: Option<TextPlace>,
@@ -61,7 +61,7 @@ impl KeptTexts {
         Ok(self.since(names.begin))
     }
 
-    /// Keeps the text of an address and a port.
+    /// Appends the text of an address and a port.
     pub(crate) fn keep_socket(&mut self, socket: SocketAddr) -> Result<TextPlace, AllocError> {
         let begin = self.all.len();
         match socket {
@@ -75,7 +75,7 @@ impl KeptTexts {
         Ok(self.since(begin))
     }
 
-    /// Keeps the text of an address.
+    /// Appends the text of an address.
     pub(crate) fn keep_address(&mut self, address: IpAddr) -> Result<TextPlace, AllocError> {
         let begin = self.all.len();
         match address {
@@ -85,7 +85,7 @@ impl KeptTexts {
         Ok(self.since(begin))
     }
 
-    // The texts from there on, as one.
+    // The texts from `begin` on, as one.
     fn since(&self, begin: usize) -> TextPlace {
         TextPlace {
             begin,
@@ -93,12 +93,12 @@ impl KeptTexts {
         }
     }
 
-    /// The text at a place that was given since all were let go.
+    /// The text at a place that was returned since the last `clear`.
     pub(crate) fn at(&self, place: TextPlace) -> &str {
         self.all.as_str().get(place.begin..place.end).unwrap_or("")
     }
 
-    /// The same, where there is a place.
+    /// The text at a place, if there is one.
     pub(crate) fn at_some(&self, place: Option<TextPlace>) -> Option<&str> {
         match place {
             Some(place) => Some(self.at(place)),
@@ -107,7 +107,7 @@ impl KeptTexts {
     }
 }
 
-// An address in its four numbers.
+// Appends an address as four numbers.
 fn push_v4(text: &mut String, address: Ipv4Addr) -> Result<(), AllocError> {
     let [first, second, third, fourth] = address.octets();
     push_number(text, u16::from(first))?;

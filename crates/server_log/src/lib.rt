@@ -1,16 +1,16 @@
-//! The log of a server: a queue, and a thread that writes its lines on standard error.
+//! The log of a server: a queue, and a thread that writes its lines to standard error.
 //!
-//! The threads of a server put lines into the queue. A worker gathers those of its connections
-//! first, so that a connection costs its line and not a place in the queue, too. Nobody waits for a
-//! place but the operator's thread, behind a load, for a while: where the log's reader is too slow
-//! lines are lost, and how many is told before the next that goes through.
+//! The server's threads put lines into the queue. A worker thread buffers the lines of its
+//! connections first, so that several connections share a place in the queue. Only the operator's
+//! thread waits for a place, briefly, after a load and at the end. If the log's reader is too slow,
+//! lines are lost, and a line with their number precedes the next line that is written.
 //!
-//! What a line tells of a connection is kept beside its answer: what was read and how a device
-//! failed (`Heard`), and what each app was answered (`Seen`). The line of an event is that of
-//! `log_line` in `access_log`, of which it is proved what it says. That of a load is proved from the
+//! The contents of a connection's line are kept while the connection is answered: what was read and
+//! how a device failed (`Heard`), and the result for each app (`Seen`). The line of an event is
+//! that of `log_line` in `access_log`, which is proved. The line of a load is proved from the
 //! operator's reply on (`load_line`), that of a start from the digest or the fault on
-//! (`start_line`). What connections come to is counted beside (`tally`), and told each minute. Of
-//! queues, threads and clocks, and of what is written, nothing is proved.
+//! (`start_line`). Connections are also counted (`tally`), and the totals are logged each minute.
+//! Nothing is proved about queues, threads, clocks and standard error.
 //!
 //! See docs/OPERATING.md, "The log".
 #![tactic(auto)]

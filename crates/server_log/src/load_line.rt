@@ -1,4 +1,4 @@
-//! What the log tells of what is served: that the server is ready, and each load.
+//! The log lines about what is served: that the server is ready, and each load.
 
 ghost use Rattle.std.specs.Prelude.{◌≡◌, IfOk, option_copied, option_map, string_bytes};
 ghost use Rattle.hex.specs.Hex.{encode_lower};
@@ -16,11 +16,11 @@ use std::alloc::{AllocError, Global};
 use std::sync::Wait;
 use std::time::Clock;
 
-/// How long the line of a load waits for a place.
+/// How long the line of a load waits for a place in the queue.
 const LOAD_SECONDS: u64 = 2;
 
-/// Puts the line into the queue, if there is one, that the server is ready, and serves the ruleset
-/// of this generation. It is lost where memory is refused.
+/// Puts the line that the server is ready, and serves the ruleset of this generation, into the
+/// queue, if there is one. The line is lost if an allocation fails.
 // open: all but the line of an event: tests.
 pub fn note_serving<H>(rt: &H, log: Option<&LogQueue>, generation: Generation)
 where
@@ -31,12 +31,11 @@ where
     }
 }
 
-/// Puts the line of a load into the queue, if there is one and a load was asked for: of one that is
-/// installed with this digest, and of one that is refused with what its loader tells of the fault.
-/// It is lost where memory is refused, or where it has waited for a place in vain.
+/// Puts the line of a load into the queue, if there is a queue and a load was requested. The line
+/// has the digest of an installed load, or the refusal and the loader's cause. It is lost if an
+/// allocation fails, or if no place becomes free in time.
 // open: that what is queued is the line of `load_line` with this digest and reply, that its path is
-// the one that was asked for, and that it comes out: no contract knows what stands in a queue.
-// Tests.
+// the requested one, and that it comes out: no contract knows the contents of a queue. Tests.
 pub fn note_load<H, R, L>(
     rt: &H,
     log: Option<&LogQueue>,
@@ -69,9 +68,9 @@ where
     }
 }
 
-/// The line of what a request for a load came to, with the digest of what is served then, or with
-/// what the loader tells of its fault; none of a reply that is of no load.
-// open: whether memory is refused.
+/// The line of a request for a load: with the digest of what is then served, or with the refusal
+/// and the loader's cause; `None` if the reply isn't that to a load.
+// open: whether an allocation fails.
 fn load_line<L: Loader>(
     alloc: Global,
     time: &Utc,
@@ -96,7 +95,7 @@ fn load_line<L: Loader>(
     }
 }
 
-// Of one that is installed.
+// The line of an installed load.
 fn installed_line(
     alloc: Global,
     time: &Utc,
@@ -112,7 +111,7 @@ fn installed_line(
     log_line(alloc, time, &LogEvent::Load(load))
 }
 
-// Of one that is refused.
+// The line of a refused load.
 fn refused_line<L: Loader>(
     alloc: Global,
     time: &Utc,
@@ -128,7 +127,7 @@ fn refused_line<L: Loader>(
     log_line(alloc, time, &LogEvent::Load(load))
 }
 
-// What is told of a refused load beside the refusal.
+// The loader's cause of a refused load.
 fn cause_of<'x, L: Loader>(loader: &L, refusal: &'x OperatorRefusal<L::Fault>) -> Option<&'x str>
     ensures { IsToldBeside L.has_cause refusal.now (option_copied result) }
 {
@@ -138,8 +137,8 @@ fn cause_of<'x, L: Loader>(loader: &L, refusal: &'x OperatorRefusal<L::Fault>) -
     }
 }
 
-/// A digest in hexadecimal digits, in lower case.
-// open: whether memory is refused.
+/// A digest in lower-case hexadecimal digits.
+// open: whether an allocation fails.
 pub fn digest_text(alloc: Global, digest: Option<[u8; 32]>) -> Result<Option<String>, AllocError>
     ensures { IfOk result
         (λ text. option_map string_bytes text ≡ option_map encode_lower digest) }
@@ -150,7 +149,7 @@ pub fn digest_text(alloc: Global, digest: Option<[u8; 32]>) -> Result<Option<Str
     }
 }
 
-// One that is installed.
+// The event of an installed load.
 fn installed<'x>(path: &'x str, generation: Generation, digest: Option<&'x str>) -> Load<'x>
     ensures { TellsInstalledLoad path.now generation (option_copied digest.entry) result }
 {
@@ -163,7 +162,7 @@ fn installed<'x>(path: &'x str, generation: Generation, digest: Option<&'x str>)
     }
 }
 
-// One that is refused.
+// The event of a refused load.
 fn refused<'x>(path: &'x str, refusal: &'x str, cause: Option<&'x str>) -> Load<'x>
     ensures { TellsRefusedLoad path.now refusal.now (option_copied cause.entry) result }
 {

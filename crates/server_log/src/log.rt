@@ -1,5 +1,5 @@
-//! The lines of a worker's connections, which go to the log's queue in pieces: what a connection
-//! costs is then its line, and not a place in the queue, too.
+//! The lines of a worker's connections, which go to the log's queue in pieces, so that several
+//! connections share a place in the queue.
 
 ghost use Rattle.std.specs.Prelude.{◌≡◌, ◌==◌, [], IfSome, is_none, is_some};
 
@@ -11,32 +11,32 @@ use std::mem;
 use std::sync::Wait;
 use std::time::{Clock, Duration};
 
-/// How many bytes of lines are enough to be handed on.
+/// With this many bytes of lines the buffer is flushed.
 const ENOUGH: usize = 4096;
 
-/// Room for lines that aren't enough and for the longest behind them.
+/// The capacity for fewer than `ENOUGH` bytes of lines and the longest line after them.
 const PIECE_ROOM: usize = 8192;
 
-/// How long lines wait for more before they are handed on.
+/// How long lines wait for more before they are flushed.
 const LINGER_MILLIS: u64 = 10;
 
-/// The lines of a worker that aren't in the queue yet. They are put there where there are enough of
-/// them, where the worker has waited for a connection for a hundredth of a second, and before it
-/// attends to a connection of a later second. So a line is late by a second, and by the time of the
-/// next connection, at most.
+/// The lines of a worker that aren't in the queue yet. They are flushed to it in three cases: they
+/// have `ENOUGH` bytes; the worker has waited 10 ms for a connection; or it is about to serve a
+/// connection of a later second. So a line is late by at most a second and the time of the next
+/// connection.
 #[derive(Drop)]
 pub struct Log<'a> {
     queue: Option<&'a LogQueue>,
-    /// Room for a line.
+    /// The buffer for a line.
     line: LineRoom,
     text: Vec<u8>,
     lines: u64,
-    /// The second of these lines.
+    /// The second in which these lines were made.
     moment: i64,
 }
 
 impl<'a> Log<'a> {
-    /// A log without a line, which is kept where there is a queue for it.
+    /// A log without a line. Lines are kept only if there is a queue.
     pub fn new(alloc: Global, queue: Option<&'a LogQueue>) -> Log<'a>
         ensures queue { result.queue ≡ queue.entry }
         ensures text { result.text.items ≡ [] }
@@ -51,14 +51,14 @@ impl<'a> Log<'a> {
         }
     }
 
-    /// Whether it is kept.
+    /// Whether lines are kept.
     pub fn is_kept(&self) -> bool
         ensures { result ≡ is_some self.now.queue }
     {
         self.queue.is_some()
     }
 
-    /// Puts the line of an event behind the others. It is lost where memory is refused.
+    /// Appends the line of an event. The line is lost if an allocation fails.
     pub(crate) fn note<H>(&mut self, rt: &H, event: &LogEvent<'_>)
     where
         H: Wait + AllocGlobal + Clock,
@@ -73,7 +73,7 @@ impl<'a> Log<'a> {
         }
     }
 
-    /// Counts a line that isn't noted.
+    /// Counts a lost line.
     pub(crate) fn lose(&self) {
         if let Some(queue) = self.queue {
             queue.lose(1);
@@ -90,7 +90,7 @@ impl<'a> Log<'a> {
         }
     }
 
-    /// How long the worker waits for a connection before it hands lines on; none without a line.
+    /// How long the worker waits for a connection before it flushes; `None` if no line is buffered.
     pub fn linger(&self) -> Option<Duration>
         ensures { is_none result ≡ (self.now.lines == 0) }
     {
@@ -100,7 +100,7 @@ impl<'a> Log<'a> {
         Some(Duration::from_millis(LINGER_MILLIS))
     }
 
-    /// Hands on the lines of an earlier second than this, which is now the log's.
+    /// Flushes the lines if they are of another second than `moment`, which is then the log's.
     pub fn hand_on_earlier<H>(&mut self, rt: &H, moment: i64)
     where
         H: Wait + AllocGlobal + Clock,
@@ -113,7 +113,7 @@ impl<'a> Log<'a> {
         }
     }
 
-    /// Hands on all lines.
+    /// Flushes all lines to the queue.
     pub fn hand_on<H>(&mut self, rt: &H)
     where
         H: Wait + AllocGlobal + Clock,
@@ -134,8 +134,8 @@ impl<'a> Log<'a> {
     }
 }
 
-// Room for the lines behind a piece of so many bytes: for as many where these were enough, and else
-// none before there is a line.
+// The next buffer after a piece of `bytes` bytes: of `PIECE_ROOM` bytes if the piece was full, and
+// otherwise empty until there is a line.
 fn room_behind(alloc: Global, bytes: usize) -> Vec<u8> {
     let room = if bytes < ENOUGH { 0 } else { PIECE_ROOM };
     match Vec::with_capacity(alloc, room) {

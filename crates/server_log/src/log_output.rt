@@ -1,8 +1,8 @@
-//! Where a log is written.
+//! The output of a log.
 
 use std::io::{self, Print};
 
-/// What prints on standard error, and writes the lines of a log there, as bytes and as they are.
+/// A runtime with standard error, to which the lines of a log are written as bytes, unchanged.
 pub trait LogOutput: Eprint {
     /// Writes all of these bytes, or fails.
     fn write_lines(&self, bytes: &[u8]) -> io::Result<()>;

@@ -1,7 +1,7 @@
-//! The queue between the threads of a server and the one that writes its log. It has places for 256
-//! pieces, and no thread that answers waits for one: where the log's reader is too slow lines are
-//! lost, and how many is told before the next that goes through. What stands in a queue that
-//! threads share is known to no contract.
+//! The queue between the threads of a server and the thread that writes its log. It has places for
+//! 256 pieces, and no worker waits for one. If the log's reader is too slow, lines are lost, and a
+//! line with their number precedes the next line that is written. No contract knows the contents of
+//! a queue that threads share.
 
 use crate::clock::utc_now;
 use crate::tally::RunningTotals;
@@ -15,16 +15,16 @@ use std::time::{Clock, Instant};
 /// How many pieces may wait to be written.
 const PLACES: usize = 256;
 
-/// Some lines of the log.
+/// Some lines of the log, as they are queued.
 #[derive(Drop)]
 pub struct LogPiece {
-    /// Their bytes, each with its line feed.
+    /// The bytes, each line with its line feed.
     pub text: Vec<u8>,
-    /// How many they are; of a line that tells how many were lost, so many.
+    /// The number of lines; for a line with the number of lost lines, that number.
     pub lines: u64,
 }
 
-/// Where the threads of a server put the lines of its log, and count their connections.
+/// The queue into which a server's threads put lines, and the totals of their connections.
 #[derive(Drop)]
 pub struct LogQueue {
     pieces: Sender<LogPiece>,
@@ -33,7 +33,7 @@ pub struct LogQueue {
 }
 
 impl LogQueue {
-    /// A queue, and the end from which its pieces are taken.
+    /// A queue, and its receiving end.
     pub fn new(alloc: Global) -> Result<(LogQueue, Receiver<LogPiece>), AllocError> {
         let Ok((pieces, from)) = bounded::<LogPiece, _>(alloc, PLACES) else {
             return Err(AllocError);
@@ -49,24 +49,24 @@ impl LogQueue {
         Ok((queue, from))
     }
 
-    /// What the connections come to since this was last asked, as the thread of `start_log` does
-    /// each minute.
-    // open: what the numbers come to: tests.
+    /// The totals of the connections since the last call. The thread of `start_log` calls this each
+    /// minute.
+    // open: which numbers it returns: tests.
     pub fn take_totals(&self) -> Totals {
         self.tally.take()
     }
 
-    /// By what connections are counted.
+    /// The totals in which connections are counted.
     pub(crate) fn tally(&self) -> &RunningTotals {
         &self.tally
     }
 
-    /// The same, for the thread that tells it.
+    /// The totals, shared with the thread that logs them.
     pub(crate) fn shared_tally(&self) -> Option<Arc<RunningTotals>> {
         Arc::try_clone(&self.tally).ok()
     }
 
-    /// Puts lines into the queue. Where it is full they are lost.
+    /// Puts lines into the queue. If it is full they are lost.
     pub(crate) fn put<H>(&self, rt: &H, piece: LogPiece)
     where
         H: Wait + AllocGlobal + Clock,
@@ -74,7 +74,8 @@ impl LogQueue {
         let _put = self.put_until(rt, piece, None);
     }
 
-    /// Puts the line of an event into the queue. It is lost where memory is refused.
+    /// Puts the line of an event into the queue. The line is lost if the queue is full or an
+    /// allocation fails.
     // open: that lines come out whole, that nothing waits for a log that nobody reads, and that
     // lost lines are counted: tests, and `bench/hostile`.
     pub fn note<H>(&self, rt: &H, event: &LogEvent<'_>)
@@ -84,8 +85,8 @@ impl LogQueue {
         let _noted = self.note_until(rt, event, None);
     }
 
-    /// Puts the line of an event into the queue, and waits until then for a place where there is
-    /// none. Whether it was put there.
+    /// Puts the line of an event into the queue, and waits until `until` for a place if it is full.
+    /// Returns whether it was put there.
     pub fn note_until<H>(&self, rt: &H, event: &LogEvent<'_>, until: Option<Instant>) -> bool
     where
         H: Wait + AllocGlobal + Clock,
@@ -99,13 +100,14 @@ impl LogQueue {
         }
     }
 
-    /// Counts lines that are lost.
+    /// Counts lost lines.
     pub(crate) fn lose(&self, lines: u64) {
         let _before = self.lost.fetch_add(lines, Ordering::SeqCst);
     }
 
-    /// Puts lines into the queue, behind how many were lost, if any were, and waits until then for
-    /// a place where there is none. Whether they were put there.
+    /// Puts lines into the queue, after a line with the number of lost lines, if any were lost.
+    /// Waits until `until` for a place if the queue is full. Returns whether the lines were put
+    /// there.
     pub(crate) fn put_until<H>(&self, rt: &H, piece: LogPiece, until: Option<Instant>) -> bool
     where
         H: Wait + AllocGlobal + Clock,

@@ -1,7 +1,7 @@
-//! The thread that writes a server's log, which nobody joins: a write to a reader that doesn't read
-//! has no end, and the server's end isn't to wait for it. It is let go by its handle, and ends with
-//! the program at the latest. Each minute, and at its end, it tells what connections came to. Of
-//! threads, and of what standard error takes, nothing is proved.
+//! The thread that writes a server's log. It is detached: a write may block forever if standard
+//! error isn't read, and the server's end must not wait for it. The thread ends with the program at
+//! the latest. Each minute, and at its end, it logs the totals of the connections. Nothing is
+//! proved about threads and standard error.
 
 use crate::clock::{is_past, seconds_from_now, utc_now};
 use crate::log_output::LogOutput;
@@ -14,20 +14,20 @@ use std::sync::{Arc, Wait};
 use std::thread::{self, Threads};
 use std::time::{Clock, Duration, Instant};
 
-/// How long the end of a server waits for what is still to be written.
+/// How long the end of a server waits for lines that are still to be written.
 const END_SECONDS: u64 = 4;
 
-/// How long it is from one line of totals to the next.
+/// The seconds from one line of totals to the next.
 const TOTALS_SECONDS: u64 = 60;
 
-/// What is heard when the thread has ended.
+/// Reports that the thread has ended.
 #[derive(Drop)]
 pub struct LogEnd {
     ended: Receiver<()>,
 }
 
-/// Starts the thread that writes the lines of a queue on standard error, until the queue is let go
-/// of and empty. B4 where memory or the thread is refused.
+/// Starts the thread that writes the lines of a queue to standard error, until the queue is dropped
+/// and empty. Returns B4 if an allocation or the thread's start fails.
 // open: all but the line of an event, which is that of `log_line`: tests.
 pub fn start_log<H>(rt: &H) -> Result<(LogQueue, LogEnd), ResourceFault>
 where
@@ -49,7 +49,7 @@ where
     }
 }
 
-// Writes each piece, and the totals each minute and at the end; and then how many lines couldn't be
+// Writes each piece, and the totals each minute and at the end; last, how many lines couldn't be
 // written.
 fn write_pieces<H>(rt: H, pieces: Receiver<LogPiece>, tally: Arc<RunningTotals>, ending: Sender<()>)
 where
@@ -74,8 +74,8 @@ where
     drop(ending);
 }
 
-// The next piece, until a minute is over, also where pieces go on coming. A minute of which the
-// clock can't tell when it is over has no end.
+// The next piece; a time-out once the minute is over, even if pieces keep coming. Without a clock
+// the minute doesn't end.
 fn next_piece<H>(
     rt: &H,
     pieces: &Receiver<LogPiece>,
@@ -93,7 +93,7 @@ where
     pieces.recv_deadline(rt, minute)
 }
 
-// Writes the line of the totals, as a piece.
+// Writes the line of the totals, as a piece, and returns how many lines are then unwritten.
 fn write_totals<H>(rt: &H, tally: &RunningTotals, unwritten: u64) -> u64
 where
     H: AllocGlobal + Clock + LogOutput,
@@ -104,8 +104,8 @@ where
     }
 }
 
-// Writes a piece, behind so many lines that couldn't be written, as on a full disk; how many then
-// couldn't be. A piece of which a part was written counts as a whole.
+// Writes a piece, after a line with the number of unwritten lines, if any (such as on a full disk).
+// Returns how many are then unwritten; a piece that was written in part counts as a whole.
 fn write_piece<H>(rt: &H, piece: &LogPiece, unwritten: u64) -> u64
 where
     H: AllocGlobal + Clock + LogOutput,
@@ -119,8 +119,8 @@ where
     }
 }
 
-// Tells how many lines couldn't be written, of which the last may have been cut; whether that is
-// told.
+// Logs how many lines couldn't be written, of which the last may be cut. Returns whether that was
+// written.
 fn tell_unwritten<H>(rt: &H, lines: u64) -> bool
 where
     H: AllocGlobal + Clock + LogOutput,
@@ -132,7 +132,7 @@ where
 }
 
 impl LogEnd {
-    /// Waits until all lines are written, once their queue is let go of; for four seconds at most.
+    /// Waits until all lines are written, once their queue is dropped; for at most four seconds.
     pub fn wait<H: Wait + Clock>(self, rt: &H) {
         let _ended = self
             .ended

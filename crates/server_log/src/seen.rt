@@ -1,7 +1,6 @@
-//! What the log has seen of a connection: what each app was answered, and under which generation.
-//! The line is written once the reply was sent: what a request says of its apps is shared until
-//! then, and other texts are copied. A worker keeps the room for all of it from one connection to
-//! the next.
+//! What the log keeps of a connection: the result for each app, and under which generation. The
+//! line is written after the reply was sent: the facts of the request's apps are shared until then,
+//! and other texts are copied. A worker reuses the buffers for its next connection.
 
 ghost use Rattle.std.specs.Prelude.{◌≡◌, [], None, Some};
 ghost use Rattle.server_log.specs.Seen.{IsUnseen, IsSameRequest};
@@ -21,30 +20,30 @@ use std::mem;
 use std::net::{IpAddr, SocketAddr};
 use std::time::Clock;
 
-/// What was seen, where it is to be kept.
+/// The contents of a connection's line, if the log keeps them.
 #[derive(Drop)]
 pub struct Seen {
     alloc: Global,
     is_kept: bool,
-    /// 0 where nothing was answered.
+    /// 0 if no request was answered.
     pub(crate) generation: Generation,
-    /// The address that a proxy names.
+    /// The address in `X-Forwarded-For`.
     forwarded: Option<IpAddr>,
     /// How the connection failed, if it did.
     pub(crate) cause: Option<&'static str>,
-    /// How many bytes were written.
+    /// The number of bytes written.
     pub(crate) bytes: u64,
-    /// Room for what is read.
+    /// The buffer for what is read.
     room: Vec<u8>,
     texts: KeptTexts,
-    /// What was heard of each app, one a place.
+    /// The details of each app, in the request's order.
     events: Vec<HeardApp>,
     apps: Vec<SeenApp>,
-    /// Whether memory was refused to some of it.
+    /// Whether an allocation failed for some of it.
     is_cut: bool,
 }
 
-/// The client's address and port, and the address that a proxy names, as texts.
+/// The places of the texts of the client's address and port, and of the address that a proxy names.
 #[derive(Clone, Copy)]
 pub(crate) struct Addresses {
     peer: TextPlace,
@@ -52,7 +51,7 @@ pub(crate) struct Addresses {
 }
 
 impl Seen {
-    /// Nothing yet.
+    /// Starts with nothing.
     pub fn new(alloc: Global, is_kept: bool) -> Seen
         ensures unseen { IsUnseen result }
         ensures kept { result.is_kept ≡ is_kept }
@@ -72,7 +71,7 @@ impl Seen {
         }
     }
 
-    /// Nothing yet, of the next connection.
+    /// Clears everything for the next connection.
     pub fn begin(&mut self)
         ensures unseen { IsUnseen self.new }
         ensures kept { self.new.is_kept ≡ self.old.is_kept }
@@ -87,8 +86,8 @@ impl Seen {
         self.is_cut = false;
     }
 
-    /// A reader that remembers what is read, in the room for it, where it is to be kept. The room
-    /// is out until `remember` gives it back.
+    /// Wraps a reader so that it keeps what is read, if that is wanted, in the buffer. `remember`
+    /// returns the buffer.
     pub fn heard<R>(&mut self, reader: R) -> Heard<R>
         ensures reader { result.inner ≡ reader }
         ensures kept { result.is_kept ≡ self.old.is_kept }
@@ -100,8 +99,8 @@ impl Seen {
         Heard::in_room(room, reader, self.is_kept)
     }
 
-    /// Keeps what the devices of a connection remember: the address that a proxy names, how the
-    /// reader failed or else the writer, and how many bytes were written.
+    /// Takes the details of a connection from its devices: the address that a proxy names, how the
+    /// reader failed or else the writer, and the number of bytes written.
     pub fn remember<'x, H: Clock>(
         &mut self,
         reader: Heard<Timed<'x, H>>,
@@ -119,7 +118,7 @@ impl Seen {
         self.room = reader.into_room();
     }
 
-    /// Keeps why the connection failed, where its devices can't tell.
+    /// Sets why the connection failed, if its devices don't know.
     pub fn fail(&mut self, cause: &'static str)
         ensures cause { self.new.cause ≡ Some cause.entry }
         ensures same { IsSameRequest self.old self.new }
@@ -127,7 +126,7 @@ impl Seen {
         self.cause = Some(cause);
     }
 
-    /// Keeps the texts of the addresses.
+    /// Appends the texts of the addresses.
     pub(crate) fn keep_addresses(&mut self, peer: SocketAddr) -> Result<Addresses, AllocError> {
         let peer = self.texts.keep_socket(peer)?;
         let forwarded = match self.forwarded {
@@ -147,7 +146,7 @@ impl Seen {
         self.texts.at_some(addresses.forwarded)
     }
 
-    /// The app, as a line tells it, where there is one alone and it was kept.
+    /// The app for the line, if there is exactly one and it was kept.
     pub(crate) fn only_app(&self) -> Option<AskedApp<'_>> {
         match self.apps.as_slice() {
             [app] if !self.is_cut => Some(app.asked(&self.texts)),
@@ -155,8 +154,8 @@ impl Seen {
         }
     }
 
-    /// The apps, as a line tells them: those that the server knows before the others, so that an
-    /// unknown one takes the room of none of them; none where memory was refused to some of them.
+    /// The apps for the line: those that the server has before the others, so that an unknown app
+    /// takes no space from them. Fails if an allocation failed for some app.
     pub(crate) fn asked(&self) -> Result<Vec<AskedApp<'_>>, AllocError> {
         if self.is_cut {
             return Err(AllocError);
@@ -175,7 +174,7 @@ impl Seen {
         Ok(asked)
     }
 
-    // Keeps the apps.
+    // Keeps the apps, with what was found for them.
     fn keep(
         &mut self,
         request: &Request,
@@ -197,7 +196,7 @@ impl Seen {
         Ok(())
     }
 
-    // What was heard of the app at a place, and the request's platform.
+    // The details of the app at a place, with the request's platform.
     fn heard_at(&self, place: usize, platform: Option<KeptExcerpt>) -> Beside {
         let heard = match self.events.get(place) {
             Some(heard) => *heard,
@@ -206,14 +205,14 @@ impl Seen {
         Beside { heard, platform }
     }
 
-    // Keeps what is heard of the next app.
+    // Keeps the details of the next app.
     fn keep_heard(&mut self, app: WrittenApp<'_>) -> Result<(), AllocError> {
         let heard = HeardApp::of(self.alloc, &mut self.texts, app)?;
         self.events.push(heard)?;
         Ok(())
     }
 
-    /// Lets the apps go, once their line is written.
+    /// Drops the apps, once their line is written.
     pub(crate) fn let_go(&mut self) {
         self.apps.clear();
     }
@@ -238,7 +237,7 @@ impl Witness for Seen {
     }
 }
 
-// The bucket of an app that nothing was found for; 0 where there is none, since a hash takes time.
+// The hashed bucket if an app is unknown to the server; otherwise 0, since a hash takes time.
 fn bucket_of_unknown(request: &Request, found: &[Option<FoundApp<'_>>]) -> Bucket {
     for app in found {
         if app.is_none() {

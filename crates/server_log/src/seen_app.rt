@@ -1,5 +1,5 @@
-//! An app of a request, as the log keeps it: what it said and was answered, and where the texts
-//! beside these stand.
+//! An app of a request, as the log keeps it: its facts, what was found for it, and the places of
+//! its other texts.
 
 use crate::heard_app::HeardApp;
 use crate::kept_texts::{KeptTexts, TextPlace};
@@ -8,7 +8,7 @@ use attrs::{Bucket, SharedFacts, Text, cohort_bucket, named_or_hashed};
 use omaha_json::{FoundApp, release_at};
 use std::alloc::AllocError;
 
-/// An app.
+/// An app, with what was found for it.
 #[derive(Drop)]
 pub(crate) struct SeenApp {
     said: SharedFacts,
@@ -20,7 +20,7 @@ pub(crate) struct SeenApp {
     beside: Beside,
 }
 
-/// What a line tells of an app that its facts don't have.
+/// The details of an app that its facts don't have.
 #[derive(Clone, Copy)]
 pub(crate) struct Beside {
     pub(crate) heard: HeardApp,
@@ -28,7 +28,7 @@ pub(crate) struct Beside {
     pub(crate) platform: Option<KeptExcerpt>,
 }
 
-/// Where the beginning of a text stands, and how many bytes the whole text has.
+/// The place of the beginning of a text, and the length of the whole text.
 #[derive(Clone, Copy)]
 pub(crate) struct KeptExcerpt {
     text: TextPlace,
@@ -36,7 +36,7 @@ pub(crate) struct KeptExcerpt {
 }
 
 impl KeptExcerpt {
-    /// Keeps what a line tells of a text.
+    /// Keeps an excerpt.
     pub(crate) fn of(
         texts: &mut KeptTexts,
         excerpt: Excerpt<'_>,
@@ -47,7 +47,7 @@ impl KeptExcerpt {
         })
     }
 
-    // As a line tells it.
+    // The excerpt, for the line.
     fn excerpt<'x>(&self, texts: &'x KeptTexts) -> Excerpt<'x> {
         Excerpt {
             text: texts.at(self.text),
@@ -57,7 +57,7 @@ impl KeptExcerpt {
 }
 
 impl SeenApp {
-    /// Keeps an app, what was found for it, and its event.
+    /// Keeps an app, what was found for it, and its other details.
     pub(crate) fn of(
         texts: &mut KeptTexts,
         said: SharedFacts,
@@ -79,7 +79,7 @@ impl SeenApp {
         })
     }
 
-    /// As a line tells it.
+    /// The app, for the line.
     pub(crate) fn asked<'x>(&'x self, texts: &'x KeptTexts) -> AskedApp<'x> {
         let said = self.said.facts();
         AskedApp {
@@ -93,7 +93,7 @@ impl SeenApp {
         }
     }
 
-    // What it says beside its id and its version.
+    // Its members other than its id and version.
     fn more<'x>(&'x self, texts: &'x KeptTexts) -> AskedMore<'x> {
         let said = self.said.facts();
         AskedMore {
@@ -118,7 +118,7 @@ impl SeenApp {
     }
 }
 
-// The version of the release that was chosen, if one was.
+// The version of the chosen release, if one was chosen.
 fn release_of(
     texts: &mut KeptTexts,
     found: &FoundApp<'_>,
@@ -132,7 +132,7 @@ fn release_of(
     }
 }
 
-// What a line tells of a text.
+// A brief excerpt of a text.
 fn brief_of(text: &Option<Text>) -> Option<Excerpt<'_>> {
     match text {
         Some(text) => Some(Excerpt::brief(text.as_str())),
@@ -140,7 +140,7 @@ fn brief_of(text: &Option<Text>) -> Option<Excerpt<'_>> {
     }
 }
 
-// The same, where there is room for it.
+// A short excerpt of a text.
 fn short_of(text: &Option<Text>) -> Option<Excerpt<'_>> {
     match text {
         Some(text) => Some(Excerpt::short(text.as_str())),

@@ -1,5 +1,5 @@
-//! What the log tells of a server's start: that it is about to serve what has this digest, or why
-//! it doesn't.
+//! The log line of a server's start: that it is about to serve what has this digest, or why it
+//! doesn't start.
 
 ghost use Rattle.std.specs.Prelude.{IfOk, IfSome, option_copied, option_map};
 ghost use Rattle.hex.specs.Hex.{encode_lower};
@@ -15,7 +15,7 @@ use std::fmt::Display;
 use std::sync::Wait;
 use std::time::Clock;
 
-/// A server that is to start.
+/// A server that is starting.
 #[derive(Clone, Copy)]
 pub struct Starting<'a> {
     /// The path of its manifest.
@@ -25,10 +25,10 @@ pub struct Starting<'a> {
     pub operator: u16,
 }
 
-/// Puts the line of a server that starts into the queue, with the digest of what it serves, which
-/// is left out where memory is refused. Where all of it is refused the line is lost.
+/// Puts the line of a server that starts into the queue, with the digest of what it serves. If an
+/// allocation fails the digest is left out, or else the line is lost.
 // open: that what is queued is the line of `start_line` with this digest, and that it comes out: no
-// contract knows what stands in a queue. Tests.
+// contract knows the contents of a queue. Tests.
 pub fn note_start<H>(rt: &H, queue: &LogQueue, server: Starting<'_>, digest: [u8; 32])
 where
     H: Wait + AllocGlobal + Clock,
@@ -44,10 +44,10 @@ where
     }
 }
 
-/// Puts the line of a server that doesn't start into the queue, with the fault's text and with what
-/// is told of it beside. It is lost where memory is refused.
-// open: that what is queued is the line of `refused_start_line` of this fault and cause, and that
-// it comes out: no contract knows what stands in a queue. Tests.
+/// Puts the line of a refused start into the queue, with the fault's text and its cause. The line
+/// is lost if an allocation fails.
+// open: that what is queued is the line of `refused_start_line` with this fault and cause, and that
+// it comes out: no contract knows the contents of a queue. Tests.
 pub fn note_refused_start<H, F>(
     rt: &H,
     queue: &LogQueue,
@@ -65,10 +65,10 @@ where
     }
 }
 
-/// Writes the same line at once, when there is no queue. It is lost where memory is refused or
-/// standard error fails.
-// open: that what is written is the line of `refused_start_line` of this fault and cause: of what
-// standard error takes nothing is known. Tests.
+/// Writes the line of a refused start at once, if there is no queue. The line is lost if an
+/// allocation or standard error fails.
+// open: that what is written is the line of `refused_start_line` with this fault and cause: no
+// contract knows what standard error takes. Tests.
 pub fn write_refused_start<H, F>(rt: &H, server: Starting<'_>, fault: &F, cause: Option<&str>)
 where
     H: AllocGlobal + Clock + LogOutput,
@@ -79,8 +79,8 @@ where
     }
 }
 
-/// The line of one that starts.
-// open: whether memory is refused.
+/// The line of a server that starts.
+// open: whether an allocation fails.
 fn start_line(
     alloc: Global,
     time: &Utc,
@@ -98,8 +98,8 @@ fn start_line(
     )
 }
 
-/// The line of one that doesn't.
-// open: whether memory is refused.
+/// The line of a refused start.
+// open: whether an allocation fails.
 fn refused_start_line<F: Display>(
     alloc: Global,
     time: &Utc,

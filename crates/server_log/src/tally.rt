@@ -1,5 +1,5 @@
-//! What the connections since the log's last line of totals came to, as the workers count them.
-//! What threads share is known to no contract.
+//! The totals of the connections since the log's last line of totals, as the workers count them. No
+//! contract knows what threads share.
 
 use crate::connection_line::status_of;
 use crate::log_queue::LogQueue;
@@ -7,7 +7,7 @@ use access_log::Totals;
 use answering::{AnswerFault, Sent};
 use std::sync::atomic::{AtomicU64, Ordering};
 
-/// The numbers of `Totals`, and how many workers are at work now.
+/// The numbers of `Totals`, and how many workers are busy now.
 #[derive(Drop)]
 pub(crate) struct RunningTotals {
     success: AtomicU64,
@@ -25,7 +25,7 @@ pub(crate) struct RunningTotals {
 }
 
 impl RunningTotals {
-    /// Of no connection yet.
+    /// All zero.
     pub(crate) fn new() -> RunningTotals {
         RunningTotals {
             success: AtomicU64::new(0),
@@ -52,13 +52,13 @@ impl RunningTotals {
         let _longest = self.longest_wait.fetch_max(waited, Ordering::SeqCst);
     }
 
-    // Counts how one has ended.
+    // Counts the end of a connection.
     fn end(&self, status: u16) {
         let _before = self.counted_by(status).fetch_add(1, Ordering::SeqCst);
         let _busy = self.busy_now.fetch_sub(1, Ordering::SeqCst);
     }
 
-    // By what the connections are counted whose replies have this status, or that had none.
+    // The count of the connections whose reply has this status, or of those without a reply.
     fn counted_by(&self, status: u16) -> &AtomicU64 {
         match status {
             200 => &self.success,
@@ -73,7 +73,7 @@ impl RunningTotals {
         }
     }
 
-    /// The totals, which begin anew.
+    /// Returns the totals and resets them.
     pub(crate) fn take(&self) -> Totals {
         let busy_now = self.busy_now.load(Ordering::SeqCst);
         Totals {
@@ -96,17 +96,17 @@ fn taken(number: &AtomicU64) -> u64 {
     number.swap(0, Ordering::SeqCst)
 }
 
-/// Counts a connection that a worker has taken, and for how many microseconds it had waited, where
-/// there is a log.
-// open: what the totals come to by it: tests.
+/// Counts a connection that a worker has taken, and the microseconds that it waited, if there is a
+/// log.
+// open: the totals that result: tests.
 pub fn count_begun(log: Option<&LogQueue>, waited: u64) {
     if let Some(queue) = log {
         queue.tally().begin(waited);
     }
 }
 
-/// Counts how a connection has ended that was counted as begun, where there is a log.
-// open: what the totals come to by it: tests.
+/// Counts the end of a connection that was counted as begun, if there is a log.
+// open: the totals that result: tests.
 pub fn count_ended(log: Option<&LogQueue>, outcome: &Result<Sent, AnswerFault>) {
     if let Some(queue) = log {
         queue.tally().end(status_of(outcome));

@@ -1,4 +1,4 @@
--- The passes of a server, as they are gathered to close its cells: from the last worker on.
+-- The passes of a server, as they are collected to close its cells: from the last worker on.
 use Rattle.std.proofs.Common.{◌≡◌, List, [], ◌∷◌, ◌++◌, length, All, map, reverse, sym, ap}
 use Rattle.std.proofs.Common.{◌∙◌, append_assoc, append-nil, arith}
 use Rattle.std.proofs.lemmas.List.{map-append, reverse-append}
@@ -11,7 +11,7 @@ use Rattle.ruleset.specs.Rules.{Rules}
 abbrev pub turned : List (PassView × Beginning) → List PassView
 turned workers = reverse (map (λ (worker : PassView × Beginning). worker.0) workers)
 
--- the last one's is the first
+-- the last worker's pass is the first
 turned_push : (rest : List (PassView × Beginning)) (worker : PassView × Beginning)
     → turned (rest ++ worker ∷ []) ≡ worker.0 ∷ turned rest
 turned_push rest worker =
@@ -20,9 +20,9 @@ turned_push rest worker =
     (map-append (λ (w : PassView × Beginning). w.0) rest (worker ∷ []))
     ∙ reverse-append passes (worker.0 ∷ [])
 
--- ---- the passes so far, with those of the workers that are left, are all
+-- ---- the passes so far and those of the remaining workers are all
 
--- a worker more
+-- one more worker
 pub one_gathered : (room more : List PassView) (workers rest : List (PassView × Beginning))
     (worker : PassView × Beginning) (pass : PassView) (all : List PassView)
     → workers ≡ rest ++ worker ∷ [] → more ≡ room ++ pass ∷ [] → pass ≡ worker.0
@@ -35,25 +35,25 @@ one_gathered room more workers rest worker pass all split grown same so_far =
     (sym (ap turned split ∙ turned_push rest worker))
     ∙ so_far
 
--- and none is left
+-- no worker remains
 pub all_gathered : (room : List PassView) (workers : List (PassView × Beginning))
     (all : List PassView) → length workers ≡ 0 → room ++ turned workers ≡ all → room ≡ all
 all_gathered room [] all none so_far = sym (append-nil room) ∙ so_far
 all_gathered room (w ∷ workers) all none so_far = absurd (omega (arith, none))
 
--- what holds of each element does so in the other order
+-- what holds for each element also holds in reverse order
 pub All-reverse : {A : Type 0} (P : A → Type 0) (xs : List A) → All P xs → All P (reverse xs)
 All-reverse P [] all = All-nil P
 All-reverse P (x ∷ xs) all =
     All-same P (reverse (x ∷ xs)) (reverse xs ++ x ∷ []) (reverse-cons x xs)
     (All-push P (reverse xs) x (All-reverse P xs (All-tail P x xs all)) (All-head P x xs all))
 
--- ---- what each worker has seen
+-- ---- what each worker has read
 
 abbrev pub HasSeen : List Rules → PassView × Beginning → Type 0
 HasSeen published worker = IsPrefix worker.1.rulesets published
 
--- if all that are left have seen nothing but what was published, all have
+-- if all remaining workers have read only what was published, all have
 pub one_more_has : (published : List Rules) (workers rest : List (PassView × Beginning))
     (worker : PassView × Beginning) (all : List (PassView × Beginning))
     → workers ≡ rest ++ worker ∷ [] → IsPrefix worker.1.rulesets published

@@ -1,4 +1,4 @@
--- What the threads of a server gave back: a pass that was new has made what it grew by.
+-- What the threads of a server returned: a new pass has made the events by which it grew.
 use Rattle.std.proofs.Common.{◌≡◌, ℕ, ◌≤◌, List, [], ◌∷◌, ◌++◌, length, All, sym, ap, subst}
 use Rattle.std.proofs.Common.{◌∙◌, arith, length-append}
 use Rattle.std.specs.List.{AllZip}
@@ -18,9 +18,9 @@ use Rattle.workers.specs.Back.{OperatorBack, WorkerBack}
 use Rattle.serving.specs.Ended.{IsOfServer}
 use Rattle.serving.specs.Staff.{IsNewWorker}
 
--- ---- what came back of what was new
+-- ---- what was returned for what was new
 
--- of lists that belong together place by place
+-- for lists that are related element by element
 pub zipped : {A B : Type 0} (P : A → Type 0) (R : A → B → Type 0) (Q : B → Type 0)
     → ((x : A) (y : B) → P x → R x y → Q y) → (xs : List A) (ys : List B)
     → All P xs → AllZip R xs ys → All Q ys
@@ -31,7 +31,7 @@ zipped P R Q one (x ∷ xs) (y ∷ ys) all back =
     All-cons Q y ys (one x y (All-head P x xs all) back.0)
     (zipped P R Q one xs ys (All-tail P x xs all) back.1)
 
--- a pass that was new has made what it grew by
+-- a new pass has made the events by which it grew
 pub all_made : PassesGainLists → (table : TableId) (old : PassView) (made : List CellEvent)
     (new : PassView) → IsNewPass table old → GrewBy Gained old made new → new.events ≡ made
 all_made gain table old made new is grown =
@@ -45,14 +45,14 @@ has_looked gain cells old new is back =
     let looked = back.looked in
     subst AreLoads (sym (all_made gain cells.table old looked.events new is looked.grown)) looked.of
 
--- workers that are new belong to the cells
+-- new workers belong to the cells
 pub new_belong : (cells : CellsView) (known : Beginning) (workers : List (PassView × Beginning))
     → All (IsNewWorker cells.table known) workers → All (λ w. IsPassOf cells w.0) workers
 new_belong cells known workers =
     All-weaker (IsNewWorker cells.table known) (λ (w : PassView × Beginning). IsPassOf cells w.0)
     (λ w is. is.pass.of) workers
 
--- and those that came back are of the server
+-- returned workers belong to the server
 pub are_of_server : AnswersGoOnwards → (cells : CellsView) (known : Beginning)
     (publisher : PublisherId) (old new : List (PassView × Beginning))
     → publisher ≡ known.publisher → All (IsNewWorker cells.table known) old
@@ -68,7 +68,7 @@ are_of_server onwards cells known publisher old new same =
     })
     old new
 
--- ---- a worker has seen nothing but what was published
+-- ---- a worker has read only what was published
 
 shorter : (a b : Beginning) → GoesOnwards a b → length a.rulesets ≤ length b.rulesets
 shorter a b goes =

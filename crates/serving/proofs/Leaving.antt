@@ -1,4 +1,4 @@
--- What a server knows only, when it begins and when it ends.
+-- The arrays that a server's rulesets know, when it begins and when it ends.
 use Rattle.std.proofs.Common.{◌≡◌, List, [], ◌∷◌, All, sym, subst}
 use Rattle.std.proofs.lemmas.List.Elements.{All-cons, All-nil, All-same}
 use Rattle.cells.specs.Directory.{IsDirectory}
@@ -22,7 +22,7 @@ knows_first control arrays rules same listed only =
     (All-cons P rules [] (subst (λ (a : List CellArray). KnowsOnly a rules) (sym same) only)
     (All-nil P))
 
--- and so do all that were published in the end
+-- and all published rulesets know only the server's arrays at its end
 pub leaves : {F : Type 0} (loads : Loading F) → LoadsKeepToArrays loads → ThreadsGrantQuotas
     → (cells : CellsView) (control end : Controlled) (published : Beginning) (closed : ClosedView)
     → AreClosed cells closed → LoadsLead loads control end → IsDirectory end.arrays

@@ -1,4 +1,4 @@
--- What is made of a manifest is what its loader gives.
+-- What is made from a manifest is what its loader returns.
 use Rattle.std.proofs.Common.{◌≡◌, ℕ, List, Some, Ok, sym, subst}
 use Rattle.bounded_files.specs.Files.{KnownFiles}
 use Rattle.cells.specs.declared.array.CellArray.{CellArray}

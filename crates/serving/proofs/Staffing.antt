@@ -30,7 +30,7 @@ one_worker table known passes rest pass workers more watcher split grown seen ne
           (record { pass = popped.1; watches = seen })),
     )
 
--- the operator takes the last pass, and each worker one of the others
+-- the operator takes the last pass, and each worker takes one of the others
 pub is_staff : (cells : CellsView) (known : Beginning) (all rest : List PassView) (pass : PassView)
     (workers : List (PassView × Beginning))
     → cells.passes ≡ length all → All (IsNewPass cells.table) all → all ≡ rest ++ pass ∷ []

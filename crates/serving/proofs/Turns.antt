@@ -38,7 +38,7 @@ record HasAnswered (from to : Beginning) (pass : PassView) : Type 0 where
   pub in_turn : AreInTurn from answers to
   pub ran : AreOfRuns to.rulesets (runs_in_turn answers) pass.events
 
--- a worker that has seen nothing but what was published
+-- a worker that has read only what was published
 has_answered : Laws → (cells : CellsView) (known to : Beginning) (old new : PassView × Beginning)
     → IsNewWorker cells.table known old → WorkerBack (IsPassOf cells) Gained old new
     → GoesOnwards new.1 to → HasAnswered known to new.0
@@ -118,7 +118,7 @@ have_answered from to (p ∷ ps) all =
     one_answered from to p ps (All-head (HasAnswered from to) p ps all)
     (have_answered from to ps (All-tail (HasAnswered from to) p ps all))
 
--- the operator did no run
+-- the operator did no runs
 all_did : (from to : Beginning) (operator : PassView) (others : List PassView)
     (have : HaveAnswered from to others) → AreLoads operator.events
     → DidRuns (lists_of (operator ∷ others)) 0 (runs_by_pass have.answers)
@@ -154,7 +154,7 @@ by_runs world (first ∷ later) last runs closed is sound did whole left counter
       counters = counters;
     }
 
--- the answers of a server's workers, in turn, and what was done to the counters by their runs
+-- the answers of a server's workers, in turn, and what their runs did to the counters
 pub record DidInTurn (from to : Beginning) (closed : ClosedView) : Type 0 where
   pub answers : List (List WorkerAnswer)
   pub in_turn : All (λ given. AreInTurn from given to) answers

@@ -1,4 +1,4 @@
--- What a server leaves once it has ended: one history of all that its threads did to its counters.
+-- What a server leaves after its end: one history of all that its threads did to its counters.
 use Rattle.std.specs.Prelude.{◌≡◌, List, [], ◌∷◌, All, map, reverse}
 use Rattle.thread_laws.specs.Quotas.{QuotasAreGranted}
 use Rattle.shared_cells.specs.Passes.{CellsView, PassView, ClosedView, IsPassOf, AreClosed}
@@ -15,12 +15,12 @@ use Rattle.ruleset.specs.Rules.{Rules, IsRuleset}
 use Rattle.workers.specs.Answers.{WorkerAnswer, AreInTurn}
 use Rattle.workers.specs.Runs.{runs_in_turn}
 
--- What threads did to counters that are closed, by these runs of each pass. There is one legal
--- history of all passes, which leaves these values, and in which the events of each pass are those
--- that it made. The first pass only looked, and each other one did its runs, one after the other,
--- each under one of the rulesets and to its end, in time and with 0 or a release. And that history,
--- without the looks, is that of one world, which does these runs. Of each counter a quota is
--- granted exactly.
+-- What threads did to closed counters, given the runs of each pass. There is one legal history (a
+-- linearization) of all passes, which leaves these values and has the events of each pass. The
+-- first pass only read counters. Each other pass did its runs, one after the other, under the
+-- rulesets. Each run came to its end in time, with 0 or a release. Without the reads of the first
+-- pass, that history is the one of a world that does these runs. On each counter a quota is granted
+-- exactly.
 pub record AreLeftByOneWorld (published : List Rules) (runs : List (List AppRun))
     (closed : ClosedView) : Type 0 where
   pub left : AreLeftBy closed.passes closed.values
@@ -28,17 +28,17 @@ pub record AreLeftByOneWorld (published : List Rules) (runs : List (List AppRun)
   pub world : DidOneWorld published closed.passes 0 left.history closed.values runs
   pub counters : QuotasAreExact closed.passes closed.values
 
--- the runs of each pass of a server: the operator's, which is the first, did none, and a worker's
--- did those of the worker's answers
+-- the runs of each pass of a server: none of the operator's pass, which is the first, and for a
+-- worker's pass those of the worker's answers
 abbrev pub runs_by_pass : List (List WorkerAnswer) → List (List AppRun)
 runs_by_pass by_worker = [] ∷ map runs_in_turn by_worker
 
 -- What a server leaves that began to serve with these cells and this control. The counters are its
 -- own, closed with all passes to them. Loads, and nothing else, led from that control to the one at
--- its end. There are answers of each worker, one after the other: none under an older ruleset than
--- the one before, and each under one that was published, or a refusal. What the worker did to the
--- counters is what the runs of these answers did, and the operator only looked. What was published
--- is sound and knows no arrays but those that the server has then; and of these each quota is
+-- its end. Each worker has answers, one after the other, none under an older ruleset than the one
+-- before. Each is under a published ruleset, or a refusal. What the worker did to the counters is
+-- what the runs of these answers did, and the operator only read counters. The published rulesets
+-- are sound and know only the arrays that the server has at its end. Each quota of these arrays is
 -- granted.
 pub record LeavesOneWorld {F : Type 0} (loads : Loading F) (cells : CellsView)
     (control : Controlled) (closed : ClosedView) : Type 0 where
@@ -54,16 +54,16 @@ pub record LeavesOneWorld {F : Type 0} (loads : Loading F) (cells : CellsView)
   pub only : KnowOnlyItsArrays end
   pub granted : QuotasAreGranted end.arrays closed.passes closed.values
 
--- ---- what is known on the way there
+-- ---- steps of the proof
 
--- a worker, when its thread has ended: its pass is to these cells, and its watcher is of this
--- publisher
+-- a worker whose thread has ended: its pass is to these cells, and its watcher is of this publisher
 pub record IsOfServer (cells : CellsView) (publisher : PublisherId)
     (worker : PassView × Beginning) : Type 0 where
   pub pass : IsPassOf cells worker.0
   pub watcher : publisher ≡ worker.1.publisher
 
--- the passes as they are closed: the operator's, and those of the workers, from the last one on
+-- the passes as they are closed: the operator's, then those of the workers from the last to the
+-- first
 abbrev pub passes_of : PassView → List (PassView × Beginning) → List PassView
 passes_of operator workers =
     operator ∷ reverse (map (λ (worker : PassView × Beginning). worker.0) workers)

@@ -1,4 +1,4 @@
--- Why a server that is ready has no workers, and why one that has served gives no counters.
+-- Why a ready server gets no workers, and why a server that has served returns no counters.
 use Rattle.std.specs.Prelude.{◌≡◌}
 use Rattle.bounded_files.specs.declared.fault.ResourceFault.TheVariants as resource
 use Rattle.shared_cells.specs.declared.fault.SharedFault.TheVariants as shared
@@ -6,16 +6,16 @@ use Rattle.hot_swap.specs.declared.fault.SwapFault.TheVariants as swap
 use Rattle.serving.specs.declared.fault.ServingFault.{ServingFault}
 use Rattle.serving.specs.declared.fault.ServingFault.TheVariants as serving
 
--- memory is refused, to its counters, to the publisher of its rulesets or a watcher of it, or to
--- the server itself
+-- out of memory for the counters, for the publisher of the rulesets or a watcher, or for the server
+-- itself
 abbrev pub IsStaffFault : ServingFault → Type 0
 IsStaffFault (serving.Cells fault) = fault ≡ shared.Memory
 IsStaffFault (serving.Publisher fault) = fault ≡ swap.Memory
 IsStaffFault (serving.Resource fault) = fault ≡ resource.Memory
 IsStaffFault fault = ⊥
 
--- memory, or a thread, is refused to the server itself, or that it serves can't be written; or a
--- watcher can't be asked what it has seen
+-- an allocation or a thread fails, or the ready line can't be written; or a watcher can't be read
+-- at the end
 abbrev pub IsEndFault : ServingFault → Type 0
 IsEndFault (serving.Resource fault) = Unit {0}
 IsEndFault (serving.Publisher fault) = fault ≡ swap.NoPlace

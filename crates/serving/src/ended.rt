@@ -1,5 +1,5 @@
-//! The end of a server: its threads have given back all that they were given, and its counters are
-//! closed.
+//! The end of a server: its threads have returned their passes (ghost tokens) and watchers, and its
+//! counters are closed.
 
 ghost use Rattle.std.specs.Prelude.{◌≡◌, ◌+◌, ◌≤◌, [], All, IsTrue, length, vec_capacity};
 ghost use mathlib.Core.List.{IsPrefix};
@@ -11,8 +11,8 @@ use hot_swap::{Generation, Notice, Watcher, generations_go_onwards};
 use shared_cells::{Closed, SharedCells, SharedPass};
 use workers::Returned;
 
-/// Closes the cells by all passes to them, for which there is room, and tells whether each worker
-/// could be asked what it has seen, and has seen nothing but what was published.
+/// Closes the cells by all passes to them, which fit into `room`. Also returns whether each
+/// worker's watcher could be read, and has read only what was published.
 pub(crate) fn close_cells(
     cells: SharedCells,
     back: Returned<SharedPass>,
@@ -50,8 +50,8 @@ pub(crate) fn close_cells(
     (closed, is_known)
 }
 
-// The pass of a worker, and whether it has seen nothing but what was published, up to this
-// generation. It hasn't where it has seen more, which can't be, or can't be asked.
+// The pass of a worker, and whether its watcher has read only what was published, up to this
+// generation. False if it has read more, which can't be, or if it can't be read.
 fn pass_of(
     worker: (SharedPass, Watcher),
     published: &Notice,

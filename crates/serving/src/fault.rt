@@ -1,4 +1,4 @@
-//! Why there is no server, or none that serves.
+//! Why a server can't be made, or can't serve.
 
 ghost use Rattle.std.specs.Prelude.{◌≡◌, ◌↔◌, IsTrue, Some, option_copied};
 ghost use Rattle.serving.specs.Texts.{cause_of, serving_text};
@@ -10,31 +10,31 @@ use shared_cells::SharedFault;
 use std::error::Error;
 use std::fmt::{self, Display};
 
-/// What is wrong; it is shown as it is printed.
+/// The fault, which is shown as it is printed.
 #[derive(Debug, Drop)]
 pub enum ServingFault {
-    /// B3, B4, M1 to M8: the manifest comes to no ruleset.
+    /// B3, B4, M1 to M8: the manifest has no ruleset.
     Manifest(LoadRefusal),
     /// B6: a port can't be bound, or too few descriptors are left.
     Bind,
-    /// S1: the counters are refused memory.
+    /// S1: the counters can't be allocated.
     Cells(SharedFault),
-    /// H1 or H2: the publisher of the rulesets, or a watcher of it, is refused.
+    /// H1 or H2: the publisher of the rulesets, or a watcher of it, fails.
     Publisher(SwapFault),
-    /// B4: memory that the server itself wants, or a thread, is refused. B3: that it serves can't
-    /// be written.
+    /// B4: another allocation, or a thread, fails. B3: the ready line can't be written.
     Resource(ResourceFault),
 }
 
 impl ServingFault {
-    /// Whether it is that of a server that has served: its log has told it with the counters.
+    /// Whether it is the fault of a server that has served: its log already has it, with the
+    /// counters.
     pub fn is_of_end(&self) -> bool
         ensures { IsTrue result ↔ (self.now ≡ ServingFault.Publisher SwapFault.NoPlace) }
     {
         matches!(self, ServingFault::Publisher(SwapFault::NoPlace))
     }
 
-    /// What a log tells of it beside its text, if it tells more: the cause of a manifest's fault.
+    /// The cause that a log has with the fault's text, if there is one: that of a manifest's fault.
     pub fn cause(&self) -> Option<&str>
         ensures { option_copied result ≡ cause_of self.now }
     {

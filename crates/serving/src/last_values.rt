@@ -1,5 +1,5 @@
-//! What the log tells when a server has ended: that it has, and a line for each counter that isn't
-//! 0. They wait for places in the log's queue, so that none is lost where the log is read in time.
+//! The log lines of a server's end: that it has ended, and a line for each counter that isn't 0.
+//! They wait for places in the log's queue, so that none is lost if the log is read in time.
 
 use access_log::{Counter, LogEvent};
 use cells::{CellArray, CellNo};
@@ -11,8 +11,9 @@ use std::time::{Clock, Instant};
 /// How long all these lines wait for places.
 const END_SECONDS: u64 = 4;
 
-/// Tells the log, if there is one, that a server has ended, with what is refused then, and what is
-/// left of its counters, array after array, up to the first line that has no place in time.
+/// Logs, if there is a log, that a server has ended, with the refusal if there is one. Then logs
+/// the last values of its counters, array after array, up to the first line that gets no place in
+/// time.
 pub(crate) fn note_end<H>(
     rt: &H,
     log: Option<&LogQueue>,
@@ -37,7 +38,7 @@ where
     }
 }
 
-// Those of an array; whether all have a place.
+// Logs the counters of an array, and returns whether all lines got a place.
 fn note_array<H>(
     rt: &H,
     queue: &LogQueue,
@@ -65,7 +66,7 @@ fn counter_event<'x>(array: &'x CellArray, index: u16, value: u64) -> LogEvent<'
     })
 }
 
-// 0 past the last cell, which no array reaches.
+// The last value of an array's cell; 0 past the last cell, which no array reaches.
 fn value_of(array: &CellArray, index: u16, closed: &Closed) -> u64 {
     match array.base.checked_add(index) {
         Some(number) if number < CellNo::COUNT => closed.value(CellNo::new(number)),

@@ -1,9 +1,9 @@
 //! A server with its operator's port, from a manifest's path to its end.
 //!
-//! A server that is ready has its ruleset and its ports. One that is staffed has all that it serves
-//! by: the operator has the publisher and the directory, the workers have a watcher each, and all
-//! have passes to cells that they share without a lock. So what can be refused is refused before a
-//! server says that it serves, which it does once its threads are there, too (`workers`).
+//! A ready server has its ruleset and its ports. A staffed server has all that it serves with. The
+//! operator has the publisher and the directory, and each worker has a watcher. All have passes,
+//! which are ghost tokens, to cells that they share without a lock. So whatever can fail does so
+//! before a server prints that it serves, which it does once its threads also exist (`workers`).
 //!
 //! See docs/DECISIONS.md, "The server".
 #![tactic(auto)]

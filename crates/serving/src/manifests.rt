@@ -1,4 +1,4 @@
-//! Manifests by their paths, as a server's operator names them.
+//! The loader of manifests by their paths, which a server's operator sends.
 
 ghost use Rattle.std.specs.Prelude.{◌≡◌, Some};
 
@@ -7,15 +7,15 @@ use load::{Disk, LoadRefusal, MadeRuleset, load_told};
 use operator::{Loaded, Loader};
 use std::alloc::Global;
 
-/// Loads manifests by their paths. The files that a manifest names lie in its folder.
+/// Loads manifests by their paths. The files that a manifest names are in its folder.
 #[derive(Drop)]
 pub struct Manifests<'a, D> {
     disk: &'a D,
 }
 
 impl<'a, D> Manifests<'a, D> {
-    /// The manifests of this disk.
-    // open: what a device's files give.
+    /// A loader of the manifests on this disk.
+    // open: the bytes of a device's files.
     pub fn of(disk: &'a D) -> Manifests<'a, D>
         ensures { result.disk.now ≡ disk.now }
     {

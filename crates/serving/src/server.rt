@@ -1,5 +1,5 @@
-//! From a manifest's path to a server that has all to serve but its threads: what can be wrong with
-//! either is found before these are made.
+//! From a manifest's path to a server that has all it needs except threads. What is wrong with the
+//! manifest or with the ports is found before threads start.
 
 ghost use Rattle.std.specs.Prelude.{◌≡◌, ◌≤◌, [], ◌∷◌, IfOk, IfErr, length};
 ghost use Rattle.load.specs.Loaded.{IsLoadedFrom};
@@ -17,21 +17,21 @@ use std::net::{Net, TcpListener, TcpStream};
 use std::sync::Wait;
 use workers::{Ports, bind};
 
-/// A server whose ruleset is loaded, and both of whose ports listen.
+/// A server whose ruleset is loaded, and whose two ports listen.
 #[derive(Drop)]
 pub struct Server {
     ports: Ports,
     rules: Ruleset,
     directory: Directory,
-    /// That of the manifest and of the files that it names.
+    /// The digest of the manifest and of the files that it names.
     digest: [u8; 32],
     ghost only: { KnowsOnly directory rules },
 }
 
-/// Loads the manifest at a path, and binds both ports on loopback, where 0 is any free port. The
-/// fault is the manifest's, or else B6 if a port can't be bound, or if the system has fewer
-/// descriptors left than a server needs at least.
-// open: what a device's files give.
+/// Loads the manifest at a path, and binds both ports on loopback; 0 is any free port. Returns the
+/// manifest's fault, or else B6 if a port can't be bound or too few descriptors are left for a
+/// server.
+// open: the bytes of a device's files.
 pub fn prepare<H, D>(
     rt: &H,
     disk: &D,
@@ -44,7 +44,7 @@ where
     D: Disk,
     ensures loaded { IfOk result
         (λ s. IsLoadedFrom (D.known disk.now) path.now [] s.rules s.directory) }
-    // Its digest is that of the bytes that were judged.
+    // The digest is that of the bytes that were judged.
     ensures made { IfOk result (λ s. IsMadeFrom (D.known disk.now) path.now []
         (record { rules = s.rules; directory = s.directory; digest = s.digest })) }
     ensures refused { IfErr result (RefusesToServe (D.known disk.now) path.now) }
@@ -87,9 +87,9 @@ impl Server {
         digest
     }
 
-    /// The server with so many workers, to serve the ruleset as generation 1. S1 where the counters
-    /// are refused memory, H1 where the publisher or one of its watchers is, and B4 where the
-    /// program itself is.
+    /// The server with `workers` workers, to serve the ruleset as generation 1. Returns S1 if the
+    /// counters can't be allocated, H1 if the publisher or one of its watchers can't, and B4 if
+    /// other memory can't.
     pub fn staffed<H>(self, rt: &H, workers: usize) -> Result<StaffedServer, ServingFault>
     where
         H: Wait + AllocGlobal,

@@ -1,5 +1,5 @@
-//! A server with all that it serves by, which is made before anything is served: its counters, the
-//! publisher of its rulesets with the directory of its arrays, and its workers.
+//! A server with all that it serves with: its counters, the publisher of its rulesets with the
+//! directory of its arrays, and its workers. These are made before anything is served.
 
 ghost use Rattle.std.specs.Prelude.{◌≡◌, ◌+◌, ◌≤◌, [], ◌∷◌, IfOk, IfErr, OnOk, length};
 ghost use Rattle.std.specs.Prelude.{vec_capacity};
@@ -29,16 +29,16 @@ use std::time::Clock;
 use thread_laws::{threads_are_one_world, threads_grant_quotas};
 use workers::{Open, OperatorSeat, Ports, Service, answers_are_runs, run};
 
-/// A server that has its counters, its publisher and its workers. It is ended by `serve` or by
-/// `close`, and isn't let go otherwise.
+/// A server that has its counters, its publisher and its workers. `serve` or `close` ends it; it
+/// isn't dropped otherwise.
 pub struct StaffedServer {
     ports: Ports,
     cells: SharedCells,
-    /// The operator's.
+    /// The operator's pass.
     pass: SharedPass,
     control: Control,
     workers: Vec<(SharedPass, Watcher)>,
-    /// For all passes, when they come back.
+    /// The buffer for all passes when they are returned.
     room: Vec<SharedPass>,
     ghost staff: { IsStaff cells pass control.publishing.known workers.items },
     ghost only: { KnowOnlyItsArrays control },
@@ -46,11 +46,10 @@ pub struct StaffedServer {
     ghost enough: { length workers.items + 1 ≤ vec_capacity room },
 }
 
-/// A server at these ports of this ruleset, which is installed as generation 1 and whose arrays are
-/// those of the directory, with so many workers. Nothing else is installed. S1 where the counters
-/// are refused memory, H1 where the publisher or one of its watchers is, and B4 where the program
-/// itself is.
-// open: when B4 comes.
+/// A server at these ports, with `workers` workers. It serves this ruleset, whose arrays are those
+/// of the directory, as generation 1; nothing else is installed. Returns S1 if the counters can't
+/// be allocated, H1 if the publisher or one of its watchers can't, and B4 if other memory can't.
+// open: when B4 is returned.
 pub fn staff<H>(
     rt: &H,
     ports: Ports,
@@ -114,12 +113,12 @@ impl StaffedServer {
     }
 
     /// Serves until the operator stops the server, and returns the counters with their last values;
-    /// those that aren't 0 have a line of the log. Once all threads exist, `out` gets the line that
-    /// the server serves, by one write. Later rulesets come from the loader. B4 if memory or a
-    /// thread is refused, before any client is answered and before anything is written; B3 if `out`
-    /// can't be written; and H2 if a worker can't be asked at the end what it has seen: the log
-    /// then has this with the counters.
-    // open: when which of B4, B3 and H2 comes; that the log has the last values, and that the line
+    /// those that aren't 0 have a line in the log. Once all threads exist, `out` gets the ready
+    /// line, with the generation, by one write. Later rulesets are from the loader. Returns B4 if
+    /// an allocation or a thread fails, before any client is answered and before anything is
+    /// written. Returns B3 if `out` can't be written, and H2 if a worker's watcher can't be read at
+    /// the end: the log then has this fault and the counters.
+    // open: when B4, B3 or H2 is returned; that the log has the last values, and that the line
     // takes one write: tests.
     pub fn serve<H, L, O>(
         self,
@@ -135,9 +134,9 @@ impl StaffedServer {
         O: Write,
         requires some { 1 ≤ length self.workers.items }
         requires few { length self.workers.items ≤ 64 }
-        // The counters are this server's, and what all threads did to them is one legal history,
-        // that of one world, under rulesets that loads installed one after the other. Its runs are
-        // those of answers, one list a worker, in turn, under rulesets that never went back. Each
+        // The counters are this server's. What all threads did to them is one legal history, that
+        // of one world, under rulesets that loads installed one after the other. Its runs are those
+        // of answers, one list for each worker, in turn, under rulesets that never went back. Each
         // run came to its end in time, with 0 or a release, and each quota is granted.
         ensures world { IfOk result
             (LeavesOneWorld (L.loads loader.now) self.cells self.control) }
@@ -200,7 +199,7 @@ impl StaffedServer {
     }
 }
 
-// What the log tells where a worker couldn't be asked what it has seen.
+// The refusal that is logged if a worker's watcher couldn't be read.
 fn refusal_if(is_refused: bool) -> Option<&'static str> {
     if is_refused {
         Some(SwapFault::NoPlace.name())

@@ -1,4 +1,5 @@
-//! The workers of a server: a pass to the cells and a watcher of the newest ruleset each.
+//! The workers of a server, each with a pass (a ghost token) to the cells and a watcher of the
+//! newest ruleset.
 
 ghost use Rattle.std.specs.Prelude.{◌≡◌, ◌≤◌, All, IfErr, IfOk, length};
 ghost use Rattle.shared_cells.specs.Passes.{IsNewPass};
@@ -11,8 +12,8 @@ use hot_swap::{Publisher, Watcher};
 use shared_cells::SharedPass;
 use std::alloc::Global;
 
-/// A worker for each of these passes, which watches this publisher; it has a place for each. H1
-/// where a watcher is refused memory, and B4 where the list is.
+/// A worker for each of these passes, with a watcher of this publisher, which has a place for each.
+/// Returns H1 if a watcher can't be allocated, and B4 if the list can't.
 pub(crate) fn worker_list(
     alloc: Global,
     mut passes: Vec<SharedPass>,

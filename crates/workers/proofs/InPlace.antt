@@ -1,4 +1,4 @@
--- Lists whose elements belong together place by place.
+-- Lists that are related element by element.
 use Rattle.std.proofs.Common.{◌≡◌, List, [], ◌∷◌, ◌++◌, length, sym, ap, subst, ◌∙◌}
 use Rattle.std.proofs.Common.{append_assoc, append-nil}
 use Rattle.std.proofs.lemmas.List.{nil_from_length}
@@ -12,7 +12,7 @@ module _ {A B : Type 0} (R : A → B → Type 0) where
   zip_push (a ∷ xs) [] x y all one = absurd all
   zip_push (a ∷ xs) (b ∷ ys) x y all one = (all.0, zip_push xs ys x y all.1 one)
 
-  -- of all of these some were taken, and each of them has one in its place
+  -- some elements of a list were taken, and each of these has its related element
   pub record HasOneEach (all taken rest : List A) (made : List B) : Type 0 where
     pub split : all ≡ taken ++ rest
     pub each : AllZip R taken made
@@ -27,7 +27,7 @@ module _ {A B : Type 0} (R : A → B → Type 0) where
         (zip_push taken made x y so_far.each one);
   }
 
-  -- and when all were taken, each has
+  -- when all were taken, each has its related element
   pub all_have : (all taken rest : List A) (made : List B)
       → HasOneEach all taken rest made → length rest ≡ 0 → AllZip R all made
   all_have all taken rest made so_far none =

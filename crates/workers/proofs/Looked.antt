@@ -17,7 +17,7 @@ use Rattle.operator.specs.declared.reply.OperatorReply.{OperatorReply}
 use Rattle.operator_request.specs.declared.request.OperatorRequest.{OperatorRequest}
 use Rattle.workers.specs.Back.{OperatorBack}
 
--- ---- what reads the counters makes Loads alone
+-- ---- reading the counters makes only Loads
 
 of_cells : {array : CellArray} {count : ℕ} {events : List CellEvent} {lines : List ℕ}
     → ReadsCells array count events lines → AreLoads events
@@ -45,7 +45,7 @@ module _ {F : Type 0} (loads : Loading F) where
   performs_loads asked old new events replied unshown = All-nil IsLoad
   performs_loads asked old new events replied (uncounted all) = all
 
-  -- a load leads on, and nothing else changes what is installed
+  -- only a load changes what is installed
   performs_leads : (asked : Option OperatorRequest) (old new : Controlled)
       (events : List CellEvent) (replied : OperatorReply F)
       → Performs loads asked old events replied new → LoadsLead loads old new
@@ -58,7 +58,7 @@ module _ {F : Type 0} (loads : Loading F) where
   performs_leads asked old new events replied unshown = stays
   performs_leads asked old new events replied (uncounted all) = stays
 
-  -- where nothing has changed there was no load
+  -- without a change there was no load
   pub led_nowhere : (old new : Controlled) → new ≡ old → LoadsLead loads old new
   led_nowhere old new same = subst (λ (c : Controlled). LoadsLead loads old c) (sym same) stays
 
@@ -86,7 +86,7 @@ module _ {F : Type 0} (loads : Loading F) where
     has_led told old new replied p q did =
         performs_leads did.of.asked old new did.events replied did.of.performs
 
--- ---- nothing, and one after the other
+-- ---- no request, and successive requests
 
 pub looked_at_nothing : {P : Type 0} (grew : P → CellEvent → P → Type 0) (p : P)
     → Grows grew p p AreLoads
@@ -105,7 +105,7 @@ module _ {P : Type 0} (belongs : P → Type 0) (grew : P → CellEvent → P →
     };
   }
 
--- the cells are the same
+-- the same, if the cells are equal
 pub back_on : {X P : Type 0} (belongs : X → P → Type 0) (grew : P → CellEvent → P → Type 0)
     → GrowsByAppend grew → (first later : X) → later ≡ first → (p m q : P)
     → OperatorBack (belongs first) grew p m → OperatorBack (belongs later) grew m q
@@ -114,7 +114,7 @@ back_on belongs grew append first later same p m q so_far last =
     back_later (belongs first) grew append p m q so_far
     (subst (λ x. OperatorBack (belongs x) grew m q) same last)
 
--- and the loader is
+-- the same, if the loaders are equal
 pub led_on : {X F : Type 0} (loads : X → Loading F) (first later : X) → later ≡ first
     → (c d e : Controlled) → LoadsLead (loads first) c d → LoadsLead (loads later) d e
     → LoadsLead (loads first) c e

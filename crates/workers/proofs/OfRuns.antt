@@ -1,5 +1,5 @@
--- The events of answers are those of their runs: of an app, of all apps of a request, of an answer,
--- and of one answer after the other.
+-- The events of answers are those of their runs: for an app, for all apps of a request, for an
+-- answer, and for successive answers.
 use Rattle.std.proofs.Common.{◌≡◌, ℕ, ◌≤◌, List, [], ◌∷◌, length}
 use Rattle.std.proofs.Common.{Bool, true, false, Option, Some, None}
 use Rattle.std.proofs.Common.{refl, sym, ap, subst, ◌∙◌, arith, append-nil}
@@ -28,7 +28,7 @@ use Rattle.workers.specs.Answers.{made_in_turn}
 use Rattle.workers.specs.Runs.{AnswersAreOfRuns, runs_in_turn, runs_of_app, runs_of_apps}
 use Rattle.workers.specs.Runs.{runs_of_body, runs_of_reply, runs_of_request}
 
--- what the crate below promises of runs one after the other
+-- the laws of successive runs, from the crate below
 pub record Laws : Type 0 where
   pub nothing : NoneAreOfRuns
   pub append : OfRunsAppend

@@ -1,4 +1,4 @@
--- What is known of a published list goes on.
+-- The known part of a published list only grows.
 use Rattle.std.proofs.Common.{◌≡◌, ℕ, List, [], ◌++◌, length, All, refl, sym, ap, subst, ◌∙◌}
 use Rattle.std.proofs.Common.{append_assoc, append-nil}
 use Rattle.hot_swap.specs.Published.{Beginning, GoesOnwards, HasLast, IsLatest}
@@ -18,7 +18,7 @@ goes_further u v w first then_on = record {
   );
 }
 
--- what is told, of a publisher that keeps this
+-- the notice of a publisher with this list
 pub is_published : (known told : Beginning) (generation latest : ℕ) (rules : Rules)
     → told ≡ known → generation ≡ latest → IsLatest known latest rules
     → All IsRuleset known.rulesets → IsPublished told generation

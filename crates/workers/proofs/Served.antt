@@ -1,5 +1,5 @@
--- What one connection did, and one more after others; and a worker whose thread has promised to
--- give it back.
+-- What one connection did, and one more after others; and a worker whose thread promised to return
+-- it.
 use Rattle.std.proofs.Common.{◌≡◌, ℕ, List, [], ◌∷◌, ◌++◌, refl, sym, subst, append-nil, arith}
 use Rattle.std.specs.List.{AllZip}
 use Rattle.std.specs.Prelude.{ℤ, Option, None, Result, Ok, Err, IfOk, IfErr, Vec}
@@ -24,7 +24,7 @@ use Rattle.workers.specs.declared.promise.OfWorkers.{OfWorkers}
 
 -- ---- one connection
 
--- whatever the bytes were
+-- a reply to some bytes is also one without known bytes
 untold : (told : Option (List ℕ)) (w : Beginning) (moment : ℤ) (events : List CellEvent)
     (reply : HttpReply) → RepliesTo told w moment events reply
     → RepliesTo None w moment events reply
@@ -61,7 +61,7 @@ module _ {P : Type 0} (belongs : P → Type 0) (grew : P → CellEvent → P →
     once = omega arith;
   }
 
-  -- whatever comes of it, as `answer` has it
+  -- for each outcome of `answer`
   pub by_answer : {S : Type 0} (outcome : Result S AnswerFault) (X Y Z : S → HttpReply → Type 0)
       (U V : ℕ → HttpReply → Type 0) (T : Type 0)
       → IfOk outcome (λ sent. (reply : HttpReply) × X sent reply × Y sent reply
@@ -105,7 +105,7 @@ module _ {P : Type 0} (belongs : P → Type 0) (grew : P → CellEvent → P →
             (join a.0 (made_in_turn early) b.0 (made_in_turn late) c.0 first.grown last.grown);
       }
 
--- the cells are the same
+-- the same, if the cells are equal
 pub back_on : {X P : Type 0} (belongs : X → P → Type 0) (grew : P → CellEvent → P → Type 0)
     → GrowsByAppend grew → (first later : X) → later ≡ first → (a b c : P × Beginning)
     → WorkerBack (belongs first) grew a b → WorkerBack (belongs later) grew b c
@@ -114,12 +114,12 @@ back_on belongs grew join first later same a b c so_far last =
     back_later (belongs first) grew join a b c so_far
     (subst (λ x. WorkerBack (belongs x) grew b c) same last)
 
--- ---- workers whose threads have promised to give them back
+-- ---- workers whose threads promised to return them
 
 abbrev WorkerThread : (X P : Type 0) → Type 0
 WorkerThread X P = PromisedHandle (P × Beginning) (OfWorker X P)
 
--- what is kept of a promise's cells, and of what its thread was given, is so of those that they are
+-- what is kept for a promise's own cells and worker is kept for the equal ones
 kept_of : {X W : Type 0} (Kept : X → W → Type 0) (cells x : X) (given w : W) → x ≡ cells
     → w ≡ given → Kept x w → Kept cells given
 kept_of Kept cells x given w over is kept =
@@ -151,7 +151,7 @@ module _ {X P : Type 0} (belongs : X → P → Type 0) (grew : P → CellEvent �
       (WorkerBack (belongs cells) grew)
       (λ worker thread new is kept. is_back worker thread.promise new is kept)
 
-  -- all that one thread was given
+  -- all workers of the thread that serves clients
   pub are_back : (workers : Vec (P × Beginning) Global) (promise : OfWorkers X P)
       (back : List (P × Beginning)) → ArePromised cells workers promise
       → WorkersBack (belongs promise.cells.value) grew promise.given.value.items back

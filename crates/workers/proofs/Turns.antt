@@ -1,4 +1,4 @@
--- Answers in turn: what is known goes onwards through them, and turns follow one another.
+-- Answers in turn: the known list only grows through them, and turns follow one another.
 use Rattle.std.proofs.Common.{List, [], ◌∷◌, ◌++◌}
 use Rattle.hot_swap.specs.Published.{Beginning, GoesOnwards}
 use Rattle.workers.proofs.Onwards.{goes_further}
@@ -14,7 +14,7 @@ turns_stay from to more [] turn goes = goes_further from to more turn goes
 turns_stay from to more (a ∷ later) turn goes =
     (turn.0, turns_stay a.known to more later turn.1 goes)
 
--- from what was known before
+-- answers in turn from a list are also in turn from a prefix of it
 turns_sooner : (before from to : Beginning) (answers : List WorkerAnswer)
     → GoesOnwards before from → AreInTurn from answers to → AreInTurn before answers to
 turns_sooner before from to [] goes turn = goes_further before from to goes turn

@@ -1,5 +1,5 @@
--- What the threads of a server give back once they have ended: their passes, with what was done by
--- them, and their watchers, with what they know.
+-- What the threads of a server return once they have ended. Their passes, which are ghost tokens,
+-- have what was done by them, and their watchers have what they know.
 use Rattle.std.specs.Prelude.{◌≡◌, ◌≤◌, ℕ, List, All, length}
 use Rattle.std.specs.List.{AllZip}
 use Rattle.thread_laws.specs.Passes.{AreLoads}
@@ -13,7 +13,7 @@ use Rattle.ruleset.specs.Rules.{Rules, IsRuleset}
 use Rattle.workers.specs.Answers.{WorkerAnswer, AreInTurn, made_in_turn}
 use Rattle.workers.specs.declared.returned.Returned.{Returned}
 
--- of what was published each ruleset is sound, and the last one is of this generation
+-- each published ruleset is sound, and the last one is of this generation
 pub record IsPublished (published : Beginning) (generation : ℕ) : Type 0 where
   pub sound : All IsRuleset published.rulesets
   pub rules : Rules
@@ -21,30 +21,30 @@ pub record IsPublished (published : Beginning) (generation : ℕ) : Type 0 where
 
 module _ {P : Type 0} (belongs : P → Type 0) (grew : P → CellEvent → P → Type 0) where
   -- A worker, its pass and its watcher, which gave these answers, one after the other. The pass
-  -- belongs to the cells, and grew by what the answers did and by nothing else.
+  -- belongs to the cells, and grew only by what the answers did.
   pub record WorkerBack (old new : P × Beginning) : Type 0 where
     pub belongs_yet : belongs new.0
     pub answers : List WorkerAnswer
     pub in_turn : AreInTurn old.1 answers new.1
     pub grown : GrewBy grew old.0 (made_in_turn answers) new.0
 
-  -- the same of one connection, which has one answer, or none where it couldn't be read
+  -- the same for one connection, which has one answer, or none if it couldn't be read
   pub record ConnectionBack (old new : P × Beginning) : Type 0 where
     pub back : WorkerBack old new
     pub once : length back.answers ≤ 1
 
-  -- all workers, each in its place
+  -- all workers, in their order
   abbrev pub WorkersBack : (old new : List (P × Beginning)) → Type 0
   WorkersBack old new = AllZip WorkerBack old new
 
-  -- the operator's pass: it belongs to the cells, and grew by Loads alone
+  -- the operator's pass: it belongs to the cells, and grew only by Loads
   pub record OperatorBack (old new : P) : Type 0 where
     pub belongs_yet : belongs new
     pub looked : Grows grew old new AreLoads
 
-  -- All of a server, which began with this pass of its operator, these workers and this control.
-  -- Loads, and nothing else, led from there to the control at its end, and what was published then
-  -- is given back.
+  -- All that a server returns which began with this pass of its operator, these workers and this
+  -- control. Loads, and nothing else, led from that control to the one at its end. What was
+  -- published then is also returned.
   pub record ServerBack {F : Type 0} (loads : Loading F) (pass : P) (staff : List (P × Beginning))
       (control : Controlled) (back : Returned P) : Type 0 where
     pub operator : OperatorBack pass back.operator

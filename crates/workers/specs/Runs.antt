@@ -18,7 +18,8 @@ use Rattle.ruleset.specs.Rules.{Rules}
 use Rattle.workers.specs.Answers.{WorkerAnswer, AreInTurn, made_in_turn}
 
 module _ (number : ℕ) (facts : RequestFacts) (moment : ℤ) where
-  -- of an app: none, or one, under the ruleset of this number and on the app's attributes then
+  -- the runs for an app: none, or one, under the ruleset of this number, with the app's attributes
+  -- then
   abbrev pub runs_of_app : {rules : Rules} (app : AppFacts) {choice : Option ℕ}
       {events : List CellEvent} → RunsApp rules facts moment app choice events → List AppRun
   runs_of_app app (unasked is) = []
@@ -34,13 +35,13 @@ module _ (number : ℕ) (facts : RequestFacts) (moment : ℤ) where
       } in
       run ∷ []
 
-  -- of the apps of a request, app after app
+  -- the runs for the apps of a request, app after app
   abbrev pub runs_of_apps : {rules : Rules} {asking : List AppFacts} {choices : List (Option ℕ)}
       {events : List CellEvent} → RunsApps rules facts moment asking choices events → List AppRun
   runs_of_apps none = []
   runs_of_apps (apps.then {app = app} earlier one) = runs_of_apps earlier ++ runs_of_app app one
 
--- of a request: the number of its ruleset is the generation
+-- the runs for a request: the number of its ruleset is the generation
 abbrev pub runs_of_request : {request : Request} {known : Beginning} {moment : ℤ}
     {events : List CellEvent} {reply : HttpReply}
     → RepliesToRequest request known moment events reply → List AppRun
@@ -51,7 +52,7 @@ runs_of_request {request = request} {moment = moment}
     (broken_off {generation = generation} is few) =
     runs_of_apps generation request.facts moment few.2
 
--- of a body: where it is no request there is none
+-- the runs for a body: none if it isn't a request
 abbrev pub runs_of_body : {body : List ℕ} {known : Beginning} {moment : ℤ}
     {events : List CellEvent} {reply : HttpReply}
     → RepliesToBody body known moment events reply → List AppRun
@@ -59,21 +60,21 @@ runs_of_body (asked is replies) = runs_of_request replies
 runs_of_body (refused fault is) = []
 runs_of_body unread = []
 
--- of a reply, and none where no body came
+-- the runs for a reply: none if no body was read
 abbrev pub runs_of_reply : {told : Option (List ℕ)} {known : Beginning} {moment : ℤ}
     {events : List CellEvent} {reply : HttpReply}
     → RepliesTo told known moment events reply → List AppRun
 runs_of_reply (taken body is replies) = runs_of_body replies
 runs_of_reply (rejected fault status is code) = []
 
--- of answers, one after the other
+-- the runs of answers, one after the other
 abbrev pub runs_in_turn : List WorkerAnswer → List AppRun
 runs_in_turn = flat_map (λ answer. runs_of_reply answer.replies)
 
 -- ---- the law
 
--- what answers in turn did to the counters is what their runs did, each of which is under a ruleset
--- that the watcher knows after them and came to its end
+-- what answers in turn did to the counters is what their runs did; each run came to its end, under
+-- a ruleset that the watcher knows after them
 abbrev pub AnswersAreOfRuns : Type 0
 AnswersAreOfRuns = (from to : Beginning) (answers : List WorkerAnswer) → AreInTurn from answers to
     → AreOfRuns to.rulesets (runs_in_turn answers) (made_in_turn answers)

@@ -1,4 +1,4 @@
-//! The connections of a port, one after another, until the server is told to stop.
+//! The accept loop of a port, until the server has to stop.
 
 use crate::clock::pause;
 use server_log::{LogQueue, note_unaccepted};
@@ -8,8 +8,8 @@ use std::sync::Wait;
 use std::sync::atomic::{AtomicBool, Ordering};
 use std::time::{Clock, Instant};
 
-/// A connection with its number, from 1 on, its client's address, and when it was accepted, where
-/// the log tells how long it waits, and the clock can.
+/// A connection with its number, from 1 on, and its client's address. It has the time when it was
+/// accepted if there is a log and the clock can be read.
 #[derive(Drop)]
 pub(crate) struct Call {
     pub(crate) number: u64,
@@ -18,18 +18,18 @@ pub(crate) struct Call {
     pub(crate) accepted: Option<Instant>,
 }
 
-/// A port that listens, until a flag is set and one more connection comes.
+/// A listening port, until its flag is set and one more connection is accepted.
 #[derive(Drop)]
 pub(crate) struct Port<'a> {
     listener: &'a TcpListener,
     stop: &'a AtomicBool,
-    /// Where a connection that can't be accepted has a line.
+    /// The log, for connections that can't be accepted.
     log: Option<&'a LogQueue>,
     accepted: u64,
 }
 
 impl<'a> Port<'a> {
-    /// A port of which nothing is accepted yet.
+    /// A port that has accepted nothing yet.
     pub(crate) fn new(
         listener: &'a TcpListener,
         stop: &'a AtomicBool,
@@ -43,8 +43,8 @@ impl<'a> Port<'a> {
         }
     }
 
-    /// The next connection; none once the flag is set, and the connection that came then isn't
-    /// answered. One that can't be accepted is passed over.
+    /// The next connection; `None` once the flag is set, and the connection that was accepted then
+    /// isn't answered. A connection that can't be accepted is skipped.
     pub(crate) fn accept<H>(&mut self, rt: &H) -> Option<Call>
     where
         H: Wait + AllocGlobal + Clock,
@@ -79,8 +79,7 @@ impl<'a> Port<'a> {
         }
     }
 
-    // The next can't be accepted either where file descriptors have run out, so the thread sleeps
-    // before it goes on.
+    // If file descriptors have run out, the next accept fails as well, so the thread sleeps first.
     fn pass_over<H>(&self, rt: &H, error: &io::Error)
     where
         H: Wait + AllocGlobal + Clock,

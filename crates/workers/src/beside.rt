@@ -1,5 +1,5 @@
-//! The clients' side of a server beside its operator's: a thread that serves clients as
-//! `serve_returning` does, and says when it has begun and when it has ended.
+//! The clients' side of a server, next to its operator's. It is a thread that serves clients as
+//! `serve_returning` does, and signals when it has started and when it has ended.
 
 ghost use Rattle.std.specs.Prelude.{◌≤◌, All, IfOk, length};
 ghost use Rattle.workers.specs.Back.{WorkersBack};
@@ -20,8 +20,8 @@ use std::sync::atomic::{AtomicBool, Ordering};
 use std::thread::{PromisedHandle, Scope, Threads};
 use std::time::Clock;
 
-/// Which sides of a server are to end, as soon as they look: the clients' is told so by the
-/// operator's, and the operator's by the clients' once that has ended.
+/// The flags that end the two sides of a server. The operator's side sets the clients' flag. The
+/// clients' side sets the operator's flag once it has ended.
 #[derive(Drop)]
 pub(crate) struct Ends {
     pub(crate) clients: AtomicBool,
@@ -37,8 +37,8 @@ impl Ends {
     }
 }
 
-/// Starts the thread that serves clients with these workers, and waits until all its threads are
-/// there. B4 where memory or a thread is refused; then those that were started end.
+/// Starts the thread that serves clients with these workers, and waits until all its threads exist.
+/// Returns B4 if an allocation or a thread fails; then the threads that were started end.
 pub(crate) fn start_serving<'s, E, H, G, C>(
     rt: &'s H,
     gate: &'s G,
@@ -82,7 +82,7 @@ where
     }
 }
 
-// Serves clients until their side is to end, and then has the operator's end.
+// Serves clients until their side has to end, and then ends the operator's side.
 fn serve_beside<H, G, C>(
     rt: &H,
     gate: &G,

@@ -1,5 +1,5 @@
-//! The clients' side of a server: its queue, the workers that answer what stands there, and the
-//! caller's thread, which accepts connections for them. The program runs it in a thread (`beside`).
+//! The clients' side of a server: its queue, the workers that answer the queued connections, and
+//! the caller's thread, which accepts connections. The program runs it in a thread (`beside`).
 
 ghost use Rattle.std.specs.Prelude.{◌≤◌, All, IfOk, length};
 ghost use Rattle.workers.specs.Back.{WorkersBack};
@@ -19,11 +19,11 @@ use std::sync::atomic::AtomicBool;
 use std::thread::{self, Threads};
 use std::time::Clock;
 
-/// Answers each connection within the limit of time, until `stop` is set and one more connection
-/// comes, which isn't answered; those that were accepted before are, while the port is closed. Each
-/// pair of a pass and a watcher is a worker of its own, and there are 1 to 64. B4 comes before any
-/// connection is accepted.
-// open: what `run` leaves open; that the gate is called round each answer: tests.
+/// Answers each connection within the time limit, until `stop` is set and one more connection is
+/// accepted, which isn't answered. The port is then closed, and the connections in the queue are
+/// still answered. Each pair of a pass (a ghost token) and a watcher is a worker thread, and there
+/// are 1 to 64. B4 is returned before any connection is accepted.
+// open: what `run` leaves open; that the gate is called around each answer: tests.
 pub fn serve<H, G, C>(
     rt: &H,
     gate: &G,
@@ -48,10 +48,10 @@ where
     }
 }
 
-/// As `serve`, but gives the workers back, in their order. The memory for them is allocated before
-/// the first thread is started. Once all threads exist, and before the first connection is
-/// accepted, `started` gets a message; if a thread is refused it gets none.
-// open: what `run` leaves open; that the gate is called round each answer: tests.
+/// As `serve`, but returns the workers, in their order. The memory for them is allocated before the
+/// first thread is started. Once all threads exist, and before the first connection is accepted,
+/// `started` gets a message; if a thread fails it gets none.
+// open: what `run` leaves open; that the gate is called around each answer: tests.
 pub fn serve_returning<H, G, C>(
     rt: &H,
     gate: &G,
@@ -98,7 +98,7 @@ where
     )
 }
 
-// Tells whoever waits for it that all threads are there.
+// Sends the message that all threads exist.
 fn tell_started<H: Wait>(rt: &H, started: Option<Sender<()>>) {
     if let Some(started) = started {
         let _heard = started.send(rt, ());

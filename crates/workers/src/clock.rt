@@ -1,12 +1,12 @@
-//! What the clock tells of a connection: its moment, and when it has to be done.
+//! The clock's times for a connection: its moment, and its deadline.
 
 use std::thread;
 use std::time::{Clock, Duration, Instant, SystemTime, UNIX_EPOCH};
 
-/// How long it is until what has failed is tried again.
+/// How long a thread waits before it retries after a failure.
 const PAUSE_MILLIS: u64 = 10;
 
-/// When something began, and when it has to be done.
+/// The start of a connection, and its deadline.
 #[derive(Clone, Copy)]
 pub(crate) struct Limits {
     begun: Instant,
@@ -14,20 +14,20 @@ pub(crate) struct Limits {
 }
 
 impl Limits {
-    /// Of what begins now, and may last so long. None where the clock can't tell.
+    /// The limits of what begins now, and may last `timeout`. `None` if the clock can't be read.
     pub(crate) fn begin<H: Clock>(rt: &H, timeout: Duration) -> Option<Limits> {
         let begun = Instant::now(rt).ok()?;
         let until = begun.checked_add(timeout)?;
         Some(Limits { begun, until })
     }
 
-    /// When it has to be done.
+    /// The deadline.
     pub(crate) fn until(&self) -> Instant {
         self.until
     }
 }
 
-/// When something began, where the clock could tell.
+/// The start, if the clock could be read.
 pub(crate) fn begun(limits: Option<Limits>) -> Option<Instant> {
     match limits {
         Some(limits) => Some(limits.begun),
@@ -35,7 +35,7 @@ pub(crate) fn begun(limits: Option<Limits>) -> Option<Instant> {
     }
 }
 
-/// How many microseconds it is from one moment to another; 0 where one isn't known.
+/// The microseconds from one moment to another; 0 if one is unknown.
 pub(crate) fn micros_between(from: Option<Instant>, to: Option<Instant>) -> u64 {
     match (from, to) {
         (Some(from), Some(to)) => {
@@ -45,7 +45,7 @@ pub(crate) fn micros_between(from: Option<Instant>, to: Option<Instant>) -> u64 
     }
 }
 
-/// The second by the clock; 0 where it can't be read, which counts as the first of 2007.
+/// The second by the clock; 0 if it can't be read, which counts as the first of 2007.
 pub(crate) fn unix_second<H: Clock>(rt: &H) -> i64 {
     let Ok(now) = SystemTime::now(rt) else {
         return 0;
@@ -56,7 +56,7 @@ pub(crate) fn unix_second<H: Clock>(rt: &H) -> i64 {
     }
 }
 
-/// Waits a moment, after which what has failed may do.
+/// Waits a moment, before a failed call is retried.
 pub(crate) fn pause<H: Clock>(rt: &H) {
     thread::sleep(rt, Duration::from_millis(PAUSE_MILLIS));
 }

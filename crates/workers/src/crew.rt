@@ -1,5 +1,5 @@
-//! Workers in threads of their own: each thread is started with the promise to give its worker
-//! back, and all are joined in their order.
+//! Workers in threads of their own: each thread is started with the promise to return its worker,
+//! and all are joined in their order.
 
 ghost use Rattle.std.specs.Prelude.{◌≡◌, ◌≤◌, [], All, IfOk, vec_capacity, vec_len};
 ghost use Rattle.std.specs.List.{AllZip};
@@ -18,8 +18,8 @@ use std::sync::Wait;
 use std::thread::{Promise, PromisedHandle, Scope, Threads};
 use std::time::Clock;
 
-/// Starts a thread for each worker, in their order. B4 where one can't be started; those that were
-/// end once the queue is closed.
+/// Starts a thread for each worker, in their order. Returns B4 if a thread can't be started; the
+/// others end once the queue is closed.
 pub(crate) fn start_workers<'s, E, H, G, C>(
     rt: &'s H,
     gate: &'s G,
@@ -82,7 +82,7 @@ where
     }
 }
 
-/// Joins each thread, and puts what it gives into the room, in their order. It takes no memory.
+/// Joins the threads in their order, and puts what each returns into `room`. It allocates nothing.
 pub(crate) fn joined<H: Threads, T: Drop, P: Promise<T>>(
     rt: &H,
     threads: Vec<PromisedHandle<T, P>>,

@@ -4,10 +4,10 @@ use bounded_files::ResourceFault;
 use std::error::Error;
 use std::fmt::{self, Display};
 
-/// What is wrong.
+/// The fault of a server that doesn't serve.
 #[derive(Clone, Copy, Debug, Drop, PartialEq, Eq)]
 pub enum ServeFault {
-    /// B4: memory, or a thread, was refused.
+    /// B4: an allocation, or a thread, failed.
     Memory,
 }
 

@@ -1,20 +1,19 @@
 //! The threads of a server: those of its workers, and its operator's.
 //!
-//! One thread accepts the clients' connections and puts them into a queue, from which the workers
-//! take them, each in a thread of its own: that is `serve`. In `run` another thread serves the
-//! operator's port beside it, one connection after another. The operator's `stop` ends both: a flag
-//! informs the clients' port, and one more connection wakes it; the operator's port stays open
-//! until all are answered.
+//! One thread accepts the clients' connections and puts them into a queue, from which the worker
+//! threads take them: that is `serve`. In `run` another thread also serves the operator's port, one
+//! connection after another. The operator's `stop` ends both: a flag informs the clients' port, and
+//! one more connection wakes it; the operator's port stays open until all clients are answered.
 //!
-//! What they do is reported to the log (`server_log`).
+//! What the threads do is logged (`server_log`).
 //!
-//! What a connection is answered is proved for `answer` here and for `answer` in `operator`. All
-//! threads give back what they were given once the server ends. A worker gave its answers one after
-//! the other, under rulesets that never went back, and its pass made the events of their runs and
-//! nothing else; the operator's pass made only Loads. A server says that it serves once its threads
-//! exist. Nothing says which bytes a socket carried, and nothing is proved about clocks, nor about
-//! a server that gives up: that memory or a thread was refused, or that it couldn't say that it
-//! serves.
+//! The answer to a connection is proved for `answer` here and for `answer` in `operator`. All
+//! threads return what they were given once the server ends. A worker gave its answers one after
+//! the other, under rulesets that never went back. Its pass, a ghost token, made only the events of
+//! their runs; the operator's pass made only Loads. A server prints that it serves once its threads
+//! exist. Nothing says which bytes a socket carried, and nothing is proved about clocks. Nor is
+//! anything proved about a server that gives up, since memory or a thread failed or its line
+//! couldn't be written.
 //!
 //! See docs/DECISIONS.md, "The server".
 #![tactic(auto)]
@@ -47,5 +46,5 @@ pub use returned::Returned;
 pub use running::run;
 pub use worker::Service;
 
-// The words of the contracts here come with them.
+// The names in the contracts here are exported with them.
 pub use answering::{AnswerFault, Sent, answer};

@@ -1,5 +1,5 @@
 //! The operator's port: one connection after another, each with a time limit. It ends with the
-//! connection that requests a stop, or once its caller says so.
+//! connection that requests a stop, or once its caller sets the flag.
 
 ghost use Rattle.std.specs.Prelude.{◌≡◌};
 ghost use Rattle.operator.specs.Leading.{LoadsLead};
@@ -19,12 +19,12 @@ use std::sync::Wait;
 use std::sync::atomic::AtomicBool;
 use std::time::{Clock, Duration};
 
-/// How many seconds an operator may take to send a line, and again to take the reply: who is slower
-/// would hold up the next one, who may want to halt a release.
+/// How many seconds an operator may take to send a line, and again to read the reply. A slower
+/// client would delay the next one, which may need to halt a release.
 const OPERATOR_SECONDS: u64 = 5;
 
-/// The operator's seat: where rulesets come from, and the cells with the operator's own pass to
-/// them.
+/// What the operator's port works with: the loader of rulesets, and the cells with the operator's
+/// own pass to them, a ghost token.
 #[derive(Drop)]
 pub struct OperatorSeat<'a, L, C: CellSteps>
 where
@@ -35,11 +35,11 @@ where
     pub pass: C::Pass,
 }
 
-/// Answers connections, whose loads change the control, until one has asked to stop, or until
-/// `stop` is set and one more comes, which isn't answered; that the server ends is for the caller
-/// to see to. The line of a connection has to come within 5 seconds, and its reply to be taken
-/// within 5 more, since a load may last; or within the limit of time, where that is shorter. A
-/// connection that fails is passed over, and so is one that can't be accepted.
+/// Answers connections, whose loads change the control, until one requests a stop, or until `stop`
+/// is set and one more is accepted, which isn't answered; the caller has to end the server. The
+/// line of a connection has to arrive within 5 seconds. Its reply has to be read within 5 more,
+/// since a load may last. If the time limit of `service` is shorter, it holds instead. A connection
+/// that fails, or can't be accepted, is skipped.
 // open: which bytes a socket carries, and that requests are answered one after another: tests.
 pub fn operate<'x, H, L, C>(
     rt: &H,
@@ -75,7 +75,7 @@ where
     }
 }
 
-// Answers one connection, and says whether it has asked to stop.
+// Answers one connection, and returns whether it requested a stop.
 fn attend<'x, H, L, C>(
     rt: &'x H,
     stream: &'x TcpStream,
@@ -122,7 +122,7 @@ where
     matches!(reply, OperatorReply::Stopping)
 }
 
-/// Sends a reply, and reads what the client goes on to send.
+/// Sends a reply, and reads what the client sends after its line.
 pub(crate) fn send<H: Clock, F: Display>(
     rt: &H,
     stream: &TcpStream,

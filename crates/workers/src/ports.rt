@@ -12,7 +12,7 @@ use std::time::Duration;
 /// How long the end of a port waits for its own connection.
 const WAKE_SECONDS: u64 = 1;
 
-/// The two ports, which listen, and their addresses.
+/// The two listening ports, and their addresses.
 #[derive(Drop)]
 pub struct Ports {
     pub(crate) service: TcpListener,
@@ -22,28 +22,28 @@ pub struct Ports {
 }
 
 impl Ports {
-    /// Where clients post their requests.
+    /// The address to which clients post their requests.
     pub fn service(&self) -> SocketAddr
         ensures { result ≡ self.now.service_end.address }
     {
         self.service_end.address
     }
 
-    /// Where the operator asks.
+    /// The address to which the operator's requests are sent.
     pub fn operator(&self) -> SocketAddr
         ensures { result ≡ self.now.operator_address }
     {
         self.operator_address
     }
 
-    /// One more handle of the operator's port, which stays open as long as there is one. What
-    /// connects after the server has given up its own isn't answered, and is reset once the last
-    /// handle is let go.
+    /// One more handle of the operator's port, which stays open as long as a handle exists. A
+    /// connection after the server has dropped its own handle isn't answered, and is reset once the
+    /// last handle is dropped.
     pub fn operator_handle(&self) -> io::Result<TcpListener> {
         self.operator.try_clone()
     }
 
-    /// The clients' port, what it is ended by, and the operator's port.
+    /// The clients' port, its end, and the operator's port.
     pub(crate) fn parts(self) -> (TcpListener, PortEnd, TcpListener) {
         let Ports {
             service,
@@ -55,11 +55,11 @@ impl Ports {
     }
 }
 
-/// Binds both ports; 0 is any free port. If the system has fewer descriptors left than a server
-/// needs at least, this is an error, too: otherwise it would listen and could accept nobody. It
-/// needs one by which the operator's port stays open (`operator_handle`), one for a client's
-/// connection, one for the operator's, and one for a file that is loaded.
-// open: that both ports are on loopback: std says nothing of an address, so tests do.
+/// Binds both ports; 0 is any free port. Also fails if the system has fewer descriptors left than a
+/// server needs at least: otherwise it would listen and could accept no connection. It needs one to
+/// keep the operator's port open (`operator_handle`), one for each side's connection, and one for a
+/// file that is loaded.
+// open: that both ports are on loopback: std says nothing about addresses, so tests do.
 pub fn bind<H>(rt: &H, service: u16, operator: u16) -> io::Result<Ports>
 where
     H: Net<Listener = TcpListener, Stream = TcpStream>,
@@ -76,7 +76,7 @@ where
     })
 }
 
-// Takes as many descriptors as a server wants at least behind those of its ports, and lets them go.
+// Opens as many descriptors as a server needs at least in addition to its ports, and closes them.
 fn require_descriptors(port: &TcpListener) -> io::Result<()> {
     let _kept_open = port.try_clone()?;
     let _client = port.try_clone()?;
@@ -94,8 +94,8 @@ where
     Ok((listener, address))
 }
 
-/// What the thread that accepts connections at a port is ended by: the port's address, and one more
-/// handle of it, so that no descriptor is wanted then.
+/// What ends the accept loop of a port: the port's address, and one more handle of it, so that no
+/// new descriptor is needed then.
 #[derive(Drop)]
 pub(crate) struct PortEnd {
     handle: TcpListener,
@@ -103,9 +103,10 @@ pub(crate) struct PortEnd {
 }
 
 impl PortEnd {
-    /// Sets the flag that the thread looks at behind each connection, and makes one more, which it
-    /// sees. Where that fails, or there is no room for it within a second, the port is shut: then
-    /// it can't accept any more, and looks at the flag as well. The handle is let go.
+    /// Sets the flag that the accept loop reads after each connection, and makes one more
+    /// connection, so that it reads the flag. If the connection fails or takes over a second, the
+    /// port is shut down: then accept fails, and the loop reads the flag as well. The handle is
+    /// dropped.
     pub(crate) fn end<H>(self, rt: &H, stop: &AtomicBool)
     where
         H: Net<Stream = TcpStream>,
@@ -119,8 +120,8 @@ impl PortEnd {
     }
 }
 
-// Shuts a port for all its handles. The system closes it as it does a stream of which no more is to
-// be read, and gives an error to whoever accepts there.
+// Shuts down a port for all its handles. The system shuts it down like the reading half of a
+// stream, and accept then returns an error.
 fn shut(port: TcpListener) {
     let socket = TcpStream::from(OwnedFd::from(port));
     let _shut = socket.shutdown(Shutdown::Read);

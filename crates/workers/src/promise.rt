@@ -1,4 +1,4 @@
-//! What a server's threads promise: to give back the workers that they were given, with what these
+//! The promises of a server's threads: to return the workers that they were given, with what these
 //! did.
 
 use crate::fault::ServeFault;
@@ -20,8 +20,8 @@ impl<C: CellSteps> Promise<(C::Pass, Watcher)> for OfWorker<C> {
     ghost kept_by = { λ p back. WorkerBack (C.belongs p.cells.value) C.grew p.given.value back };
 }
 
-/// The promise of the thread that serves clients with these workers over these cells: where nothing
-/// is refused to it all come back.
+/// The promise of the thread that serves clients with these workers over these cells: if nothing
+/// fails it returns all workers.
 #[derive(Drop)]
 pub(crate) struct OfWorkers<C: CellSteps> {
     pub(crate) cells: Snapshot<C>,

@@ -1,5 +1,5 @@
-//! The queue between the thread that accepts connections and the workers that answer them. It has
-//! 64 places; who gets which connection is nobody's promise.
+//! The queue between the accept loop and the worker threads. It has 64 places, and nothing is
+//! promised about which worker gets which connection.
 
 use crate::accept::{Call, Port};
 use crossbeam_channel::{Receiver, Sender};
@@ -34,8 +34,8 @@ where
     }
 }
 
-/// The next connection, or none where the queue is closed. Where none comes for a moment the worker
-/// hands its log's lines on before it waits for one, so that none is left at the end.
+/// The next connection, or `None` if the queue is closed. If none arrives for a moment the worker
+/// flushes its log before it waits, so that no line is left at the end.
 pub(crate) fn next<H>(rt: &H, queue: &Receiver<Call>, log: &mut Log<'_>) -> Option<Call>
 where
     H: Wait + AllocGlobal + Clock,

@@ -1,6 +1,6 @@
-//! What a server writes once it is ready, which is when all its threads are made. It is written in
-//! the closure of `thread::scope`, and nothing is known of what that wrote through a `&mut` that it
-//! holds. So the closure holds a value of a type parameter, which gives back what it wrote to.
+//! The line that a server writes once all its threads exist. It is written in the closure of
+//! `thread::scope`, and no contract knows what the closure wrote through a `&mut` that it holds. So
+//! the closure holds a value of a type parameter, which returns the writer.
 
 ghost use Rattle.std.specs.Io.KnownBytes.{Appends};
 ghost use Rattle.std.specs.Prelude.{◌≡◌, ℕ, IfOk, OnOk};
@@ -13,7 +13,7 @@ use std::io::{self, Write};
 /// More bytes than the line of any generation has.
 const LINE_ROOM: usize = 64;
 
-/// What says that a server serves the ruleset of a generation.
+/// Writes that a server serves the ruleset of a generation.
 pub(crate) trait Ready {
     type Said: Drop;
 
@@ -42,8 +42,8 @@ impl<'a, O: Write> Ready for ReadyLine<'a, O> {
     }
 }
 
-// Writes the line, which is made before, by one write: so no line of another program that writes to
-// the same place stands in it. It takes no memory.
+// Writes the line by one write, so that no line of another program that writes to the same file is
+// mixed with it. It allocates nothing.
 fn write_line<O: Write>(out: &mut O, generation: Generation) -> io::Result<()>
     ensures { OnOk result
         (Appends (O.contents out.old) (O.contents out.new) (serving_line generation)) }
@@ -54,7 +54,7 @@ fn write_line<O: Write>(out: &mut O, generation: Generation) -> io::Result<()>
     out.flush()
 }
 
-/// Does nothing, but it uses a writer that was given back, which ties it to the one that was lent.
+/// Does nothing; the use of the returned writer ties it to the borrowed one.
 pub(crate) fn take_back<O>(out: &mut O)
     ensures { out.new ≡ out.old }
 {}

@@ -1,15 +1,15 @@
-//! What a server gives back once it has ended.
+//! What a server returns once it has ended.
 
 use hot_swap::{Generation, Notice, Watcher};
 
-/// The passes and the watchers, with what was installed.
+/// The passes, which are ghost tokens, and the watchers, with what was installed.
 #[derive(Drop)]
 pub struct Returned<P: Drop> {
     /// The operator's pass.
     pub operator: P,
     /// The workers, in their order.
     pub workers: Vec<(P, Watcher)>,
-    /// All that was installed by then.
+    /// All rulesets that were installed by then.
     pub published: Notice,
     /// The generation that was installed last.
     pub generation: Generation,

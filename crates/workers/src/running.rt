@@ -1,8 +1,8 @@
 //! A server from its start to its end. Its clients' side is `serve_returning`, in a thread of its
-//! own (`beside`); the operator's port is answered in this one. All threads are there before the
-//! server says that it serves. Once the operator has asked to stop, the clients' port is ended
+//! own (`beside`); this thread answers the operator's port. All threads exist before the server
+//! prints that it serves. Once the operator has requested a stop, the clients' port is ended
 //! (`ports`), then their queue, and the workers end. The operator's port stays open until they have
-//! (`stopping`). The threads give back what they were given (`promise`), so all is given back at
+//! ended (`stopping`). The threads return what they were given (`promise`), so all is returned at
 //! the end.
 
 ghost use Rattle.std.specs.Io.KnownBytes.{Appends};
@@ -31,8 +31,8 @@ use std::sync::Wait;
 use std::thread::{self, Threads};
 use std::time::Clock;
 
-// Answers the operator until one has asked to stop, has the clients' side end, tells who connects
-// meanwhile that the server stops, and gives the operator's pass back.
+// Answers the operator until a stop is requested, and then ends the clients' side. Until that has
+// ended it replies to each connection that the server stops. Returns the operator's pass.
 fn operate_beside<H, L, C>(
     rt: &H,
     listener: &TcpListener,
@@ -63,7 +63,7 @@ where
     pass
 }
 
-// What is given back, once all threads have ended.
+// What is returned once all threads have ended.
 fn returned<P: Drop>(operator: P, workers: Vec<(P, Watcher)>, control: &Control) -> Returned<P>
     ensures operator { result.operator ≡ operator }
     ensures workers { result.workers ≡ workers }
@@ -80,7 +80,7 @@ fn returned<P: Drop>(operator: P, workers: Vec<(P, Watcher)>, control: &Control)
     }
 }
 
-// Serves as `run` does, and gives what `ready` gives back.
+// Serves as `run` does, and also returns what `ready` returns.
 fn run_saying<H, G, L, C, S>(
     rt: &H,
     gate: &G,
@@ -153,16 +153,15 @@ where
     )
 }
 
-/// Serves clients with these 1 to 64 workers, as `serve` does, and the operator's port beside them,
-/// until the operator has requested a stop. The operator is answered in this thread. Once all
-/// threads exist, the generation that is served is written to `out`, by one write of the whole
-/// line. If nothing was refused, all passes and watchers are given back. B4, if memory or a thread
-/// is refused, comes before any client is answered and before anything is written; B3 if `out`
-/// can't be written.
-// open: which bytes a socket carries, and which moment a clock gives: nothing tells. That
-// connections are answered side by side, or the operator's one after another, their limits of time,
-// the log, that all threads end by a stop, also of a server that may not connect, and that the line
-// takes one write, of whose number std says nothing: tests.
+/// Serves clients with these 1 to 64 workers, as `serve` does, and also the operator's port, until
+/// the operator has requested a stop. This thread answers the operator. Once all threads exist, the
+/// generation that is served is written to `out`, by one write of the whole line. If nothing fails,
+/// all passes and watchers are returned. Returns B4 if an allocation or a thread fails, before any
+/// client is answered and before anything is written; B3 if `out` can't be written.
+// open: which bytes a socket carries, and which moment a clock gives: nothing shows that. That
+// connections are answered in parallel, or the operator's one after another; their time limits, the
+// log; that all threads end after a stop, even if the server can't connect to its own port; and
+// that the line takes one write, of whose number std says nothing: tests.
 pub fn run<H, G, L, C, O>(
     rt: &H,
     gate: &G,

@@ -1,5 +1,5 @@
-//! The operator's port while a server ends: it stays open, and everybody who connects is answered
-//! that the server stops, whatever the request.
+//! The operator's port while a server ends: it stays open, and the reply to each connection is that
+//! the server stops, whatever the request.
 
 use crate::accept::Port;
 use crate::operating::send;
@@ -9,13 +9,13 @@ use std::sync::Wait;
 use std::sync::atomic::AtomicBool;
 use std::time::{Clock, Duration};
 
-/// How many seconds there are to take what is told: that long, and one to close, may the server's
-/// end wait for it.
+/// How many seconds a client has to read the reply. The server's end may wait for it that long, and
+/// one second to close.
 const TELL_SECONDS: u64 = 1;
 
-/// Tells each connection that the server stops, until the flag is set. The port doesn't wait for
-/// one meanwhile: it is looked at, and the flag with it, a hundred times a second, so nobody has to
-/// connect to it as the server ends.
+/// Replies to each connection that the server stops, until the flag is set. Accept doesn't block
+/// meanwhile: the port and the flag are polled a hundred times a second. So the server's end needs
+/// no connection to wake it.
 pub(crate) fn tell_stopping<'x, H>(rt: &H, listener: &'x TcpListener, ended: &'x AtomicBool)
 where
     H: Wait + AllocGlobal + Clock,

@@ -1,4 +1,4 @@
-//! A worker: it takes connections from the queue and answers them, one after another.
+//! A worker thread: it takes connections from the queue and answers them, one after another.
 
 ghost use Rattle.std.specs.Prelude.{◌≡◌};
 ghost use Rattle.workers.specs.Back.{ConnectionBack, WorkerBack};
@@ -18,18 +18,18 @@ use std::net::TcpStream;
 use std::sync::Wait;
 use std::time::{Clock, Duration};
 
-/// How a server serves.
+/// How a server serves: its time limit and its log.
 #[derive(Clone, Copy)]
 pub struct Service<'a> {
     /// How long a connection may last.
     pub timeout: Duration,
-    /// Where each connection has a line, also one that couldn't be accepted, and each load. Where
-    /// connections wait for a worker its lines are put there together, late by a second and by a
-    /// connection's time at most.
+    /// The log, with a line for each connection, even if it couldn't be accepted, and for each
+    /// load. If connections wait for a worker, their lines are queued together, late by at most a
+    /// second and a connection's time.
     pub log: Option<&'a LogQueue>,
 }
 
-/// A worker's seat: by what it answers, and the room that it keeps for it.
+/// What a worker answers with, and the buffers that it reuses.
 #[derive(Drop)]
 struct WorkerSeat<'a, C: CellSteps>
 where
@@ -41,7 +41,7 @@ where
     room: AnswerRoom,
 }
 
-/// Answers until the queue is closed, and gives back the pass and the watcher.
+/// Answers until the queue is closed, and returns the pass and the watcher.
 pub(crate) fn work<H, G, C>(
     rt: &H,
     gate: &G,
@@ -116,8 +116,8 @@ where
     finished
 }
 
-// Answers one connection within its limits. Where the clock can't tell when the connection has to
-// be done, nothing is read, as of a client that can't be read.
+// Answers one connection within its limits. If the clock can't give its deadline, nothing is read,
+// and the client counts as unreadable.
 fn answer_within<'x, H, C>(
     rt: &'x H,
     stream: &'x TcpStream,
@@ -162,9 +162,9 @@ where
     outcome
 }
 
-// Takes what a client sent beyond its request, since a socket that is closed with bytes unread is
-// reset, and the reply may be lost with it (RFC 9112, section 9.6). After a 200 that is what has
-// come, and nothing is waited for; a client that was refused may go on sending for a while.
+// Reads what a client sent after its request. A socket that is closed with unread bytes is reset,
+// and the reply may be lost with it (RFC 9112, section 9.6). After a 200 only the bytes that have
+// arrived are read, without waiting; a refused client may keep sending for a while.
 fn finish<H: Clock>(
     rt: &H,
     stream: &TcpStream,

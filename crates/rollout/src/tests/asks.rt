@@ -1,4 +1,4 @@
-//! What `ask` prints at the moment of the clock, and of the counters of a server. The replies are
+//! What `ask` prints at the clock's moment, and with the counters of a server. The replies are
 //! written by hand from docs/CLIENTS.md.
 
 use super::server::{await_port, free_ports, is_reply_of, told_operator};
@@ -34,7 +34,7 @@ required = true
 
 const RULE: &[u8] = b"when version < 1.2 and take(early, 0) offer 1;\notherwise none;\n";
 
-/// The manifest of the server, with a cell and an array that the one above doesn't have.
+/// The manifest of the server, with a cell and an array that `MANIFEST` doesn't have.
 const SERVED: &[u8] = br#"server = "prod"
 array = [
   { name = "early", width = 64, length = 1, quota = 2 },
@@ -67,7 +67,7 @@ const BODY: &[u8] =
 const BOTH: &[u8] =
     br#"{"request":{"protocol":"3.1","app":[{"appid":"x","cohort":"b:0007","updatecheck":{}},{"appid":"x","cohort":"b:0008","updatecheck":{}}]}}"#;
 
-/// What a reply has for the app after its bucket: a release, and none.
+/// The reply's text for the app after its bucket: with a release, and without one.
 const OFFER: &str = "\"updatecheck\":{\"manifest\":{\"packages\":{\"package\":[\
 {\"hash_sha256\":\"ba7816bf8f01cfea414140de5dae2223b00361a396177a9cb410ff61f20015ad\",\
 \"name\":\"x.bin\",\"required\":true,\"size\":3}]},\"version\":\"1.2\"},\"status\":\"ok\",\
@@ -85,7 +85,7 @@ fn write_all<R: Files + AllocGlobal>(rt: &R) -> Result<(), Fail> {
     Ok(())
 }
 
-/// The whole reply to both clients, of which the second is offered this.
+/// The whole reply to both clients, with this text for the second.
 fn reply_text(alloc: std::alloc::Global, second: &str) -> io::Result<String> {
     let mut text = String::from_str(alloc, ")]}'\n{\"response\":{\"app\":[")?;
     text.push_str("{\"appid\":\"x\",\"cohort\":\"b:0007\",\"status\":\"ok\",")?;
@@ -127,8 +127,8 @@ fn reply_of_today(rt: HostRuntime) -> Result<(), Fail> {
     Ok(())
 }
 
-/// Whether the replies with a server's counters are right: before a request and after it, and then
-/// with a cell of the words; and whether the server counted as it should.
+/// Whether the replies with a server's counters are right: before a request, after it, and then
+/// with a cell given in the words; and whether the server counted correctly.
 fn beside_server<R>(rt: &R, service: u16, operator: u16) -> io::Result<[bool; 4]>
 where
     R: Files + Threads + Wait + AllocGlobal + Clock + LogOutput,
@@ -159,8 +159,8 @@ where
     ])
 }
 
-/// Counters of the server that the manifest doesn't have are ignored, and the cells of the words
-/// take precedence.
+/// Counters of the server that the manifest doesn't have are ignored, and cells in the words take
+/// precedence.
 #[test]
 fn replies_beside_a_server(rt: HostRuntime) -> Result<(), Fail> {
     write_all(&rt)?;
@@ -178,7 +178,7 @@ fn replies_beside_a_server(rt: HostRuntime) -> Result<(), Fail> {
     Ok(())
 }
 
-/// A line of a server's counters, and a word that is none.
+/// A line of a server's counters is read; a word of the command line isn't.
 #[test]
 fn listed_cells(rt: HostRuntime) {
     assert!(rt; ToldCell::listed("early[0] 283").is_some());

@@ -1,9 +1,9 @@
-//! Words with controls: how they are printed.
+//! Words with control characters: how they are printed.
 
 use super::told_of;
 use std::test::Fail;
 
-/// Words with controls, and how they are told. No other test has words with a line feed.
+/// Words with control characters, and what is printed. No other test has words with a line feed.
 const UNPRINTED: [(&[&str], &str); 4] = [
     (&["rollout", "x\n::add-mask::y"], "'x\\u{a}::add-mask::y'"),
     (&["rollout", "list", "a", "\u{1b}[2J"], "'\\u{1b}[2J'"),
@@ -14,7 +14,7 @@ const UNPRINTED: [(&[&str], &str); 4] = [
     (&["rollout", "list", "a", "--x\u{202e}y"], "'--x\\u{202e}y'"),
 ];
 
-/// Of wrong words no control is printed, and none begins a line.
+/// A control character of wrong words isn't printed, and can't begin a line.
 #[test]
 fn controls(rt: HostRuntime) -> Result<(), Fail> {
     for (words, shown) in UNPRINTED {

@@ -1,12 +1,12 @@
-//! Manifests that are checked: what isn't told of a file behind a link, and what isn't printed of a
-//! text that is no TOML.
+//! Checked manifests: what isn't printed about a file behind a symbolic link, nor of a text that
+//! isn't TOML.
 
 use super::told;
 use std::fs;
 use std::os::unix::fs::symlink;
 use std::test::Fail;
 
-/// What is told of a file behind a link: its name, and no line of it.
+/// What is printed about a file: its line, unless a link leads to the file.
 const LINKED: [(&str, &str); 3] = [
     ("k_link.rule", ""),
     ("k_way/wrong.rule", ""),
@@ -43,7 +43,7 @@ fn links(rt: HostRuntime) -> Result<(), Fail> {
     Ok(())
 }
 
-/// What is said of text that is no TOML is the reader's own.
+/// The message about a text that isn't TOML has none of its control characters.
 #[test]
 fn no_control_of_a_manifest(rt: HostRuntime) -> Result<(), Fail> {
     fs::write(&rt, "k.toml", b"server = \"\x1b[2J\"\n")?;

@@ -1,5 +1,5 @@
-//! Memory that is refused to the command: a refusal of its own, status 1, and nothing printed else.
-//! And a write that fails.
+//! Failed allocations in the command: it prints only a refusal, with status 1. And a write that
+//! fails.
 
 use command_line::WordsFault;
 use commands::{Device, LogOutput, command, unreadable_words, usage};
@@ -12,7 +12,7 @@ use std::test::Fail;
 use std::thread::Threads;
 use std::time::Clock;
 
-/// The memory that the words want is the command's own: B4, and no fault of the words.
+/// If memory for the words can't be allocated, that is B4 and not an error of the words.
 #[test]
 fn refused_to_the_words(rt: HostRuntime) {
     let mut room = [0; 32];
@@ -39,7 +39,7 @@ const WORDS: [&str; 7] = [
     "a:64:1",
 ];
 
-/// The status of a run, which prints into room that stands ready.
+/// The status of a run, which prints into buffers that exist already.
 fn run_none<R>(rt: &R, room: &mut [u8], said: &mut [u8]) -> u8
 where
     R: Files + Threads + Wait + AllocGlobal + Clock + LogOutput,
@@ -60,8 +60,8 @@ const REFUSALS: [&[u8]; 4] = [
     b"refused V15 Memory\n",
 ];
 
-/// Asked again the command answers, so this passes wherever one growth of it is refused, as
-/// `rt try --test --fail-alloc N -- memory` does.
+/// A second call succeeds, so this passes whichever single allocation fails, as with `rt try --test
+/// --fail-alloc N -- memory`.
 #[test]
 fn refused_once(rt: HostRuntime) -> Result<(), Fail> {
     fs::write(&rt, "m.bin", NONE)?;

@@ -1,4 +1,4 @@
-//! Pictures: what is drawn of a log, and of a simulation.
+//! Pictures of a log and of a simulation.
 
 use super::told;
 use std::fs;
@@ -10,14 +10,14 @@ const LOG: &str = r##"accepted
 {"time":"2026-11-25T09:30:00.000Z","kind":"lost","lines":12}
 "##;
 
-/// What a picture of the log has: its asks, and a version's row in the legend.
+/// Parts of the log's picture: its number of asks, and a version's row in the legend.
 const DRAWN: [&str; 3] = [
     "<svg xmlns=\"http://www.w3.org/2000/svg\"",
     "<text x=\"60\" y=\"54\">asks: 1</text>",
     "<text x=\"80\" y=\"473\">1.9</text>",
 ];
 
-/// A picture is written once, and again over itself.
+/// A picture is written, and then overwritten.
 #[test]
 fn of_a_log(rt: HostRuntime) -> Result<(), Fail> {
     fs::write(&rt, "drawn.log", LOG)?;

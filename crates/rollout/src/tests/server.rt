@@ -1,4 +1,4 @@
-//! A server, from its words to its operator's stop: both ends in one process.
+//! A server, from its start to its operator's stop: client and server in one process.
 
 use super::{Printed, text_of, told};
 use bpf_text::assemble;
@@ -34,9 +34,8 @@ array = [{ name = "a", width = 64, length = 2 }]
 app = [{ appid = "x", program = "s_none.bin" }]
 "#;
 
-/// What is asked and what it is answered, in turn: `post` is a request for the apps x and y, which
-/// is answered by a server of this name, and else it is the operator's words. In answers `;` stands
-/// for the line feed.
+/// Requests and replies, in turn. `post` is a request for the apps x and y, with the name of the
+/// server that replies; any other request is the operator's words. In replies `;` is a line feed.
 const SESSION: &str = "show|generation 1;app x releases 0 slots 6;
 cells|
 post|prod
@@ -77,7 +76,7 @@ where
     is_replied(rt, &stream, server)
 }
 
-/// Whether a stream brings the reply of a server of this name.
+/// Whether a stream has the reply of a server of this name.
 pub(super) fn is_replied<R: AllocGlobal>(
     rt: &R,
     stream: &TcpStream,
@@ -95,7 +94,7 @@ pub(super) fn is_replied<R: AllocGlobal>(
     )
 }
 
-/// What an operator's words are answered.
+/// The result of an operator's words.
 pub(super) fn told_operator<R>(rt: &R, operator: u16, words: &str) -> io::Result<Printed>
 where
     R: Files + Threads + Wait + AllocGlobal + Clock + LogOutput,
@@ -130,7 +129,7 @@ where
     Ok(printed.as_str() == wanted.as_str() && silent.is_empty())
 }
 
-/// Waits until somebody listens at a port, for five seconds at most.
+/// Waits until a port accepts connections, for at most five seconds.
 pub(super) fn await_port<R: Clock + Net<Stream = TcpStream>>(rt: &R, port: u16) {
     for _ in 0..500 {
         if TcpStream::connect(rt, (Ipv4Addr::LOCALHOST, port)).is_ok() {
@@ -140,7 +139,7 @@ pub(super) fn await_port<R: Clock + Net<Stream = TcpStream>>(rt: &R, port: u16) 
     }
 }
 
-/// The first row whose answer is another one, once the operator's port answers.
+/// The first row with a wrong reply, once the operator's port accepts connections.
 fn first_wrong<R>(rt: &R, service: u16, operator: u16) -> Option<&'static str>
 where
     R: Files + Threads + Wait + AllocGlobal + Clock + LogOutput,
@@ -159,7 +158,7 @@ where
     None
 }
 
-/// Two ports of loopback that are free.
+/// Two free ports on loopback.
 pub(super) fn free_ports<R>(rt: &R) -> io::Result<(u16, u16)>
 where
     R: Net<Listener = TcpListener, Stream = TcpStream>,
@@ -169,7 +168,7 @@ where
     Ok((first.local_addr()?.port(), second.local_addr()?.port()))
 }
 
-/// Writes the program of a text, whose lines are divided by ` / `.
+/// Writes the program of a text, whose lines are separated by ` / `.
 fn write_program<R: Files + AllocGlobal>(rt: &R, path: &str, text: &str) -> Result<(), Fail> {
     let text = text.replace(rt.alloc(), " / ", "\n")?;
     fs::write(rt, path, &assemble(rt.alloc(), text.as_str())?)?;
@@ -187,7 +186,7 @@ pub(super) fn write_files<R: Files + AllocGlobal>(rt: &R) -> Result<(), Fail> {
     write_program(rt, "s_exit.bin", "exit")
 }
 
-/// Whether all that a command prints is this line on standard error, with status 1.
+/// Whether a command prints only this line, on standard error, with status 1.
 fn is_refused<R>(rt: &R, words: &str, line: &str) -> io::Result<bool>
 where
     R: Files + Threads + Wait + AllocGlobal + Clock + LogOutput,
@@ -201,8 +200,7 @@ where
 }
 
 /// Refused loads change nothing, a load is generation 2, and a stop ends the server: without the
-/// log and with it. A port that is taken can't be bound, and without its manifest no
-/// server starts.
+/// log and with it. A port in use can't be bound, and no server starts without its manifest.
 #[test]
 fn sessions(rt: HostRuntime) -> Result<(), Fail> {
     write_files(&rt)?;

@@ -15,11 +15,10 @@ use std::thread;
 use std::thread::Threads;
 use std::time::{Clock, Duration};
 
-/// How many bytes a request's body has.
+/// The length of a request's body.
 const BODY: usize = 162;
 
-/// A client that has sent the head of its request, and was taken: another one that came behind it
-/// was answered.
+/// A client that has sent the head of its request and was accepted: a later client was answered.
 fn begun<R>(rt: &R, service: u16) -> io::Result<Option<TcpStream>>
 where
     R: Net<Stream = TcpStream> + AllocGlobal,
@@ -32,8 +31,8 @@ where
     Ok(if is_taken { Some(stream) } else { None })
 }
 
-/// Whether the client is answered that sends the rest of its request half a second later, when the
-/// stop isn't over.
+/// Whether a client that sends the rest of its request half a second later is answered, while the
+/// stop is still waiting.
 fn is_heard<R>(rt: &R, stream: &TcpStream, is_over: &AtomicBool) -> io::Result<bool>
 where
     R: AllocGlobal + Clock,
@@ -46,7 +45,7 @@ where
     Ok(!was_over && is_replied(rt, stream, "prod")?)
 }
 
-/// Whether a stop that waits says that the server stops, once nobody listens at the port.
+/// Whether a stop that waits prints that the server stops, once nothing listens at the port.
 fn is_stopped<R>(rt: &R, operator: u16, is_over: &AtomicBool) -> io::Result<bool>
 where
     R: Files + Threads + Wait + AllocGlobal + Clock + LogOutput,
@@ -62,7 +61,7 @@ where
     Ok(is_told && is_closed)
 }
 
-/// Whether a client is heard out before a stop that waits returns.
+/// Whether a client is answered before a stop that waits returns.
 fn is_waited_for<R>(rt: &R, service: u16, operator: u16) -> io::Result<bool>
 where
     R: Files + Threads + Wait + AllocGlobal + Clock + LogOutput,
@@ -85,7 +84,7 @@ where
     Ok(stopped? && heard?)
 }
 
-/// Without the log and with it. Where nobody listens a stop that waits is refused as any other.
+/// Without the log and with it. If nothing listens, a stop that waits is refused like any other.
 #[test]
 fn stops_are_waited_for(rt: HostRuntime) -> Result<(), Fail> {
     write_files(&rt)?;

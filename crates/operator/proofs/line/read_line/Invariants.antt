@@ -2,7 +2,7 @@ use Rattle.std.proofs.Common.{◌≡◌, ◌≤◌, ◌-◌, length, take}
 use Rattle.operator.specs.Line.{LineGoesOn}
 use Rattle.operator.proofs.line.read_line.Given as goal
 
--- what stands in the room is the line, as far as it was read
+-- the front of the buffer is the line, as far as it was read
 abbrev pub invariant-loop-size : goal.invariant-loop-size
 invariant-loop-size g l =
     LineGoesOn (g.R.Read.remaining l.initial.reader.inner) (g.R.Read.remaining l.reader.inner)

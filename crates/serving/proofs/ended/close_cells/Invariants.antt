@@ -5,7 +5,7 @@ use Rattle.serving.specs.Ended.{IsOfServer, passes_of}
 use Rattle.serving.proofs.Closing.{HasSeen, turned}
 use Rattle.serving.proofs.ended.close_cells.Given as goal
 
--- a pass more and a worker less each time, and there is room for the passes of all
+-- one pass more and one worker fewer each time, and `room` has places for all passes
 abbrev pub invariant-loop-worker : goal.invariant-loop-worker
 invariant-loop-worker l = record {
   all : length l.room.items + length l.workers.items ≡ l.fn.cells.passes;

@@ -4,7 +4,7 @@ use Rattle.shared_cells.specs.Passes.{IsNewPass}
 use Rattle.serving.specs.Staff.{IsNewWorker}
 use Rattle.serving.proofs.worker_list.worker_list.Given as goal
 
--- a worker more and a pass less each time, and the publisher shows what it did
+-- one worker more and one pass fewer each time, and nothing is published
 abbrev pub invariant-loop-pass : goal.invariant-loop-pass
 invariant-loop-pass l = record {
   all : length l.workers.items + length l.passes.items ≡ length l.fn.passes.items;

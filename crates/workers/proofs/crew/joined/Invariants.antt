@@ -3,7 +3,7 @@ use Rattle.std.specs.Vec.Iter.{into_iter_items, into_iter_len}
 use Rattle.workers.proofs.InPlace.{HasOneEach}
 use Rattle.workers.proofs.crew.joined.Given as goal
 
--- each thread so far has given what it promised, and there is room for what the others give
+-- each thread so far has returned what it promised, and `room` has places for the rest
 abbrev pub invariant-loop-thread : goal.invariant-loop-thread
 invariant-loop-thread g l = record {
   given : HasOneEach (λ thread back. g.P.Promise.kept_by thread.promise back)

@@ -4,7 +4,7 @@ use Rattle.workers.specs.Promised.{IsPromiseOf}
 use Rattle.workers.proofs.InPlace.{HasOneEach}
 use Rattle.workers.proofs.crew.start_workers.Given as goal
 
--- each worker so far has a thread that promised to give it back
+-- each worker so far has a thread that promises to return it
 abbrev pub invariant-loop-worker : goal.invariant-loop-worker
 invariant-loop-worker g l = record {
   belong : All (λ w. g.C.CellSteps.belongs l.cells w.0) (into_iter_items l.worker-iterator);

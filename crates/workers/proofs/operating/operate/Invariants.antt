@@ -3,7 +3,7 @@ use Rattle.operator.specs.Leading.{LoadsLead}
 use Rattle.workers.specs.Back.{OperatorBack}
 use Rattle.workers.proofs.operating.operate.Given as goal
 
--- the operator's pass has only looked, and loads alone have led to what is installed
+-- the operator's pass has only read counters, and only loads have led to what is installed
 abbrev pub invariant-loop : goal.invariant-loop
 invariant-loop g l = record {
   loader : l.seat.loader ≡ l.initial.seat.loader;

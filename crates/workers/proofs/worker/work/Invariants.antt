@@ -2,7 +2,7 @@ use Rattle.std.specs.Prelude.{◌≡◌}
 use Rattle.workers.specs.Back.{WorkerBack}
 use Rattle.workers.proofs.worker.work.Given as goal
 
--- the worker goes on with the same cells, as it is to come back
+-- the cells are the same, and the worker is as it is to be returned
 abbrev pub invariant-loop : goal.invariant-loop
 invariant-loop g l =
     (l.seat.cells.now ≡ l.fn.cells)
