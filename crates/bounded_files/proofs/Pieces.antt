@@ -1,4 +1,4 @@
--- A text is followed by pieces: what is left open, and what is no text whatever stands behind it.
+-- A text is read in pieces: its open end, and bytes that can't be text, whatever follows.
 use Rattle.std.proofs.Common.{Bool, true, false, ◌&&◌}
 use Rattle.std.proofs.Common.{◌≡◌, ℕ, ◌+◌, ◌-◌, ◌<◌, ◌≤◌, List, [], ◌∷◌, ◌++◌, length, take, drop}
 use Rattle.std.proofs.Common.{refl, sym, ap, ◌∙◌, subst, arith, append_assoc, append-nil}
@@ -41,7 +41,7 @@ begins bytes (c ∷ chars) fine spelled some =
       ),
     )
 
--- behind UTF-8 a text goes on as one
+-- the rest of a text after UTF-8 is also text
 pub behind_utf8 : (front rest : List ℕ) → IsUtf8 front → IsUtf8 (front ++ rest) → IsUtf8 rest
 behind_utf8 front rest first all =
     subst IsUtf8 (drop-append_seam front rest)
@@ -50,7 +50,7 @@ behind_utf8 front rest first all =
     (omega (arith, length-append front rest))
     (subst IsUtf8 (sym (take-append_seam front rest)) first)))
 
--- what is left behind the longest beginning that is UTF-8
+-- the bytes after the longest prefix that is UTF-8
 pub left_open : (bytes : List ℕ) (n : ℕ) → IsValidUpTo bytes n → IsOpen (drop n bytes)
 left_open bytes n valid m some within utf8 =
     valid.longest (n + m) (omega (arith, some))
@@ -116,7 +116,7 @@ not_closed bytes left was some utf8 =
     (subst IsUtf8 (sym (take-length left.items))
     (behind_utf8 was.0 left.items was.1 (subst IsUtf8 was.2 utf8)))
 
--- ---- by what is left open
+-- ---- by the open end
 
 pub leaves : (bytes back : List ℕ) (n : ℕ) (left : Vec ℕ Global) → IsValidUpTo bytes n
     → left.items ≡ back → back ≡ drop n bytes → length back ≤ 3 → LeavesOpen bytes (Some left)
@@ -159,7 +159,7 @@ pub stays_by : (left : Option (Vec ℕ Global)) (bytes piece : List ℕ) → lef
 stays_by left bytes piece is was =
     stays bytes piece (subst (λ (l : Option (Vec ℕ Global)). LeavesOpen bytes l) is was)
 
--- ---- whether it is a text
+-- ---- whether it is text
 
 is_none : (items : List ℕ) → (length items == 0) ≡ true → items ≡ []
 is_none [] e = refl

@@ -13,7 +13,7 @@ use Rattle.bounded_files.specs.SoFar.{IsReadSoFar, KeepsSoFar}
 use Rattle.bounded_files.specs.declared.kept.KeptBytes.{KeptBytes}
 use Rattle.bounded_files.specs.declared.kept.SoFar.{SoFar}
 
--- ---- of known bytes
+-- ---- known bytes
 
 consumes_none : (old : Option (List ℕ)) → Consumes old old []
 consumes_none None = tt
@@ -27,7 +27,7 @@ consumes_more (Some xs) (Some ys) None bytes piece was more = absurd more
 consumes_more (Some xs) (Some ys) (Some zs) bytes piece was more =
     was ∙ ap (λ (l : List ℕ). bytes ++ l) more ∙ sym (append_assoc bytes piece zs)
 
--- ---- of what is kept
+-- ---- kept bytes
 
 take_none : (kept : ℕ) → take {A = ℕ} kept [] ≡ []
 take_none zero = refl
@@ -82,7 +82,7 @@ one_more kept bytes piece far next was beginning count text = record {
   text = text was.text;
 }
 
--- ---- of what was read
+-- ---- bytes that were read
 
 pub none_read : (kept : ℕ) (old : Option (List ℕ)) (far : SoFar) → KeepsSoFar kept [] far
     → IsReadSoFar kept old old far

@@ -1,4 +1,4 @@
--- From what is read of a file to what is taken of one whose length is bounded.
+-- From what is read of a file to what is returned for a bounded length.
 use Rattle.std.proofs.Common.{◌≡◌, ◌<◌, ◌≤◌, ℕ, List, length, Vec, Option, Some, None}
 use Rattle.std.proofs.Common.{Result, Ok, Err, IfOk, refl, arith}
 use Rattle.std.specs.declared.alloc.Global.{Global}

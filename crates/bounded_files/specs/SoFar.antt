@@ -4,13 +4,13 @@ use Rattle.std.specs.Io.KnownBytes.{Consumes}
 use Rattle.bounded_files.specs.declared.kept.SoFar.{SoFar}
 use Rattle.bounded_files.specs.Kept.{LeavesOpen}
 
--- of these bytes: so many of the first, how many they are, and what they leave open of a text
+-- of these bytes: the first `most`, how many they are, and the open end of a text
 pub record KeepsSoFar (most : ℕ) (bytes : List ℕ) (far : SoFar) : Type 0 where
   pub beginning : far.beginning.items ≡ take most bytes
   pub count : far.count ≡ length bytes
   pub text : LeavesOpen bytes far.left
 
--- of those that a reader gave until now
+-- of the bytes that a reader gave so far
 pub record IsReadSoFar (most : ℕ) (old now : Option (List ℕ)) (far : SoFar) : Type 0 where
   pub bytes : List ℕ
   pub read : Consumes old now bytes

@@ -1,4 +1,4 @@
--- The texts of what isn't to be had.
+-- The texts of the faults.
 use Rattle.std.specs.Prelude.{ℕ, List, codes}
 use Rattle.bounded_files.specs.declared.fault.ResourceFault.{ResourceFault}
 use Rattle.bounded_files.specs.declared.fault.ResourceFault.TheVariants.{File, Memory}

@@ -13,8 +13,8 @@ use std::fs::{self, Metadata, OpenFile};
 use std::io::{self, Error, ErrorKind, Read};
 use std::rt::Files;
 
-/// The files of the device, of whose bytes nothing is known. A path that isn't absolute is taken
-/// from the working folder.
+/// The files of the device, about whose bytes nothing is known. A path that isn't absolute is
+/// relative to the working folder.
 #[derive(Drop)]
 pub struct Device<'a, R> {
     rt: &'a R,
@@ -22,8 +22,8 @@ pub struct Device<'a, R> {
 
 impl<'a, R> Device<'a, R> {
     /// The files of this device.
-    // open: which bytes a device's file gives, and of which kind it is: tests and `bench/hostile`
-    // see that it is asked for its kind.
+    // open: which bytes a device's file contains, and of which kind it is: tests and
+    // `bench/hostile` check that its kind is read.
     pub fn new(rt: &'a R) -> Device<'a, R> {
         Device { rt }
     }
@@ -42,12 +42,12 @@ impl<'a, R: Files + AllocGlobal> Disk for Device<'a, R> {
         read_opened(self.rt.alloc(), open_regular(self.rt, path), most)
     }
 
-    // It is read by pieces, of which none is kept behind the first bytes.
+    // It is read in pieces; none after the first bytes is kept.
     fn keep_regular(&self, path: &str, kept: u32) -> Result<KeptBytes, ResourceFault> {
         keep_opened(self.rt.alloc(), open_within(self.rt, path), kept)
     }
 
-    // What can't be looked at counts as a link.
+    // A path whose metadata can't be read counts as a symbolic link.
     fn is_link(&self, path: &str) -> bool {
         match fs::symlink_metadata(self.rt, path) {
             Ok(found) => found.is_symlink(),
@@ -56,9 +56,9 @@ impl<'a, R: Files + AllocGlobal> Disk for Device<'a, R> {
     }
 }
 
-// A regular file, opened. What the path leads to is looked at before it is opened, since opening a
-// FIFO waits for somebody who writes to it, and what was opened is looked at again, since another
-// file may stand there by then. A FIFO that is put there between the two is still waited for.
+// A regular file, opened. The kind of the file is checked before opening the path, because opening
+// a FIFO waits for a writer. It is checked again afterwards, because another file may be there by
+// then. A FIFO that is put there between the two checks is still waited for.
 fn open_regular<R: Files>(rt: &R, path: &str) -> io::Result<R::File> {
     require_regular(&fs::metadata(rt, path)?)?;
     let file = fs::open(rt, path)?;
@@ -66,7 +66,7 @@ fn open_regular<R: Files>(rt: &R, path: &str) -> io::Result<R::File> {
     Ok(file)
 }
 
-// One that says itself to be longer than 16 MiB isn't read.
+// A file whose metadata gives more than 16 MiB isn't read.
 fn open_within<R: Files>(rt: &R, path: &str) -> io::Result<R::File> {
     let file = open_regular(rt, path)?;
     if file.metadata()?.len() > MOST_BYTES as u64 {
@@ -84,7 +84,7 @@ fn require_regular(found: &Metadata) -> io::Result<()>
     Err(Error::from(ErrorKind::InvalidInput))
 }
 
-// The bytes of what was opened; None where it has more than so many.
+// The bytes of an opened file; None if it has more than `most`.
 fn read_opened<F: Read + Drop>(
     alloc: Global,
     opened: io::Result<F>,
@@ -106,7 +106,7 @@ fn read_opened<F: Read + Drop>(
     Ok(Some(bytes))
 }
 
-// What is kept of what was opened.
+// What is kept of an opened file.
 fn keep_opened<F: Read + Drop>(
     alloc: Global,
     opened: io::Result<F>,
@@ -125,8 +125,8 @@ fn keep_opened<F: Read + Drop>(
     }
 }
 
-/// The first bytes that a reader gives, one more than are allowed at most: of one whose bytes are
-/// known, these.
+/// The first bytes that a reader gives, at most `most + 1`; if the reader's bytes are known, the
+/// first of these.
 fn read_beginning<R: Read + Drop>(alloc: Global, reader: R, most: u32) -> io::Result<Vec<u8>>
     ensures within { IfOk result (λ v. IsWithin most v.items) }
     ensures bytes { IfOk result (λ v. IsBeginning (R.remaining reader) most v.items) }

@@ -1,4 +1,4 @@
-//! Files by their paths, of which kind they have to be, and how much is taken of one.
+//! Files by their paths: which kind they must be, and how much of one is read.
 
 ghost use Rattle.std.specs.Prelude.{◌≡◌, ◌≤◌, length, IfOk, List, ℕ, Option};
 ghost use Rattle.bounded_files.specs.Files.{KnownFile, ReadsAtMost, ReadsFile};
@@ -14,23 +14,23 @@ pub const MOST_BYTES: u32 = 0x100_0000;
 
 /// Files by their paths.
 pub trait Disk {
-    /// What each path leads to, a file or nothing that can be read: known of files in memory, and
-    /// not of those of a device.
+    /// What each path leads to: a file, or nothing readable. It is known for files in memory and
+    /// unknown for those of a device.
     ghost known: { Self → Option (List ℕ → Option KnownFile) };
 
-    /// The bytes of a file of any kind; None where it has more than so many. One that has no bytes
-    /// yet, as a FIFO, is waited for.
+    /// The bytes of a file of any kind; None if it has more than `most`. If the file has no bytes
+    /// yet, such as a FIFO, the call waits.
     fn read(&self, path: &str, most: u32) -> Result<Option<Vec<u8>>, ResourceFault>
         ensures { ReadsAtMost most (known self.now) path.now result };
 
-    /// The bytes of a regular file; None where it has more than so many. What is no regular file
-    /// counts as one that can't be read, and isn't waited for.
+    /// The bytes of a regular file; None if it has more than `most`. Any other file counts as
+    /// unreadable and isn't waited for.
     fn read_regular(&self, path: &str, most: u32) -> Result<Option<Vec<u8>>, ResourceFault>
         ensures { ReadsAtMost most (regular_files (known self.now)) path.now result };
 
-    /// What is kept of a regular file: its bytes, if they are at most `kept`; or else so many of
-    /// the first, how many they are, and whether they are UTF-8 to their end. What is no regular
-    /// file counts as one that can't be read, and so does one of over 16 MiB.
+    /// What is kept of a regular file: its bytes, if they are at most `kept`; otherwise the first
+    /// `kept` of them, how many there are, and whether they are UTF-8 to their end. Any other file,
+    /// and any file of over 16 MiB, counts as unreadable.
     fn keep_regular(&self, path: &str, kept: u32) -> Result<KeptBytes, ResourceFault>
         ensures { KeepsFile kept (within most_bytes (regular_files (known self.now)))
             path.now result }
@@ -38,13 +38,14 @@ pub trait Disk {
         keep_read(whole(self.read_regular(path, MOST_BYTES)), kept as usize)
     }
 
-    /// Whether a symbolic link stands at a path, as none does in memory. Nothing is promised of it.
+    /// Whether there is a symbolic link at a path; there is none in memory. Nothing is promised
+    /// about the result.
     fn is_link(&self, _path: &str) -> bool {
         false
     }
 }
 
-/// The bytes of a file of at most so many. A longer one counts as one that can't be read.
+/// The bytes of a file of at most `most` bytes. A longer file counts as unreadable.
 pub fn read_within<D: Disk>(disk: &D, path: &str, most: u32) -> Result<Vec<u8>, ResourceFault>
     ensures read { ReadsFile (within most (D.known disk.now)) path.now result }
     ensures short { IfOk result (λ v. length v.items ≤ most) }
@@ -52,8 +53,8 @@ pub fn read_within<D: Disk>(disk: &D, path: &str, most: u32) -> Result<Vec<u8>, 
     whole(disk.read(path, most))
 }
 
-/// The bytes of a regular file of at most so many. A longer one counts as one that can't be read,
-/// and so does what is no regular file.
+/// The bytes of a regular file of at most `most` bytes. A longer file, or one that isn't regular,
+/// counts as unreadable.
 pub fn read_regular_within<D: Disk>(
     disk: &D,
     path: &str,

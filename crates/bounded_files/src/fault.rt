@@ -1,4 +1,4 @@
-//! What a file may lack.
+//! Why a file can't be read or written.
 
 ghost use Rattle.std.specs.Prelude.{◌≡◌, Some};
 ghost use Rattle.bounded_files.specs.Texts.{resource_text};
@@ -11,12 +11,12 @@ use std::io::{Error, ErrorKind};
 pub enum ResourceFault {
     /// B3: a file can't be read or written.
     File,
-    /// B4: memory is refused.
+    /// B4: out of memory.
     Memory,
 }
 
 impl ResourceFault {
-    /// The number and the name, as they are printed.
+    /// The code and the name, as printed.
     pub fn name(self) -> &'static str
         ensures { result.now ≡ resource_text self }
     {
@@ -27,7 +27,7 @@ impl ResourceFault {
     }
 }
 
-/// What the failure of a file lacks.
+/// The fault of a failed operation on a file.
 pub(crate) fn fault_of(error: &Error) -> ResourceFault {
     match error.kind() {
         ErrorKind::OutOfMemory => ResourceFault::Memory,

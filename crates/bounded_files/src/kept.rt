@@ -1,5 +1,5 @@
-//! What is kept of a file that may be longer than is needed: all of it; or its beginning, how long
-//! it is, and whether it is a text to its end. No piece after the beginning is kept.
+//! What is kept of a file that may be longer than needed: all of it; or its beginning, its length,
+//! and whether it is text to its end. No piece after the beginning is kept.
 
 ghost use Rattle.std.specs.Prelude.{◌≡◌, ◌++◌, ◌+◌, ◌<◌, ◌≤◌, ◌^◌, length, take, List, [], ℕ};
 ghost use Rattle.std.specs.Prelude.{◌↔◌, IfOk, OnOk, IsTrue, IsUtf8};
@@ -18,7 +18,7 @@ use std::str;
 /// How many bytes are read at a time.
 const PIECE: usize = 0x1_0000;
 
-/// How often a reading is tried that is interrupted.
+/// How often an interrupted read is tried.
 const MOST_TRIES: u32 = 1000;
 
 /// What is kept of a file's bytes.
@@ -26,7 +26,7 @@ const MOST_TRIES: u32 = 1000;
 pub enum KeptBytes {
     /// All of them.
     Whole(Vec<u8>),
-    /// The first, how many there are, and whether they are UTF-8 to their end.
+    /// The first bytes, how many there are, and whether they are UTF-8 to their end.
     Longer {
         beginning: Vec<u8>,
         count: usize,
@@ -35,7 +35,7 @@ pub enum KeptBytes {
 }
 
 impl KeptBytes {
-    /// What is kept of bytes that are there: all, if they are at most `kept`.
+    /// What is kept of bytes in memory: all, if they are at most `kept`.
     pub fn of(bytes: Vec<u8>, kept: usize) -> KeptBytes
         ensures { IsKeptOf kept bytes.items result }
     {
@@ -54,8 +54,8 @@ impl KeptBytes {
     }
 }
 
-/// What is kept of bytes while they are read: the first, how many they were, and what the text that
-/// they may be has left open.
+/// What is kept of bytes while they are read: the first, how many they were, and the open end of
+/// the text so far.
 #[derive(Drop)]
 struct SoFar {
     beginning: Vec<u8>,
@@ -83,8 +83,8 @@ fn is_utf8(bytes: &[u8]) -> bool
     str::from_utf8(bytes).is_ok()
 }
 
-/// Reads all that a reader gives, and keeps the first `kept` bytes; None where it gives more than
-/// `most`.
+/// Reads everything that a reader gives, and keeps the first `kept` bytes; None if it gives more
+/// than `most`.
 pub(crate) fn keep<R: Read + Drop>(
     alloc: Global,
     reader: R,
@@ -123,7 +123,7 @@ fn keep_by<R: Read + Drop>(
     }
 }
 
-// Some bytes, at most as many as there is room for; none at the end.
+// Some bytes, at most as many as fit into the buffer; none at the end.
 fn read_some<R: Read>(reader: &mut R, piece: &mut [u8]) -> io::Result<usize>
     ensures room { length piece.new ≡ length piece.old }
     ensures bound { ReadsAtMost result piece.new }
@@ -151,7 +151,7 @@ impl SoFar {
         }
     }
 
-    // With a piece more.
+    // The state after one more piece.
     fn and(self, alloc: Global, piece: &[u8], kept: usize) -> Result<SoFar, AllocError>
         requires { self.count + length piece.now < 2 ^ 64 }
         ensures { IfOk result (λ far. (bytes : List ℕ) → KeepsSoFar kept bytes self
@@ -190,7 +190,7 @@ impl SoFar {
     }
 }
 
-// Adds as many of the bytes as are kept beside those that stand.
+// Appends bytes until `kept` are there.
 fn push_up_to(beginning: &mut Vec<u8>, piece: &[u8], kept: usize) -> Result<(), AllocError>
     ensures { OnOk result (length beginning.old.items ≤ kept
         → beginning.new.items ≡ take kept (beginning.old.items ++ piece.now)) }

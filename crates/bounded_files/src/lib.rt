@@ -1,17 +1,17 @@
-//! Files of at most so many bytes, of any kind or regular ones alone.
+//! Files of bounded length, of any kind or only regular ones.
 //!
 //! See docs/DECISIONS.md, "Manifests".
 #![tactic(auto)]
 
-// A file is read to one byte past the most that it may have, so that a longer one shows, and no
-// more memory is taken for it. A path that has to lead to a regular file is looked at before it is
-// opened, so that nobody waits for the writer of a FIFO. Files are read through a trait, so that
-// files in memory can stand in for those of a device; of these the contracts say which bytes were
-// read. A file that is written takes the place of the old one whole, where the folder lets it.
+// A file is read to one byte past its limit, which shows whether it is longer, and takes no more
+// memory. A path that must lead to a regular file is checked before it is opened, so that no call
+// waits for the writer of a FIFO. Files are read through a trait, so that files in memory can
+// replace those of a device; for files in memory the contracts say which bytes were read. A written
+// file replaces the old one as a whole, if the folder allows it.
 //
-// Of a file that may be longer than is wanted only the beginning is kept, its length, and whether
-// it is a text to its end (`kept.rt`). It is read by pieces, and a text is followed from one to the
-// next by the few bytes that a piece leaves open, of a character that isn't whole (`text.rt`).
+// For a file that may be longer than needed, only the beginning is kept, its length, and whether it
+// is text to its end (`kept.rt`). It is read in pieces. Between pieces only the few bytes of an
+// incomplete character are kept (`text.rt`).
 
 mod device;
 mod disk;

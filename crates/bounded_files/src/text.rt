@@ -1,5 +1,5 @@
-//! A text that comes in pieces, which aren't kept, except for the first bytes of a character whose
-//! others are in the next piece.
+//! A text that comes in pieces, which aren't kept, except for the first bytes of a character that
+//! continues in the next piece.
 
 ghost use Rattle.std.specs.Prelude.{◌↔◌, ◌++◌, List, ℕ, IfOk, IsTrue, IsUtf8};
 ghost use Rattle.std.specs.Str.{IsValidUpTo};
@@ -8,7 +8,7 @@ ghost use Rattle.bounded_files.specs.Kept.{LeavesOpen};
 use std::alloc::{AllocError, Global};
 use std::str;
 
-/// What a text leaves open behind one more piece, by what it left open before it.
+/// The open end of a text after one more piece, from the one before it.
 pub(crate) fn go_on(
     alloc: Global,
     left: Option<Vec<u8>>,
@@ -26,7 +26,7 @@ pub(crate) fn go_on(
     }
 }
 
-// The bytes of a character that isn't whole, at most three; None where they are of no text.
+// The bytes of an incomplete character, at most three; None if they can't be text.
 fn leave_open(alloc: Global, bytes: &[u8]) -> Result<Option<Vec<u8>>, AllocError>
     ensures { IfOk result (LeavesOpen bytes.now) }
 {
@@ -36,7 +36,7 @@ fn leave_open(alloc: Global, bytes: &[u8]) -> Result<Option<Vec<u8>>, AllocError
     }
 }
 
-// Those behind the longest beginning that is a text.
+// The bytes after the longest prefix that is text.
 fn leave_behind(alloc: Global, bytes: &[u8], valid: usize) -> Result<Option<Vec<u8>>, AllocError>
     requires { IsValidUpTo bytes.now valid }
     ensures { IfOk result (LeavesOpen bytes.now) }
@@ -49,7 +49,7 @@ fn leave_behind(alloc: Global, bytes: &[u8], valid: usize) -> Result<Option<Vec<
     Ok(Some(open))
 }
 
-/// Whether the bytes are a text, if none follow.
+/// Whether the bytes are text, if none follow.
 pub(crate) fn is_closed(left: &Option<Vec<u8>>) -> bool
     ensures { (bytes : List ℕ) → LeavesOpen bytes left.now → IsTrue result ↔ IsUtf8 bytes }
 {

@@ -1,4 +1,4 @@
-//! Files that are written anew.
+//! Writing files.
 
 use crate::fault::{ResourceFault, fault_of};
 use std::fs::{self, File, OpenFile, OpenOptions, Permissions};
@@ -6,15 +6,15 @@ use std::io::{self, Error, ErrorKind, Read, Write};
 use std::path::Path;
 use std::rt::Files;
 
-/// How many names are tried for a file that is written beside another.
+/// How many names are tried for the new file.
 const MOST_NAMES: u32 = 100;
 
-/// Writes a file anew. Where the path leads to a regular file, links followed, or to nothing, a
-/// file of a new name is written beside it, with the mode of the old one, synced, and renamed to
-/// it: so the old bytes stay where the writing fails. A device and a FIFO are written in place, and
-/// so is a file in a folder that takes no new one.
-// open: which bytes OUT got, that the old ones stay where the writing fails, and that not every
-// file gets B3: `bench/outside`.
+/// Writes a file. If the path names a regular file (links are followed) or doesn't exist, a new
+/// file is written next to it, with the mode of the old one. It is synced and renamed to the path,
+/// so the old bytes stay if writing fails. A device or a FIFO is written in place, and so is a file
+/// in a folder that takes no new files.
+// open: which bytes OUT got, that the old bytes stay if writing fails, and that not every file
+// returns B3: `bench/outside`.
 pub fn write_file<R: Files + AllocGlobal>(
     rt: &R,
     path: &str,
@@ -23,9 +23,9 @@ pub fn write_file<R: Files + AllocGlobal>(
     write_anew(rt, path, bytes).map_err(|error| fault_of(&error))
 }
 
-/// Whether a path may be overwritten by a file with this beginning: there is nothing, or no regular
-/// file, or a file that is empty or has this beginning, too.
-// open: what it answers: `bench/outside`.
+/// Whether a path may be overwritten by a file with this beginning: it doesn't exist, isn't a
+/// regular file, or is a file that is empty or also has this beginning.
+// open: what it returns: `bench/outside`.
 pub fn may_write_over<R: Files>(rt: &R, path: &str, beginning: &[u8; 4]) -> bool {
     match fs::metadata(rt, path) {
         Ok(found) if found.is_file() => begins_so(rt, path, beginning),
@@ -59,13 +59,13 @@ fn write_anew<R: Files + AllocGlobal>(rt: &R, path: &str, bytes: &[u8]) -> io::R
     }
 }
 
-// A file that this user may not write isn't replaced either.
+// Fails if this user may not write the file, so that it isn't replaced either.
 fn require_writable<R: Files>(rt: &R, path: &str) -> io::Result<()> {
     let _file = OpenOptions::new().write(true).open(rt, path)?;
     Ok(())
 }
 
-// A link that leads to nothing.
+// Whether a path that leads nowhere is a symbolic link.
 fn is_link<R: Files>(rt: &R, path: &str) -> bool {
     match fs::symlink_metadata(rt, path) {
         Ok(found) => found.is_symlink(),
@@ -73,7 +73,7 @@ fn is_link<R: Files>(rt: &R, path: &str) -> bool {
     }
 }
 
-// Writes a file beside the path, and renames it to that.
+// Writes a file next to the path, and renames it to the path.
 fn replace<R: Files + AllocGlobal>(
     rt: &R,
     path: &str,
@@ -95,7 +95,7 @@ fn replace<R: Files + AllocGlobal>(
     moved
 }
 
-// Whether a new file was refused, and not the room for it.
+// Whether creating a file failed because the folder takes none, not because the disk is full.
 fn takes_no_file(error: &Error) -> bool {
     matches!(
         error.kind(),
@@ -103,7 +103,7 @@ fn takes_no_file(error: &Error) -> bool {
     )
 }
 
-// A new file beside the path, and its name.
+// A new file next to the path, and its name.
 fn open_beside<R: Files + AllocGlobal>(rt: &R, path: &str) -> io::Result<(String, R::File)> {
     for number in 0..MOST_NAMES {
         let name = format!(in rt.alloc(); "{path}.{number}.new")?;
@@ -116,7 +116,8 @@ fn open_beside<R: Files + AllocGlobal>(rt: &R, path: &str) -> io::Result<(String
     Err(Error::from(ErrorKind::AlreadyExists))
 }
 
-// Gives a new file its mode before its bytes, so that nobody reads them who couldn't read the old.
+// Gives a new file its mode before its bytes, so that only users who could read the old file can
+// read them.
 fn fill<F: Write + OpenFile + Drop>(
     mut file: F,
     mode: Option<Permissions>,

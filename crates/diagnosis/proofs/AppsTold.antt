@@ -1,4 +1,4 @@
--- What is told of apps, one after the other.
+-- The warnings on apps, one app after the other.
 use Rattle.std.proofs.Common.{◌≡◌, ℕ, ◌+◌, ◌-◌, ◌<◌, List, [], ◌∷◌, ◌++◌, length, take, drop}
 use Rattle.std.proofs.Common.{get_or, Vec, Ok, arith, refl, sym, ap, ◌∙◌, subst}
 use Rattle.std.proofs.Common.{append_assoc, append-nil}
@@ -22,7 +22,7 @@ use Rattle.warnings.specs.declared.warning.Warning.{Warning}
 
 module _ (number room : ℕ) (app : GatheredApp) (source : ProgramSource)
     (same : source ≡ app.entry.source) where
-  -- with a program
+  -- for an app with a program
   pub adds_warnings : (file : List ℕ) (old new : List Warning) → source ≡ Program file
       → new ≡ old ++ app_warnings number app.entry
       → AddsApp number room app old new room
@@ -37,7 +37,7 @@ module _ (number room : ℕ) (app : GatheredApp) (source : ProgramSource)
     added_is = added;
   }
 
-  -- with a rule
+  -- for an app with a rule
   pub adds_asked : (file : List ℕ) (old between new : List Warning) (left : ℕ) → source ≡ Rule file
       → between ≡ old ++ app_warnings number app.entry
       → AddsRule number room app between new left → AddsApp number room app old new left
@@ -88,7 +88,7 @@ added_rule number room app v bytes text asked rule old new left kept lent same u
       added_is = told ∙ ap (λ (r : RuleOfApp). old ++ rule_warnings number room r) all;
     }
 
--- ---- one more
+-- ---- one more app
 
 pub first_rest : {X : Type 0} (xs : List X) (x : X) → 0 < length xs → x ≡ get_or xs 0 x
     → xs ≡ x ∷ take (length xs - 1) (drop 1 xs)
@@ -112,7 +112,7 @@ more_told number room left all_apps apps app old new rest all so_far added apps_
     subst all (sym (ap (λ t. t ++ rest) added.added_is ∙ append_assoc old added.told rest))
     (so_far (added.told ++ rest) told)
 
--- ---- all
+-- ---- all apps
 
 pub ended : (number room : ℕ) (apps : List GatheredApp) (text : List Warning)
     (all : List Warning → Type 0)

@@ -1,4 +1,4 @@
--- The faults of arrays, one after the other, each declared beside those before it that can be.
+-- The faults of arrays, in order, each declared together with the declarable ones before it.
 use Rattle.std.proofs.Common.{◌≡◌, ◌≢◌, ℕ, ◌+◌, List, [], ◌∷◌, ◌++◌, Option, Some, None}
 use Rattle.std.proofs.Common.{sym, ap, ◌∙◌, subst, append_assoc, append-nil}
 use Rattle.diagnosis.specs.Undeclared.{AreFaultsOfArrays, JudgesArray, fault_of_array}
@@ -18,7 +18,7 @@ pub declared_by : {d : Declaration} {name : List ℕ} {width : CellWidth} {lengt
     → Declares (declaration name width length quota) old n new → JudgesArray d old new None
 declared_by a b c e h = declared _ (rw (a, b, c, e) at h)
 
--- or it isn't
+-- or it isn't declared
 pub refused_by : {d : Declaration} {name : List ℕ} {width : CellWidth} {length : ℕ}
     {quota : Option ℕ} {old new : List CellArray} {first fault : CellsFault} → name ≡ d.name
     → width ≡ d.width → length ≡ d.length → quota ≡ d.quota → new ≡ old → fault ≡ first
@@ -26,7 +26,7 @@ pub refused_by : {d : Declaration} {name : List ℕ} {width : CellWidth} {length
     → JudgesArray d old new (Some fault)
 refused_by a b c e same is other h = rw same (refused _ other (rw (a, b, c, e, ← is) at h))
 
--- one array more
+-- one more array
 pub declared_more : (number : ℕ) (judged : Option CellsFault) (d : Declaration)
     (left others : List Declaration) (before after : List CellArray)
     (old new rest : List LoadFault) (all : List LoadFault → Type 0)
@@ -42,7 +42,7 @@ declared_more number judged d left others before after old new rest all so_far j
     (sym (ap (λ n. n ++ rest) new_is ∙ append_assoc old (fault_of_array number judged) rest))
     (so_far (fault_of_array number judged ++ rest) faults)
 
--- there is none more
+-- no array is left
 pub declared_all : (number : ℕ) (left : List Declaration) (directory : List CellArray)
     (faults : List LoadFault) (all : List LoadFault → Type 0)
     → ((more : List LoadFault) → AreFaultsOfArrays number directory left more

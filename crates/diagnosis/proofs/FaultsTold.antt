@@ -19,7 +19,7 @@ pub none_yet : (old : List ToldFault) (left all : List LoadFault) → old ≡ []
     → faults_in old ++ left ≡ all
 none_yet old left all empty is = ap (λ l. faults_in l ++ left) empty ∙ is
 
--- the lines so far, and those of what is left, are all lines
+-- the lines so far, and those of the faults that are left, are all lines
 pub lines_more : (old new : List ℕ) (told : ToldFault) (left rest : List ToldFault) (all : List ℕ)
     → old ++ flat_map fault_lines left ≡ all → left ≡ told ∷ rest
     → new ≡ old ++ fault_lines told → new ++ flat_map fault_lines rest ≡ all
@@ -34,7 +34,7 @@ all_lines text left all so_far is =
     sym (append-nil text)
     ∙ ap (λ (l : List ToldFault). text ++ flat_map fault_lines l) (sym is) ∙ so_far
 
--- those so far, and those that are left, are all
+-- the faults so far, and those that are left, are all faults
 pub faults_more : (old new : List ToldFault) (t : ToldFault) (fault : LoadFault)
     (left rest all : List LoadFault) → faults_in old ++ left ≡ all → left ≡ fault ∷ rest
     → t.fault ≡ fault → new ≡ old ++ t ∷ [] → faults_in new ++ rest ≡ all
@@ -67,7 +67,7 @@ module _ (arrays : List Declaration) (apps : List GatheredApp) where
   }
 
 module _ (parsed : Parsed) (arrays : List Declaration) (apps : List GatheredApp) where
-  -- nine of them, and how many there are more
+  -- nine faults, and how many more there are
   pub nine_told : (fault : LoadFault) (faults few : List LoadFault) (told : List ToldFault)
       (count left_out : ℕ) → AreFurther parsed arrays apps fault faults → few ≡ take 9 faults
       → AreFaultsTold arrays apps few told → count ≡ length faults → left_out ≡ count - 9

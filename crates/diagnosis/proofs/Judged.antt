@@ -1,4 +1,4 @@
--- The faults of apps, one after the other, each judged by itself.
+-- The faults of apps, in order, each judged by itself.
 use Rattle.std.proofs.Common.{◌≡◌, ℕ, ◌+◌, List, [], ◌∷◌, ◌++◌, Option}
 use Rattle.std.proofs.Common.{sym, ap, ◌∙◌, subst, append_assoc, append-nil}
 use Rattle.diagnosis.specs.Further.{AreFaultsOf, JudgesApp, fault_of_app}
@@ -7,7 +7,7 @@ use Rattle.load.specs.declared.fault.AppFault.{AppFault}
 use Rattle.load.specs.declared.fault.LoadFault.{LoadFault}
 use Rattle.load.specs.declared.gathering.GatheredApp.{GatheredApp}
 
--- one app more
+-- one more app
 pub judged_more : (number : ℕ) (judged : Option AppFault) (app : GatheredApp)
     (left others : List GatheredApp) (old new rest : List LoadFault)
     (all : List LoadFault → Type 0)
@@ -21,7 +21,7 @@ judged_more number judged app left others old new rest all so_far judges left_is
     (sym (ap (λ n. n ++ rest) new_is ∙ append_assoc old (fault_of_app number judged) rest))
     (so_far (fault_of_app number judged ++ rest) faults)
 
--- there is none more
+-- no app is left
 pub judged_all : (number : ℕ) (left : List GatheredApp) (faults : List LoadFault)
     (all : List LoadFault → Type 0)
     → ((more : List LoadFault) → AreFaultsOf number left more → all (faults ++ more))

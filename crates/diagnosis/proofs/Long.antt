@@ -1,4 +1,4 @@
--- A manifest that is too long fails for this, whatever its bytes are.
+-- A manifest that is too long fails with this fault, whatever its bytes are.
 use Rattle.std.proofs.Common.{◌≡◌, [], refl, sym, subst}
 use Rattle.load.specs.Load.{IsLoadFault, of_bytes}
 use Rattle.load.specs.Gathered.{AreArraysBeside, IsParsedBeside}

@@ -1,5 +1,4 @@
--- Of files that tell their bytes one thing is kept, over whatever arrays they are gathered: so they
--- have one digest.
+-- For files with known bytes the kept bytes are unique, over any arrays, so the digest is unique.
 use Rattle.std.proofs.Common.{◌≡◌, ℕ, ◌+◌, List, [], ◌∷◌, ◌++◌, Option, Some, None}
 use Rattle.std.proofs.Common.{refl, sym, ap, ◌∙◌, subst, arith}
 use Rattle.std.proofs.lemmas.Option.{same_Some}
@@ -18,7 +17,7 @@ use Rattle.load.specs.declared.gathering.GatheredApp.{GatheredApp}
 use Rattle.load.specs.declared.kept.KeptFile.{KeptFile}
 use Rattle.load.specs.declared.kept.KeptFile.TheVariants.{Longer, Unread, Whole}
 
--- what is kept twice of a file
+-- two results of keeping the same file
 record IsKeptAlike (a b : KeptFile) : Type 0 where
   pub framed_are : framed_file a ≡ framed_file b
   pub long_is : long_count a ≡ long_count b

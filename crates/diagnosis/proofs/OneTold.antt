@@ -1,4 +1,4 @@
--- Of files that tell their bytes one thing is told of apps.
+-- For files with known bytes the warnings on apps are unique.
 use Rattle.std.proofs.Common.{◌≡◌, ℕ, ◌+◌, List, [], ◌∷◌, ◌++◌, Vec, Option, Some, None}
 use Rattle.std.proofs.Common.{Ok, refl, sym, ap, ◌∙◌, subst}
 use Rattle.std.proofs.lemmas.Option.{same_Some}
@@ -93,7 +93,7 @@ module _ (verdict : (s : AppShape) (text : Text) → RuleHasOneVerdict s text)
   one_rule bytes s rule other h k =
       let same = verdict s bytes (Ok rule) (Ok other) h.spelled k.spelled in cc
 
-  -- what is asked of a rule, and the room behind it
+  -- the warnings on a rule, and the budget after it
   asked_once : (number room : ℕ) (from : ProgramSource) (a b : GatheredApp)
       (asked other : List Warning) (left also : ℕ) → AreAlike a b
       → IsKeptFrom (Some files) from a.kept

@@ -1,4 +1,4 @@
--- From what was gathered and judged to what is told.
+-- From what was gathered and judged to the report.
 use Rattle.std.proofs.Common.{◌≡◌, ℕ, List, [], ◌++◌, length, string_bytes, ◌∙◌, ap, subst}
 use Rattle.std.proofs.Common.{refl, sym, Result, Ok, Err, IfOk, IfErr, Some, inl, inr}
 use Rattle.diagnosis.specs.Check.{FailsApps, FailsCheck, PassesApps, PassesCheck, files, no_file}
@@ -68,7 +68,7 @@ passes_apps bytes g programs gone told asked lent directory shown supplied other
       digest_is = digest_is;
     }
 
--- beside an app's fault nothing was parsed
+-- with an app's fault nothing was parsed
 none_parsed : (bytes : List ℕ) (apps : List GatheredApp) (fault : LoadFault)
     → RefusesFirst apps fault → IsParsedBeside bytes fault Nothing
 none_parsed bytes apps (NoManifest fault) refuses = absurd refuses
@@ -119,7 +119,7 @@ fails_early known bytes u r h is told = record {
   told = told;
 }
 
--- the first app's fault, and what is told of it
+-- the fault of the first app without a program, and the report on it
 pub fails_by : (g : Gathered) (lent : List GatheredApp) (fault : LoadFault) (r : Refused)
     → RefusesFirst lent fault → lent ≡ g.apps.items → r.fault ≡ fault
     → TellsRefused Nothing g.arrays.items g.apps.items g.unread r → FailsApps g r
@@ -129,7 +129,7 @@ fails_by g lent fault r refuses same is told = record {
   told = told;
 }
 
--- want of memory, of which nothing is told
+-- out of memory, which is reported without lines
 pub nothing_told : (g : Gathered) (r : Refused) → r.fault ≡ Memory → string_bytes r.reason ≡ []
     → string_bytes r.own ≡ [] → r.further.items ≡ [] → r.left_out ≡ 0
     → r.read ≡ length g.apps.items → r.unread ≡ g.unread → FailsApps g r

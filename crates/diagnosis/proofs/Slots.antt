@@ -1,4 +1,4 @@
--- The instruction of a slot, and the places from it on.
+-- The instruction of a slot, and the program points from it on.
 use Rattle.std.proofs.Common.{◌≡◌, ℕ, zero, suc, ◌+◌, ◌<◌, [], ◌∷◌, length, drop}
 use Rattle.std.proofs.Common.{Bool, true, false, ◌||◌, Option, refl, sym, ap, ◌∙◌, arith, add-one}
 use Rattle.std.specs.List.{list_any}

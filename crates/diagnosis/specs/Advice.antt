@@ -1,5 +1,5 @@
--- What is said beside a member that doesn't fit: of one that there isn't, which there are, and of a
--- list of tables how they are begun.
+-- A hint printed with a schema error: for an unknown member, the known members; for a list of
+-- tables, how its tables begin.
 use Rattle.std.specs.Prelude.{ℕ, List, [], codes}
 use Rattle.manifest.specs.declared.misfit.AppMisfit.{AppMisfit}
 use Rattle.manifest.specs.declared.misfit.AppMisfit.TheVariants as app

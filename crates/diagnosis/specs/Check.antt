@@ -1,5 +1,5 @@
--- What comes of the check of a manifest, which is loaded over no arrays. All of it is by what was
--- gathered: of each file that an app names the same bytes are judged, shown and asked.
+-- The results of checking a manifest, which is loaded over no arrays. All are defined by what was
+-- gathered: for each file of an app, the same bytes are judged, shown and tested for warnings.
 use Rattle.std.specs.Prelude.{◌≡◌, ◌<◌, ℕ, List, [], length, string_bytes, Some}
 use Rattle.bpf_semantics.specs.Program.{ShapedProgram}
 use Rattle.cells.specs.Directory.{Declaration}
@@ -20,10 +20,10 @@ use Rattle.manifest.specs.declared.refused.Parsed.{Parsed}
 use Rattle.manifest.specs.declared.refused.Parsed.TheVariants.{Nothing}
 use Rattle.ruleset.specs.Rules.{Rules}
 
--- ---- of the apps that were gathered
+-- ---- the gathered apps
 
--- each has its program, and these are the arrays and the apps, their lines, the warnings, and the
--- digest of the manifest's bytes and of its files
+-- each app has its program; the report has these arrays and apps, their lines, the warnings, and
+-- the digest of the manifest's bytes and of its files
 pub record PassesApps (bytes : List ℕ) (g : Gathered) (told : CheckedManifest) : Type 0 where
   pub programs : List ShapedProgram
   pub judged : AreJudged g.apps.items programs
@@ -33,16 +33,16 @@ pub record PassesApps (bytes : List ℕ) (g : Gathered) (told : CheckedManifest)
   pub warned : WarnsOf g programs told.warnings.items
   pub digest_is : digest_of bytes g.apps.items ≡ Some told.digest
 
--- the first that has none has this fault, and this is told of it, of the further faults, and of the
--- apps whose files aren't read
+-- the first app without a program has this fault; the report is about it, the further faults, and
+-- the apps whose files aren't read
 pub record FailsApps (g : Gathered) (r : Refused) : Type 0 where
   pub refused : RefusesFirst g.apps.items r.fault
   pub told : TellsRefused Nothing g.arrays.items g.apps.items g.unread r
 
--- ---- of the manifest
+-- ---- the manifest
 
 module _ (known : KnownFiles) (bytes : List ℕ) where
-  -- it comes to a ruleset, whose arrays and apps these are
+  -- it loads as a ruleset with these arrays and apps
   pub record PassesCheck (told : CheckedManifest) : Type 0 where
     pub g : Gathered
     pub gathered : IsGathered known [] bytes g
@@ -52,9 +52,9 @@ module _ (known : KnownFiles) (bytes : List ℕ) where
     pub arrays_are : told.arrays.items ≡ gathered.manifest.arrays
     pub apps_are : told.apps.items ≡ rules.apps
 
-  -- the arrays and the apps that were gathered of a manifest with this fault, and how many apps
-  -- there are whose files aren't read. It has the fault whatever its files give, and these are the
-  -- arrays that are known then; or the first of its apps that has no program has it
+  -- the arrays and apps that were gathered from a manifest with this fault, and how many apps have
+  -- files that aren't read. Either the manifest has the fault whatever its files give, and these
+  -- arrays are known then; or its first app without a program has it
   pub data IsSeen (fault : LoadFault) : List Declaration → List GatheredApp → (unread : ℕ)
       → Type 0 where
     no_file : {arrays : List Declaration} → ((any : KnownFiles) → IsLoadFault any [] bytes fault)
@@ -62,8 +62,8 @@ module _ (known : KnownFiles) (bytes : List ℕ) where
     files : (g : Gathered) → IsGathered known [] bytes g → RefusesFirst g.apps.items fault
         → IsSeen fault g.arrays.items g.apps.items g.unread
 
-  -- it has this fault, and this is told of it and of the further faults, by what its bytes were
-  -- parsed as and by what was gathered, which is what has this fault
+  -- it has this fault; the report is about it and the further faults, from what the bytes were
+  -- parsed as and what was gathered, which has this fault
   pub record FailsCheck (r : Refused) : Type 0 where
     pub refused : IsLoadFault known [] bytes r.fault
     pub parsed : Parsed
@@ -74,7 +74,7 @@ module _ (known : KnownFiles) (bytes : List ℕ) where
     pub seen : IsSeen r.fault arrays apps unread
     pub told : TellsRefused parsed arrays apps unread r
 
--- every manifest of more than 1048576 bytes comes to this, whatever its files give
+-- every manifest of more than 1048576 bytes fails like this, whatever its files give
 abbrev pub FailsIfLong : Refused → Type 0
 FailsIfLong r =
     (known : KnownFiles) (bytes : List ℕ) → 1048576 < length bytes → FailsCheck known bytes r

@@ -1,7 +1,7 @@
--- Which faults of a manifest are told behind the first. Behind a member that doesn't fit: all else
--- that doesn't. Behind a name that stands twice: all others that do. Behind an array's fault: those
--- of the arrays behind it, each declared beside those before it that can be. Behind an app's: those
--- of the apps behind it, each judged by itself by what was gathered of it. Behind any other: none.
+-- Which faults of a manifest are reported after the first. After a schema error: all others. After
+-- a duplicate name: all others. After an array's fault: those of the arrays after it, each declared
+-- together with the declarable ones before it. After an app's fault: those of the apps after it,
+-- each judged by itself from what was gathered of it. After any other: none.
 use Rattle.std.specs.Prelude.{◌≡◌, ◌≢◌, ℕ, ◌+◌, List, [], ◌∷◌, ◌++◌, drop, Option, Some, None}
 use Rattle.bpf_semantics.specs.Program.{ShapedProgram}
 use Rattle.cells.specs.Directory.{Declaration}
@@ -18,12 +18,12 @@ use Rattle.load.specs.declared.gathering.GatheredApp.{GatheredApp}
 use Rattle.manifest.specs.declared.fault.ManifestFault.TheVariants as unread
 use Rattle.manifest.specs.declared.refused.Parsed.{Parsed}
 
--- the fault of the app of this number, if it has one
+-- the fault of the app with this number, if it has one
 abbrev pub fault_of_app : ℕ → Option AppFault → List LoadFault
 fault_of_app number None = []
 fault_of_app number (Some fault) = in_app number fault ∷ []
 
--- what an app comes to by itself: a program, or a fault
+-- the verdict on an app by itself: a program, or a fault
 pub data JudgesApp (one : GatheredApp) : Option AppFault → Type 0 where
   supplied : (program : ShapedProgram) → IsJudged one program → JudgesApp one None
   refused : (fault : AppFault) → fault ≢ app.Memory → RefusesGathered one fault
@@ -36,12 +36,13 @@ pub data AreFaultsOf : ℕ → List GatheredApp → List LoadFault → Type 0 wh
       (judged : Option AppFault) → JudgesApp one judged → AreFaultsOf (number + 1) apps faults
       → AreFaultsOf number (one ∷ apps) (fault_of_app number judged ++ faults)
 
--- those of the apps behind the one of this number
+-- the faults of the apps after the one with this number
 abbrev pub AreBehind : List GatheredApp → ℕ → List LoadFault → Type 0
 AreBehind apps number faults = AreFaultsOf (number + 1) (drop number apps) faults
 
 module _ (parsed : Parsed) (arrays : List Declaration) (apps : List GatheredApp) where
-  -- those behind this fault of a manifest, by what its bytes were parsed as and what was gathered
+  -- the faults after this fault of a manifest, from what its bytes were parsed as and what was
+  -- gathered
   abbrev pub AreFurther : LoadFault → List LoadFault → Type 0
   AreFurther (File number) faults = AreBehind apps number faults
   AreFurther (Program number fault) faults = AreBehind apps number faults

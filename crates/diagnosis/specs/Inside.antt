@@ -1,4 +1,4 @@
--- Names that stay in the folder in which they are taken.
+-- Names that stay in the folder from which they are resolved.
 use Rattle.std.specs.Prelude.{ℕ, List, Bool, not, ◌||◌}
 use Rattle.std.specs.List.{list_any}
 use Rattle.std.specs.Path.{parent_dir, path_components, root_dir}
@@ -8,6 +8,6 @@ use Rattle.std.specs.Str.{bytes_eq}
 abbrev pub leads_out : List ℕ → Bool
 leads_out part = bytes_eq part root_dir || bytes_eq part parent_dir
 
--- none of its parts does
+-- none of its parts leads out
 abbrev pub is_inside : List ℕ → Bool
 is_inside name = not (list_any leads_out (path_components name))

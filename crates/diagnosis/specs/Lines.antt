@@ -1,5 +1,5 @@
--- The lines behind that of a refusal: where and why, then the further faults, how many more there
--- are, and last behind which app no file is read.
+-- The lines after that of a refusal: where and why, then the further faults, how many more there
+-- are, and last after which app no file is read.
 use Rattle.std.specs.Prelude.{◌≡◌, ◌⊎◌, ℕ, zero, suc, List, [], ◌++◌, codes, decimal, flat_map}
 use Rattle.std.specs.Prelude.{string_bytes}
 use Rattle.load.specs.Texts.{load_fault_text}
@@ -12,11 +12,11 @@ use Rattle.ruleset.specs.Texts.{line}
 abbrev pub refusal_line : LoadFault → List ℕ
 refusal_line fault = line (codes "refused " ++ load_fault_text fault)
 
--- a further fault: the line of its refusal, and then where and why
+-- a further fault: the line of its refusal, then where and why
 abbrev pub fault_lines : ToldFault → List ℕ
 fault_lines told = refusal_line told.fault ++ string_bytes told.reason
 
--- so many faults more
+-- how many more faults there are, if any
 abbrev pub more_line : ℕ → List ℕ
 more_line zero = []
 more_line (suc n) = line (codes "and " ++ decimal (suc n) ++ codes " more")
@@ -32,7 +32,7 @@ abbrev pub refused_lines :
 refused_lines own further left_out read unread =
     own ++ flat_map fault_lines further ++ more_line left_out ++ unread_lines read unread
 
--- all lines; or for want of memory those of the first fault alone, or none
+-- all lines; or, if out of memory, only those of the first fault, or none
 abbrev pub AreRefusalLines :
     (own : List ℕ) → List ToldFault → (left_out read unread : ℕ) → List ℕ → Type 0
 AreRefusalLines own further left_out read unread text =

@@ -11,7 +11,7 @@ use Rattle.diagnosis.specs.Check.{FailsCheck, PassesCheck}
 use Rattle.diagnosis.specs.declared.accepted.CheckedManifest.{CheckedManifest}
 use Rattle.diagnosis.specs.declared.told.Refused.{Refused}
 
--- with the same arrays and apps, the same lines of these, the same warnings, and the same digest
+-- the same arrays and apps, lines, warnings, and digest
 pub record AreToldAlike (told other : CheckedManifest) : Type 0 where
   pub arrays : told.arrays.items ≡ other.arrays.items
   pub apps : told.apps.items ≡ other.apps.items
@@ -19,7 +19,8 @@ pub record AreToldAlike (told other : CheckedManifest) : Type 0 where
   pub warnings : told.warnings.items ≡ other.warnings.items
   pub digest : told.digest ≡ other.digest
 
--- of files that tell their bytes a manifest passes one way, or has one fault, want of memory aside
+-- for files with known bytes, a manifest passes with one report, or has one fault, unless memory
+-- runs out
 pub record HasOneCheck (files : List ℕ → Option KnownFile) (bytes : List ℕ) : Type 0 where
   pub passes : (told other : CheckedManifest) → PassesCheck (Some files) bytes told
       → PassesCheck (Some files) bytes other → AreToldAlike told other
@@ -28,7 +29,7 @@ pub record HasOneCheck (files : List ℕ → Option KnownFile) (bytes : List ℕ
       → r.fault ≡ other.fault
   pub either : (told : CheckedManifest) (r : Refused) → PassesCheck (Some files) bytes told
       → FailsCheck (Some files) bytes r → r.fault ≡ Memory
-  -- and each load of it has the digest that is told, whatever arrays it is loaded over
+  -- and each load of it has the reported digest, over any arrays
   pub digest : (told : CheckedManifest) (old : List CellArray) (g : Gathered) (made : MadeRuleset)
       → PassesCheck (Some files) bytes told → IsGathered (Some files) old bytes g
       → IsMadeOf bytes g made → told.digest ≡ made.digest

@@ -1,5 +1,5 @@
--- The further faults of a manifest itself, by the document that its bytes were parsed as: members
--- that don't fit, and names that stand twice.
+-- The further faults of a manifest itself, from the document that its bytes were parsed as: schema
+-- errors and duplicate names.
 use Rattle.std.specs.Prelude.{◌≡◌, List, map, drop}
 use Rattle.load.specs.declared.fault.LoadFault.{LoadFault}
 use Rattle.load.specs.declared.fault.LoadFault.TheVariants.{Manifest}
@@ -18,13 +18,13 @@ fault_of_misfit misfit = Manifest (Field misfit)
 abbrev pub fault_of_twice : Twice → LoadFault
 fault_of_twice twice = Manifest (Duplicate twice)
 
--- all that doesn't fit, but for the first
+-- all schema errors but the first
 abbrev pub AreOtherMisfits : Parsed → List LoadFault → Type 0
 AreOtherMisfits (Document table) faults =
     faults ≡ map fault_of_misfit (drop 1 (misfits_of (table_view table)))
 AreOtherMisfits parsed faults = ⊥
 
--- all that stands twice, but for the first
+-- all duplicate names but the first
 abbrev pub AreOtherTwice : Parsed → List LoadFault → Type 0
 AreOtherTwice (Document table) faults =
     (twices : List Twice) × HasAllTwice (table_view table) twices

@@ -28,14 +28,14 @@ use Rattle.manifest.specs.declared.fault.TomlFault.{TomlFault}
 use Rattle.manifest.specs.declared.fault.TomlFault.TheVariants as toml
 use Rattle.printing.specs.Printed.{printed_lines}
 
--- ---- faults of the manifest's bytes, and of its arrays
+-- ---- faults of the manifest's bytes and of its arrays
 
 unfoldable pub tables_line : List ℕ
 tables_line =
     codes "tables begin with [[array]], [[app]], [[app.release]] or [[app.release.package]]\n"
 
--- of what the reader of TOML says nothing is promised but how it is printed; behind it stands how
--- tables begin
+-- nothing is promised about the TOML reader's error but how it is printed; how tables begin follows
+-- it
 abbrev pub IsTomlReason : TomlFault → List ℕ → Type 0
 IsTomlReason toml.TooLong text = text ≡ line (codes "more than 1048576 bytes")
 IsTomlReason toml.Text text = (said : List ℕ) × (text ≡ printed_lines said ++ tables_line)
@@ -47,7 +47,7 @@ IsManifestReason (unread.Field misfit) text =
 IsManifestReason (unread.Duplicate twice) text = text ≡ twice_text twice ++ codes " stands twice\n"
 IsManifestReason unread.Memory text = text ≡ []
 
--- of an array for which too few cells are left; over no arrays there is no other fault of one
+-- for an array with too few cells left; over no arrays, arrays have no other fault
 abbrev pub IsCellsReason : List Declaration → ℕ → CellsFault → List ℕ → Type 0
 IsCellsReason arrays number cells.CellsFull text =
     (array : Declaration) × (slice_get arrays (number - 1) ≡ Some array)
@@ -56,8 +56,8 @@ IsCellsReason arrays number fault text = ⊥
 
 -- ---- faults of files
 
--- where the fault of a program lies in its file, and that of a rule; the length of a rule's code
--- has no place
+-- the place of a program's fault in its file, and of a rule's; the length of a rule's code has no
+-- place
 abbrev pub slot_of : ProgramFault → Place
 slot_of (Flow (flow.Rule slot rule)) = Slot slot
 slot_of (Verify (verify.Rule slot rule)) = Refused slot
@@ -73,14 +73,14 @@ pub record IsTold (number : ℕ) (place : Place) (app : GatheredApp) (text : Lis
   pub shows : ShowsPlace app place place_text
   pub text_is : text ≡ file_line number app.entry.source ++ place_text
 
--- of the app of this number, from 1
+-- for the app with this number, from 1
 pub record IsFileReason (apps : List GatheredApp) (number : ℕ) (place : Place) (text : List ℕ)
     : Type 0 where
   pub app : GatheredApp
   pub stands : slice_get apps (number - 1) ≡ Some app
   pub told : IsTold number place app text
 
--- ---- the lines beside a refusal, by what was gathered
+-- ---- the lines that explain a refusal, from what was gathered
 
 module _ (arrays : List Declaration) (apps : List GatheredApp) where
   abbrev pub IsReason : LoadFault → List ℕ → Type 0

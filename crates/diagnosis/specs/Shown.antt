@@ -1,4 +1,4 @@
--- What is shown of an app's file: the place at which its fault lies.
+-- The excerpt of an app's file: the place of its fault.
 use Rattle.std.specs.Prelude.{◌≡◌, ◌⊎◌, ℕ, List, [], ◌++◌, codes, decimal, Bool, true, IsUtf8}
 use Rattle.std.specs.Prelude.{if◌then◌else◌, not, ◌&&◌}
 use Rattle.bpf_insn.specs.Spelling.{Spells}
@@ -23,7 +23,7 @@ use Rattle.load.specs.declared.gathering.GatheredApp.{GatheredApp}
 use Rattle.load.specs.declared.kept.KeptFile.{KeptFile}
 use Rattle.load.specs.declared.kept.KeptFile.TheVariants.{Unread, Longer, Whole as WholeFile}
 
--- a line by its number, from 1, as it is printed
+-- a line and its number, from 1, as printed
 abbrev pub numbered_line : ℕ → List ℕ → List ℕ
 numbered_line number text =
     line (codes "line " ++ decimal number ++ codes ": " ++ printed_lines (line_text number text))
@@ -34,7 +34,7 @@ IsInsnShown slot bytes text =
     (i : Insn) × Spells bytes slot i
     × (text ≡ codes "slot " ++ decimal slot ++ codes ": " ++ line_of i)
 
--- that instruction, and in a line behind it why the program is refused there
+-- that instruction, followed by a line with why the program is refused there
 pub record IsRefusedInsnShown (s : AppShape) (slot : ℕ) (bytes text : List ℕ) : Type 0 where
   pub code : Program
   pub flow : IsFlow code
@@ -45,16 +45,16 @@ pub record IsRefusedInsnShown (s : AppShape) (slot : ℕ) (bytes text : List ℕ
   pub place : IsRefusedPlace (shaped code s) slot sentence
   pub text_is : text ≡ insn_text ++ line sentence
 
--- what is told of a rule's fault, or at least its line
+-- the explanation of a rule's fault, or at least its line
 abbrev pub IsTextShown : AppShape → ℕ → RuleFaultKind → List ℕ → List ℕ → Type 0
 IsTextShown s number kind bytes text =
     IsRuleTold s bytes number kind text ⊎ (text ≡ numbered_line number bytes)
 
--- of a file that is no text
+-- for a file that isn't text
 abbrev pub no_text_line : List ℕ
 no_text_line = line (codes "a rule is a text in UTF-8")
 
--- an instruction, if the verifier refuses it with its sentence; or the fault of a rule
+-- an instruction, with its sentence if the verifier refuses it; or the fault of a rule
 abbrev pub IsShown : AppShape → Place → List ℕ → List ℕ → Type 0
 IsShown s Whole bytes text = ⊥
 IsShown s (Slot slot) bytes text = IsInsnShown slot bytes text
@@ -64,26 +64,26 @@ IsShown s (InRule number kind) bytes text =
     (IsUtf8 bytes × IsTextShown s number kind bytes text)
     ⊎ (¬ (IsUtf8 bytes) × (text ≡ no_text_line))
 
--- of a longer file: the instruction that its beginning spells, or that a rule is too long, unless
--- it is no text
+-- for a file that is too long: the instruction that its beginning spells, or that a rule is too
+-- long, unless it isn't text
 abbrev pub IsLongShown : Place → (beginning : List ℕ) → (is_text : Bool) → List ℕ → Type 0
 IsLongShown (Slot slot) beginning is_text text = IsInsnShown slot beginning text
 IsLongShown (InRule number kind) beginning is_text text =
     text ≡ (if is_text then rule_too_long else no_text_line)
 IsLongShown place beginning is_text text = ⊥
 
--- of what is kept of a file
+-- from what is kept of a file
 abbrev pub IsKeptShown : AppShape → Place → KeptFile → List ℕ → Type 0
 IsKeptShown s place Unread text = ⊥
 IsKeptShown s place (WholeFile v) text = IsShown s place v.items text
 IsKeptShown s place (Longer v count is_text) text = IsLongShown place v.items is_text text
 
--- the file of an app is one of the manifest's folder, by its name and with no link on the way
+-- the file of an app is in the manifest's folder, by its name and with no symbolic link in its path
 abbrev pub lies_inside : GatheredApp → Bool
 lies_inside app = is_inside (file_of app.entry.source) && not app.behind_link
 
--- it is, and its place is shown; or nothing is: of a file from outside, for want of memory, or
--- because there is no such place
+-- the file is inside, and its place is shown; or nothing is: the file is outside, memory ran out,
+-- or there is no such place
 pub data ShowsPlace (app : GatheredApp) (place : Place) : List ℕ → Type 0 where
   nothing : ShowsPlace app place []
   shown : {text : List ℕ} → lies_inside app ≡ true

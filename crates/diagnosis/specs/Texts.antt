@@ -1,5 +1,5 @@
--- The lines that are told of a manifest, each ended by a line feed. An appid and the name of a file
--- are told as they are printed, so that neither begins a line.
+-- The lines of the report on a manifest, each ended by a line feed. Appids and file names are
+-- printed as untrusted text, so none of them can begin a line.
 use Rattle.std.specs.Prelude.{ℕ, List, ◌++◌, length, codes, decimal, flat_map}
 use Rattle.cells.specs.Directory.{Declaration}
 use Rattle.declarations.specs.Texts.{declaration_text}
@@ -10,7 +10,7 @@ use Rattle.printing.specs.Printed.{printed}
 use Rattle.ruleset.specs.Rules.{AppRule}
 use Rattle.ruleset.specs.Texts.{line}
 
--- ---- of a manifest that is accepted
+-- ---- an accepted manifest
 
 -- an array as a command line declares it
 abbrev pub array_line : Declaration → List ℕ
@@ -22,11 +22,11 @@ printed_app_line app = line (codes "app " ++ printed app.appid
     ++ codes " releases " ++ decimal (length app.releases)
     ++ codes " slots " ++ decimal (length app.program.code))
 
--- a line an array, and then a line an app
+-- a line for each array, then a line for each app
 abbrev pub accepted_text : List Declaration → List AppRule → List ℕ
 accepted_text arrays apps = flat_map array_line arrays ++ flat_map printed_app_line apps
 
--- ---- of one that is refused: the path of a member, in which tables are numbered from 1
+-- ---- a refused manifest: the path of a member, in which tables are numbered from 1
 
 abbrev pub source_key : ProgramSource → List ℕ
 source_key (Program file) = codes "program"
@@ -40,7 +40,7 @@ file_line number source = line (codes "app[" ++ decimal number ++ codes "]." ++ 
 unfoldable pub unread_said : List ℕ
 unread_said = codes "no file is read: those before that are too long have more than 64 MiB"
 
--- the number of the last app whose file is read, where there are some behind it
+-- the number of the last app whose file is read, if there are apps after it
 abbrev pub unread_line : ℕ → List ℕ
 unread_line number = line (codes "behind app " ++ decimal number ++ codes " " ++ unread_said)
 

@@ -1,5 +1,4 @@
--- What is told of a manifest that is refused: where and why, the further faults, and the lines of
--- these.
+-- The report on a refused manifest: where and why, the further faults, and the lines of these.
 use Rattle.std.specs.Prelude.{◌≡◌, ◌⊎◌, ℕ, ◌-◌, List, [], length, take, map, All, string_bytes}
 use Rattle.diagnosis.specs.Further.{AreFurther}
 use Rattle.diagnosis.specs.Lines.{AreRefusalLines}
@@ -11,19 +10,19 @@ use Rattle.load.specs.declared.fault.LoadFault.{LoadFault}
 use Rattle.load.specs.declared.gathering.GatheredApp.{GatheredApp}
 use Rattle.manifest.specs.declared.refused.Parsed.{Parsed}
 
--- how many further faults are told at most
+-- the most further faults that are printed
 abbrev pub most_further : ℕ
 most_further = 9
 
 module _ (arrays : List Declaration) (apps : List GatheredApp) where
-  -- where and why, or nothing for want of memory
+  -- where and why, or nothing if out of memory
   abbrev pub TellsReason : LoadFault → List ℕ → Type 0
   TellsReason fault reason = (reason ≡ []) ⊎ IsReason arrays apps fault reason
 
   abbrev pub IsFaultTold : ToldFault → Type 0
   IsFaultTold told = TellsReason told.fault (string_bytes told.reason)
 
-  -- these faults, one after the other
+  -- these faults, in order
   pub record AreFaultsTold (faults : List LoadFault) (told : List ToldFault) : Type 0 where
     pub faults_are : map (λ (t : ToldFault). t.fault) told ≡ faults
     pub each : All IsFaultTold told
@@ -37,12 +36,12 @@ module _ (parsed : Parsed) (arrays : List Declaration) (apps : List GatheredApp)
       pub first : AreFaultsTold arrays apps (take most_further faults) told
       pub left_out_is : left_out ≡ length faults - most_further
 
-  -- those, or none for want of memory
+  -- those, or none if out of memory
   abbrev pub TellsOthers : LoadFault → List ToldFault → ℕ → Type 0
   TellsOthers fault told left_out =
       ((told ≡ []) × (left_out ≡ 0)) ⊎ TellsFurther fault told left_out
 
-  -- all that is told, if behind these apps there are so many of which no file is read
+  -- the whole report, if after these apps there are `unread` ones whose files aren't read
   pub record TellsRefused (unread : ℕ) (r : Refused) : Type 0 where
     pub own : TellsReason arrays apps r.fault (string_bytes r.own)
     pub further : TellsOthers r.fault r.further.items r.left_out

@@ -1,4 +1,4 @@
--- The faults of arrays, each of which is declared by itself beside those before it that can be.
+-- The faults of arrays, each declared together with the declarable arrays before it.
 use Rattle.std.specs.Prelude.{◌≢◌, ℕ, ◌+◌, ◌-◌, List, [], ◌∷◌, ◌++◌, take, drop}
 use Rattle.std.specs.Prelude.{Option, Some, None}
 use Rattle.load.specs.declared.fault.LoadFault.{LoadFault}
@@ -10,12 +10,12 @@ use Rattle.cells.specs.declared.fault.CellsFault.{CellsFault}
 use Rattle.cells.specs.declared.fault.CellsFault.TheVariants as cells
 use Rattle.declarations.specs.Order.{AreDeclared}
 
--- the fault of the array of this number, if it has one
+-- the fault of the array with this number, if it has one
 abbrev pub fault_of_array : ℕ → Option CellsFault → List LoadFault
 fault_of_array number None = []
 fault_of_array number (Some fault) = Cells number fault ∷ []
 
--- what a declaration comes to: an array, or a fault, behind which the directory is as it was
+-- the outcome of a declaration: an array, or a fault that leaves the directory unchanged
 pub data JudgesArray (d : Declaration) (old : List CellArray)
     : (new : List CellArray) → Option CellsFault → Type 0 where
   declared : {new : List CellArray} (n : ℕ) → Declares d old n new → JudgesArray d old new None
@@ -31,7 +31,7 @@ pub data AreFaultsOfArrays : ℕ → (old : List CellArray) → List Declaration
       → AreFaultsOfArrays (number + 1) between ds faults
       → AreFaultsOfArrays number old (d ∷ ds) (fault_of_array number judged ++ faults)
 
--- those of the arrays behind the one of this number, beside those before it
+-- the faults of the arrays after the one with this number, given those before it
 pub record AreUndeclared (arrays : List Declaration) (number : ℕ) (faults : List LoadFault)
     : Type 0 where
   pub numbers : List ArrayNo

@@ -1,5 +1,5 @@
--- Arrays that no program uses. A program knows an array by its number alone, in a wide load of the
--- array or of one of its cells; so does that of a rule.
+-- Arrays that no program uses. A program refers to an array only by its number, in a wide load of
+-- the array or of one of its cells; so does the program of a rule.
 use Rattle.std.specs.Prelude.{ℕ, ◌+◌, ℤ, pos, negsuc, List, [], ◌∷◌, ◌++◌}
 use Rattle.std.specs.Prelude.{Bool, false, not, ◌==◌, Option, Some, None}
 use Rattle.std.specs.List.{list_any}
@@ -17,13 +17,13 @@ abbrev pub is_number : ℤ → ℕ → Bool
 is_number (pos i) number = i == number
 is_number (negsuc i) number = false
 
--- the instruction names the array of this number, from 0
+-- the instruction refers to the array with this number, from 0
 abbrev pub names_array : ℕ → Insn → Bool
 names_array number (Wide dst (wide.Map i)) = is_number i number
 names_array number (Wide dst (wide.Cell i offset)) = is_number i number
 names_array number i = false
 
--- so does the one at a place
+-- the instruction at a place does, if there is one
 abbrev pub place_names : ℕ → Option Insn → Bool
 place_names number (Some i) = names_array number i
 place_names number None = false
@@ -32,11 +32,11 @@ place_names number None = false
 abbrev pub app_names : ℕ → AppRule → Bool
 app_names number app = list_any (place_names number) app.program.code
 
--- an array of this number, from 0, which is told from 1
+-- the warning on the array with this number, from 0, which is printed from 1
 abbrev pub unused_warning : (used : Bool) → ℕ → List Warning
 unused_warning used number = warned_if (not used) (place.Array (number + 1)) kind.UnusedArray
 
--- of these arrays, the first of which has this number, from 0
+-- for these arrays, the first of which has this number, from 0
 abbrev pub unused_from : ℕ → List CellArray → List AppRule → List Warning
 unused_from number [] apps = []
 unused_from number (array ∷ others) apps =

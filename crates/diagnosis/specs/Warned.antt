@@ -1,5 +1,5 @@
--- What is told of a manifest that is accepted and hardly means what it says: of its arrays, and of
--- each app in their order, of its appid, its releases and its rule.
+-- The warnings on an accepted manifest: on its arrays, then on each app in order: on its appid, its
+-- releases and its rule.
 use Rattle.std.specs.Prelude.{◌≡◌, ℕ, ◌+◌, List, [], ◌∷◌, ◌++◌, Vec}
 use Rattle.std.specs.declared.alloc.Global.{Global}
 use Rattle.acceptance.specs.Rule.{IsTextOf}
@@ -34,7 +34,7 @@ app_rule app rule = record {
   rule = rule;
 }
 
--- what is told of it, and how much room is left for what is asked of others
+-- the warnings on the rule, and the budget left for the rules of other apps
 pub record AsksRule (number room : ℕ) (app : GatheredApp) (asked : List Warning) (left : ℕ) : Type 0
   where
     pub text : Vec ℕ Global
@@ -49,7 +49,7 @@ abbrev pub AsksApp : (number room : ℕ) → ProgramSource → GatheredApp → L
 AsksApp number room (Program file) app asked left = (asked ≡ []) × (left ≡ room)
 AsksApp number room (Rule file) app asked left = AsksRule number room app asked left
 
--- of an app: its appid and its releases, and then its rule
+-- for an app: the warnings on its appid and its releases, then on its rule
 pub record WarnsOfApp (number room : ℕ) (app : GatheredApp) (told : List Warning) (left : ℕ)
     : Type 0
   where
@@ -57,7 +57,7 @@ pub record WarnsOfApp (number room : ℕ) (app : GatheredApp) (told : List Warni
     pub asks : AsksApp number room app.entry.source app asked left
     pub told_is : told ≡ app_warnings number app.entry ++ asked
 
--- of these apps, the first of which has this number
+-- for these apps, the first of which has this number
 pub data WarnsOfApps : (number room : ℕ) → List GatheredApp → List Warning → Type 0 where
   no_app : {number room : ℕ} → WarnsOfApps number room [] []
   next : {number room left : ℕ} {app : GatheredApp} {apps : List GatheredApp}
@@ -65,7 +65,7 @@ pub data WarnsOfApps : (number room : ℕ) → List GatheredApp → List Warning
       → WarnsOfApps (number + 1) left apps rest
       → WarnsOfApps number room (app ∷ apps) (told ++ rest)
 
--- of the arrays, and of the apps
+-- on the arrays, then on the apps
 pub record WarnsOf (g : Gathered) (programs : List ShapedProgram) (warnings : List Warning) : Type 0
   where
     pub told : List Warning

@@ -1,4 +1,4 @@
-//! What is told of a manifest that is accepted.
+//! The report on an accepted manifest.
 
 ghost use Rattle.std.specs.Prelude.{◌≡◌, flat_map, All, IfOk, OnOk, string_bytes};
 ghost use Rattle.printing.specs.Pushed.{Puts};
@@ -17,23 +17,24 @@ use std::alloc::{AllocError, Global};
 use std::fmt::Write;
 use warnings::Warning;
 
-/// What is told of a manifest that is accepted.
+/// The report on an accepted manifest.
 #[derive(Drop)]
 pub struct CheckedManifest {
     /// Its arrays, in order.
     pub arrays: Vec<ArrayDeclaration>,
     /// Its apps, in order, each with its program and its releases.
     pub apps: Vec<App>,
-    /// What it declares: a line an array, and then a line an app, each ended by a line feed.
+    /// What it declares: a line for each array, then a line for each app, each ended by a line
+    /// feed.
     pub text: String,
-    /// What it hardly means, in the order in which it is told.
+    /// The warnings, in the order in which they are printed.
     pub warnings: Vec<Warning>,
-    /// The digest of its bytes and of those of its apps' files (`digest_of` of `load`), by which a
-    /// server says what it loaded.
+    /// The digest of its bytes and of its apps' files (`digest_of` of `load`), which a server
+    /// prints for what it loaded.
     pub digest: [u8; 32],
 }
 
-/// Its arrays and its apps, a line for each; the warnings, and the digest.
+/// The lines of its arrays and apps, the warnings, and the digest.
 pub(crate) fn tell_accepted(
     alloc: Global,
     manifest: &[u8],

@@ -1,5 +1,5 @@
-//! What is said beside a member that doesn't fit: of one that there isn't, which there are, and of
-//! a list of tables how they are begun.
+//! A hint printed with a schema error: for an unknown member, the known members; for a list of
+//! tables, how its tables begin.
 
 ghost use Rattle.std.specs.Prelude.{◌≡◌};
 ghost use Rattle.diagnosis.specs.Advice as specs;
@@ -50,7 +50,7 @@ fn array_advice(misfit: &ArrayMisfit) -> &'static str
     }
 }
 
-/// A line, or none.
+/// A line, or the empty text.
 #[tactic(auto, unfolding(crate::specs::Advice::advice))]
 pub(crate) fn advice(misfit: &Misfit) -> &'static str
     ensures { result.now ≡ specs.advice misfit.now }

@@ -1,4 +1,4 @@
-//! What is told of an app and of its rule.
+//! The warnings on an app and on its rule.
 
 ghost use Rattle.std.specs.Prelude.{◌≡◌, ◌++◌, IfOk, OnOk};
 ghost use Rattle.diagnosis.specs.Asked.{AddsApp, AddsRule};
@@ -11,8 +11,8 @@ use std::alloc::{AllocError, Global};
 use std::str;
 use warnings::{AskedRule, Warning, tell_appid, tell_releases, tell_rule};
 
-/// Warnings on an app that is accepted: on its appid and its releases, and on its rule, if it has
-/// one; and the room that is left.
+/// Adds the warnings on an accepted app: on its appid, its releases, and its rule, if it has one.
+/// Returns the budget that is left.
 pub(crate) fn tell_app(
     alloc: Global,
     warnings: &mut Vec<Warning>,
@@ -45,7 +45,7 @@ fn tell_entry(
     tell_releases(warnings, number, entry.releases())
 }
 
-// Of an app that is accepted the rule's text is kept whole: were it not, nothing would be told.
+// The rule text of an accepted app is kept whole; otherwise there would be no warnings on it.
 fn tell_text(
     alloc: Global,
     warnings: &mut Vec<Warning>,

@@ -1,4 +1,4 @@
-//! The faults of the apps behind one that is refused, each of which is judged by itself.
+//! The faults of the apps after a refused one, each judged by itself.
 
 ghost use Rattle.std.specs.Prelude.{◌≡◌, ◌≢◌, ◌+◌, ◌^◌, ◌<◌, ◌++◌, length, IfOk, IfSome, OnOk};
 ghost use Rattle.diagnosis.specs.Further.{AreBehind, AreFaultsOf, JudgesApp, fault_of_app};
@@ -6,7 +6,7 @@ ghost use Rattle.diagnosis.specs.Further.{AreBehind, AreFaultsOf, JudgesApp, fau
 use load::{AppFault, GatheredApp, LoadFault, in_app, judge_app};
 use std::alloc::{AllocError, Global};
 
-/// The faults of the apps behind the one of this number; None where memory is refused.
+/// The faults of the apps after the one with this number; None if an allocation fails.
 pub(crate) fn faults_behind(
     alloc: Global,
     apps: &[GatheredApp],
@@ -60,7 +60,7 @@ fn push_fault(
     Ok(())
 }
 
-// What an app comes to by itself: its fault, or none.
+// The fault of an app by itself, or none.
 fn fault_in(alloc: Global, app: &GatheredApp) -> Result<Option<AppFault>, AllocError>
     ensures { IfOk result (JudgesApp app.now) }
 {

@@ -1,4 +1,4 @@
-//! From the bytes of a manifest to what is told of them.
+//! The check of a manifest, from its bytes to the report.
 
 ghost use Rattle.std.specs.Prelude.{◌≡◌, [], length, All, IfOk, IfErr};
 ghost use Rattle.diagnosis.specs.Check.{FailsApps, FailsCheck, FailsIfLong, PassesApps};
@@ -15,56 +15,55 @@ use load::{Files, Gathered, LoadFault, Ungathered, gather, gathered_is_loaded, j
 use manifest::{ManifestFault, Parsed, TomlFault};
 use std::alloc::Global;
 
-/// Checks a manifest: it is loaded with its files, into a directory of its own. What is told of a
-/// file is of the very bytes that were judged. Quotes from the manifest and its files are printed
+/// Checks a manifest: loads it with its files into a directory of its own. The report on a file is
+/// about exactly the bytes that were judged. Quotes from the manifest and its files are printed
 /// without control characters.
 ///
-/// For an accepted manifest the text has a line for each array, in its order, such as `array
-/// q:64:1:2` (a quota comes last, if there is one), and then a line for each app: `app APPID
-/// releases R slots S`. Lines are ended by a line feed.
+/// For an accepted manifest the text has a line for each array, in order, such as `array q:64:1:2`
+/// (a quota comes last, if there is one). Then it has a line for each app: `app APPID releases R
+/// slots S`. Lines are ended by a line feed.
 ///
-/// There is a warning for each array that no program uses. Then, app by app, there is one for an
-/// appid with a character that isn't printed, and for each release whose version a later one has,
-/// too, by its four numbers, or whose codebase doesn't end in `/`, or begins with neither
-/// `https://` nor `http://`. Those of the app's rule come last (`tell_rule` of `warnings`).
+/// There is a warning for each array that no program uses. Then, for each app, there is one if its
+/// appid has an unprintable character. There is one for each release whose version (as four
+/// numbers) a later release also has, or whose codebase doesn't end in `/`, or begins with neither
+/// `https://` nor `http://`. The warnings on the app's rule come last (`tell_rule` of `warnings`).
 ///
-/// For a refused manifest the reason begins with the path of a member and what is wanted there, in
-/// which tables of a list are numbered from 1:
+/// For a refused manifest the reason begins with the path of a member and what is expected there;
+/// in the path, the tables of a list are numbered from 1:
 ///
-/// - M1: that the bytes are too many, or what the crate `toml` says, about which nothing is
-///   promised except how it is printed, and how tables begin. What it says quotes the manifest, so
-///   it is left out if the manifest itself is a symbolic link.
+/// - M1: that there are too many bytes, or the message of the crate `toml`, followed by how tables
+///   begin. Nothing is promised about that message except how it is printed. It quotes the
+///   manifest, so it is left out if the manifest itself is a symbolic link.
 /// - M2: `app[2].release[1].size: a whole number from 0 to 9007199254740991`.
 /// - M3: `array q stands twice` or `app x stands twice`.
 /// - M4 to M6: `app[1].rule: x.rule`, the name of the file as the manifest has it. If M6 has a
 ///   line, it is followed by what is there and what is expected, such as `line 2, column 9: ..`,
-///   and below it the line and a caret (`tell_rule_fault` of `rule_diagnosis`); or, if that isn't
-///   available, by the line alone, such as `line 2: count q[0];`; or by the message that the file
-///   is no text in UTF-8. If M5 has a slot at which an instruction begins, the instruction follows
-///   as it is listed: `slot 1: exit`; and if the verifier refuses it, the sentence of
-///   `refused_place`. These lines are left out if the file is outside the manifest's folder, by a
-///   name that is absolute or has a part `..`, or if the disk says that it, or a folder on its way,
-///   is a symbolic link.
+///   and below it the line and a caret (`tell_rule_fault` of `rule_diagnosis`). If that isn't
+///   available, only the line follows, such as `line 2: count q[0];`, or the message that the file
+///   isn't UTF-8 text. If M5 has a slot at which an instruction begins, the instruction follows as
+///   it is listed: `slot 1: exit`; if the verifier refuses it, also the sentence of
+///   `refused_place`. These lines are left out if the file is outside the manifest's folder: its
+///   name is absolute or has a part `..`, or the disk reports that it, or a folder of its path, is
+///   a symbolic link.
 /// - M7: `array[2].length: r passes the 4096 cells that all arrays of a width have`.
 ///
-/// After the reason of M4 to M6 the apps after the first refused one are judged, each by itself;
-/// after that of M7 the arrays after it, each with those before it that can be declared. After that
-/// of M2 comes everything else that doesn't fit: the first unknown member, the server, and the
-/// first misfit of each array and each app; after that of M3 each other name that occurs twice. The
-/// first nine of these faults are printed as the first is, by the line of the refusal and its own
-/// reason, and a last line says how many more there are: `and 3 more`.
+/// After the reason of M4 to M6 the apps after the first refused one are judged, each by itself.
+/// After the reason of M7 the arrays after it are judged, each together with the declarable arrays
+/// before it. After the reason of M2 come all other schema errors: the first unknown member, the
+/// server, and the first error of each array and each app. After the reason of M3 comes each other
+/// duplicate name. The first nine of these further faults are printed like the load's own fault, by
+/// the line of the refusal and the reason. A last line counts the rest: `and 3 more`.
 ///
 /// A file that is too long is a fault, whatever its contents. Once such files have more than 64 MiB
-/// in all, no further file is read, and the last line says so: `behind app 5 no file is read: those
+/// in all, no further file is read. The last line then is `behind app 5 no file is read: those
 /// before that are too long have more than 64 MiB`.
 ///
-/// M8 comes if memory for the load or for the text about an accepted manifest is refused, and if as
-/// many files couldn't be read as can be counted. If memory is refused for the reason, the reason
-/// is left out, entirely or except for the file's name; and so are the further faults, entirely or
-/// except for their own reasons.
-// open: whether memory is refused; that the reason and the further faults are left out for want of
-// memory alone: tests; that it asks whether the manifest or a file is behind a link:
-// `bench/hostile`; what `toml` says of M1.
+/// Returns M8 if an allocation fails for the load or for the text about an accepted manifest, and
+/// if the count of unreadable files overflows. If an allocation fails for the reason, the reason is
+/// left out, entirely or except for the file's name; the same holds for the further faults.
+// open: whether an allocation fails; that the reason and the further faults are left out only if
+// out of memory: tests; that it asks the disk whether the manifest is a symbolic link, or a file's
+// path has one: `bench/hostile`; the message of `toml` for M1.
 pub fn check<F: Files>(
     alloc: Global,
     manifest: &[u8],
@@ -85,7 +84,7 @@ pub fn check<F: Files>(
     }
 }
 
-// By what was gathered: the apps pass, or the first that has no program is told.
+// Judges the gathered apps: all pass, or the first that has no program is reported.
 fn check_apps(
     alloc: Global,
     manifest: &[u8],
@@ -152,8 +151,8 @@ fn out_of_memory(alloc: Global, read: usize, unread: usize) -> Refused
     }
 }
 
-/// Why a manifest of more than 1048576 bytes is refused: M1, which needs none of them.
-// open: whether memory is refused; that the reason is left out for want of memory alone: tests.
+/// The refusal of a manifest of more than 1048576 bytes: M1, which needs none of the bytes.
+// open: whether an allocation fails; that the reason is left out only if out of memory: tests.
 pub fn too_long(alloc: Global) -> Refused
     ensures { FailsIfLong result }
 {

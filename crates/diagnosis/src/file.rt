@@ -1,4 +1,4 @@
-//! The file of an app, and the place in it at which its fault lies.
+//! The file of an app, and the place of its fault in it.
 
 ghost use Rattle.std.specs.Prelude.{◌≡◌, OnOk, IfSome, string_bytes};
 ghost use Rattle.printing.specs.Pushed.{Puts};
@@ -15,7 +15,8 @@ use printing::Printed;
 use std::alloc::{AllocError, Global};
 use std::fmt::Write;
 
-/// The name of the file of the app of this number, and its place; None where memory is refused.
+/// The name of the file of the app with this number, and the place in it; None if an allocation
+/// fails.
 pub(crate) fn tell_file(
     alloc: Global,
     apps: &[GatheredApp],
@@ -61,7 +62,7 @@ fn key_of(source: &ProgramSource) -> &'static str
     }
 }
 
-// The place in the file, if it is one of the manifest's folder.
+// The place in the file, if the file is in the manifest's folder.
 fn show_inside(alloc: Global, place: Place, app: &GatheredApp) -> String
     ensures { ShowsPlace app.now place (string_bytes result) }
 {
@@ -77,7 +78,7 @@ fn show_inside(alloc: Global, place: Place, app: &GatheredApp) -> String
     }
 }
 
-// Whether the file lies in the manifest's folder, by its name and with no link on the way.
+// Whether the file is in the manifest's folder, by its name and with no symbolic link in its path.
 fn lies_inside(app: &GatheredApp) -> bool
     ensures { result ≡ specs.lies_inside app.now }
 {

@@ -1,12 +1,12 @@
-//! Which names of files stay in the folder of a manifest.
+//! Which file names stay in the folder of a manifest.
 
 ghost use Rattle.std.specs.Prelude.{◌≡◌};
 ghost use Rattle.diagnosis.specs.Inside as specs;
 
 use std::path::Path;
 
-/// Whether a name leads to the folder in which it is taken, or further down: it isn't absolute, and
-/// none of its parts is `..`. A link may still lead out, of which the disk is asked.
+/// Whether a name stays in the folder from which it is resolved, or below: it isn't absolute, and
+/// none of its parts is `..`. A symbolic link may still lead out; the disk checks that.
 pub(crate) fn is_inside(name: &str) -> bool
     ensures { result ≡ specs.is_inside name.now }
 {

@@ -1,4 +1,4 @@
-//! A law of the definitions: a manifest has one check.
+//! Law: a manifest has one check.
 
 ghost use Rattle.diagnosis.specs.OneCheck.{ChecksOneWay};
 
@@ -6,9 +6,9 @@ use load::{gathered_is_loaded, one_load};
 use manifest::one_reading;
 use rule_lang::one_verdict;
 
-/// A law: of files that tell their bytes, a manifest passes with one text and one digest, which
-/// each load of it has, too, over whatever arrays; or it has one fault, want of memory aside. It is
-/// called by nothing that runs.
+/// Law: for files with known bytes, a manifest either passes with one text and one digest (that of
+/// each load, over any arrays) or has one fault, unless memory runs out. Nothing that runs calls
+/// it.
 pub fn one_check()
     ensures { ChecksOneWay }
 {

@@ -1,21 +1,21 @@
-//! The check of a manifest, for the person who writes it: what an accepted one declares, and of a
-//! refused one where it is wrong and why.
+//! The check of a manifest, for the person who writes it: what an accepted one declares, and where
+//! and why a refused one is wrong.
 //!
 //! See docs/PROGRAM.md, "check"; docs/PROGRAM.md, "Refusals".
 #![tactic(auto)]
 
-// How a manifest is checked. It is gathered over no arrays, as a server's first manifest is: read
-// once, its arrays declared, and of each app's file so much kept as judging it takes. The fault is
-// the load's own. Beside a fault of its bytes stands what they were parsed as, so they are never
-// parsed again: either what the reader of TOML says of them, or the document in which all else is
-// found that doesn't fit, or that stands twice. All other faults have a number, of an array or an
-// app that was gathered. Where the fault lies in an app's file, what was kept of it shows the line
-// of the rule, or the instruction of the program, at which it lies. Manifests of others are
-// checked, too, so of a file that lies outside the manifest's folder, or behind a symbolic link,
-// nothing is shown. Behind an app that has no program the apps behind it are judged, too, and each
-// that has none is told as the first; and so are the arrays behind one that can't be declared.
+// How a manifest is checked. It is gathered over no arrays, like a server's first manifest: it is
+// read once, its arrays are declared, and as much of each app's file is kept as judging takes. The
+// fault is the load's own. With a fault of its bytes comes what they were parsed as, so they are
+// never parsed again. This is either the error of the TOML reader, or the document, in which all
+// other schema errors and duplicate names are found. All other faults have the number of an array
+// or an app that was gathered. If the fault is in an app's file, the kept bytes show the line of
+// the rule, or the instruction of the program, at which it is. The manifest may be somebody else's,
+// so nothing is shown of a file that is outside its folder or reached through a symbolic link.
+// After an app without a program the further apps are judged as well, and each without a program is
+// reported. So are the arrays after one that can't be declared.
 //
-// What is told is kept in parts (`CheckedManifest`, `Refused`), with the lines that these make.
+// The report is kept in parts (`CheckedManifest`, `Refused`), together with its lines.
 
 mod accepted;
 mod advice;

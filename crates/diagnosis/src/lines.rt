@@ -1,4 +1,4 @@
-//! The lines behind that of a refusal.
+//! The lines after that of a refusal.
 
 ghost use Rattle.std.specs.Prelude.{◌≡◌, ◌⊎◌, [], flat_map, IfOk, OnOk, string_bytes};
 ghost use Rattle.printing.specs.Pushed.{Puts};
@@ -11,8 +11,8 @@ use load::LoadFault;
 use std::alloc::{AllocError, Global};
 use std::fmt::Write;
 
-/// A fault's own lines and those of the further faults, how many more there are, and behind which
-/// app no file is read; for want of memory the first alone, or none.
+/// A fault's own lines and those of the further faults, how many more there are, and after which
+/// app no file is read. If out of memory, only the fault's own lines, or none.
 pub(crate) fn lines_of(
     alloc: Global,
     own: &str,
@@ -75,14 +75,14 @@ fn push_fault(text: &mut String, told: &ToldFault) -> Result<(), AllocError>
     text.push_str(told.reason.as_str())
 }
 
-// The line of a refusal, as `refused M6 Rule L2 Shape at line 3 in app 3`.
+// The line of a refusal, such as `refused M6 Rule L2 Shape at line 3 in app 3`.
 fn push_refusal(text: &mut String, fault: &LoadFault) -> Result<(), AllocError>
     ensures { OnOk result (Puts text.old text.new (refusal_line fault.now)) }
 {
     writeln!(text, "refused {fault}")
 }
 
-// How many faults there are more, if there are any.
+// How many more faults there are, if any.
 fn push_more(text: &mut String, count: usize) -> Result<(), AllocError>
     ensures { OnOk result (Puts text.old text.new (more_line count)) }
 {

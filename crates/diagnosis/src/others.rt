@@ -1,4 +1,4 @@
-//! The further faults of a manifest itself: members that don't fit, and names that stand twice.
+//! The further faults of a manifest itself: schema errors and duplicate names.
 
 ghost use Rattle.std.specs.Prelude.{◌≡◌, map, drop, IfOk, IfSome};
 ghost use Rattle.diagnosis.specs.Others.{AreOtherMisfits, AreOtherTwice};
@@ -9,7 +9,7 @@ use load::LoadFault;
 use manifest::{ManifestFault, Misfit, Parsed, Twice, all_misfits, all_twice};
 use std::alloc::{AllocError, Global};
 
-/// What of a manifest makes it none.
+/// A reason why a document isn't a manifest.
 trait Unfit: Drop {
     ghost fault_of: { Self → LoadFault };
 
@@ -33,7 +33,7 @@ impl Unfit for Twice {
     }
 }
 
-/// What doesn't fit, but for the first; None where memory is refused, and without a document.
+/// All schema errors but the first; None if an allocation fails, or without a document.
 pub(crate) fn other_misfits(alloc: Global, parsed: &Parsed) -> Option<Vec<LoadFault>>
     ensures { IfSome result (λ v. AreOtherMisfits parsed.now v.items) }
 {
@@ -49,7 +49,7 @@ pub(crate) fn other_misfits(alloc: Global, parsed: &Parsed) -> Option<Vec<LoadFa
     Some(faults)
 }
 
-/// What stands twice, but for the first; None where memory is refused, and without a document.
+/// All duplicate names but the first; None if an allocation fails, or without a document.
 pub(crate) fn other_twice(alloc: Global, parsed: &Parsed) -> Option<Vec<LoadFault>>
     ensures { IfSome result (λ v. AreOtherTwice parsed.now v.items) }
 {
@@ -65,7 +65,7 @@ pub(crate) fn other_twice(alloc: Global, parsed: &Parsed) -> Option<Vec<LoadFaul
     Some(faults)
 }
 
-// The faults of all but the first.
+// The faults of all items but the first.
 fn faults_but_first<U: Unfit>(alloc: Global, all: Vec<U>) -> Result<Vec<LoadFault>, AllocError>
     ensures { IfOk result (λ v. v.items ≡ map U.fault_of (drop 1 all.items)) }
 {

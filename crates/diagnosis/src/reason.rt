@@ -27,7 +27,7 @@ use rule_lang::RuleFault;
 use std::alloc::{AllocError, Global};
 use std::fmt::Write;
 
-/// The lines beside the refusal of a manifest; none where memory for them is refused.
+/// The lines that explain a refusal; none if an allocation for them fails.
 pub(crate) fn reason_of(
     alloc: Global,
     parsed: &Parsed,
@@ -102,8 +102,8 @@ fn push_misfit(text: &mut String, misfit: &Misfit) -> Result<(), AllocError>
     text.push_str(advice(misfit))
 }
 
-// That the bytes are too many, or what the reader of TOML says of them, which ends its own lines.
-// Of a manifest that is a link that isn't told, since it quotes it.
+// That there are too many bytes, or the error of the TOML reader, which has its own line ends. That
+// error quotes the manifest, so it is left out if the manifest is a symbolic link.
 fn tell_toml(alloc: Global, parsed: &Parsed, is_link: bool, fault: TomlFault) -> Option<String>
     ensures { IfSome result (λ text. IsTomlReason fault (string_bytes text)) }
 {
@@ -126,7 +126,7 @@ fn tell_error(alloc: Global, parsed: &Parsed) -> Option<String>
     with_tables(alloc, said.as_str())
 }
 
-// Its lines end as they do, and quote the manifest, so each is printed as what somebody else wrote.
+// The error keeps its line ends and quotes the manifest, so each line is printed as untrusted text.
 fn with_tables(alloc: Global, said: &str) -> Option<String>
     ensures { IfSome result (λ text. IsTomlReason TomlFault.Text (string_bytes text)) }
 {
@@ -135,8 +135,8 @@ fn with_tables(alloc: Global, said: &str) -> Option<String>
     format!(in alloc; "{said}{tables}").ok()
 }
 
-// How the tables of a manifest are begun, since of a list that is begun otherwise the reader of
-// TOML mostly names another line.
+// How the tables of a manifest begin: for a list that begins otherwise, the TOML reader mostly
+// names another line.
 #[tactic(auto, unfolding(crate::specs::Reason::tables_line))]
 fn tables() -> &'static str
     ensures { result.now ≡ specs.tables_line }
@@ -182,7 +182,7 @@ fn tell_cells_fault(
     }
 }
 
-// The array of this number, for which too few cells are left.
+// The array with this number, for which too few cells are left.
 fn tell_array(alloc: Global, arrays: &[ArrayDeclaration], number: usize) -> Option<String>
     ensures { IfSome result (λ text.
         IsCellsReason arrays.now number CellsFault.CellsFull (string_bytes text)) }

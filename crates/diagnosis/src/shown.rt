@@ -1,4 +1,4 @@
-//! What is shown of an app's file: the place at which its fault lies.
+//! The excerpt of an app's file: the place of its fault.
 
 ghost use Rattle.std.specs.Prelude.{◌≡◌, IfSome, string_bytes, if◌then◌else◌};
 ghost use Rattle.diagnosis.specs.Shown.{IsInsnShown, IsKeptShown, IsLongShown};
@@ -21,18 +21,18 @@ use std::str;
 /// A place in the file of an app.
 #[derive(Clone, Copy, Debug, PartialEq, Eq)]
 pub(crate) enum Place {
-    /// The file, and no place in it.
+    /// The whole file.
     Whole,
     /// The instruction that begins at a slot.
     Slot(usize),
     /// The instruction that begins at a slot, which the verifier refuses.
     Refused(usize),
-    /// A line of a rule's text, from 1, in which there is a fault of this kind.
+    /// A line of a rule's text, numbered from 1, with a fault of this kind.
     Rule(usize, RuleFaultKind),
 }
 
-/// The lines that show a place in the file of an app of this shape, by what is kept of it, unless
-/// there is no such place or memory is refused.
+/// The lines that show a place in an app's file, from what is kept of it; None if there is no such
+/// place or an allocation fails.
 pub(crate) fn show(alloc: Global, place: Place, shape: &Shape, kept: &KeptFile) -> Option<String>
     ensures { IfSome result (λ text. IsKeptShown shape.now place kept.now (string_bytes text)) }
 {
@@ -47,7 +47,7 @@ pub(crate) fn show(alloc: Global, place: Place, shape: &Shape, kept: &KeptFile) 
     }
 }
 
-// Of a file of more bytes than it may have.
+// For a file that is longer than it may be.
 fn show_longer(alloc: Global, place: Place, beginning: &[u8], is_text: bool) -> Option<String>
     ensures { IfSome result (λ text.
         IsLongShown place beginning.now is_text (string_bytes text)) }
@@ -114,7 +114,7 @@ fn show_refused(alloc: Global, shape: &Shape, slot: usize, bytes: &[u8]) -> Opti
     }
 }
 
-// Where the verifier refuses the program, and why, is asked of its walk.
+// The verifier's walk gives the place and the reason of the refusal.
 fn with_sentence(
     alloc: Global,
     shape: &Shape,
@@ -139,7 +139,7 @@ fn with_sentence(
     format!(in alloc; "{insn}{sentence}\n").ok()
 }
 
-// The fault of a rule, unless the file is no text.
+// The fault of a rule, unless the file isn't text.
 fn show_rule(
     alloc: Global,
     shape: &Shape,
@@ -175,7 +175,7 @@ fn show_no_text(alloc: Global) -> Option<String>
     }
 }
 
-// What is told of the fault of a rule, or at least its line.
+// The explanation of a rule's fault, or at least its line.
 fn show_text(
     alloc: Global,
     shape: &Shape,

@@ -1,4 +1,4 @@
-//! What is told of a manifest that is refused.
+//! The report on a refused manifest.
 
 ghost use Rattle.std.specs.Prelude.{◌≡◌, IfOk, IfSome};
 ghost use Rattle.diagnosis.specs.Further.{AreFurther};
@@ -16,17 +16,17 @@ use load::{GatheredApp, LoadFault};
 use manifest::{ManifestFault, Parsed};
 use std::alloc::{AllocError, Global};
 
-/// The most faults that are told behind the first.
+/// The most faults that are printed after the first.
 const MOST_FURTHER: usize = 9;
 
-/// The further faults that are told, and how many more there are.
+/// The further faults that are printed, and how many more there are.
 struct FurtherFaults {
     told: Vec<ToldFault>,
     left_out: usize,
 }
 
-/// Where and why a manifest is refused, by what its bytes were parsed as and what was gathered, and
-/// its further faults; for want of memory either is left out.
+/// Where and why a manifest is refused, from what its bytes were parsed as and what was gathered,
+/// and its further faults; either is left out if out of memory.
 pub(crate) fn tell_refused(
     alloc: Global,
     parsed: &Parsed,
@@ -97,7 +97,7 @@ fn tell_further(
     Ok(FurtherFaults { told, left_out })
 }
 
-// The faults behind this one.
+// The faults after this one.
 fn further_faults(
     alloc: Global,
     parsed: &Parsed,

@@ -1,26 +1,26 @@
-//! What is told of a manifest that is refused, part by part.
+//! The parts of the report on a refused manifest.
 
 use load::LoadFault;
 
 /// Why a manifest is refused, and where. Lines are ended by a line feed.
 #[derive(Debug, Drop)]
 pub struct Refused {
-    /// The fault that the load of the manifest has.
+    /// The fault of the manifest's load.
     pub fault: LoadFault,
-    /// All that is told behind the line of the refusal: the lines of this fault, those of the
-    /// further ones, how many more there are, and behind which app no file is read. For want of
-    /// memory it is the lines of this fault alone, or none.
+    /// All lines after that of the refusal: the lines of this fault and of the further ones, how
+    /// many more there are, and after which app no file is read. If out of memory, only the lines
+    /// of this fault, or none.
     pub reason: String,
-    /// Where and why: the lines of this fault. There are none where memory for them was refused.
+    /// Where and why: the lines of this fault. Empty if an allocation for them failed.
     pub own: String,
-    /// The further faults, at most nine. There are none where memory for them was refused.
+    /// The further faults, at most nine. Empty if an allocation for them failed.
     pub further: Vec<ToldFault>,
-    /// How many further faults there are behind these.
+    /// How many further faults are left out of `further`.
     pub left_out: usize,
-    /// How many apps were gathered: 0 where it is refused for its bytes or its arrays, or for want
-    /// of memory before all files are read.
+    /// How many apps were gathered: 0 if it is refused for its bytes or its arrays, or if memory
+    /// runs out before all files are read.
     pub read: usize,
-    /// How many apps there are behind these, of which no file is read.
+    /// How many apps after these have no file read.
     pub unread: usize,
 }
 
@@ -28,7 +28,6 @@ pub struct Refused {
 #[derive(Debug, Drop)]
 pub struct ToldFault {
     pub fault: LoadFault,
-    /// Where and why: lines, each ended by a line feed. There are none where memory for them was
-    /// refused.
+    /// Where and why: lines, each ended by a line feed. Empty if an allocation for them failed.
     pub reason: String,
 }

@@ -1,5 +1,5 @@
-//! The faults of the arrays behind one that can't be declared, each beside those before it that
-//! can.
+//! The faults of the arrays after one that can't be declared, each judged together with the
+//! declarable arrays before it.
 
 ghost use Rattle.std.specs.Prelude.{◌≡◌, ◌≢◌, ◌+◌, ◌^◌, ◌<◌, ◌++◌, length, IfOk, IfSome, OnOk};
 ghost use Rattle.diagnosis.specs.Undeclared.{AreFaultsOfArrays, AreUndeclared, JudgesArray};
@@ -10,8 +10,8 @@ use declarations::{ArrayDeclaration, declare_all};
 use load::LoadFault;
 use std::alloc::{AllocError, Global};
 
-/// The faults of the arrays behind the one of this number; None where memory is refused, or where
-/// there is no such array.
+/// The faults of the arrays after the one with this number; None if an allocation fails, or there
+/// is no such array.
 pub(crate) fn faults_behind_array(
     alloc: Global,
     arrays: &[ArrayDeclaration],
@@ -74,7 +74,7 @@ fn push_cells_fault(
     Ok(())
 }
 
-// Declares an array, if it can be; or else its fault.
+// Declares an array, or returns its fault.
 fn judge_array(
     alloc: Global,
     directory: &mut Directory,
@@ -98,7 +98,7 @@ fn judge_array(
     }
 }
 
-// Want of memory is no fault of an array.
+// Running out of memory isn't a fault of an array.
 fn unless_refused_memory(fault: CellsFault) -> Result<CellsFault, AllocError>
     ensures same { IfOk result (λ found. found ≡ fault) }
     ensures other { IfOk result (λ found. found ≢ CellsFault.Memory) }

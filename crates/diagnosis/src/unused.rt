@@ -1,4 +1,4 @@
-//! Which arrays no program uses.
+//! Arrays that no program uses.
 
 ghost use Rattle.std.specs.Prelude.{◌≡◌, ◌^◌, ◌<◌, ◌++◌, OnOk};
 ghost use Rattle.std.specs.List.{list_any};
@@ -91,7 +91,7 @@ fn tell_unless(warnings: &mut Vec<Warning>, used: bool, number: usize) -> Result
     )
 }
 
-/// A warning on each array that no program of these apps uses. Arrays are numbered from 1.
+/// Adds a warning for each array that no program of these apps uses. Arrays are numbered from 1.
 pub(crate) fn tell_unused(
     warnings: &mut Vec<Warning>,
     arrays: &[CellArray],

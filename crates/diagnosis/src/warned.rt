@@ -1,4 +1,4 @@
-//! What a manifest that is accepted hardly means.
+//! The warnings on an accepted manifest.
 
 ghost use Rattle.std.specs.Prelude.{◌≡◌, ◌++◌, IfOk};
 ghost use Rattle.diagnosis.specs.Unused.{unused_from};
@@ -13,11 +13,11 @@ use ruleset::App;
 use std::alloc::{AllocError, Global};
 use warnings::Warning;
 
-/// How many steps of conditions the rules of a manifest are asked in all, each at one version: each
-/// of these takes 10,000 buckets.
+/// The budget for evaluating the rules of a manifest: how many steps of conditions are evaluated in
+/// all, each at one version for 10,000 buckets.
 const ROOM: u64 = 10000;
 
-/// The warnings on arrays, and those on apps behind them.
+/// The warnings on arrays, followed by those on apps.
 pub(crate) fn tell_warnings(
     alloc: Global,
     arrays: &[CellArray],

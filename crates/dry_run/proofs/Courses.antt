@@ -1,4 +1,4 @@
--- A run on counters of some values has one course, since each counter replies by its value.
+-- A run on counters with given values has one course, because each counter replies with its value.
 use Rattle.std.proofs.Common.{◌≡◌, ℕ, List, [], ◌∷◌, ◌++◌, refl, ap, sym, ◌∙◌, subst}
 use Rattle.std.specs.Prelude.{slice_index, slice_set}
 use Rattle.cells.specs.Events.{IsEvent, after, limit, reply_of}
@@ -12,19 +12,19 @@ use Rattle.bpf_semantics.specs.Run.{Ends, last, more, asked}
 
 -- ---- events
 
--- a list of events, cut in two
+-- a list of events, split in two
 pub cut : (a b : List CellEvent) (p q : List ℕ) → GrewBy IsEvent p (a ++ b) q
     → (m : List ℕ) × GrewBy IsEvent p a m × GrewBy IsEvent m b q
 cut [] b p q g = (p, refl, g)
 cut (e ∷ es) b p q g =
     let rest = cut es b g.0 q g.2 in (rest.0, (g.0, g.1, rest.1), rest.2)
 
--- what one operation on counters of some values replies, and leaves
+-- the reply of one operation on counters with given values, and the values after it
 record IsSameEvent (d d' : CellEvent) (new new' : List ℕ) : Type 0 where
   pub reply : d.reply ≡ d'.reply
   pub values : new ≡ new'
 
--- what they are left with
+-- the values after an operation
 abbrev left_by : List ℕ → ℕ → CellOp → List ℕ
 left_by old c o = slice_set old c (after (limit c) (slice_index old c) o)
 

@@ -1,4 +1,4 @@
--- What is told of an app, and of one app more.
+-- The lines of an app, and of one more app.
 use Rattle.std.proofs.Common.{◌≡◌, ◌∙◌, ℕ, ◌+◌, ◌<◌, List, [], ◌∷◌, ◌++◌, length, take, get_or}
 use Rattle.std.proofs.Common.{ap, sym, subst, Bool, true, false, Option, Some, None}
 use Rattle.std.proofs.Common.{if◌then◌else◌, arith, ◌≤◌}

@@ -1,4 +1,4 @@
--- What was found of the apps of a request makes its reply.
+-- The answers found for the apps of a request make its reply.
 use Rattle.std.proofs.Common.{◌≡◌, ◌≢◌, ◌∙◌, ℕ, List, Option, Result, Ok, Err, ap, sym, subst}
 use Rattle.std.specs.Prelude.{ℤ, Vec, IfOk, IfErr}
 use Rattle.cells.specs.Events.{IsEvent}
@@ -34,7 +34,7 @@ is_found rules moment request p q found slice server text named d t a =
     }
 
 module _ (rules : Rules) (moment : ℤ) (body old new : List ℕ) where
-  -- of a request
+  -- for a request
   pub of_request : {A : Type 0} (request : Request) (r : Result (Vec ℕ A) OmahaFault)
       → request_in body ≡ Ok request
       → IfOk r (λ text. RepliesOn rules moment request old text.items new)
@@ -44,7 +44,7 @@ module _ (rules : Rules) (moment : ℤ) (body old new : List ℕ) where
       let E : OmahaFault → Result (Vec ℕ A) OmahaFault = λ f. Err f in
       subst (λ (f : OmahaFault). IsFoundReply rules moment body old new (E f)) (sym memory) tt
 
-  -- of a body that is none
+  -- for a body that isn't one
   pub of_fault : (A : Type 0) (fault : OmahaFault)
       → (let read : Result Request OmahaFault = Err fault in
       read ≢ Err Memory → read ≡ request_in body) → new ≡ old

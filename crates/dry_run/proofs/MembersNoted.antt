@@ -1,4 +1,4 @@
--- The lines of members of an app and of a request are so.
+-- The lines of the members of an app and of a request are true.
 use Rattle.std.proofs.Common.{◌≡◌, ℕ, List, [], sym, subst, Option, Some, None}
 use Rattle.std.specs.Prelude.{ℤ, codes, option_map}
 use Rattle.serde_json.specs.Data.{Data}
@@ -12,7 +12,7 @@ use Rattle.dry_run.specs.Noted.{AppIsNoted, MembersAreNoted, RequestIsNoted}
 use Rattle.dry_run.proofs.Noted.{attribute_noted, day_noted, os_noted, platform_noted}
 use Rattle.dry_run.proofs.Noted.{text_noted, value_noted, version_noted}
 
--- what was made is made of something
+-- a result of a map comes from some value
 taken : {A B : Type 0} (made : A → B) (o : Option A) (b : B) → option_map made o ≡ Some b
     → (a : A) × (b ≡ made a)
 taken made None b is = absurd cc

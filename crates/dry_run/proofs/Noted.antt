@@ -1,4 +1,4 @@
--- The line of a member is so, by what it has to be.
+-- The line of a member is true, by what the member has to be.
 use Rattle.std.proofs.Common.{◌≡◌, ◌≢◌, ℕ, List, [], ◌∷◌, ◌++◌, refl, subst}
 use Rattle.std.proofs.Common.{Bool, true, false, Option, Some, None, length, arith, inl, inr}
 use Rattle.std.specs.Prelude.{codes, not, nat_le, nat_lt, is_none, if◌then◌else◌}
@@ -158,7 +158,7 @@ day_noted indent name (Some d) =
     by_number (number_of d) (ignored_line indent name (kind_in (Some d)) day_words) d
     (line_stands indent name (kind_in (Some d)) day_words) refl
 
--- ---- a member that has to be there
+-- ---- a member that only has to be present
 
 by_value : (asks : Bool) (line : List ℕ) (d : Data) → line ≢ []
     → IsNoted (if not asks then line else []) (λ e. asks ≡ true) (asks ≡ false) (Some d)

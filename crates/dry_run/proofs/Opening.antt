@@ -1,4 +1,4 @@
--- Files come to no ruleset or no body; and a manifest's files come to rules with their apps.
+-- Files give no ruleset or no body; and a manifest's files give the rules of its apps.
 use Rattle.std.proofs.Common.{◌≡◌, ◌∙◌, ℕ, List, [], Some, ap, sym, subst}
 use Rattle.bounded_files.specs.Files.{KnownFiles, Gives, regular_files}
 use Rattle.bounded_files.specs.declared.fault.ResourceFault.TheVariants.{File}
@@ -128,7 +128,7 @@ loaded known path bytes g made rules given is of read = record {
   rules_are = rules_in of.judged read;
 }
 
--- what was taken apart
+-- the parts of what is opened
 pub opened_why : (known : KnownFiles) (manifest request : List ℕ) (made : MadeRuleset)
     (o : OpenedWhy) → o.rules ≡ made.rules → o.directory ≡ made.directory
     → o.digest ≡ made.digest → IsLoadedWhy known manifest made o.known_rules.items

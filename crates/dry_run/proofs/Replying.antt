@@ -1,4 +1,4 @@
--- What is told of a request is of its reply.
+-- The explanation of a request is about its reply.
 use Rattle.std.proofs.Common.{◌≡◌, ◌∙◌, ℕ, List, [], ◌∷◌, ◌++◌, refl, ap, sym, subst}
 use Rattle.std.proofs.Common.{Option, Some, None}
 use Rattle.std.proofs.lemmas.Grind.{same_number_lists}
@@ -20,7 +20,7 @@ use Rattle.dry_run.specs.Why.{ExplainsApp, ExplainsApps, TellsTheReply}
 use Rattle.dry_run.specs.Why.{not_known, not_asked, was_run, no_reason, next_reason}
 use Rattle.dry_run.proofs.Requests.{one_reply_to_body}
 
--- ---- counters as they are told are the same
+-- ---- the given counters are the same
 
 same_zeros : (n : ℕ) (xs ys : List ℕ) → AreZeros n xs → AreZeros n ys → xs ≡ ys
 same_zeros n xs ys x y =

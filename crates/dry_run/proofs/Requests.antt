@@ -1,4 +1,4 @@
--- The runs of a request on counters of some values have one course, and so it has one reply.
+-- The runs of a request on counters with given values have one course, so it has one reply.
 use Rattle.std.proofs.Common.{◌≡◌, ◌∙◌, ℕ, List, [], ◌∷◌, ◌++◌, refl, ap, sym, subst}
 use Rattle.std.proofs.Common.{Option, Some, None}
 use Rattle.std.specs.Prelude.{ℤ, Result, Ok}
@@ -18,7 +18,7 @@ use Rattle.answering.specs.Apps.{RunsApp, RunsApps, unasked, unknown, ran, none,
 use Rattle.dry_run.specs.Reply.{RepliesOn, RepliesToBodyOn}
 use Rattle.dry_run.proofs.Courses.{cut, one_course}
 
--- ---- lists that end alike
+-- ---- lists with the same end
 
 ends_with_one : {A : Type 0} (xs : List A) (x : A) → [] ≡ xs ++ x ∷ [] → ⊥
 ends_with_one [] x e = absurd cc

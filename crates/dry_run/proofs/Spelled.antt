@@ -46,7 +46,7 @@ same_text s text bytes rule same is = subst (λ (t : List ℕ). IsRuleOfText t s
 pub no_text : (s : AppShape) (bytes : List ℕ) → ¬ IsUtf8 bytes → IsRuleOfText bytes s None
 no_text s bytes not_text spelled other = absurd (not_text other.utf8)
 
--- ---- the rules of apps, one app more
+-- ---- the rules of apps, one more app
 
 pub read_more : (all left behind : List GatheredApp) (rules more : List KnownRule)
     (app : GatheredApp) (rule : KnownRule)

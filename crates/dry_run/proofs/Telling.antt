@@ -1,4 +1,4 @@
--- What is told of a request, and why nothing is.
+-- The explanation of a request, and why there is none.
 use Rattle.std.proofs.Common.{◌≡◌, ◌≢◌, ◌∙◌, ◌++◌, ℕ, List, Ok, Err, ap, sym, subst}
 use Rattle.std.specs.Prelude.{ℤ, Result}
 use Rattle.cells.specs.declared.array.CellArray.{CellArray}

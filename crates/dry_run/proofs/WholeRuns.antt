@@ -28,7 +28,7 @@ use Rattle.dry_run.specs.AppLines.{program_line}
 use Rattle.dry_run.specs.Courses.{TellsCourse, WholeRun}
 use Rattle.dry_run.proofs.Courses.{differs, choice_of, state_of, cell_of, op_of, next_of}
 
--- ---- a run that ends well is short, and chooses among the releases
+-- ---- a run that ends well is short and chooses among the releases
 
 record IsBrief (p : ShapedProgram) (choice count : ℕ) : Type 0 where
   pub short : count ≤ length p.code
@@ -117,11 +117,11 @@ by_trace p a held old new choice count steps text jump same traced short among i
 
 -- ---- an app is answered by it
 
--- the appid of an app is kept as it is
+-- the appid of an app is kept unchanged
 kept_appid : (app : AppRule) → IsApp app → app.appid ≡ kept_text (Some app.appid)
 kept_appid app kept = let named = kept.named in grind (arith, named)
 
--- so attribute 0 is the appid, where the ruleset has the app
+-- so attribute 0 is the appid, if the ruleset has the app
 known_by : (rules : Rules) (app : AppFacts) (facts : RequestFacts) (moment : ℤ) (known : AppRule)
     → IsApp known → ListsApp rules app.appid known
     → ListsApp rules (appid_of (attributes_of app facts moment)) known

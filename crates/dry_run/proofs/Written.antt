@@ -1,4 +1,4 @@
--- The members of which a body's request is read are those of which its lines are told.
+-- The members from which a body's request is read are those that have the lines.
 use Rattle.std.proofs.Common.{◌≡◌, ◌∙◌, List, refl, sym, ap, Bool, true, false}
 use Rattle.std.proofs.Common.{Option, Some, None, Ok, Err}
 use Rattle.std.specs.Prelude.{codes, nat_lt, option_and_then, option_map, unwrap_or, Result}

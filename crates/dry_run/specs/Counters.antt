@@ -1,4 +1,4 @@
--- Counters by the values of cells that are told: each by the name of its array, and its index.
+-- Counters with given values of cells, each named by its array and index.
 use Rattle.std.specs.Prelude.{◌≡◌, ℕ, ◌+◌, List, [], ◌∷◌, slice_set, nat_lt, if◌then◌else◌}
 use Rattle.std.specs.Prelude.{Option, Some, None, option_and_then, unwrap_or}
 use Rattle.cells.specs.Directory.{array_named}
@@ -6,44 +6,44 @@ use Rattle.cells.specs.Events.{AreZeros, limit}
 use Rattle.cells.specs.declared.array.CellArray.{CellArray}
 use Rattle.told_cells.specs.Told.{Told}
 
--- the cell of this number, of which there are 8192
+-- the cell with this number, of 8192
 abbrev pub cell_at : ℕ → Option ℕ
 cell_at number = if nat_lt number 8192 then Some number else None
 
--- the cell of an index in an array, where it has one
+-- the cell with an index in an array, if the array has it
 abbrev pub cell_in : ℕ → Option CellArray → Option ℕ
 cell_in index (Some a) = if nat_lt index a.length then cell_at (a.base + index) else None
 cell_in index None = None
 
--- the cell that is told, where the arrays have it
+-- the given cell, if the arrays have it
 abbrev pub told_cell : List CellArray → Told → Option ℕ
 told_cell arrays told = cell_in told.index (array_named told.array arrays)
 
--- the counters with a value in the place of a cell's, where it fits the cell
+-- the counters with a cell set to a value, if the value fits
 abbrev pub with_value : (counters : List ℕ) → (value cell : ℕ) → Option (List ℕ)
 with_value counters value cell =
     if nat_lt value (limit cell) then Some (slice_set counters cell value) else None
 
--- the counters with one cell as it is told
+-- the counters with one given cell set
 abbrev pub with_cell : List CellArray → (counters : List ℕ) → Told → Option (List ℕ)
 with_cell arrays counters told =
     option_and_then (with_value counters told.value) (told_cell arrays told)
 
--- and with all cells: of one that is told twice the last value stays. There are none where one
--- isn't there, or its value doesn't fit
+-- the counters with all given cells set; the last value of a cell wins. None if a cell doesn't
+-- exist or its value doesn't fit
 abbrev pub with_cells : List CellArray → (counters : List ℕ) → List Told → Option (List ℕ)
 with_cells arrays counters [] = Some counters
 with_cells arrays counters (told ∷ more) =
     option_and_then (λ set. with_cells arrays set more) (with_cell arrays counters told)
 
--- with those of the cells that are there, and whose values fit
+-- the counters with those given cells set that exist and whose values fit
 abbrev pub with_known : List CellArray → (counters : List ℕ) → List Told → List ℕ
 with_known arrays counters [] = counters
 with_known arrays counters (told ∷ more) =
     with_known arrays (unwrap_or (with_cell arrays counters told) counters) more
 
--- counters that are 0, but for those that a server tells, as far as they are there, and then for
--- those that the words tell
+-- counters that are 0, except for those that a server gave, as far as they exist, and then for
+-- those that the command line gave
 pub record AreSetAsTold (arrays : List CellArray) (served words : List Told) (counters : List ℕ)
     : Type 0 where
   pub zeros : List ℕ

@@ -1,4 +1,4 @@
--- A whole run of an app's program, and what is told of it.
+-- A whole run of an app's program, and the explanation of it.
 use Rattle.std.specs.Prelude.{◌≡◌, ℕ, ◌≤◌, List, [], length, All, Some, None}
 use Rattle.attrs.specs.Attributes.{Attributes}
 use Rattle.bpf_semantics.specs.Program.{ShapedProgram}
@@ -13,9 +13,9 @@ use Rattle.trace.specs.Jumps.{last_jump_of}
 use Rattle.dry_run.specs.AppLines.{program_line}
 use Rattle.dry_run.specs.Meanings.{KnownRule}
 
--- from its first instruction to its end, on counters of the values `old`, each of which replies by
--- its value: it leaves them the values `new`. It takes at most as many instructions as the program
--- has slots, and chooses 0 or a release; its events are such as the program's arrays allow
+-- from its first instruction to its end, on counters with the values `old`, each of which replies
+-- with its value; it leaves them the values `new`. It takes at most as many instructions as the
+-- program has slots, and chooses 0 or a release; its events are allowed by the program's arrays
 pub record WholeRun (program : ShapedProgram) (a : Attributes) (old : List ℕ) (choice count : ℕ)
     (new : List ℕ) : Type 0 where
   pub events : List CellEvent
@@ -26,8 +26,8 @@ pub record WholeRun (program : ShapedProgram) (a : Attributes) (old : List ℕ) 
   pub fits : All HasPossibleReply events
   pub lawful : AreLawful program.shape events
 
--- how it comes to its choice: by the lines of the program's rule, which means this choice and these
--- values; or, where the program is no rule, in so many instructions, and by which jump at last
+-- how it makes its choice: by the lines of the program's rule, which means this choice and these
+-- values. If the program isn't a rule's, the text has `count` and the last jump
 abbrev pub IsCourse : (a : Attributes) (program : ShapedProgram) → KnownRule → (old : List ℕ)
     → (choice count : ℕ) → (new : List ℕ) → WholeRun program a old choice count new
     → (text : List ℕ) → Type 0
@@ -37,7 +37,7 @@ IsCourse a program None old choice count new run text =
     text ≡ program_line (length program.code) count
     (last_jump_of program (opening a) run.events choice count run.ends)
 
--- what is told of a run
+-- the explanation of a run
 pub record TellsCourse (program : ShapedProgram) (rule : KnownRule) (a : Attributes) (old : List ℕ)
     (choice : ℕ) (new text : List ℕ) : Type 0 where
   pub count : ℕ

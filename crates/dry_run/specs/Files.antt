@@ -1,4 +1,4 @@
--- A manifest, and the body of a request, that lie in files.
+-- A manifest, and the body of a request, in files.
 use Rattle.std.specs.Prelude.{ℕ, ◌^◌, ◌≤◌, List, [], length, codes, Some, None}
 use Rattle.std.specs.Prelude.{if◌then◌else◌}
 use Rattle.std.specs.Str.{bytes_eq}
@@ -15,11 +15,11 @@ use Rattle.dry_run.specs.declared.fault.DryRunFault.TheVariants as fault
 abbrev pub most_body : ℕ
 most_body = 2 ^ 20
 
--- where the body lies: `-` is standard input
+-- the path of the body: `-` is standard input
 abbrev pub body_path : List ℕ → List ℕ
 body_path path = if bytes_eq path (codes "-") then codes "/dev/stdin" else path
 
--- what the files come to: a ruleset with the arrays that it declares, and a body
+-- what the files give: a ruleset with the arrays that it declares, and a body
 pub record AreOpened (known : KnownFiles) (manifest request : List ℕ) (rules : Rules)
     (arrays : List CellArray) (body : List ℕ) : Type 0 where
   pub loaded : IsLoadedFrom known manifest [] rules arrays
@@ -31,20 +31,20 @@ pub record IsBodyIn (known : KnownFiles) (request body : List ℕ) : Type 0 wher
   pub given : Gives known (body_path request) (Some body)
   pub short : length body ≤ most_body
 
--- why there is none
+-- why there is no body
 abbrev pub IsBodyFault : KnownFiles → (request : List ℕ) → DryRunFault → Type 0
 IsBodyFault known request (fault.Resource File) = Gives known (body_path request) None
 IsBodyFault known request (fault.Resource resource.Memory) = Unit {0}
 IsBodyFault known request fault.TooLarge = HasMore most_body known (body_path request)
 IsBodyFault known request why = ⊥
 
--- the manifest comes to a ruleset
+-- the manifest gives a ruleset
 pub record ComesToRuleset (known : KnownFiles) (manifest : List ℕ) : Type 0 where
   pub rules : Rules
   pub arrays : List CellArray
   pub loaded : IsLoadedFrom known manifest [] rules arrays
 
--- why they come to none: the manifest first, and then the body
+-- why the files give nothing: the manifest's fault first, then the body's
 abbrev pub IsOpenFault : KnownFiles → (manifest request : List ℕ) → DryRunFault → Type 0
 IsOpenFault known manifest request (fault.Manifest why) = RefusesPath known manifest [] why
 IsOpenFault known manifest request (fault.Resource File) =

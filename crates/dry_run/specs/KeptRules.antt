@@ -1,4 +1,4 @@
--- The rule that is read of an app by what is kept of its file.
+-- The rule of an app, read from what is kept of its file.
 use Rattle.std.specs.Prelude.{◌≡◌, ℕ, List, [], ◌∷◌, Some, None}
 use Rattle.acceptance.specs.Rule.{IsTextOf}
 use Rattle.cells.specs.Arrays.{AppShape}
@@ -15,13 +15,13 @@ abbrev pub IsRuleOfText : (bytes : List ℕ) → AppShape → KnownRule → Type
 IsRuleOfText bytes shape rule =
     (spelled : List Statement) → IsTextOf bytes shape spelled → rule ≡ Some spelled
 
--- the one that a file spells which is kept whole; of another one nothing is said, since its app has
--- no program
+-- the rule that a whole kept file spells; nothing is claimed for any other file, because its app
+-- has no program
 abbrev pub IsReadOfKept : KeptFile → AppShape → KnownRule → Type 0
 IsReadOfKept (Whole v) shape rule = IsRuleOfText v.items shape rule
 IsReadOfKept kept shape rule = Unit {0}
 
--- and none of a program's file
+-- and none for a program's file
 abbrev pub IsReadOf : ProgramSource → KeptFile → AppShape → KnownRule → Type 0
 IsReadOf (source.Program file) kept shape rule = rule ≡ None
 IsReadOf (source.Rule file) kept shape rule = IsReadOfKept kept shape rule
@@ -29,7 +29,7 @@ IsReadOf (source.Rule file) kept shape rule = IsReadOfKept kept shape rule
 abbrev pub IsReadFrom : GatheredApp → KnownRule → Type 0
 IsReadFrom app rule = IsReadOf app.entry.source app.kept app.shape rule
 
--- of each app
+-- for each app
 pub data AreReadFrom : List GatheredApp → List KnownRule → Type 0 where
   nothing_read : AreReadFrom [] []
   next_read : {app : GatheredApp} {rule : KnownRule} {apps : List GatheredApp}

@@ -22,7 +22,7 @@ use Rattle.dry_run.specs.declared.why_files.OpenedWhy.{OpenedWhy}
 abbrev pub KnownRule : Type 0
 KnownRule = Option (List Statement)
 
--- the rule of the first app of an appid, if it is known
+-- the rule of the first app with an appid, if it is known
 abbrev pub known_rule_of : List AppRule → List KnownRule → (appid : List ℕ) → KnownRule
 known_rule_of (app ∷ apps) (rule ∷ rules) appid =
     if bytes_eq app.appid appid then rule else known_rule_of apps rules appid
@@ -33,22 +33,22 @@ abbrev pub HasMeaning : ShapedProgram → KnownRule → Type 0
 HasMeaning program (Some rule) = (a : Attributes) → Means a rule program
 HasMeaning program None = Unit {0}
 
--- so has each app's of its own
+-- each app's program has the meaning of its rule
 pub data HaveMeanings : List AppRule → List KnownRule → Type 0 where
   no_meaning : HaveMeanings [] []
   next_meaning : {app : AppRule} {rule : KnownRule} {apps : List AppRule} {rules : List KnownRule}
       → HasMeaning app.program rule → HaveMeanings apps rules
       → HaveMeanings (app ∷ apps) (rule ∷ rules)
 
--- the rule that the kept bytes of an app's file spell, and of which its program is; none where the
--- file is a program
+-- the rule that the kept bytes of an app's file spell and from which its program is compiled; none
+-- if the file is a program
 abbrev pub IsRuleKept : ProgramSource → KeptFile → ShapedProgram → KnownRule → Type 0
 IsRuleKept (source.Program file) kept program rule = rule ≡ None
 IsRuleKept (source.Rule file) (Whole v) program rule =
     (is : IsProgramOfRule v.items program) × (rule ≡ Some is.rule)
 IsRuleKept (source.Rule file) kept program rule = ⊥
 
--- of each app that was gathered, with its program
+-- for each gathered app, with its program
 pub data AreRulesKept : List GatheredApp → List ShapedProgram → List KnownRule → Type 0 where
   no_rule : AreRulesKept [] [] []
   next_rule : {app : GatheredApp} {program : ShapedProgram} {rule : KnownRule}
@@ -56,8 +56,8 @@ pub data AreRulesKept : List GatheredApp → List ShapedProgram → List KnownRu
       → IsRuleKept app.entry.source app.kept program rule → AreRulesKept apps programs rules
       → AreRulesKept (app ∷ apps) (program ∷ programs) (rule ∷ rules)
 
--- what a manifest comes to: a ruleset with its arrays and with the digest of all of it, and the
--- rule of each app. The rules are those of the very bytes that this digest is of
+-- what a manifest gives: a ruleset with its arrays and the digest of everything, and the rule of
+-- each app. The rules are those of exactly the bytes that this digest covers
 pub record IsLoadedWhy (known : KnownFiles) (manifest : List ℕ) (made : MadeRuleset)
     (known_rules : List KnownRule) : Type 0 where
   pub made_from : IsMadeFrom known manifest [] made
@@ -67,13 +67,13 @@ pub record IsLoadedWhy (known : KnownFiles) (manifest : List ℕ) (made : MadeRu
 abbrev pub made_in : OpenedWhy → MadeRuleset
 made_in o = record { rules = o.rules; directory = o.directory; digest = o.digest }
 
--- what the files come to: that, and a body
+-- what the files give: that, and a body
 pub record AreOpenedWhy (known : KnownFiles) (manifest request : List ℕ) (o : OpenedWhy)
     : Type 0 where
   pub loaded : IsLoadedWhy known manifest (made_in o) o.known_rules.items
   pub read : IsBodyIn known request o.body.items
 
--- it is what is opened to find the reply
+-- this is what is opened to find the reply
 abbrev pub OpensTheSame : Type 0
 OpensTheSame = (known : KnownFiles) (manifest request : List ℕ) (o : OpenedWhy)
     → AreOpenedWhy known manifest request o

@@ -1,5 +1,6 @@
--- That the lines of members are so: one that is there and has no line counts, and one that has a
--- line counts as absent. What counts is what the request is read as, and what a program sees of it.
+-- The lines of members are true: a member that is present without a line counts, and a member with
+-- a line counts as absent. What counts is what the request is read as, and what a program reads of
+-- it.
 use Rattle.std.specs.Prelude.{◌≡◌, ◌≢◌, ℕ, ℤ, List, [], codes, Bool, true, false}
 use Rattle.std.specs.Prelude.{Option, Some, None, Ok, option_and_then}
 use Rattle.serde_json.specs.Data.{Data, Items, Members, object, string}
@@ -20,8 +21,8 @@ use Rattle.dry_run.specs.IgnoredLines.{value_note, version_note, indented, platf
 use Rattle.dry_run.specs.IgnoredLines.{app_notes_of, notes_of, request_note, request_note_of}
 use Rattle.dry_run.specs.IgnoredLines.{request_written}
 
--- a member isn't there, and counts as absent; or it is there and counts, and has no line; or it has
--- one, and counts as absent
+-- a member is absent, and counts as absent; or it is present and counts, and has no line; or it has
+-- a line, and counts as absent
 pub data IsNoted (line : List ℕ) (counts : Data → Type 0) (is_absent : Type 0)
     : Option Data → Type 0 where
   not_there : line ≡ [] → is_absent → IsNoted line counts is_absent None
@@ -30,13 +31,13 @@ pub data IsNoted (line : List ℕ) (counts : Data → Type 0) (is_absent : Type 
 
 -- ---- by what a member has to be
 
--- a text: the request is read with it, or with none
+-- a text: the request is read with it, or without one
 abbrev pub IsTextNoted : (line : List ℕ) → (said : Option (List ℕ)) → Option Data → Type 0
 IsTextNoted line said member =
     IsNoted line (λ d. (text : List ℕ) × (d ≡ string text) × (said ≡ Some text)) (said ≡ None)
     member
 
--- a text that is an attribute: a program finds it, or the empty text
+-- a text that is an attribute: a program reads it, or the empty text
 abbrev pub IsAttributeNoted : (line : List ℕ) → Attributes → Attribute → Option Data → Type 0
 IsAttributeNoted line a kind member =
     IsNoted line
@@ -47,16 +48,16 @@ IsAttributeNoted line a kind member =
 abbrev pub IsDay : Data → (day : ℕ) → Type 0
 IsDay d day = (option_and_then as_u64 (as_number d) ≡ Some day) × (day ≢ unknown_day)
 
--- a day: a program finds it, or the day that isn't known
+-- a day: a program reads it, or the unknown day
 abbrev pub IsDayNoted : (line : List ℕ) → Attributes → Option Data → Type 0
 IsDayNoted line a member =
     IsNoted line (λ d. IsDay d a.context.install_day) (a.context.install_day ≡ unknown_day) member
 
--- a member that asks for something by being there
+-- a member that requests something by its presence
 abbrev pub IsValueNoted : (line : List ℕ) → (asks : Bool) → Option Data → Type 0
 IsValueNoted line asks member = IsNoted line (λ d. asks ≡ true) (asks ≡ false) member
 
--- ---- of an app, and of a request
+-- ---- an app, and a request
 
 -- a text of an app that is an attribute of the same name
 abbrev pub IsAppTextNoted : (app : Data) → Attributes → Attribute → Type 0
@@ -64,13 +65,13 @@ IsAppTextNoted app a kind =
     IsAttributeNoted (attribute_note indented (attribute_text kind) (get (attribute_text kind) app))
     a kind (get (attribute_text kind) app)
 
--- a member of an app that has to be there
+-- a member of an app that only has to be present
 abbrev pub IsAppValueNoted : (app : Data) → (name : List ℕ) → (asks : Bool) → Type 0
 IsAppValueNoted app name asks =
     IsValueNoted (value_note indented name (get name app)) asks (get name app)
 
--- all members of an app that have lines. A version has one as a text, by which it has no numbers,
--- or as an attribute alone
+-- all members of an app that have lines. A version has a line as a text, in which case it has no
+-- numbers, or only as an attribute
 pub record AppIsNoted (app : Data) (facts : AppFacts) (a : Attributes) : Type 0 where
   pub version : IsAttributeNoted
       (version_note indented (codes "version") (get (codes "version") app)) a Version
@@ -104,15 +105,15 @@ pub record RequestIsNoted (request : Data) (facts : RequestFacts) (a : Attribute
       (λ d. (ms : Members) × (d ≡ object ms)) (facts.platform ≡ None) (get (codes "os") request)
   pub platform : IsPlatformNoted (get (codes "os") request) a
 
--- the lines are so: of any request, and of any of its apps
+-- the lines are true for any request and any of its apps
 abbrev pub MembersAreNoted : Type 0
 MembersAreNoted = (request app : Data) (facts : AppFacts) (moment : ℤ) → app_facts app ≡ Some facts
     → (a : Attributes) → a ≡ attributes_of facts (request_facts request) moment
     → RequestIsNoted request (request_facts request) a × AppIsNoted app facts a
 
--- ---- of a body
+-- ---- a body
 
--- what a request says is that of these members, and its lines are theirs
+-- the facts of a request are those of these members, and its lines are theirs
 pub record IsWritten (request : Option Data) (asked : Request) : Type 0 where
   pub written : Data
   pub apps : Items
@@ -121,7 +122,7 @@ pub record IsWritten (request : Option Data) (asked : Request) : Type 0 where
   pub apps_are : all_facts apps ≡ Some asked.apps
   pub notes_are : app_notes_of request ≡ notes_of apps
 
--- of the very members that a body's request is read of the lines are told
+-- the lines are those of exactly the members from which a body's request is read
 abbrev pub ReadMembersAreTold : Type 0
 ReadMembersAreTold = (body : List ℕ) (asked : Request) → request_in body ≡ Ok asked
     → IsWritten (request_written body) asked

@@ -1,4 +1,4 @@
--- The reply to a body, as it is before anybody sends it: by a ruleset, a moment, and the counters.
+-- The reply to a body before it is sent: by a ruleset, a moment, and the counters.
 use Rattle.std.specs.Prelude.{◌≡◌, ℕ, ℤ, List, Option, Result, Ok, Err, Vec}
 use Rattle.cells.specs.Events.{IsEvent}
 use Rattle.cells.specs.Grown.{GrewBy}
@@ -18,7 +18,8 @@ module _ (rules : Rules) (moment : ℤ) where
     pub runs : RunsApps rules request.facts moment request.apps choices events
     pub text_is : text ≡ reply_text request rules choices moment
 
-  -- on counters of the values `old`, each of which replies by its value: they have others then
+  -- on counters with the values `old`, each of which replies with its value; their values are `new`
+  -- afterwards
   pub record RepliesOn (request : Request) (old text new : List ℕ) : Type 0 where
     pub events : List CellEvent
     pub legal : GrewBy IsEvent old events new
@@ -29,8 +30,8 @@ module _ (rules : Rules) (moment : ℤ) where
   RepliesToBodyOn body old text new =
       (request : Request) × (request_in body ≡ Ok request) × RepliesOn request old text new
 
-  -- what is found of a body: that reply, or why it is no request, by which no counter changes. Of
-  -- memory that was refused nothing is said
+  -- what is found for a body: that reply, or why it isn't a request, which changes no counter.
+  -- Running out of memory is always allowed
   abbrev pub IsFoundReply : {A : Type 0}
       → (body old new : List ℕ) → Result (Vec ℕ A) OmahaFault → Type 0
   IsFoundReply body old new (Ok text) = RepliesToBodyOn body old text.items new

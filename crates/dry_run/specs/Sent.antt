@@ -12,8 +12,8 @@ use Rattle.answering.specs.Answer.{RepliesToBody}
 use Rattle.answering.specs.Reply.{HttpReply, success, omaha_rejection}
 use Rattle.dry_run.specs.Reply.{Replies, RepliesToBodyOn}
 
--- a server whose watcher has this ruleset as the newest may send, as Omaha's reply to a body, what
--- the body's apps are answered under it, with these events, and nothing else
+-- a server whose watcher has this newest ruleset may send, as Omaha's reply to a body, exactly the
+-- answers of the body's apps under it, with these events
 abbrev pub SendsReplies : Type 0
 SendsReplies = (watcher : Beginning) (generation : ℕ) (rules : Rules) (moment : ℤ)
     (body : List ℕ) (events : List CellEvent) (text : List ℕ) → IsLatest watcher generation rules
@@ -21,15 +21,15 @@ SendsReplies = (watcher : Beginning) (generation : ℕ) (rules : Rules) (moment 
     ↔ ((request : Request) × (request_in body ≡ Ok request)
     × Replies rules moment request events text)
 
--- on counters of the same values there is one reply, and they have the same values then
+-- on counters with the same values there is one reply, and one list of values afterwards
 abbrev pub HasOneReply : Type 0
 HasOneReply = (rules : Rules) (moment : ℤ) (body old text text' new new' : List ℕ)
     → RepliesToBodyOn rules moment body old text new
     → RepliesToBodyOn rules moment body old text' new' → (text ≡ text') × (new ≡ new')
 
--- so what a server sends as Omaha's reply is the text that was found, where the newest ruleset that
--- its watcher has seen, the moment at which it answers, and the values that its counters have then
--- are the same, and no other request's run changes a counter between this one's runs
+-- so a server sends what was found as Omaha's reply, under two conditions. The newest ruleset that
+-- its watcher knows, the moment of its reply, and the values of its counters then are the same; and
+-- no other request's run changes a counter between this one's runs
 abbrev pub SendsWhatIsFound : Type 0
 SendsWhatIsFound = (watcher : Beginning) (generation : ℕ) (rules : Rules) (moment : ℤ)
     (body old found left sent new : List ℕ) (events : List CellEvent)
@@ -37,7 +37,7 @@ SendsWhatIsFound = (watcher : Beginning) (generation : ℕ) (rules : Rules) (mom
     → RepliesToBody body watcher moment events (success sent) → GrewBy IsEvent old events new
     → (sent ≡ found) × (new ≡ left)
 
--- and a body that is no request it refuses by the same fault, or for want of memory
+-- and it refuses a body that isn't a request with the same fault, or because it is out of memory
 abbrev pub RefusesAlike : Type 0
 RefusesAlike = (watcher : Beginning) (moment : ℤ) (body : List ℕ) (events : List CellEvent)
     (reply : HttpReply) (fault : OmahaFault) → request_in body ≡ Err fault

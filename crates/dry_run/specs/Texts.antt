@@ -1,4 +1,4 @@
--- The texts of why no reply is found, as they are printed behind `refused `.
+-- The texts of why no reply is found, as they are printed after `refused `.
 use Rattle.std.specs.Prelude.{ℕ, List, codes}
 use Rattle.bounded_files.specs.Texts.{resource_text}
 use Rattle.load.specs.Texts.{path_fault_text}

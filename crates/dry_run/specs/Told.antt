@@ -1,4 +1,4 @@
--- The reply to a body on counters as they are told, and why there is none.
+-- The reply to a body on counters with given values, and why there is none.
 use Rattle.std.specs.Prelude.{◌≡◌, ℕ, ℤ, List, None, Err}
 use Rattle.bounded_files.specs.declared.fault.ResourceFault.TheVariants as resource
 use Rattle.cells.specs.Events.{AreZeros}
@@ -12,7 +12,7 @@ use Rattle.dry_run.specs.Reply.{RepliesToBodyOn}
 use Rattle.dry_run.specs.declared.fault.DryRunFault.{DryRunFault}
 use Rattle.dry_run.specs.declared.fault.DryRunFault.TheVariants as fault
 
--- the reply to a body, at a moment, where the counters are those that a server and the words tell
+-- the reply to a body, at a moment, on the counters that a server and the command line gave
 pub record RepliesAsTold (rules : Rules) (arrays : List CellArray) (body : List ℕ) (moment : ℤ)
     (served words : List Told) (text : List ℕ) : Type 0 where
   pub counters : List ℕ
@@ -20,7 +20,7 @@ pub record RepliesAsTold (rules : Rules) (arrays : List CellArray) (body : List 
   pub left : List ℕ
   pub replies : RepliesToBodyOn rules moment body counters text left
 
--- the words tell a cell that isn't there, or a value that doesn't fit
+-- the command line gave a cell that doesn't exist, or a value that doesn't fit
 pub record AreUntold (arrays : List CellArray) (served words : List Told) : Type 0 where
   pub zeros : List ℕ
   pub opens : AreZeros 8192 zeros
@@ -31,13 +31,13 @@ IsUntold arrays served words fault.Cell = AreUntold arrays served words
 IsUntold arrays served words (fault.Resource resource.Memory) = Unit {0}
 IsUntold arrays served words why = ⊥
 
--- the counters that they tell are there
+-- the given counters exist
 abbrev pub AreSettable : List CellArray → (served words : List Told) → Type 0
 AreSettable arrays served words =
     (counters : List ℕ) × AreSetAsTold arrays served words counters
 
--- why there is none: the words, or else the body, which is no request. Of memory that was refused
--- nothing is said
+-- why there is no reply: the given cells, or else the body, which isn't a request. Running out of
+-- memory is always allowed
 abbrev pub IsUnanswered : List CellArray → (body : List ℕ) → (served words : List Told)
     → DryRunFault → Type 0
 IsUnanswered arrays body served words fault.Cell = AreUntold arrays served words

@@ -1,5 +1,5 @@
--- Why the apps of a request get what they get: what is told of the request itself, and of each app,
--- on the counters as the apps before it leave them.
+-- Why the apps of a request get what they get: the lines of the request itself, and of each app, on
+-- the counters as the apps before it leave them.
 use Rattle.std.specs.Prelude.{◌≡◌, ℕ, ℤ, List, [], ◌∷◌, ◌++◌, length, slice_index_or}
 use Rattle.std.specs.Prelude.{Option, Some, None, Ok, false}
 use Rattle.attrs.specs.Attributes.{Attributes}
@@ -19,7 +19,7 @@ use Rattle.dry_run.specs.Meanings.{KnownRule, known_rule_of}
 use Rattle.dry_run.specs.Told.{RepliesAsTold}
 use Rattle.dry_run.specs.declared.why_files.OpenedWhy.{OpenedWhy}
 
--- what is told of an app that the ruleset runs, with some choice
+-- the lines of an app that the ruleset runs, with some choice
 pub record RunIsTold (known : AppRule) (rule : KnownRule) (app : AppFacts) (a : Attributes)
     (note old new text : List ℕ) : Type 0 where
   pub choice : ℕ
@@ -29,7 +29,7 @@ pub record RunIsTold (known : AppRule) (rule : KnownRule) (app : AppFacts) (a : 
       ++ note
 
 module _ (rules : Rules) (known_rules : List KnownRule) (facts : RequestFacts) (moment : ℤ) where
-  -- what is told of an app that the ruleset runs: of the run by which the app is answered
+  -- the lines of an app that the ruleset runs, for the run by which the app is answered
   pub record TellsRun (app : AppFacts) (note old : List ℕ) (choice : ℕ) (new text : List ℕ)
       : Type 0 where
     pub known : AppRule
@@ -41,13 +41,13 @@ module _ (rules : Rules) (known_rules : List KnownRule) (facts : RequestFacts) (
     pub text_is : text ≡ head_line app (context_of app facts moment) ++ course
         ++ offer_line known.releases choice ++ note
 
-  -- what is told of an app, behind which a note stands, with the choice of its run, if it has one
+  -- the lines of an app, followed by a note, with the choice of its run, if it has one
   pub data ExplainsApp (app : AppFacts) (note old : List ℕ) : Option ℕ → (new text : List ℕ)
       → Type 0 where
     -- the ruleset doesn't know it
     not_known : {text : List ℕ} → app_of rules app.appid ≡ None
         → text ≡ unknown_line app.appid ++ note → ExplainsApp app note old None old text
-    -- it does, and the app asks for no update
+    -- the ruleset knows it, and the app requests no update
     not_asked : {text : List ℕ} (known : AppRule) → app_of rules app.appid ≡ Some known
         → app.updatecheck ≡ false
         → text ≡ head_line app (context_of app facts moment) ++ unasked_line ++ note
@@ -56,7 +56,7 @@ module _ (rules : Rules) (known_rules : List KnownRule) (facts : RequestFacts) (
     was_run : {choice : ℕ} {new text : List ℕ} → TellsRun app note old choice new text
         → ExplainsApp app note old (Some choice) new text
 
-  -- app after app, each with the note of its place
+  -- app after app, each with the note at its place
   pub data ExplainsApps (notes : List (List ℕ)) (old : List ℕ) : (apps : List AppFacts)
       → (choices : List (Option ℕ)) → (new text : List ℕ) → Type 0 where
     no_reason : ExplainsApps notes old [] [] old []
@@ -77,14 +77,14 @@ module _ (rules : Rules) (known_rules : List KnownRule) (facts : RequestFacts) (
   ExplainsAll notes old apps new text =
       (choices : List (Option ℕ)) × ExplainsApps notes old apps choices new text
 
-  -- and before them the lines of the request itself
+  -- preceded by the lines of the request itself
   abbrev pub ExplainsRequest : (front : List ℕ) → (notes : List (List ℕ)) → (old : List ℕ)
       → List AppFacts → (new text : List ℕ) → Type 0
   ExplainsRequest front notes old apps new text =
       (lines : List ℕ) × ExplainsAll notes old apps new lines × (text ≡ front ++ lines)
 
--- what is told of the request that a body is, at a moment, where the counters are those that a
--- server and the words tell
+-- the explanation of the request that a body is, at a moment, on the counters that a server and the
+-- command line gave
 pub record TellsWhy (o : OpenedWhy) (moment : ℤ) (served words : List Told) (text : List ℕ)
     : Type 0 where
   pub counters : List ℕ
@@ -98,7 +98,7 @@ pub record TellsWhy (o : OpenedWhy) (moment : ℤ) (served words : List Told) (t
       (app_notes_in o.body.items) counters request.apps choices left lines
   pub text_is : text ≡ request_note_in o.body.items ++ lines
 
--- the choices told are those of the reply
+-- the choices in the explanation are those of the reply
 abbrev pub TellsTheReply : Type 0
 TellsTheReply = (o : OpenedWhy) (moment : ℤ) (served words : List Told) (text reply : List ℕ)
     (told : TellsWhy o moment served words text)

@@ -1,4 +1,4 @@
-//! The lines round the reasons of an app: who it is, and what it gets.
+//! The lines around the reasons of an app: who it is, and what it gets.
 
 ghost use Rattle.std.specs.Prelude.{◌≡◌, OnOk, option_copied};
 ghost use Rattle.printing.specs.Pushed.{Puts};
@@ -22,7 +22,7 @@ pub(crate) fn push_unknown(text: &mut String, appid: &str) -> Result<(), AllocEr
     text.push_str(": unknown\n")
 }
 
-/// Adds the first line of an app of this context.
+/// Adds the first line of an app with this context.
 pub(crate) fn push_head(
     text: &mut String,
     app: &AppFacts,
@@ -82,7 +82,7 @@ fn push_bucket(text: &mut String, context: Context) -> Result<(), AllocError>
     writeln!(text, ", bucket {bucket} by its {by}, day {day}")
 }
 
-/// Adds the line of a program that is no rule.
+/// Adds the line of a program that isn't a rule's.
 pub(crate) fn push_program(
     text: &mut String,
     slots: usize,
@@ -135,7 +135,7 @@ fn jump_words() -> &'static str
     "the last jump from slot "
 }
 
-/// Adds what a choice offers.
+/// Adds the line of the release that a choice offers.
 pub(crate) fn push_offer(
     text: &mut String,
     releases: &[Release],

@@ -1,5 +1,5 @@
-//! How an app's program comes to its choice, on counters of one thread: by its rule, line by line;
-//! or, where it is no rule, by a run of it, step by step.
+//! How an app's program makes its choice, on counters of one thread: by its rule, line by line; or,
+//! if it isn't a rule's, by a run, step by step.
 
 ghost use Rattle.std.specs.Prelude.{IfOk, Some, None, option_copied, string_bytes};
 ghost use Rattle.std.specs.Arc.{arc_value};
@@ -16,14 +16,14 @@ use std::alloc::{AllocError, Global};
 use std::sync::Arc;
 use trace::{TracedRun, trace_on};
 
-/// What a program chooses, and what is told of that.
+/// A program's choice, and the explanation of it.
 #[derive(Drop)]
 pub(crate) struct ToldChoice {
     pub choice: u8,
     pub text: String,
 }
 
-/// How a program comes to its choice.
+/// How a program makes its choice.
 pub(crate) fn tell_course(
     alloc: Global,
     program: &Arc<Verified>,
@@ -62,7 +62,7 @@ fn tell_meaning(
     Ok(ToldChoice { choice, text })
 }
 
-// By a run, whose steps are counted, and of whose jumps the last one is told.
+// By a run; the lines have the number of its steps and its last jump.
 #[tactic(auto, using(crate::proofs::WholeRuns::by_trace))]
 fn tell_run(
     alloc: Global,

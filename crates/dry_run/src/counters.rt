@@ -1,4 +1,4 @@
-//! Counters by the values of cells that are told.
+//! Counters with given values of cells.
 
 ghost use Rattle.std.specs.Prelude.{◌≡◌, ◌<◌, true, false, Some, None, IfOk, IfSome, IfNone};
 ghost use Rattle.std.specs.Prelude.{nat_lt, option_copied};
@@ -26,8 +26,8 @@ pub(crate) fn zero_counters(alloc: Global) -> Result<PlainPass, AllocError>
     }
 }
 
-/// Puts the values of cells in place, in their order. False where the arrays have no such cell, or
-/// its value doesn't fit it.
+/// Sets cells to the given values, in order. Returns false if the arrays don't have such a cell, or
+/// its value doesn't fit.
 pub(crate) fn set_cells(
     arrays: &[CellArray],
     counters: &mut PlainPass,
@@ -46,7 +46,7 @@ pub(crate) fn set_cells(
     true
 }
 
-/// Puts the values of those cells in place that the arrays have, and whose values fit.
+/// Sets those cells that the arrays have and whose values fit.
 pub(crate) fn set_known(arrays: &[CellArray], counters: &mut PlainPass, told: &[ToldCell<'_>])
     ensures { counters.new ≡ specs.with_known arrays.now counters.old told.now }
 {
@@ -55,7 +55,7 @@ pub(crate) fn set_known(arrays: &[CellArray], counters: &mut PlainPass, told: &[
     }
 }
 
-// Puts the value of one cell in place, where the arrays have it and the value fits.
+// Sets one cell, if the arrays have it and the value fits.
 fn set_cell(arrays: &[CellArray], counters: &mut PlainPass, told: &ToldCell<'_>) -> bool
     ensures set { result ≡ true
         → specs.with_cell arrays.now counters.old told.now ≡ Some counters.new }
@@ -68,7 +68,7 @@ fn set_cell(arrays: &[CellArray], counters: &mut PlainPass, told: &ToldCell<'_>)
     }
 }
 
-// The cell of an index in an array.
+// The cell with an index in an array.
 fn cell_in(index: u16, array: Option<&CellArray>) -> Option<CellNo>
     ensures found { IfSome result (λ c.
         specs.cell_in index (option_copied array.entry) ≡ Some c.number) }
@@ -91,7 +91,7 @@ fn cell_at(number: u32) -> Option<CellNo>
     }
 }
 
-// Puts a value in place, where it fits the cell.
+// Sets a value, if it fits the cell.
 fn put(counters: &mut PlainPass, cell: CellNo, value: u64) -> bool
     ensures set { result ≡ true
         → specs.with_value counters.old value cell.number ≡ Some counters.new }
@@ -105,7 +105,7 @@ fn put(counters: &mut PlainPass, cell: CellNo, value: u64) -> bool
     true
 }
 
-// Whether the cell has room for a value.
+// Whether a value fits the cell.
 fn fits(cell: CellNo, value: u64) -> bool
     ensures { result ≡ nat_lt value (limit cell.number) }
 {

@@ -9,18 +9,18 @@ use load::PathFault;
 use omaha_json::OmahaFault;
 use std::fmt::{self, Display};
 
-/// What is wrong; it is shown as it is printed.
+/// What is wrong; it is displayed as it is printed.
 #[derive(Debug, Drop)]
 pub enum DryRunFault {
-    /// B3, B4, M1 to M8: the manifest comes to no ruleset.
+    /// B3, B4, M1 to M8: the manifest gives no ruleset.
     Manifest(PathFault),
-    /// B3, B4: the body can't be read, or memory is refused.
+    /// B3, B4: the body can't be read, or an allocation failed.
     Resource(ResourceFault),
     /// P5: the body has more than 1 MiB.
     TooLarge,
-    /// B7: the manifest has no cell that is told, or its value doesn't fit the cell.
+    /// B7: the manifest doesn't have a given cell, or its value doesn't fit the cell.
     Cell,
-    /// O1 to O5: the body is no request, or memory for its reply is refused.
+    /// O1 to O5: the body isn't a request, or an allocation for its reply failed.
     Omaha(OmahaFault),
 }
 
@@ -38,7 +38,7 @@ impl Display for DryRunFault {
     }
 }
 
-// The number and the name, without the line feed that is sent behind them.
+// The code and the name, without the line feed that is sent after them.
 fn omaha_name(fault: OmahaFault) -> &'static str
     ensures { result.now ≡ omaha_name fault }
 {

@@ -11,7 +11,7 @@ use load::{PathFault, load_path};
 use ruleset::Ruleset;
 use std::alloc::Global;
 
-/// The most bytes of a body, as of a server's client: 1 MiB.
+/// The most bytes of a body, the same as for a server's client: 1 MiB.
 const MOST_BODY: u32 = 0x10_0000;
 
 /// A ruleset with the arrays of its manifest, and a body.
@@ -22,10 +22,10 @@ pub struct Opened {
     pub body: Vec<u8>,
 }
 
-/// Loads a manifest over no arrays, as a server's first one, and reads a body, of a file of any
+/// Loads a manifest over no arrays, like a server's first one, and reads a body from a file of any
 /// kind; `-` is standard input. The manifest's faults come first, M1 to M8 or B3; then B3 of the
-/// body, and P5 where it has more than 1 MiB. B4 comes where memory is refused.
-// open: whether memory is refused (B4, M8).
+/// body, and P5 if it has more than 1 MiB. Returns B4 if an allocation fails.
+// open: whether an allocation fails (B4, M8).
 #[tactic(auto, using(crate::proofs::Opening::no_body))]
 pub fn open_files<D: Disk>(
     alloc: Global,
@@ -51,7 +51,7 @@ pub fn open_files<D: Disk>(
     }
 }
 
-/// Reads a body, of a file of any kind; `-` is standard input.
+/// Reads a body from a file of any kind; `-` is standard input.
 pub(crate) fn read_body<D: Disk>(disk: &D, request: &str) -> Result<Vec<u8>, DryRunFault>
     ensures body { IfOk result (λ body. specs.IsBodyIn (D.known disk.now) request.now body.items) }
     ensures fault { IfErr result (specs.IsBodyFault (D.known disk.now) request.now) }
@@ -63,7 +63,7 @@ pub(crate) fn read_body<D: Disk>(disk: &D, request: &str) -> Result<Vec<u8>, Dry
     }
 }
 
-// The ruleset of a manifest that is loaded over no arrays, and its own.
+// The ruleset of a manifest, loaded over no arrays, and its directory.
 fn load_alone<D: Disk>(
     alloc: Global,
     disk: &D,
@@ -78,7 +78,7 @@ fn load_alone<D: Disk>(
     }
 }
 
-// Where the body lies.
+// The path of the body.
 fn body_path<'a>(request: &'a str) -> &'a str
     ensures { result.now ≡ specs.body_path request.now }
 {

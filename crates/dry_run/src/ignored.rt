@@ -1,5 +1,5 @@
-//! Which members of a request and of its apps count as absent, though they are there: the body's
-//! JSON is read once more for them, since who is shown the apps of a request promises nothing.
+//! Which members of a request and of its apps count as absent although they are present. The body's
+//! JSON is read once more for them, because the observers of a request's apps promise nothing.
 
 ghost use Rattle.std.specs.Prelude.{◌≡◌, [], IfOk, OnOk, map, option_map, string_bytes};
 ghost use Rattle.std.specs.Prelude.{slice_index_or};
@@ -22,7 +22,7 @@ pub(crate) struct Notes {
     pub apps: Vec<String>,
 }
 
-/// The notes of a body, of its apps in their order.
+/// The notes of a body; those of its apps in order.
 pub(crate) fn notes_in(alloc: Global, body: &[u8]) -> Result<Notes, AllocError>
     ensures request { IfOk result (λ notes.
         string_bytes notes.request ≡ specs.request_note_in body.now) }
@@ -157,7 +157,7 @@ fn note_of(alloc: Global, app: &Value) -> Result<String, AllocError>
     Ok(note)
 }
 
-// Of the members that have to be texts.
+// The members that have to be texts.
 #[tactic(auto, unfolding(crate::specs::IgnoredLines::texts_note))]
 fn push_texts(note: &mut String, app: &Value) -> Result<(), AllocError>
     ensures { OnOk result (Puts note.old note.new (specs.texts_note (view app.now))) }

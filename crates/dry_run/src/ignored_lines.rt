@@ -1,5 +1,5 @@
-//! The lines of members that are there and count as absent: each says what the member is, and what
-//! is wanted in its place, or how long its text is.
+//! The lines of members that are present and count as absent: each has what the member is, and what
+//! is expected instead, or how long its text is.
 
 ghost use Rattle.std.specs.Prelude.{◌≡◌, OnOk, option_map};
 ghost use Rattle.printing.specs.Pushed.{Puts};
@@ -12,7 +12,7 @@ use serde_json::Value;
 use std::alloc::AllocError;
 use std::fmt::Write;
 
-/// Adds the line of a member that has to be a text.
+/// Adds the line of a member that has to be a text, if it isn't one.
 #[tactic(auto, unfolding(crate::specs::IgnoredLines::text_note))]
 pub(crate) fn push_text_note(
     note: &mut String,
@@ -28,8 +28,8 @@ pub(crate) fn push_text_note(
     push_if(note, is_ignored, indent, name, member, "a text")
 }
 
-/// Adds the line of a text that rules may ask for as an attribute: one of over 1024 bytes counts as
-/// absent, too.
+/// Adds the line of a text that rules can test as an attribute; a text of over 1024 bytes also
+/// counts as absent.
 #[tactic(auto, unfolding(crate::specs::IgnoredLines::attribute_note))]
 pub(crate) fn push_attribute_note(
     note: &mut String,
@@ -45,8 +45,8 @@ pub(crate) fn push_attribute_note(
     push_length_note(note, indent, name, length_in(member))
 }
 
-/// Adds the lines of a version: one of over 1024 bytes is the empty text as an attribute, and its
-/// numbers count.
+/// Adds the lines of a version: if it has over 1024 bytes, it is the empty text as an attribute,
+/// but its numbers count.
 #[tactic(auto, unfolding(crate::specs::IgnoredLines::version_note))]
 pub(crate) fn push_version_note(
     note: &mut String,
@@ -62,7 +62,7 @@ pub(crate) fn push_version_note(
     push_emptied_note(note, indent, name, length_in(member))
 }
 
-/// Adds the line of a member that has to be a day that counts.
+/// Adds the line of a member that has to be a known day, if it isn't one.
 #[tactic(auto, unfolding(crate::specs::IgnoredLines::day_note))]
 pub(crate) fn push_day_note(
     note: &mut String,
@@ -85,7 +85,7 @@ fn day_words() -> &'static str
     "a whole number from 0 to 4294967294"
 }
 
-/// Adds the line of a member that has to be an object.
+/// Adds the line of a member that has to be an object, if it isn't one.
 #[tactic(auto, unfolding(crate::specs::IgnoredLines::object_note))]
 pub(crate) fn push_object_note(
     note: &mut String,
@@ -101,7 +101,7 @@ pub(crate) fn push_object_note(
     push_if(note, is_ignored, indent, name, member, "an object")
 }
 
-/// Adds the line of a member that counts as there unless it is null.
+/// Adds the line of a member that counts as present unless it is null.
 #[tactic(auto, unfolding(crate::specs::IgnoredLines::value_note))]
 pub(crate) fn push_value_note(
     note: &mut String,

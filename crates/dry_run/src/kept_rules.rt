@@ -1,5 +1,5 @@
-//! The rules of apps that were gathered, read once more for their meaning from what is kept of
-//! their files: a text has one verdict, so they are the rules that were compiled.
+//! The rules of gathered apps, read once more for their meaning from what is kept of their files. A
+//! text has one verdict, so they are the rules that were compiled.
 
 ghost use Rattle.std.specs.Prelude.{IfOk};
 ghost use Rattle.dry_run.specs.KeptRules as specs;
@@ -11,7 +11,7 @@ use rule_lang::{Rule, RuleFault, one_verdict, parse};
 use std::alloc::{AllocError, Global};
 use std::str;
 
-/// The rule of each app, in their order: that of its file's text, or none.
+/// The rule of each app, in order: that of its file's text, or none.
 #[tactic(auto, using(crate::proofs::Spelled::read_all))]
 pub(crate) fn read_rules(
     alloc: Global,

@@ -1,4 +1,4 @@
-//! The lines of texts that are too long for an attribute: each says how many bytes the text has.
+//! The lines of texts that are too long for an attribute: each has the number of the text's bytes.
 
 ghost use Rattle.std.specs.Prelude.{◌≡◌, OnOk};
 ghost use Rattle.printing.specs.Pushed.{Puts};
@@ -7,12 +7,12 @@ ghost use Rattle.dry_run.specs.IgnoredLines as specs;
 use std::alloc::AllocError;
 use std::fmt::Write;
 
-/// An attribute keeps a text of at most so many bytes.
+/// The most bytes of a text that an attribute keeps.
 const MOST_KEPT: usize = 1024;
 
-// ---- of a text that counts as absent
+// ---- a text that counts as absent
 
-/// Adds the line of a text of so many bytes, if that is too long.
+/// Adds the line of a text of `bytes` bytes, if that is too long.
 pub(crate) fn push_length_note(
     note: &mut String,
     indent: &str,
@@ -60,9 +60,9 @@ fn length_words() -> &'static str
     " bytes, where at most 1024 are wanted\n"
 }
 
-// ---- of a text that counts otherwise, too
+// ---- a text that also counts otherwise
 
-/// Adds the line of a text of so many bytes, if that is too long for an attribute alone.
+/// Adds the line of a text of `bytes` bytes, if that is too long only for an attribute.
 pub(crate) fn push_emptied_note(
     note: &mut String,
     indent: &str,

@@ -2,18 +2,17 @@
 //! get what they get.
 #![tactic(auto)]
 
-// How it goes. A manifest is loaded as a server loads its first one, and a body is read. Counters
-// are 0, but for the cells that are told. Then the apps are answered as a server answers them, by
-// its own functions, on counters of one thread. That this is what a server sends, of whose counters
-// these are the values, and which has no other run between, is a law of the definitions
-// (`sends_what_is_found`).
+// How it works. A manifest is loaded like a server's first one, and a body is read. Counters are 0,
+// except for the given cells. Then the apps are answered by a server's own functions, on counters
+// of one thread. A law of the definitions (`sends_what_is_found`): this is what a server sends if
+// its counters have these values and no other run comes between.
 //
-// Why an app gets what it gets is told app by app, on counters of the same values. Where an app has
-// a rule, the rule is read in place of a run: the program was made of the very rule, so it has its
-// meaning, and on counters of given values a run has one course. Where a program is no rule, it is
-// run step by step, as `run --trace` runs it, but on these counters. The manifest and its files
-// are gathered once (`why_files.rt`), and the text of a rule, which has one verdict, is parsed
-// again for its meaning (`kept_rules.rt`).
+// Why an app gets what it gets is explained app by app, on counters with the same values. If an app
+// has a rule, the rule is evaluated instead of running the program. The program was compiled from
+// exactly this rule, so it has its meaning, and on counters with given values a run has one course.
+// If a program isn't a rule's, it is run step by step, like `run --trace`, but on these counters.
+// The manifest and its files are gathered once (`why_files.rt`), and the text of a rule, which has
+// one verdict, is parsed again for its meaning (`kept_rules.rt`).
 
 mod app_lines;
 mod app_runs;

@@ -1,5 +1,5 @@
-//! What a member of a request is: its kind, how long its text is, and whether it counts as absent,
-//! though it is there.
+//! What a member of a request is: its kind, how long its text is, and whether it counts as absent
+//! although it is present.
 
 ghost use Rattle.std.specs.Prelude.{◌≡◌, Some, is_none, option_map};
 ghost use Rattle.attrs.specs.Facts.{known_day};
@@ -11,7 +11,7 @@ ghost use Rattle.dry_run.specs.IgnoredLines as specs;
 use attrs::Context;
 use serde_json::Value;
 
-/// Whether it is there, and is no text.
+/// Whether the member is present and isn't a text.
 pub(crate) fn is_no_text(member: Option<&Value>) -> bool
     ensures { result ≡ kinds.is_no_text (option_map (λ v. view v.now) member.entry) }
 {
@@ -21,7 +21,7 @@ pub(crate) fn is_no_text(member: Option<&Value>) -> bool
     }
 }
 
-/// Whether it is there, and is no day that counts.
+/// Whether the member is present and isn't a known day.
 pub(crate) fn is_no_day(member: Option<&Value>) -> bool
     ensures { result ≡ specs.is_no_day (option_map (λ v. view v.now) member.entry) }
 {
@@ -31,7 +31,7 @@ pub(crate) fn is_no_day(member: Option<&Value>) -> bool
     }
 }
 
-// Whether a number is no day that counts.
+// Whether a number isn't a known day.
 fn is_unknown(number: Option<u64>) -> bool
     ensures { result ≡ is_none (known_day number) }
 {
@@ -41,7 +41,7 @@ fn is_unknown(number: Option<u64>) -> bool
     }
 }
 
-/// Whether it is there, and is no object.
+/// Whether the member is present and isn't an object.
 pub(crate) fn is_no_object(member: Option<&Value>) -> bool
     ensures { result ≡ specs.is_no_object (option_map (λ v. view v.now) member.entry) }
 {
@@ -51,7 +51,7 @@ pub(crate) fn is_no_object(member: Option<&Value>) -> bool
     }
 }
 
-/// Whether it is there, and is null.
+/// Whether the member is present and is null.
 pub(crate) fn is_no_value(member: Option<&Value>) -> bool
     ensures { result ≡ specs.is_no_value (option_map (λ v. view v.now) member.entry) }
 {
@@ -67,7 +67,7 @@ fn is_value(value: &Value) -> bool
     !value.is_null()
 }
 
-/// What it is, in words; nothing where it isn't there.
+/// The kind of the member, in words; empty if it is absent.
 pub(crate) fn kind_in(member: Option<&Value>) -> &'static str
     ensures { result.now ≡ specs.kind_in (option_map (λ v. view v.now) member.entry) }
 {
@@ -77,7 +77,7 @@ pub(crate) fn kind_in(member: Option<&Value>) -> &'static str
     }
 }
 
-// What a value is.
+// The kind of a value, in words.
 fn kind_of(value: &Value) -> &'static str
     ensures { result.now ≡ specs.data_kind (view value.now) }
 {
@@ -91,7 +91,7 @@ fn kind_of(value: &Value) -> &'static str
     }
 }
 
-/// How many bytes its text has; 0 where it is none.
+/// How many bytes the member's text has; 0 if it isn't a text.
 pub(crate) fn length_in(member: Option<&Value>) -> usize
     ensures { result ≡ specs.length_in (option_map (λ v. view v.now) member.entry) }
 {

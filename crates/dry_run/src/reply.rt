@@ -1,4 +1,4 @@
-//! The reply to a body, found without a server.
+//! The reply to a body, without a server.
 
 ghost use Rattle.std.specs.Prelude.{◌≡◌, IfOk, IfErr};
 ghost use Rattle.dry_run.specs.Reply.{IsFoundReply, RepliesOn};
@@ -11,7 +11,7 @@ use ruleset::Ruleset;
 use std::alloc::Global;
 
 /// The text of Omaha's reply to a body, by a ruleset at a moment, on counters that are left as the
-/// runs leave them. O1 to O4 where the body is no request; O5 where memory is refused.
+/// runs leave them. Returns O1 to O4 if the body isn't a request, and O5 if an allocation fails.
 pub(crate) fn find_reply(
     alloc: Global,
     rules: &Ruleset,

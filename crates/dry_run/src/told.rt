@@ -1,4 +1,4 @@
-//! The reply to a body on counters as they are told.
+//! The reply to a body on counters with given values.
 
 ghost use Rattle.std.specs.Prelude.{IfOk, IfErr};
 ghost use Rattle.dry_run.specs.Counters.{AreSetAsTold};
@@ -14,11 +14,11 @@ use cells::{CellArray, PlainPass};
 use std::alloc::Global;
 use told_cells::ToldCell;
 
-/// The text of the reply to a body at a moment. Counters are 0, but for those that a server tells
-/// of arrays that the manifest has, and then for those that the words tell. B7 where it hasn't a
-/// cell of the words, or a value doesn't fit; then O1 to O4. B4 and O5 come where memory is
-/// refused.
-// open: whether memory is refused (B4, O5).
+/// The text of the reply to a body at a moment. Counters are 0, except for those in `served` that
+/// belong to arrays of the manifest, and then for those in `words`. Returns B7 if the manifest
+/// lacks a cell of `words`, or a value doesn't fit; then O1 to O4. Returns B4 or O5 if an
+/// allocation fails.
+// open: whether an allocation fails (B4, O5).
 pub fn reply_as_told(
     alloc: Global,
     opened: &Opened,
@@ -38,7 +38,7 @@ pub fn reply_as_told(
     }
 }
 
-/// The counters.
+/// The counters, with the values that the server and the command line gave.
 pub(crate) fn counters_as_told(
     alloc: Global,
     arrays: &[CellArray],

@@ -23,15 +23,15 @@ use ruleset::App;
 use std::alloc::{AllocError, Global};
 use told_cells::ToldCell;
 
-/// Why the apps of a body's request get what they get, at a moment, on counters as `reply_as_told`
-/// has them: first the request's members that count as absent; then of each app a first line, of
-/// its rule what was tested, what it is offered, and its members that count as absent, or a version
-/// that does as an attribute. B7 where the manifest hasn't a cell of the words, or a value doesn't
-/// fit; then O1 to O4. B4 and O5 come where memory is refused.
+/// Why the apps of a body's request get what they get, at a moment, on the counters of
+/// `reply_as_told`. First come the request's members that count as absent; then for each app: a
+/// first line, the tests of its rule, the offer, and the members that count as absent. A version
+/// may count as absent only as an attribute. Returns B7 if the manifest lacks a cell of `words`, or
+/// a value doesn't fit; then O1 to O4. Returns B4 or O5 if an allocation fails.
 ///
-/// That an app's lines are those of its rule is by `known_rules`, which `open_why` gives: an app
-/// for which they have none is told as a program.
-// open: whether memory is refused (B4, O5).
+/// That an app's lines are those of its rule depends on `known_rules`, which `open_why` gives: an
+/// app that has none in it is explained as a program.
+// open: whether an allocation fails (B4, O5).
 #[tactic(auto, using(crate::proofs::Telling::told_why, crate::proofs::Telling::unread))]
 pub fn why_as_told(
     alloc: Global,
@@ -60,7 +60,7 @@ pub fn why_as_told(
     }
 }
 
-// The lines of the request itself, and then those of its apps.
+// The lines of the request itself, followed by those of its apps.
 #[tactic(auto, using(crate::proofs::Explaining::behind))]
 fn explain_request(
     alloc: Global,
@@ -213,7 +213,7 @@ fn run_app(
     Ok(text)
 }
 
-// The rule of the first app of an appid.
+// The rule of the first app with an appid.
 fn rule_of<'a>(apps: &[App], rules: &'a [Option<Rule>], appid: &str) -> Option<&'a Rule>
     ensures { option_copied result ≡ known_rule_of apps.now rules.now appid.now }
 {

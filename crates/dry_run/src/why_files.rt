@@ -18,8 +18,8 @@ use rule_lang::Rule;
 use ruleset::Ruleset;
 use std::alloc::Global;
 
-/// A ruleset with the arrays of its manifest, the digest of the manifest and of its files, a body,
-/// and the rule of each app, in the ruleset's order: none where its program is no rule's.
+/// A ruleset with the arrays of its manifest, the digest of the manifest and of its files, and a
+/// body. Also the rule of each app, in the ruleset's order: none if its program isn't a rule's.
 #[derive(Drop)]
 pub struct OpenedWhy {
     pub rules: Ruleset,
@@ -36,9 +36,9 @@ struct LoadedWhy {
     known_rules: Vec<Option<Rule>>,
 }
 
-/// Opens what `open_files` does, with the same faults. Each file is read once, and the text of a
+/// Opens what `open_files` opens, with the same faults. Each file is read once, and the text of a
 /// rule is parsed twice: for its program and for its meaning.
-// open: whether memory is refused (B4, M8).
+// open: whether an allocation fails (B4, M8).
 #[tactic(auto, using(crate::proofs::Opening::opened_why, crate::proofs::Opening::no_body_why))]
 pub fn open_why<D: Disk>(
     alloc: Global,
@@ -73,7 +73,7 @@ pub fn open_why<D: Disk>(
     }
 }
 
-// The ruleset of a manifest over no arrays, and the rules of its apps, by one reading.
+// The ruleset of a manifest over no arrays, and the rules of its apps, from one reading.
 #[tactic(auto, using(crate::proofs::Opening::loaded_meanings))]
 fn load_why<D: Disk>(alloc: Global, disk: &D, path: &str) -> Result<LoadedWhy, PathFault>
     ensures loaded { IfOk result (λ l.

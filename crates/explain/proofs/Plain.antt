@@ -1,4 +1,4 @@
--- No comment has a control character, where the names of arrays have none.
+-- No comment has a control character, if the names of arrays have none.
 use Rattle.std.proofs.Common.{◌≡◌, ℕ, zero, suc, ◌+◌, ◌*◌, ◌/◌, ◌%◌, ℤ, pos, negsuc}
 use Rattle.std.proofs.Common.{List, [], ◌∷◌, ◌++◌}
 use Rattle.std.proofs.Common.{codes, Bool, true, false, ◌&&◌, not, ◌==◌, nat_le, nat_lt}
@@ -101,7 +101,7 @@ number_plain a = both (range_plain a.range.lo a.range.hi)
     (either (values.telling_bits a 64 == 0) (word [] refl)
     (both (word (codes " bits ") refl) (lowest_plain a (8 * ((values.telling_bits a 64 + 7) / 8)))))
 
--- ---- registers and memory, as an instruction names them
+-- ---- registers and memory, in the instruction's form
 
 pub register_plain : (r : Reg) → IsPlain (known.register_word r)
 register_plain r = both (word (codes "r") refl) (decimal_plain (number_of r))

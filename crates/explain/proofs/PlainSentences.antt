@@ -1,4 +1,4 @@
--- No sentence has a control character, where the names of arrays have none.
+-- No sentence has a control character, if the names of arrays have none.
 use Rattle.std.proofs.Common.{ℕ, zero, suc, ℤ, pos, negsuc}
 use Rattle.std.proofs.Common.{List, [], ◌∷◌}
 use Rattle.std.proofs.Common.{codes, ◌&&◌, ◌||◌, ◌==◌, ◌+◌, ◌-◌, nat_le}

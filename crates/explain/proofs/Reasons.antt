@@ -1,4 +1,4 @@
--- The entry and the instruction of a refused place are those that the walk has there.
+-- The entry and the instruction of a refused place are those of the walk.
 use Rattle.std.proofs.Common.{◌≡◌, ℕ, List, Some, sym, ap, ◌∙◌}
 use Rattle.std.proofs.lemmas.Option.{same_Some}
 use Rattle.bpf_insn.specs.declared.insn.Insn.{Insn}

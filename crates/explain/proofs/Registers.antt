@@ -1,4 +1,4 @@
--- The registers that are told of an instruction are those that the rules say it reads.
+-- The registers in an instruction's comment are those that it reads by the rules.
 use Rattle.std.proofs.Common.{◌≡◌, Option, Some, None, refl}
 use Rattle.bpf_insn.specs.declared.insn.Insn.{Insn}
 use Rattle.bpf_insn.specs.declared.insn.Insn.TheVariants.{Alu, Mov, JumpIf, Call, Atomic}

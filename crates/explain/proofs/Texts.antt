@@ -1,4 +1,4 @@
--- What is written part by part is written as a whole.
+-- A text that is written part by part is written as a whole.
 use Rattle.std.proofs.Common.{◌≡◌, ℕ, zero, suc, ◌-◌, ◌<◌, List, [], ◌∷◌, ◌++◌, replicate}
 use Rattle.std.proofs.Common.{refl, sym, ap, ◌∙◌, append_assoc, arith}
 use Rattle.std.proofs.lemmas.List.{append-nil}
@@ -9,7 +9,7 @@ pub line_gathered : (o line blanks mark text ends : List ℕ)
     ≡ o ++ (line ++ (blanks ++ mark ++ text) ++ ends)
 line_gathered o line blanks mark text ends = simp append_assoc refl
 
--- one of so many blanks, and then the others
+-- one of `n` blanks, and then the others
 pub one_blank : (o : List ℕ) (n : ℕ) → 0 < n
     → (o ++ (32 ∷ [])) ++ replicate (n - 1) 32 ≡ o ++ replicate n 32
 one_blank o zero lt = absurd (omega (arith, lt))
@@ -27,7 +27,7 @@ bare_gathered o line =
     append_assoc o line (10 ∷ [])
     ∙ ap (λ (u : List ℕ). o ++ (u ++ (10 ∷ []))) (sym (append-nil line))
 
--- one part further
+-- one more part
 pub told_further : (o one rest new whole : List ℕ) → new ≡ o ++ one → o ++ (one ++ rest) ≡ whole
     → new ++ rest ≡ whole
 told_further o one rest new whole grown is =

@@ -1,4 +1,4 @@
--- A program is told place by place, from its first slot to its end.
+-- A program is explained place by place, from its first slot to its end.
 use Rattle.std.proofs.Common.{◌≡◌, ℕ, ◌+◌, ◌<◌, ◌≤◌, List, [], ◌∷◌, ◌++◌, length, codes}
 use Rattle.std.proofs.Common.{Option, Some, None, refl, sym, ap, ◌∙◌, subst, arith}
 use Rattle.std.proofs.Common.{append_assoc, length-append}
@@ -35,7 +35,7 @@ layout-append (i ∷ xs) ys =
     ap (λ (q : Program). slots i ++ q) (layout-append xs ys)
     ∙ sym (append_assoc (slots i) (layout xs) (layout ys))
 
--- at the end of a list the next one begins
+-- the next list begins at the end of a list
 at_behind : (xs ys : Program) → at (xs ++ ys) (length xs) ≡ at ys 0
 at_behind [] ys = refl
 at_behind (x ∷ xs) ys = at_behind xs ys
@@ -71,7 +71,7 @@ module _ (code : Program) (slot : ℕ) (parts : WalkParts code slot) where
   rest_at : (i : Insn) → at code slot ≡ Some i → (rest : List Insn) × (parts.rest ≡ i ∷ rest)
   rest_at i e = first_of_layout parts.rest i (sym at_rest ∙ e)
 
-  -- an instruction stands at each slot that is reached before the end
+  -- there is an instruction at each slot that is reached before the end
   pub place_there : slot < length code → IsSome (at code slot)
   place_there lt = some_of parts.rest refl
     where
@@ -83,7 +83,7 @@ module _ (code : Program) (slot : ℕ) (parts : WalkParts code slot) where
       some_of (i ∷ is) e = ap is_some (at_rest ∙ ap (λ (js : List Insn). at (layout js) 0) e
           ∙ at_front i (layout is))
 
-  -- one instruction further
+  -- one more instruction
   pub parts_next : (i : Insn) → at code slot ≡ Some i → WalkParts code (next_of slot i)
   parts_next i e =
       let r = rest_at i e in
@@ -161,7 +161,7 @@ tells_whole p way slot text t le = whole t.parts.rest refl
 
 -- ---- the way on
 
--- a line as it is told is the line of the place
+-- the line that is written is the line of the place
 pub line_grown : (p : ShapedProgram) (s : ℕ) (i : Insn) (way : Way) (o : Option AbsState)
     (text new : List ℕ) → o ≡ entry_of p s → new ≡ text ++ line_with i (comment p.shape s o i way)
     → new ≡ text ++ (bare_line i ++ remark_at p (Some way) s i ++ codes "\n")
@@ -169,7 +169,7 @@ line_grown p s i way o text new is grown =
     grown
     ∙ ap (λ (x : Option AbsState). text ++ line_with i (comment p.shape s x i way)) is
 
--- where no rule fails
+-- if no rule fails
 pub fine_way : (p : ShapedProgram) (s : ℕ) (i : Insn) (way : Way) → IsFine p s
     → at p.code s ≡ Some i
     → way_on p (Some way) s i ≡ Some (way_past_entry p.shape s (entry_of p s) i)
@@ -182,7 +182,7 @@ fine_way p s i way fine there = each (entry_of p s) refl
         let none : first_rule p.shape f i ≡ None = fine f i e there in
         ap (λ (r : Option VerifierRule). way_unless r (way_past p.shape s f i)) none
 
--- where one does
+-- if a rule fails
 failed_way : (p : ShapedProgram) (s : ℕ) (i : Insn) (way : Way) (rule : VerifierRule)
     → Fails p s rule → at p.code s ≡ Some i → way_on p (Some way) s i ≡ None
 failed_way p s i way rule f there =

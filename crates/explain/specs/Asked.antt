@@ -1,10 +1,10 @@
--- The words of the rules: what each asks, or what is wrong with what it finds. The sentences are
--- made of them.
+-- The texts of the rules, from which the sentences are made: what each rule requires, or what is
+-- wrong with what it finds.
 use Rattle.std.specs.Prelude.{ℕ, List, codes}
 use Rattle.bpf_checks.specs.declared.refusal.VerifierRule.{VerifierRule}
 use Rattle.bpf_checks.specs.declared.refusal.VerifierRule.TheVariants as rule
 
--- what a rule asks, in words
+-- what a rule requires, in words
 unfoldable pub asked_of : VerifierRule → List ℕ
 asked_of rule.Unusable = codes " may be unset, or paths disagree on it"
 asked_of rule.WritesFrame = codes "r10 has the stack's top, and isn't written"
@@ -24,15 +24,15 @@ asked_of rule.Result = codes ", and there are "
 asked_of rule.QuotaCell =
     codes ", of an array with a quota: only a load or an atomic add of 1 with fetch touches it"
 
--- of memory
+-- for memory
 unfoldable pub unset_byte : List ℕ
 unset_byte = codes " has a byte that may be unset"
 
--- of an array
+-- for an array
 unfoldable pub no_cell_at : List ℕ
 no_cell_at = codes " has no cell at byte "
 
--- of a cell that isn't accessed so
+-- for a cell that isn't accessed like this
 unfoldable pub cells_ask : List ℕ
 cells_ask = codes ": a cell is accessed as a whole, at its own address and without a sign"
 
@@ -43,6 +43,6 @@ unfoldable pub attr_is_takes : List ℕ
 attr_is_takes =
     codes "helper 2 takes a number, and of the stack a place and a single length up to 64: "
 
--- of a text that doesn't end in the stack
+-- for a text that doesn't end in the stack
 unfoldable pub past_top : List ℕ
 past_top = codes ", which ends past the stack's top by "

@@ -1,4 +1,4 @@
--- What is told of an instruction's registers, and of the slot of the stack that it reads.
+-- The comment's text on an instruction's registers, and on the stack slot that it reads.
 use Rattle.std.specs.Prelude.{ℕ, ℤ, List, [], ◌∷◌, ◌++◌, codes, Bool, true, false}
 use Rattle.std.specs.Prelude.{◌&&◌, ◌||◌, not, if◌then◌else◌}
 use Rattle.std.specs.Prelude.{Option, Some, None}
@@ -26,7 +26,7 @@ use Rattle.explain.specs.Way.{changes_on_way}
 abbrev pub all_registers : List Reg
 all_registers = R0 ∷ R1 ∷ R2 ∷ R3 ∷ R4 ∷ R5 ∷ R6 ∷ R7 ∷ R8 ∷ R9 ∷ R10 ∷ []
 
--- a register that is read, or that changed on the way
+-- a register that is read, or that changed on the edge to the instruction
 abbrev pub is_told : ReadRegisters → Way → Reg → Bool
 is_told reads way r = is_among r reads || changes_on_way way r
 
@@ -36,7 +36,7 @@ register_word r = codes "r" ++ decimal (number_of r)
 abbrev pub register_part : AppShape → AbsState → Reg → List ℕ
 register_part shape e r = register_word r ++ codes " " ++ value_text shape (value_of e r)
 
--- behind the slot stands a blank, and behind a register a comma
+-- a slot is followed by a blank, and a register by a comma
 abbrev pub divider_of : Bool → List ℕ
 divider_of true = codes " "
 divider_of false = codes ", "
@@ -45,14 +45,14 @@ abbrev pub register_if : AppShape → AbsState → ReadRegisters → Way → Boo
 register_if shape e reads way first r =
     if is_told reads way r then divider_of first ++ register_part shape e r else []
 
--- those of these registers that are told; whether none is told before them
+-- the registers of a list that are shown; `first` says whether none is shown before them
 abbrev pub registers_text : AppShape → AbsState → ReadRegisters → Way → Bool → List Reg → List ℕ
 registers_text shape e reads way first [] = []
 registers_text shape e reads way first (r ∷ rs) =
     register_if shape e reads way first r
     ++ registers_text shape e reads way (first && not (is_told reads way r)) rs
 
--- memory as an instruction names it, `[r10-8]`
+-- memory in the instruction's form, `[r10-8]`
 abbrev pub memory_text : Reg → ℤ → List ℕ
 memory_text base offset = codes "[" ++ register_word base ++ with_sign offset ++ codes "]"
 
@@ -67,7 +67,7 @@ loaded_text shape e kind src offset None = []
 loaded_text shape e kind src offset (Some place) =
     slot_part shape src offset (loaded_from e.stack place kind)
 
--- what a load from the stack finds there
+-- what a load from the stack reads
 abbrev pub found_in_stack : AppShape → AbsState → LoadKind → Reg → ℤ → List ℕ
 found_in_stack shape e kind src offset =
     loaded_text shape e kind src offset (stack_place (value_of e src) offset (load_count kind))

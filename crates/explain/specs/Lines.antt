@@ -1,5 +1,5 @@
--- A program with what is known before each instruction: its listing, with a remark behind each line
--- up to the slot that is refused, and none behind that.
+-- A program with what is known before each instruction: its listing, with a remark on each line up
+-- to the refused slot, and none after it.
 use Rattle.std.specs.Prelude.{◌≡◌, ℕ, ◌-◌, max, List, [], ◌∷◌, ◌++◌, codes, length, replicate}
 use Rattle.std.specs.Prelude.{Option, Some, None, true}
 use Rattle.std.specs.Fmt.{decimal}
@@ -28,7 +28,7 @@ abbrev pub known_text : AppShape → AbsState → Insn → Way → List ℕ
 known_text shape e i way =
     registers_text shape e (read_registers i) way true all_registers ++ stack_text shape e i
 
--- what is known before the instruction; where a rule fails, why
+-- what is known before the instruction; or why it is refused, if a rule fails
 abbrev pub told_text : AppShape → AbsState → Insn → Way → Option VerifierRule → List ℕ
 told_text shape e i way None = known_text shape e i way
 told_text shape e i way (Some rule) = refusal_text shape e i rule
@@ -40,7 +40,7 @@ abbrev pub comment : AppShape → ℕ → Option AbsState → Insn → Way → L
 comment shape s None i way = codes "no run comes here"
 comment shape s (Some e) i way = decimal s ++ codes ":" ++ told_of_insn shape e i way
 
--- comments stand one below the other, 22 characters in, or a blank behind what is longer
+-- comments begin in one column, 22 characters in, or a blank after a longer line
 abbrev pub pad_to_comment : ℕ → List ℕ
 pad_to_comment n = replicate (max (22 - n) 1) 32
 
@@ -50,13 +50,13 @@ padded_line i = bare_line i ++ pad_to_comment (length (bare_line i))
 abbrev pub as_comment : List ℕ → List ℕ → List ℕ
 as_comment line text = pad_to_comment (length line) ++ codes "; " ++ text
 
--- a line with a comment behind it
+-- a line followed by a comment
 abbrev pub line_with : Insn → List ℕ → List ℕ
 line_with i text = bare_line i ++ as_comment (bare_line i) text ++ codes "\n"
 
 -- ---- place by place
 
--- behind a refused place nothing is known any more
+-- after a refused place nothing is known
 abbrev pub remark_at : ShapedProgram → Option Way → ℕ → Insn → List ℕ
 remark_at p None s i = []
 remark_at p (Some way) s i = as_comment (bare_line i) (comment p.shape s (entry_of p s) i way)
@@ -86,7 +86,7 @@ lines_from p way s (i ∷ is) =
 
 -- ---- the whole
 
--- a program's listing with these remarks, and that it is accepted, or the rule that refuses it
+-- a program's listing with these remarks
 pub record IsExplained (p : ShapedProgram) (text : List ℕ) : Type 0 where
   pub insns : List Insn
   pub code_is : p.code ≡ layout insns
@@ -107,7 +107,7 @@ pub record WalkParts (code : Program) (slot : ℕ) : Type 0 where
   pub code_is : code ≡ layout (front ++ rest)
   pub slot_is : slot ≡ length (layout front)
 
--- with the lines from the slot on the text so far is the whole
+-- the text so far, with the lines from the slot on, is the whole
 pub record TellsOn (p : ShapedProgram) (way : Option Way) (slot : ℕ) (text : List ℕ) : Type 0 where
   pub parts : WalkParts p.code slot
   pub text_is :

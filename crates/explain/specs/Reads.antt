@@ -73,7 +73,7 @@ read_registers (Store size dst src offset) = two_registers dst src
 read_registers (Atomic op size dst src offset) = exchanged_registers op dst src
 read_registers (Wide dst value) = no_register
 
--- they are those that the rules say the instruction reads
+-- they are those that the instruction reads by the rules
 abbrev pub AreRead : Insn → Type 0
 AreRead i = registers_of (read_registers i) ≡ reads i
 
@@ -92,7 +92,7 @@ abbrev pub or_next : Option Reg → Option Reg → Option Reg
 or_next None next = next
 or_next (Some r) next = Some r
 
--- the first of them that passes a test
+-- the first of the registers that passes a test
 abbrev pub first_such : (Reg → Bool) → ReadRegisters → Option Reg
 first_such test rs =
     or_next (if_such test rs.first) (or_next (if_such test rs.second) (if_such test rs.third))

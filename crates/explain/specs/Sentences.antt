@@ -1,4 +1,5 @@
--- Why a rule of the verifier refuses an instruction: what the rule asks, and what is known instead.
+-- Why a rule of the verifier refuses an instruction: what the rule requires, and what is known
+-- instead.
 use Rattle.std.specs.Prelude.{ℕ, ◌+◌, ◌-◌, ◌==◌, nat_le, ℤ, pos, negsuc, List, [], ◌++◌, codes}
 use Rattle.std.specs.Prelude.{Bool, true, false, ◌&&◌, ◌||◌, if◌then◌else◌}
 use Rattle.std.specs.Prelude.{Option, Some, None, slice_get}
@@ -36,11 +37,11 @@ use Rattle.explain.specs.Values.{number_text, value_text}
 
 -- ---- registers
 
--- a register, and what is known of it
+-- a register, and what is known about it
 abbrev pub register_is : AppShape → AbsState → Reg → List ℕ
 register_is shape e r = register_word r ++ codes " is " ++ value_text shape (value_of e r)
 
--- that, of a register that there may be, and what the rule asks
+-- the same for a register, if there is one, and what the rule requires
 abbrev pub pointer_text : AppShape → AbsState → Option Reg → VerifierRule → List ℕ
 pointer_text shape e None rule = asked_of rule
 pointer_text shape e (Some r) rule = register_is shape e r ++ asked_of rule
@@ -83,7 +84,7 @@ move_text op address (Num n) =
     else codes " isn't a single number"
 move_text op address by = []
 
--- of a single number its signed view, by which it moves an address
+-- for a single number its signed value, by which it moves an address
 abbrev pub distance_text : AppShape → Abs → List ℕ
 distance_text shape (Num n) =
     if is_single n then signed_decimal (cast_signed w64 (least n)) else number_text n
@@ -122,7 +123,7 @@ access_text shape e rule.Access (Some t) =
 access_text shape e rule.NotAddress (Some t) = no_address shape e t.base
 access_text shape e r (Some t) = register_is shape e t.base ++ asked_of r
 
--- what is added, where it is that alone which isn't allowed
+-- the added register, if only it isn't allowed
 abbrev pub added_text : AppShape → AbsState → Insn → List ℕ
 added_text shape e (Atomic FetchAdd size dst src offset) =
     codes ", and " ++ register_is shape e src
@@ -136,7 +137,7 @@ quota_text shape e i = access_text shape e rule.QuotaCell (touched i) ++ added_t
 abbrev pub or_r0 : AbsState → Reg → Reg
 or_r0 e r = if pointer_in e r then r else R0
 
--- of what is stored or exchanged the first pointer
+-- the first pointer among what is stored or exchanged
 abbrev pub stored_register : AbsState → Insn → Option Reg
 stored_register e (Store size dst src offset) = Some src
 stored_register e (Atomic op size dst src offset) = Some (or_r0 e src)
@@ -153,7 +154,7 @@ ends_past n = past_top ++ so_many_bytes n
 abbrev pub past_text : ℕ → List ℕ
 past_text n = if n == 0 then [] else ends_past n
 
--- of a text in the stack, how far it ends past the top
+-- for a text in the stack: how far it ends past the top
 abbrev pub past_top_text : Abs → Abs → List ℕ
 past_top_text (Stk place) (Num n) =
     if is_single n && nat_le (least n) 64 then past_text (place + least n - stack_size) else []
@@ -257,6 +258,6 @@ abbrev pub cited_rule : AppShape → AbsState → Insn → VerifierRule → List
 cited_rule shape e i r =
     codes "V" ++ decimal (verifier_rule_number r) ++ codes ": " ++ rule_sentence shape e i r
 
--- behind the slot, in a listing
+-- the refusal after the slot, in a listing
 abbrev pub refusal_text : AppShape → AbsState → Insn → VerifierRule → List ℕ
 refusal_text shape e i r = codes " " ++ cited_rule shape e i r

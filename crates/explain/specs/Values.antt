@@ -1,4 +1,4 @@
--- What is known of a value, in words.
+-- What is known about a value, in words.
 use Rattle.std.specs.Prelude.{ℕ, zero, suc, ◌+◌, ◌*◌, ◌-◌, ◌/◌, ◌^◌, List, [], ◌++◌, codes}
 use Rattle.std.specs.Prelude.{Bool, ◌&&◌, not, ◌==◌, nat_le, nat_lt, if◌then◌else◌}
 use Rattle.std.specs.Prelude.{Option, Some, None, slice_get}
@@ -29,7 +29,7 @@ range_text lo hi =
 abbrev pub range_tells : Number → ℕ → Bool
 range_tells a j = a.range.lo / 2 ^ j == a.range.hi / 2 ^ j
 
--- the j-th bit is known, and the range doesn't tell it
+-- the j-th bit is known and doesn't follow from the range
 abbrev pub says_more : Number → ℕ → Bool
 says_more a j = (bit_at (unknown a.bits) j == 0) && not (range_tells a j)
 
@@ -43,20 +43,20 @@ bit_text a j =
     if bit_at (unknown a.bits) j == 1 then codes "x"
     else if bit_at a.bits.has j == 1 then codes "1" else codes "0"
 
--- the lowest so many bits, the highest first
+-- the lowest bits, the highest of them first
 abbrev pub lowest_bits : Number → ℕ → List ℕ
 lowest_bits a zero = []
 lowest_bits a (suc j) = bit_text a j ++ lowest_bits a j
 
--- the bits of the lowest bytes, up to the highest byte that has one which says more
+-- the bits of the low bytes, up to the highest byte with a bit that says more
 abbrev pub bits_text : Number → ℕ → List ℕ
 bits_text a n = if n == 0 then [] else codes " bits " ++ lowest_bits a (8 * ((n + 7) / 8))
 
--- of a number its range, and the bits of the lowest bytes where one says more
+-- the range of a number, and the bits of its low bytes if one says more
 abbrev pub number_text : Number → List ℕ
 number_text a = range_text a.range.lo a.range.hi ++ bits_text a (telling_bits a 64)
 
--- ---- arrays and counters, by name where there is one
+-- ---- arrays and counters, by name if there is one
 
 abbrev pub HaveNames : List CellArray → Type 0
 HaveNames arrays = AllByRecursion (λ a. IsName a.name) arrays
@@ -75,7 +75,7 @@ abbrev pub counter_in : Option CellArray → ℕ → List ℕ
 counter_in None cell = codes "cell " ++ decimal cell
 counter_in (Some a) cell = a.name ++ codes "[" ++ decimal (cell - a.base) ++ codes "]"
 
--- a counter by its array and its index there, as `q[0]`
+-- a counter by its array and its index there, such as `q[0]`
 abbrev pub counter_text : AppShape → ℕ → List ℕ
 counter_text shape cell = counter_in (find (holds_cell cell) shape.arrays) cell
 
@@ -94,7 +94,7 @@ place_text lo hi =
 abbrev pub stack_place_text : ℕ → List ℕ
 stack_place_text place = codes "stack-" ++ decimal (stack_size - place)
 
--- what is known of a value
+-- what is known about a value
 abbrev pub value_text : AppShape → Abs → List ℕ
 value_text shape Unusable = codes "unusable"
 value_text shape (Num a) = number_text a

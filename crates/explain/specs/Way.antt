@@ -1,4 +1,4 @@
--- What changed on the way to a place: on the edge by which the instruction before goes on to it.
+-- What changed on the edge by which the previous instruction continues to a place.
 use Rattle.std.specs.Prelude.{ℕ, Bool, true, false, ◌&&◌, not, ◌==◌, Option, Some, None, replicate}
 use Rattle.bpf_insn.specs.declared.insn.Insn.{Insn}
 use Rattle.bpf_insn.specs.declared.reg.Reg.{Reg}
@@ -14,7 +14,7 @@ use Rattle.abs_value.specs.Values.{same_lookup, same_origin}
 use Rattle.bpf_verify.specs.Sweep.{falling}
 use Rattle.explain.specs.declared.way.Way.{Way}
 
--- the same is known of two values
+-- the same is known about two values
 abbrev pub same_value : Abs → Abs → Bool
 same_value Unusable Unusable = true
 same_value (Num a) (Num b) = is_same a b
@@ -25,7 +25,7 @@ same_value (MayCell a) (MayCell b) = same_lookup a b
 same_value (Cell a) (Cell b) = same_origin a b
 same_value a b = false
 
--- where nothing goes on to the place nothing changes
+-- if nothing continues to the place, nothing changes
 abbrev pub still : Way
 still = record { before = replicate 11 Unusable; after = replicate 11 Unusable }
 
@@ -33,7 +33,7 @@ abbrev pub way_to : AbsState → Option AbsState → Way
 way_to e None = still
 way_to e (Some f) = record { before = e.registers; after = f.registers }
 
--- past an instruction at slot s, before which this is known
+-- after an instruction at slot s, before which this is known
 abbrev pub way_past : AppShape → ℕ → AbsState → Insn → Way
 way_past shape s e i = way_to e (falling shape s e i)
 

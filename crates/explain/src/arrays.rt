@@ -10,7 +10,7 @@ use cells::{CellArray, Shape};
 use std::alloc::AllocError;
 use std::fmt::Write;
 
-/// Writes the name of an array, or its number where there is none.
+/// Writes the name of an array, or its number if there is no such array.
 pub fn push_array(text: &mut String, shape: &Shape, index: u32) -> Result<(), AllocError>
     ensures { OnOk result (Appends text.old text.new (specs.array_text shape.now index)) }
 {
@@ -20,7 +20,7 @@ pub fn push_array(text: &mut String, shape: &Shape, index: u32) -> Result<(), Al
     }
 }
 
-/// Writes what a lookup finds.
+/// Writes what a lookup returns.
 pub fn push_found(text: &mut String, shape: &Shape, lookup: Lookup) -> Result<(), AllocError>
     ensures { OnOk result (Appends text.old text.new (specs.found_text shape.now lookup)) }
 {
@@ -30,8 +30,8 @@ pub fn push_found(text: &mut String, shape: &Shape, lookup: Lookup) -> Result<()
     write!(text, " by slot {slot}")
 }
 
-/// Writes a counter, as `q[0]`.
-// open: whether memory is refused.
+/// Writes a counter, such as `q[0]`.
+// open: whether an allocation fails.
 pub fn push_counter(text: &mut String, shape: &Shape, cell: u16) -> Result<(), AllocError>
     ensures { OnOk result (Appends text.old text.new (specs.counter_text shape.now cell)) }
 {
@@ -46,7 +46,7 @@ pub fn push_counter(text: &mut String, shape: &Shape, cell: u16) -> Result<(), A
     }
 }
 
-// The array that has a counter.
+// The array that contains a counter.
 fn array_of(arrays: &[CellArray], cell: u16) -> Option<&CellArray>
     ensures { option_copied result ≡ find (specs.holds_cell cell) arrays.now }
 {
@@ -66,7 +66,7 @@ fn holds_cell(array: &CellArray, cell: u16) -> bool
     array.base <= cell && (cell as u32) < array.base as u32 + array.length as u32
 }
 
-/// The names of arrays are names. It does nothing: a proof calls it for its clause.
+/// Law: the names of arrays are names.
 #[tactic(auto, using(crate::proofs::Naming::one_name_more))]
 pub fn keep_names(arrays: &[CellArray])
     ensures { specs.HaveNames arrays.now }

@@ -6,7 +6,7 @@ ghost use Rattle.explain.specs.Sentences as specs;
 
 use bpf_verify::VerifierRule;
 
-/// The words of a rule.
+/// The text of a rule.
 #[tactic(auto, unfolding(crate::specs::Asked::asked_of))]
 pub fn asked_by(rule: VerifierRule) -> &'static str
     ensures { result.now ≡ asked.asked_of rule }
@@ -35,7 +35,7 @@ pub fn asked_by(rule: VerifierRule) -> &'static str
     }
 }
 
-/// Its number, as V1 has it.
+/// The number of a rule, as printed: V1, V2 ..
 pub fn verifier_rule_number(rule: VerifierRule) -> u8
     ensures { result ≡ specs.verifier_rule_number rule }
 {
@@ -57,7 +57,7 @@ pub fn verifier_rule_number(rule: VerifierRule) -> u8
     }
 }
 
-/// What a lookup takes.
+/// The arguments of a lookup.
 #[tactic(auto, unfolding(crate::specs::Asked::lookup_takes))]
 pub fn lookup_takes() -> &'static str
     ensures { result.now ≡ asked.lookup_takes }
@@ -65,7 +65,7 @@ pub fn lookup_takes() -> &'static str
     "helper 1 takes a map and a number: "
 }
 
-/// What the comparison with an attribute takes.
+/// The arguments of the comparison with an attribute.
 #[tactic(auto, unfolding(crate::specs::Asked::attr_is_takes))]
 pub fn attr_is_takes() -> &'static str
     ensures { result.now ≡ asked.attr_is_takes }
@@ -73,7 +73,7 @@ pub fn attr_is_takes() -> &'static str
     "helper 2 takes a number, and of the stack a place and a single length up to 64: "
 }
 
-/// What an access of a cell is to be.
+/// How a cell must be accessed.
 #[tactic(auto, unfolding(crate::specs::Asked::cells_ask))]
 pub fn cells_ask() -> &'static str
     ensures { result.now ≡ asked.cells_ask }
@@ -89,7 +89,7 @@ pub fn unset_byte() -> &'static str
     " has a byte that may be unset"
 }
 
-/// What is wrong with an array that has no cell at so many bytes after its first.
+/// What is wrong with an array that has no cell at some number of bytes after its first.
 #[tactic(auto, unfolding(crate::specs::Asked::no_cell_at))]
 pub fn no_cell_at() -> &'static str
     ensures { result.now ≡ asked.no_cell_at }

@@ -1,4 +1,4 @@
-//! The known bits of a number, where they say more than its range.
+//! The known bits of a number, if they say more than its range.
 
 ghost use Rattle.std.specs.Prelude.{◌≡◌, ◌<◌, ◌≤◌, OnOk};
 ghost use Rattle.bpf_text.specs.Listing.{Appends};
@@ -7,7 +7,7 @@ ghost use Rattle.explain.specs.Values as specs;
 use abs_value::Number;
 use std::alloc::AllocError;
 
-// Whether the bit is known, and the range doesn't tell it.
+// Whether the bit is known and doesn't follow from the range.
 fn says_more(number: Number, bit: u32) -> bool
     requires { bit < 64 }
     ensures { result ≡ specs.says_more number bit }
@@ -70,8 +70,8 @@ fn push_up_to(text: &mut String, number: Number, count: u32) -> Result<(), Alloc
     Ok(())
 }
 
-/// Writes the bits of the lowest bytes, up to the highest byte with one that the range doesn't
-/// tell, if there is one.
+/// Writes the low bytes' known bits, up to the highest byte with a bit that doesn't follow from the
+/// range.
 pub fn push_bits(text: &mut String, number: Number) -> Result<(), AllocError>
     ensures { OnOk result (Appends text.old text.new
         (specs.bits_text number (specs.telling_bits number 64))) }

@@ -1,4 +1,4 @@
-//! What is said of a call that isn't allowed: what its helper takes, and what it is given.
+//! The explanation of a call that isn't allowed: what its helper takes, and what it is given.
 
 ghost use Rattle.std.specs.Prelude.{OnOk};
 ghost use Rattle.bpf_text.specs.Listing.{Appends};

@@ -1,5 +1,4 @@
-//! What comments say about an instruction's registers, and about the slot of the stack that it
-//! reads.
+//! The comment's text on an instruction's registers, and on the stack slot that it reads.
 
 ghost use Rattle.std.specs.Prelude.{◌≡◌, OnOk, true};
 ghost use Rattle.bpf_text.specs.Listing.{Appends, with_sign};
@@ -25,7 +24,7 @@ pub fn push_register(text: &mut String, r: Reg) -> Result<(), AllocError>
     write!(text, "r{number}")
 }
 
-/// Writes a register and what is known of it.
+/// Writes a register and what is known about it.
 fn push_part(text: &mut String, shape: &Shape, e: &AbsState, r: Reg) -> Result<(), AllocError>
     ensures { OnOk result (Appends text.old text.new (specs.register_part shape.now e.now r)) }
 {
@@ -65,7 +64,7 @@ fn push_if_told(
     Ok(())
 }
 
-/// Writes the registers that are read, or that changed on the way.
+/// Writes the registers that are read, or that changed on the edge to the instruction.
 #[tactic(auto, using(crate::proofs::Texts::told_further, crate::proofs::Texts::told_to_end))]
 pub fn push_registers(
     text: &mut String,
@@ -96,7 +95,7 @@ fn push_signed(text: &mut String, offset: i16) -> Result<(), AllocError>
     write!(text, "{offset}")
 }
 
-/// Writes memory as an instruction names it, `[r10-8]`.
+/// Writes memory in the instruction's form, `[r10-8]`.
 pub fn push_memory(text: &mut String, base: Reg, offset: i16) -> Result<(), AllocError>
     ensures { OnOk result (Appends text.old text.new (specs.memory_text base offset)) }
 {
@@ -144,7 +143,7 @@ fn push_loaded(
     }
 }
 
-/// Writes what a load from the stack finds there.
+/// Writes what a load from the stack reads.
 pub fn push_stack(
     text: &mut String,
     shape: &Shape,

@@ -1,14 +1,14 @@
-//! A program with what is known before each of its instructions, in words: its listing, with a
-//! comment at the end of each line, so that the text assembles to the same bytes.
+//! A program with what is known before each of its instructions, in words. It is a listing with a
+//! comment at the end of each line, so the text assembles to the same bytes.
 //!
 //! See docs/PROGRAM.md, "explain".
 #![tactic(auto)]
 
-// What is told of a place is the definition's entry there, which a walk over the places lends
-// (`bpf_verify`). Told are the registers that the instruction reads, those that changed where the
-// instruction before goes on to it, and the slot of the stack that a load reads. At the place that
-// is refused the rule is told, and what is known instead of what it asks; behind it nothing is
-// known, so the listing goes on without comments.
+// The comment at a program point describes the definition's entry (abstract state) there; a walk
+// over the program points lends it (`bpf_verify`). It has the registers that the instruction reads,
+// those that changed if the previous instruction continues to it, and the stack slot that a load
+// reads. At the refused place it has the rule, and what is known instead of what the rule requires.
+// After that nothing is known, so the listing continues without comments.
 
 mod arrays;
 mod asks;

@@ -16,7 +16,7 @@ use cells::Shape;
 use std::alloc::AllocError;
 use std::fmt::Write;
 
-/// Where comments stand, in characters from a line's begin.
+/// The column of comments, in characters from the beginning of a line.
 const COLUMN: usize = 22;
 
 fn push_known(

@@ -1,4 +1,4 @@
-//! What is said of registers: those that are read, moved or stored.
+//! The explanation of registers: those that are read, moved or stored.
 
 ghost use Rattle.std.specs.Prelude.{◌≡◌, OnOk};
 ghost use Rattle.std.specs.Fmt.{signed_decimal};
@@ -16,7 +16,7 @@ use cells::Shape;
 use std::alloc::AllocError;
 use std::fmt::Write;
 
-/// Writes a register, and what is known of it.
+/// Writes a register, and what is known about it.
 pub fn push_register_is(
     text: &mut String,
     shape: &Shape,
@@ -30,7 +30,7 @@ pub fn push_register_is(
     push_value(text, shape, e.value(r))
 }
 
-/// Writes a register, if there is one, with what is known of it, and what a rule requires.
+/// Writes a register, if there is one, with what is known about it, and what a rule requires.
 pub fn push_pointer(
     text: &mut String,
     shape: &Shape,
@@ -62,7 +62,7 @@ fn push_unset(text: &mut String, insn: Insn) -> Result<(), AllocError>
     text.push_str(unset_byte())
 }
 
-/// Writes which register may be unset, or else that a byte of the stack may be.
+/// Writes which register may be unset; if none, that a byte of the stack may be.
 pub fn push_unusable(text: &mut String, insn: Insn, r: Option<Reg>) -> Result<(), AllocError>
     ensures { OnOk result (Appends text.old text.new (specs.unusable_text insn r)) }
 {
@@ -132,7 +132,7 @@ pub fn push_moved(
     push_move(text, op, e.value(dst), by)
 }
 
-/// The register that is stored or exchanged: of several the first pointer.
+/// The register that is stored or exchanged; of several, the first pointer.
 pub fn stored_register(e: &AbsState, insn: Insn) -> Option<Reg>
     ensures { result ≡ specs.stored_register e.now insn }
 {

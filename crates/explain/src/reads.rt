@@ -10,7 +10,7 @@ use bpf_insn::{AtomicOp, Insn, Operand, Reg};
 use bpf_semantics::helpers::Prototype;
 use bpf_semantics::{atomic_count, byte_count, load_count};
 
-/// The registers that an instruction reads, in their order; at most three.
+/// The registers that an instruction reads, in order; at most three.
 #[derive(Clone, Copy)]
 pub struct ReadRegisters {
     pub first: Option<Reg>,
@@ -18,7 +18,7 @@ pub struct ReadRegisters {
     pub third: Option<Reg>,
 }
 
-/// So many bytes from an address on: that in a register, plus the offset.
+/// `count` bytes from an address on: that in a register, plus the offset.
 #[derive(Clone, Copy)]
 pub struct TouchedMemory {
     pub base: Reg,
@@ -127,14 +127,14 @@ impl ReadRegisters {
         }
     }
 
-    /// Whether a register is one of them.
+    /// Whether a register is among these.
     pub fn has(&self, r: Reg) -> bool
         ensures { result ≡ specs.is_among r self.now }
     {
         is_register(r, self.first) || is_register(r, self.second) || is_register(r, self.third)
     }
 
-    /// The first of them of which nothing is known.
+    /// The first of these registers about which nothing is known.
     pub fn unusable(&self, e: &AbsState) -> Option<Reg>
         ensures { result ≡ sentences.first_unusable e.now self.now }
     {
@@ -144,7 +144,7 @@ impl ReadRegisters {
         )
     }
 
-    /// The first of them that is a pointer.
+    /// The first of these registers that is a pointer.
     pub fn pointer(&self, e: &AbsState) -> Option<Reg>
         ensures { result ≡ sentences.first_pointer e.now self.now }
     {

@@ -18,14 +18,14 @@ use flow_check::Flow;
 use std::alloc::{AllocError, Global};
 
 /// The slot of the first instruction that breaks a rule, and the sentence of the first such rule,
-/// as `V9: r0 may be 0: compare it with 0 first`. No line feed ends it.
+/// such as `V9: r0 may be 0: compare it with 0 first`, without a line feed.
 #[derive(Drop)]
 pub struct RefusedPlace {
     pub slot: usize,
     pub sentence: String,
 }
 
-// The place that is refused has an entry, so what isn't told is for want of memory.
+// The refused place has an entry, so the sentence is missing only if out of memory.
 fn tell_place(
     alloc: Global,
     flow: &Flow,
@@ -49,8 +49,8 @@ fn tell_place(
     Ok(RefusedPlace { slot, sentence })
 }
 
-/// Where and why `verify` refuses a program under a shape; none where it accepts it.
-// open: whether memory is refused.
+/// Where and why `verify` refuses a program with a shape; None if it accepts the program.
+// open: whether an allocation fails.
 pub fn refused_place(
     alloc: Global,
     flow: &Flow,
@@ -67,7 +67,7 @@ pub fn refused_place(
     found
 }
 
-// The same, by a walk that begins.
+// The same, for a walk at its beginning.
 fn first_refused(
     alloc: Global,
     flow: &Flow,

@@ -1,4 +1,4 @@
-//! Why a rule refuses an instruction: what the rule asks, and what is known instead.
+//! Why a rule refuses an instruction: what the rule requires, and what is known instead.
 
 ghost use Rattle.std.specs.Prelude.{OnOk};
 ghost use Rattle.bpf_text.specs.Listing.{Appends};
@@ -87,7 +87,7 @@ pub fn push_cited_rule(
     push_sentence(text, shape, e, insn, rule)
 }
 
-/// Writes the refusal after a blank, as it follows a slot.
+/// Writes the refusal after a blank, to follow a slot.
 pub fn push_refusal(
     text: &mut String,
     shape: &Shape,

@@ -1,4 +1,4 @@
-//! A whole program, place by place, by the entries that the verifier judges by.
+//! A whole program, place by place, with the verifier's entries.
 
 ghost use Rattle.std.specs.Prelude.{◌≡◌, ◌<◌, ◌+◌, IfOk, OnOk, Some, None};
 ghost use Rattle.std.specs.Prelude.{string_bytes, option_copied};
@@ -70,7 +70,7 @@ fn tell(alloc: Global, flow: &Flow, shape: &Shape) -> Result<Explained, AllocErr
     told
 }
 
-// The same, by a walk that begins.
+// The same, for a walk at its beginning.
 fn tell_walk(
     alloc: Global,
     flow: &Flow,
@@ -108,10 +108,10 @@ fn tell_walk(
     })
 }
 
-/// The listing of a program with a comment after each instruction that says what is known before
-/// it, up to the first instruction that breaks a rule: there the comment has the rule, and what is
-/// known instead of what it requires. A refusal that is returned is never V15.
-// open: whether memory is refused.
+/// The listing of a program with a comment on each instruction: what is known before it, up to the
+/// first instruction that breaks a rule. There the comment has the rule, and what is known instead
+/// of what it requires. A returned refusal is never V15.
+// open: whether an allocation fails.
 pub fn explain(alloc: Global, flow: &Flow, shape: &Shape) -> Result<Explained, AllocError>
     ensures text { IfOk result
         (λ x. IsExplained (shaped flow.now shape.now) (string_bytes x.text)) }

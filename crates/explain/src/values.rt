@@ -1,4 +1,4 @@
-//! What is known of a value, in words.
+//! What is known about a value, in words.
 
 ghost use Rattle.std.specs.Prelude.{OnOk};
 ghost use Rattle.bpf_text.specs.Listing.{Appends};
@@ -49,7 +49,7 @@ fn push_stack(text: &mut String, place: u16) -> Result<(), AllocError>
     write!(text, "stack-{below}")
 }
 
-/// Writes what is known of a value.
+/// Writes what is known about a value.
 pub fn push_value(text: &mut String, shape: &Shape, value: Abs) -> Result<(), AllocError>
     ensures { OnOk result (Appends text.old text.new (specs.value_text shape.now value)) }
 {

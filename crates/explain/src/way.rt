@@ -1,4 +1,4 @@
-//! What changed on the way to a place.
+//! What changed on the edge to a place.
 
 ghost use Rattle.std.specs.Prelude.{◌≡◌, ◌<◌};
 ghost use Rattle.explain.specs.Way as specs;
@@ -9,7 +9,7 @@ use bpf_insn::{Insn, Reg};
 use cells::Shape;
 use flow_check::next_place;
 
-/// What was known of the registers before an instruction, and on the edge by which it goes on.
+/// What was known about the registers before an instruction, and on the edge by which it continues.
 #[derive(Clone, Copy)]
 pub struct Way {
     pub before: [Abs; 11],
@@ -17,7 +17,7 @@ pub struct Way {
 }
 
 impl Way {
-    /// Where nothing goes on to the place.
+    /// For a place to which nothing continues.
     pub fn still() -> Way
         ensures { result ≡ specs.still }
     {
@@ -28,7 +28,7 @@ impl Way {
         }
     }
 
-    /// Past an instruction before which this is known.
+    /// For the place after an instruction before which this is known.
     pub fn past(shape: &Shape, slot: usize, e: &AbsState, insn: &Insn) -> Way
         requires { slot < 4096 }
         ensures { result ≡ specs.way_past shape.now slot e.now insn.now }
@@ -52,7 +52,7 @@ impl Way {
     }
 }
 
-// Whether the same is known of two values.
+// Whether the same is known about two values.
 fn same_value(a: Abs, b: Abs) -> bool
     ensures { result ≡ specs.same_value a b }
 {

@@ -1,4 +1,4 @@
-//! What is said of an access that isn't allowed, and of an array that isn't there.
+//! The explanation of an access that isn't allowed, and of an array that doesn't exist.
 
 ghost use Rattle.std.specs.Prelude.{◌≡◌, OnOk, option_copied};
 ghost use Rattle.bpf_text.specs.Listing.{Appends};
@@ -15,7 +15,7 @@ use cells::{CellArray, Shape};
 use std::alloc::AllocError;
 use std::fmt::Write;
 
-/// Writes a number of bytes, of one without its plural.
+/// Writes a number of bytes, without a plural for 1.
 pub fn push_so_many(text: &mut String, count: u64) -> Result<(), AllocError>
     ensures { OnOk result (Appends text.old text.new (specs.so_many_bytes count)) }
 {
@@ -108,7 +108,7 @@ fn push_added(text: &mut String, shape: &Shape, e: &AbsState, insn: Insn) -> Res
     push_register_is(text, shape, e, src)
 }
 
-/// Writes how a cell with a quota is touched, and of an addition what it adds.
+/// Writes how a cell with a quota is accessed, and what an addition adds.
 pub fn push_quota(
     text: &mut String,
     shape: &Shape,
@@ -168,7 +168,7 @@ fn push_no_cell(text: &mut String, shape: &Shape, index: i32, offset: i32) -> Re
     }
 }
 
-/// Writes which array or cell isn't there.
+/// Writes which array or cell doesn't exist.
 pub fn push_array_fault(text: &mut String, shape: &Shape, insn: Insn) -> Result<(), AllocError>
     ensures { OnOk result (Appends text.old text.new (specs.array_fault shape.now insn)) }
 {

@@ -1,4 +1,4 @@
--- A fault that is told with its cause is a fault, and a cause of its arrays is one of its bytes.
+-- A fault with its cause is a fault, and a cause for its arrays is one for its bytes.
 use Rattle.std.proofs.Common.{◌≡◌, ℕ, List, Option, Some, None, refl, sym, subst}
 use Rattle.std.specs.Prelude.{IfSome}
 use Rattle.std.specs.String.{string_bytes}
@@ -27,7 +27,7 @@ no_cause known path old (Resource fault) refused = (refused, refl)
 no_cause known path old (Load fault) refused =
     (refused.0, refused.1, record { fault_is = refused.2; cause_is = tt })
 
--- where nothing is told beside
+-- a fault without a cause
 pub untold : (known : KnownFiles) (path : List ℕ) (old : List CellArray) (fault told : PathFault)
     (cause : Option (String Global)) → told ≡ fault → cause ≡ None
     → RefusesPath known path old fault → RefusesTelling known path old told cause

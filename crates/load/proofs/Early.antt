@@ -1,5 +1,4 @@
--- Why no file is asked for, which arrays are known then, and what the manifest's bytes were parsed
--- as.
+-- Why no file is read, which arrays are known then, and what the manifest's bytes were parsed as.
 use Rattle.std.proofs.Common.{◌≡◌, ℕ, List, [], inl, inr, refl, sym, subst, Err}
 use Rattle.cells.specs.Directory.{Declaration}
 use Rattle.cells.specs.declared.array.CellArray.{CellArray}
@@ -18,7 +17,7 @@ use Rattle.load.specs.Gathered.{AreArraysBeside, AreArraysOf, IsParsedBeside, Is
 use Rattle.load.specs.Gathered.{of_manifest}
 use Rattle.load.specs.Load.{IsLoadFault, RefusesArrays, RefusesManifest, of_bytes}
 
--- beside an array's fault there is nothing
+-- with an array's fault nothing is parsed
 pub nothing_parsed : (bytes : List ℕ) (old : List CellArray) (arrays : List Declaration)
     (fault : LoadFault) → RefusesArrays old arrays fault → IsParsedBeside bytes fault Nothing
 nothing_parsed bytes old arrays (NoManifest fault) refuses = absurd refuses
@@ -39,7 +38,7 @@ known_arrays bytes old arrays shown (Rule number fault) refuses are = absurd ref
 known_arrays bytes old arrays shown (Cells number fault) refuses are = are
 known_arrays bytes old arrays shown Memory refuses are = inr are
 
--- ---- of bytes that are no manifest
+-- ---- bytes that aren't a manifest
 
 refused_as : (bytes : List ℕ) (fault : ManifestFault) → ReadsManifest bytes (Err fault)
     → RefusesManifest bytes (of_manifest fault)

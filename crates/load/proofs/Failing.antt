@@ -40,7 +40,7 @@ failed_more start old new apps more one so_far count more_is =
     let last : failures_in (one ∷ []) ≡ failures_of one.kept = omega arith in
     omega (arith, so_far, counted old new one.kept count, all, last)
 
--- ---- a file is the fault of the first app that has no program
+-- ---- a file is the fault of the first app without a program
 
 parted : (a : GatheredApp) (apps : List GatheredApp)
     → failures_in (a ∷ apps) ≡ failures_of a.kept + failures_in apps
@@ -60,7 +60,7 @@ first_failed (a ∷ apps) (here refused) =
 first_failed (a ∷ apps) (there p judged behind) =
     let rest = first_failed apps behind in omega (arith, rest, parted a apps)
 
--- ---- and with all programs every file was read
+-- ---- and if all have programs, every file was read
 
 none_unread : (from : ProgramSource) (kept : KeptFile) (p : ShapedProgram)
     → IsProgramKept from kept p → failures_of kept ≡ 0
@@ -76,7 +76,7 @@ all_read (a ∷ apps) (p ∷ programs) (next_program j rest) =
     let one = none_unread a.entry.source a.kept p j.program_is in
     omega (arith, one, parted a apps, all_read apps programs rest)
 
--- ---- how the count goes with the fault
+-- ---- how the count changes with the fault
 
 pub judged_counts : (old new : ℕ) (apps : List GatheredApp) (fault : LoadFault)
     → new ≡ old + failures_in apps → RefusesFirst apps fault → CountsFault old new fault

@@ -10,11 +10,11 @@ use Rattle.load.specs.declared.gathering.GatheredApp.{GatheredApp}
 use Rattle.load.specs.declared.kept.KeptFile.{KeptFile}
 use Rattle.load.specs.declared.kept.KeptFile.TheVariants.{Unread, Whole, Longer}
 
--- what is digested of these files behind a message
+-- the digest of a message followed by these files
 abbrev pub digest_behind : List ℕ → List GatheredApp → Option (List ℕ)
 digest_behind message left = option_map (λ files. sha256 (message ++ files)) (framed_files left)
 
--- The hasher holds a message, which comes with the files that are left to what all come to.
+-- The hasher holds a message, which together with the files that are left gives the digest of all.
 pub record GoesOn (hasher : Sha256) (left : List GatheredApp) (all : Option (List ℕ)) : Type 0
   where
     pub message : List ℕ
@@ -50,7 +50,7 @@ one_file {h} {new} {all} left apps app piece left_is is adds goes = record {
       ∙ sym (ap (digest_behind goes.message) left_is) ∙ goes.is;
 }
 
--- a file of which not all bytes are kept
+-- a file whose bytes aren't all kept
 pub not_kept : (kept : KeptFile) → ((v : _) → kept ≢ Whole v) → framed_file kept ≡ None
 not_kept Unread isnt = refl
 not_kept (Whole v) isnt = absurd (isnt v refl)

@@ -1,4 +1,4 @@
--- Apps are gathered one after another, and come to what their entries come to.
+-- Apps are gathered in order, and their verdicts are those of their entries.
 use Rattle.std.proofs.Common.{◌≡◌, ℕ, ◌+◌, ◌-◌, ◌<◌, ◌≤◌, List, [], ◌∷◌, ◌++◌, length}
 use Rattle.std.proofs.Common.{All, refl, sym, ap, ◌∙◌, subst, append-nil, append_assoc, arith}
 use Rattle.std.proofs.lemmas.List.Elements.{All-nil, All-cons}
@@ -28,10 +28,10 @@ use Rattle.load.specs.Source.{IsProgramIn, RefusesSource}
 use Rattle.load.proofs.Failing.{first_failed}
 use Rattle.load.proofs.Keeping.{fault_of, none_long, program_of}
 
--- ---- read one after another
+-- ---- read in order
 
 module _ (known : KnownFiles) (directory : List CellArray) (numbers : List ArrayNo) where
-  -- whatever is read behind these apps, of the entries that are left, is read of all
+  -- reading the entries that are left, after these apps, completes the reading of all
   abbrev pub ReadsOn : List AppEntry → List GatheredApp → (long : ℕ) → List AppEntry → Type 0
   ReadsOn entries apps long left =
       (more : List GatheredApp) (unread : ℕ)
@@ -77,7 +77,7 @@ module _ (known : KnownFiles) (directory : List CellArray) (numbers : List Array
         (so_far [] 0 (subst (λ (l : List AppEntry). AreTaken known directory numbers long l [] 0)
         (sym is) all_read))
 
--- ---- to what is loaded
+-- ---- the load
 
 module _ (known : KnownFiles) (directory : List CellArray) (numbers : List ArrayNo)
     (entry : AppEntry) (one : GatheredApp) (h : IsGatheredApp known directory numbers entry one)
@@ -112,7 +112,7 @@ module _ (known : KnownFiles) (directory : List CellArray) (numbers : List Array
         (one.shape, h.shape_is, source_refused (app.Rule fault) refused)
 
 module _ (known : KnownFiles) (directory : List CellArray) (numbers : List ArrayNo) where
-  -- what has a program isn't longer than it may be
+  -- a file that gives a program isn't longer than it may be
   still_few : (long : ℕ) (one : GatheredApp) (p : ShapedProgram) → IsJudged one p
       → long ≤ most_long → long + long_count one.kept ≤ most_long
   still_few long one p j few =

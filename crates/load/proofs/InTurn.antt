@@ -1,4 +1,4 @@
--- Apps that were gathered are judged one after another, and come to their programs.
+-- Gathered apps are judged in order and get their programs.
 use Rattle.std.proofs.Common.{◌≡◌, ℕ, suc, ◌+◌, List, [], ◌∷◌, ◌++◌}
 use Rattle.std.proofs.Common.{All, sym, ap, ◌∙◌, subst, append_assoc, append-nil, arith}
 use Rattle.std.proofs.lemmas.List.Elements.{All-head, All-tail}
@@ -13,7 +13,7 @@ use Rattle.load.specs.Gathered.{HasItsReleases}
 use Rattle.load.specs.Judged.{AreJudged, no_program, next_program, IsJudged, RefusesGathered}
 use Rattle.load.specs.Judged.{IsFirstRefused, here, there, RefusesFirst, app_of, apps_of}
 
--- ---- judged one after another
+-- ---- judged in order
 
 pub judged_more : (all left behind : List GatheredApp) (old new : List ShapedProgram)
     (one : GatheredApp) (program : ShapedProgram)
@@ -67,7 +67,7 @@ refused_here all left behind count number one fault told so_far left_is is told_
     (in_first all number fault
     (subst (λ (n : ℕ). IsFirstRefused all n fault) (sym is) (so_far 1 fault first)))
 
--- ---- one by one with its program
+-- ---- each with its program
 
 module _ (apps rest : List GatheredApp) (programs more : List ShapedProgram) (one : GatheredApp)
     (program : ShapedProgram) (apps_are : apps ≡ one ∷ rest)

@@ -1,4 +1,4 @@
--- From what is kept of a file to what its bytes come to, and to what is counted.
+-- From what is kept of a file to the verdict on its bytes, and to the counts.
 use Rattle.std.proofs.Common.{◌≡◌, ℕ, ◌<◌, List, length, Vec, Bool, true, false}
 use Rattle.std.proofs.Common.{Some, None, Result, Ok, Err, IfOk, IfErr, refl, sym, ◌∙◌, subst}
 use Rattle.std.specs.Prelude.{◌↔◌, IsTrue, IsUtf8}
@@ -41,7 +41,7 @@ pub unread_fault : (from : ProgramSource) (kept : KeptFile) (shape : AppShape) �
 unread_fault from kept shape is =
     subst (λ (x : KeptFile). RefusesKept from x shape app.File) (sym is) tt
 
--- ---- one that is kept whole
+-- ---- a file that is kept whole
 
 module _ (from : ProgramSource) (kept : KeptFile) (v : Vec ℕ Global) (bytes : List ℕ)
     (is : kept ≡ Whole v) (same : bytes ≡ v.items) where
@@ -59,7 +59,7 @@ module _ (from : ProgramSource) (kept : KeptFile) (v : Vec ℕ Global) (bytes : 
       subst (λ (x : KeptFile). RefusesKept from x shape fault) (sym is)
       (subst (λ (b : List ℕ). RefusesFile from b shape fault) same h)
 
--- ---- a longer one
+-- ---- a file that is too long
 
 pub long_program : (bytes : List ℕ) (shape : AppShape) → 32768 < length bytes
     → RefusesBytes bytes shape (app.Program (Flow (flow.Rule 0 TooLong)))
@@ -84,7 +84,7 @@ module _ (from : ProgramSource) (kept : KeptFile) (beginning : Vec ℕ Global) (
       subst (λ (x : KeptFile). RefusesKept from x shape fault) (sym is)
       (λ bytes longer. refuses bytes shape longer)
 
--- ---- what has a program isn't longer
+-- ---- a file that gives a program isn't too long
 
 pub none_long : (from : ProgramSource) (kept : KeptFile) (p : ShapedProgram)
     → IsProgramKept from kept p → long_count kept ≡ 0
@@ -92,7 +92,7 @@ none_long from Unread p h = absurd h
 none_long from (Whole v) p h = refl
 none_long from (Longer v n is_text) p h = absurd h
 
--- ---- the file of which it is kept
+-- ---- the file of which this is kept
 
 pub kept_unread : (known : KnownFiles) (from : ProgramSource) (name : List ℕ)
     → name ≡ file_of from → Gives known name None → IsKeptFrom known from Unread

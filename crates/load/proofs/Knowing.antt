@@ -1,4 +1,4 @@
--- The programs of a load know no arrays but those of the directory after it.
+-- The programs of a load know only the arrays of the directory after it.
 use Rattle.std.proofs.Common.{List, [], ◌∷◌, All}
 use Rattle.std.proofs.lemmas.List.Elements.{All-nil, All-cons}
 use Rattle.bounded_files.specs.Files.{KnownFiles}

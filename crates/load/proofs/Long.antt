@@ -1,4 +1,4 @@
--- Bytes of more than 4096 slots are no program, and have one fault.
+-- Bytes of more than 4096 slots aren't a program, and have one fault.
 use Rattle.std.proofs.Common.{◌≡◌, ℕ, ◌+◌, ◌*◌, ◌<◌, List, [], ◌∷◌, length}
 use Rattle.std.proofs.Common.{refl, sym, ap, ◌∙◌, arith, length-append}
 use Rattle.bpf_insn.specs.declared.insn.Insn.{Insn}

@@ -1,5 +1,5 @@
--- There are bytes that are longer than a file may be, which are a text, and such that are none. So
--- of a longer file something is always said.
+-- Some bytes that are longer than a file may be are text, and some aren't. So there is a verdict on
+-- every file that is too long.
 use Rattle.std.proofs.Common.{◌≡◌, ℕ, zero, suc, ◌+◌, ◌/◌, ◌<◌, List, [], ◌∷◌, ◌++◌, length}
 use Rattle.std.proofs.Common.{Bool, true, false, cond, refl, ap, arith}
 use Rattle.std.specs.Prelude.{◌↔◌, IsTrue, IsUtf8, encode_utf8, nat_lt}
@@ -15,7 +15,7 @@ use Rattle.load.specs.declared.kept.KeptFile.TheVariants.{Unread, Whole, Longer}
 use Rattle.load.specs.Kept.{IsLonger, RefusesKept, most_of}
 use Rattle.load.proofs.Keeping.{no_file}
 
--- ---- a text
+-- ---- bytes that are text
 
 letters : ℕ → List ℕ
 letters zero = []
@@ -45,7 +45,7 @@ a_text most =
       ),
     )
 
--- ---- and none: no character begins with the byte 128
+-- ---- bytes that aren't: no character begins with the byte 128
 
 abbrev first : List ℕ → ℕ
 first [] = 0
@@ -93,7 +93,7 @@ pub longer : (from : ProgramSource) (is_text : Bool)
 longer from true = a_text (most_of from)
 longer from false = none_of_text (most_of from)
 
--- ---- so a file is the fault only where it couldn't be read
+-- ---- so a file is the fault only if it couldn't be read
 
 pub file_is_unread : (from : ProgramSource) (kept : KeptFile) (shape : AppShape)
     → RefusesKept from kept shape app.File → kept ≡ Unread

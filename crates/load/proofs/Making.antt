@@ -1,4 +1,4 @@
--- What is made of what was gathered is what is loaded.
+-- The ruleset made of what was gathered is the one that is loaded.
 use Rattle.std.proofs.Common.{◌≡◌, ℕ, List, Some, sym, ◌∙◌, subst}
 use Rattle.bounded_files.specs.Files.{KnownFiles, Gives, regular_files}
 use Rattle.bpf_semantics.specs.Program.{ShapedProgram}

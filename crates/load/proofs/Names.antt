@@ -1,4 +1,4 @@
--- The appids of a manifest stand once, and so do those of its apps.
+-- The appids of a manifest are distinct, and so are those of its apps.
 use Rattle.std.proofs.Common.{◌≡◌, ℕ, zero, suc, ◌<◌, List, [], ◌∷◌, length, map}
 use Rattle.std.proofs.Common.{Option, Some, None, Result, Ok}
 use Rattle.std.proofs.Common.{Bool, true, false, refl, slice_index_or, if◌then◌else◌, arith}
@@ -28,7 +28,7 @@ module _ (known : KnownFiles) (directory : List CellArray) (numbers : List Array
       let rest = same_appids entries apps tail in
       let first = head.appid_is in cc
 
--- a name that doesn't stand again leaves the others
+-- a name that doesn't occur again leaves the others
 rest_of : {A : Type 0} (again : Bool) (name : A) (rest : Option A)
     → (if again then Some name else rest) ≡ None → (again ≡ false) × (rest ≡ None)
 rest_of true name rest e = absurd cc
@@ -53,7 +53,7 @@ none_in : {X Y E : Type 0} (found : Option X) (fault : X → E) (other : Result 
 none_in None fault other y e = (refl, e)
 none_in (Some x) fault other y e = absurd cc
 
--- so the apps of a manifest in which names stand once have no appid twice
+-- so the apps of a manifest with distinct names have no duplicate appid
 module _ (known : KnownFiles) (directory : List CellArray) (numbers : List ArrayNo) where
   pub never_twice : (manifest : Manifest) (apps : List AppRule) → once manifest ≡ Ok manifest
       → AreAppsOf known directory numbers manifest.apps apps → ¬ HasTwice (appids_of apps)

@@ -1,4 +1,4 @@
--- The apps of a manifest's entries are one list, or one of them is the first that has no program,
+-- The entries of a manifest give one list of apps, or one of them is the first without a program,
 -- with one fault.
 use Rattle.std.proofs.Common.{◌≡◌, ◌≢◌, ℕ, suc, List, [], ◌∷◌, ◌++◌, length, map}
 use Rattle.std.proofs.Common.{Option, Some, None, Result, Ok, Err, refl, sym, ◌∙◌, ap, subst}
@@ -54,12 +54,12 @@ made entry shape (Err fault) = Err fault
 
 module _ (files : List ℕ → Option KnownFile) (directory : List CellArray) (numbers : List ArrayNo)
   where
-    -- what an entry comes to
+    -- the outcome of an entry
     abbrev pub EntryComesTo : AppEntry → Result AppRule AppFault → Type 0
     EntryComesTo entry (Ok rule) = IsAppOf (Some files) directory numbers entry rule
     EntryComesTo entry (Err fault) = RefusesApp (Some files) directory numbers entry fault
 
-    -- by its file
+    -- the outcome, by the entry's file
     data Found (entry : AppEntry) : Result AppRule AppFault → Type 0 where
       no_file : bytes_of (files (file_of entry.source)) ≡ None → Found entry (Err app.File)
       file : (r : Result AppRule AppFault) (shape : AppShape) (bytes : List ℕ)
@@ -89,7 +89,7 @@ module _ (files : List ℕ → Option KnownFile) (directory : List CellArray) (n
         file (Err (app.Rule fault)) h.0 h.2.0 (Err (app.Rule fault)) h.1 h.2.1 h.2.2
         (λ e. absurd cc) refl
 
-    -- the first entry that has no program is at this place
+    -- the first entry without a program is at this place
     pub data IsRefusedFrom : List AppEntry → ℕ → AppFault → Type 0 where
       here : {entry : AppEntry} {after : List AppEntry} {fault : AppFault}
           → RefusesApp (Some files) directory numbers entry fault

@@ -1,4 +1,4 @@
--- What is gathered of apps has one judgement: it is one list of programs, or one first fault.
+-- What is gathered of apps has one verdict: one list of programs, or one first fault.
 use Rattle.std.proofs.Common.{◌≡◌, ◌≢◌, ℕ, suc, List, [], ◌∷◌, Vec, Bool, Result, Ok, Err}
 use Rattle.std.proofs.Common.{refl, sym, ◌∙◌, ap, subst}
 use Rattle.std.specs.declared.alloc.Global.{Global}
@@ -25,7 +25,7 @@ use Rattle.load.specs.Source.{IsProgramFrom}
 use Rattle.load.proofs.LongBytes.{longer}
 use Rattle.load.proofs.OneProgram.{ComesTo, same_program}
 
--- what is kept of a file comes to, under a shape
+-- the verdict on what is kept of a file, for a shape
 abbrev Comes : ProgramSource → KeptFile → AppShape → Result ShapedProgram AppFault → Type 0
 Comes from kept shape (Ok p) = (p.shape ≡ shape) × IsProgramKept from kept p
 Comes from kept shape (Err fault) = RefusesKept from kept shape fault
@@ -50,7 +50,7 @@ known : (r : Result ShapedProgram AppFault) → r ≢ Err app.Memory → code_of
 known (Ok p) other = λ e. absurd cc
 known (Err fault) other = λ e. other (ap (λ f. Err f) (ap fault_in e))
 
--- of a file that couldn't be read
+-- for a file that couldn't be read
 unread : (from : ProgramSource) (shape : AppShape) (r : Result ShapedProgram AppFault)
     → Comes from Unread shape r → r ≢ Err app.Memory → r ≡ Err app.File
 unread from shape (Ok p) h other = absurd h.1
@@ -59,7 +59,7 @@ unread from shape (Err app.Memory) h other = absurd (other refl)
 unread from shape (Err (app.Program fault)) h other = absurd h
 unread from shape (Err (app.Rule fault)) h other = absurd h
 
--- of its bytes, where all are kept; and of such bytes as a longer one may have
+-- for its bytes, if all are kept; and for any bytes that a file that is too long may have
 whole_bytes : (from : ProgramSource) (v : Vec ℕ Global) (shape : AppShape)
     (r : Result ShapedProgram AppFault) → Comes from (Whole v) shape r
     → ComesTo from v.items shape (code_of r)
@@ -163,7 +163,7 @@ module _ (judged : (p : Program) (shape : AppShape) → verify.ProgramHasOneVerd
   not_both (a ∷ apps) (p ∷ ps) (next_program h hs) (there q k more) other =
       not_both apps ps hs more other
 
-  -- a judgement by its first fault, if it has one
+  -- a verdict, by its first fault, if it has one
   data Found (apps : List GatheredApp) : Result (List ShapedProgram) LoadFault → Type 0 where
     programs : (ps : List ShapedProgram) → AreJudged apps ps → Found apps (Ok ps)
     refused : (n : ℕ) (e : AppFault) → IsFirstRefused apps n e → e ≢ app.Memory

@@ -36,7 +36,7 @@ abbrev named : List ℕ → List AppRule → Rules
 named server apps = record { server = server; apps = apps }
 
 module _ (files : List ℕ → Option KnownFile) (old : List CellArray) (bytes : List ℕ) where
-  -- what a manifest's apps come to, once its arrays are declared
+  -- the outcome of a manifest's apps, once its arrays are declared
   data Supplied (m : Manifest) (numbers : List ArrayNo) (between : List CellArray)
       : Result Rules LoadFault → List CellArray → Type 0 where
     no_app : (k : ℕ) (e : AppFault) → IsRefusedFrom files between numbers m.apps k e
@@ -44,7 +44,7 @@ module _ (files : List ℕ → Option KnownFile) (old : List CellArray) (bytes :
     apps : (list : List AppRule) → AreAppsOf (Some files) between numbers m.apps list
         → Supplied m numbers between (Ok (named m.server list)) between
 
-  -- what its arrays come to, and its apps
+  -- the outcome of its arrays and its apps
   data Declared (m : Manifest) : Result Rules LoadFault → List CellArray → Type 0 where
     no_array : (number : ℕ) (e : CellsFault) (between : List CellArray)
         → IsRefusedArray old m.arrays number e between → e ≢ cells.Memory
@@ -53,7 +53,7 @@ module _ (files : List ℕ → Option KnownFile) (old : List CellArray) (bytes :
         (between : List CellArray) → AreDeclared old m.arrays numbers between
         → Supplied m numbers between r new → Declared m r new
 
-  -- what its bytes come to
+  -- the outcome of its bytes
   data Staged : Result Rules LoadFault → List CellArray → Type 0 where
     no_manifest : (e : ManifestFault) → ReadsManifest bytes (Err e) → e ≢ manifest.Memory
         → Staged (Err (fault_of e)) old

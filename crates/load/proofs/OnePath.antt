@@ -19,7 +19,7 @@ use Rattle.load.specs.OneLoad.{HasOneLoad, IsUntroubled}
 abbrev LoadOf : Type 0
 LoadOf = Result (Rules × List CellArray) PathFault
 
--- what a path comes to by the load of its bytes
+-- the outcome for a path, from the load of its bytes
 abbrev of_load : Result Rules LoadFault → List CellArray → LoadOf
 of_load (Ok rules) new = Ok (rules, new)
 of_load (Err fault) new = Err (path.Load fault)

@@ -1,4 +1,4 @@
--- The bytes of an app's file come to one program under a shape, or have one fault.
+-- The bytes of an app's file give one program for a shape, or have one fault.
 use Rattle.std.proofs.Common.{◌≡◌, ◌≢◌, ℕ, ◌≤◌, List, length, Result, Ok, Err}
 use Rattle.std.proofs.Common.{refl, sym, ◌∙◌, ap, subst, arith}
 use Rattle.acceptance.specs.Program.{IsProgramOf, IsRefusedProgram}
@@ -30,7 +30,7 @@ use Rattle.load.specs.declared.fault.AppFault.{AppFault}
 use Rattle.load.specs.declared.fault.AppFault.TheVariants as app
 use Rattle.load.specs.Source.{IsProgramFrom, RefusesFile}
 
--- what the bytes of a file come to under a shape
+-- the outcome of a file's bytes for a shape
 abbrev pub ComesTo : ProgramSource → List ℕ → AppShape → Result Program AppFault → Type 0
 ComesTo from bytes shape (Ok code) = IsProgramFrom from bytes (shaped code shape)
 ComesTo from bytes shape (Err fault) = RefusesFile from bytes shape fault
@@ -178,7 +178,7 @@ module _ (told : (shape : AppShape) (text : List ℕ) → rules.RuleHasOneVerdic
       absurd (no_rule_fault bytes shape h.rule h.text k)
   same_spelled bytes shape (too_long h) (too_long k) = refl
 
--- ---- either
+-- ---- either source
 
 module _ (judged : (p : Program) (shape : AppShape) → verify.ProgramHasOneVerdict p shape)
     (told : (shape : AppShape) (text : List ℕ) → rules.RuleHasOneVerdict shape text) where

@@ -1,4 +1,4 @@
--- Of apps that have programs all bytes of each file are kept, and so they have a digest.
+-- If apps have programs, all bytes of each file are kept, so there is a digest.
 use Rattle.std.proofs.Common.{ℕ, List, [], ◌∷◌, ◌++◌, Option, Some, None, refl}
 use Rattle.std.specs.Option.{IsSome}
 use Rattle.std.specs.Prelude.{option_map, option_and_then}

@@ -10,8 +10,8 @@ use Rattle.load.specs.declared.fault.AppFault.TheVariants.{Memory}
 use Rattle.bounded_files.specs.Files.{KnownFiles}
 use Rattle.load.specs.Source.{IsProgramIn, RefusesSource}
 
--- the shape of an app: the number of its releases, and all arrays of the manifest in their order,
--- which have these numbers in the directory
+-- the shape of an app: the number of its releases, and all arrays of the manifest in order, which
+-- have these numbers in the directory
 pub record IsShapeOf (directory : List CellArray) (numbers : List ArrayNo) (entry : AppEntry)
     (shape : AppShape) : Type 0 where
   pub releases_are : shape.releases ≡ length entry.releases

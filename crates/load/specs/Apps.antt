@@ -19,7 +19,7 @@ module _ (known : KnownFiles) (directory : List CellArray) (numbers : List Array
         → IsAppOf known directory numbers entry app → AreAppsOf entries apps
         → AreAppsOf (entry ∷ entries) (app ∷ apps)
 
-  -- the entry of this number, counted from 1, has no program, and those before it have their apps
+  -- the entry with this number, from 1, has no program, and those before it have their apps
   pub record IsRefusedApp (entries : List AppEntry) (number : ℕ) (fault : AppFault) : Type 0 where
     pub before : List AppEntry
     pub entry : AppEntry
@@ -30,7 +30,7 @@ module _ (known : KnownFiles) (directory : List CellArray) (numbers : List Array
     pub supplied : AreAppsOf before apps
     pub refused : RefusesApp known directory numbers entry fault
 
-  -- the fault of the first app that has no program; of want of memory nothing is said
+  -- the fault of the first app without a program; running out of memory is always allowed
   abbrev pub RefusesApps : List AppEntry → LoadFault → Type 0
   RefusesApps entries (File number) = IsRefusedApp entries number app.File
   RefusesApps entries (Program number fault) = IsRefusedApp entries number (app.Program fault)
@@ -38,7 +38,7 @@ module _ (known : KnownFiles) (directory : List CellArray) (numbers : List Array
   RefusesApps entries Memory = Unit {0}
   RefusesApps entries fault = ⊥
 
--- the fault of an app of this number
+-- the fault of the app with this number
 abbrev pub in_app : ℕ → AppFault → LoadFault
 in_app number app.File = File number
 in_app number (app.Program fault) = Program number fault

@@ -1,4 +1,4 @@
--- What a log tells of a load: of what its ruleset was made, or beside a fault's text the cause.
+-- What a log prints of a load: what its ruleset was made of, or the cause of its fault.
 use Rattle.std.specs.Prelude.{◌≡◌, ℕ, ◌-◌, List, ◌++◌, codes, slice_get, IfSome}
 use Rattle.std.specs.Prelude.{Option, Some, None, option_map, option_and_then, Result, Ok, Err}
 use Rattle.std.specs.String.{string_bytes}
@@ -25,7 +25,7 @@ use Rattle.load.specs.declared.fault.PathFault.TheVariants.{Resource, Load}
 use Rattle.load.specs.declared.made.MadeRuleset.{MadeRuleset}
 use Rattle.load.specs.declared.refusal.LoadRefusal.{LoadRefusal}
 
--- the member that doesn't fit, and what is wanted there; or what stands twice
+-- the wrong member, and what is expected there; or the duplicate name
 abbrev pub manifest_cause : ManifestFault → Option (List ℕ)
 manifest_cause (unread.Field misfit) = Some (misfit_text misfit)
 manifest_cause (unread.Duplicate twice) = Some (twice_text twice)
@@ -35,31 +35,31 @@ manifest_cause fault = None
 abbrev pub as_declared : CellArray → Declaration
 as_declared a = declaration a.name a.width a.length a.quota
 
--- an array as it stands, and as the manifest has it
+-- an array as it exists, and as the manifest has it
 abbrev pub change_text : CellArray → Declaration → List ℕ
 change_text a d = declaration_text (as_declared a) ++ codes " to " ++ declaration_text d
 
 abbrev pub full_text : Declaration → List ℕ
 full_text d = declaration_text d ++ codes " passes the 4096 cells that all arrays of a width have"
 
--- how a declaration doesn't go with the arrays that stand
+-- how a declaration conflicts with the existing arrays
 abbrev pub array_cause : List CellArray → Declaration → CellsFault → Option (List ℕ)
 array_cause old d cells.Redefined = option_map (λ a. change_text a d) (array_named d.name old)
 array_cause old d cells.CellsFull = Some (full_text d)
 array_cause old d cells.Memory = None
 
--- of the array of this number, counted from 1
+-- for the array with this number, from 1
 abbrev pub cause_in : List CellArray → List Declaration → ℕ → CellsFault → Option (List ℕ)
 cause_in old arrays number fault =
     option_and_then (λ d. array_cause old d fault) (slice_get arrays (number - 1))
 
--- of a fault of a manifest of these arrays
+-- for a fault of a manifest with these arrays
 abbrev pub cause_of : List CellArray → List Declaration → LoadFault → Option (List ℕ)
 cause_of old arrays (load.Manifest fault) = manifest_cause fault
 cause_of old arrays (load.Cells number fault) = cause_in old arrays number fault
 cause_of old arrays fault = None
 
--- what is told of a fault of these bytes
+-- the text is the cause of a fault of these bytes
 abbrev pub IsCause : List CellArray → List ℕ → LoadFault → List ℕ → Type 0
 IsCause old bytes (load.Manifest fault) text = manifest_cause fault ≡ Some text
 IsCause old bytes (load.Cells number fault) text =
@@ -74,8 +74,8 @@ pub record IsFaultWithCause (known : KnownFiles) (old : List CellArray) (bytes :
   pub cause_is : IfSome cause (λ text. IsCause old bytes fault (string_bytes text))
 
 module _ (known : KnownFiles) (path : List ℕ) (old : List CellArray) where
-  -- the file can't be read, and nothing is told beside; or it gives bytes of which this is the
-  -- fault, and of which the cause is, if it is told
+  -- the file can't be read, and there is no cause; or it gives bytes with this fault and this
+  -- cause, if there is one
   abbrev pub RefusesTelling : PathFault → Option (String Global) → Type 0
   RefusesTelling (Load fault) cause =
       (bytes : List ℕ) × Gives (regular_files known) path (Some bytes)
@@ -83,7 +83,7 @@ module _ (known : KnownFiles) (path : List ℕ) (old : List CellArray) where
   RefusesTelling (Resource fault) cause =
       RefusesPath known path old (Resource fault) × (cause ≡ None)
 
-  -- the ruleset with its digest; or the fault, and its cause, if it is told
+  -- the ruleset with its digest; or the fault and its cause, if there is one
   abbrev pub LoadsTelling : Result MadeRuleset LoadRefusal → Type 0
   LoadsTelling (Ok made) = IsMadeFrom known path old made
   LoadsTelling (Err refused) = RefusesTelling refused.fault refused.cause

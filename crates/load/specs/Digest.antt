@@ -7,11 +7,11 @@ use Rattle.load.specs.declared.gathering.GatheredApp.{GatheredApp}
 use Rattle.load.specs.declared.kept.KeptFile.{KeptFile}
 use Rattle.load.specs.declared.kept.KeptFile.TheVariants.{Whole}
 
--- a piece, behind its length in eight bytes, of which the high one is the first
+-- a piece, after its length in eight bytes, high byte first
 abbrev pub framed : List ℕ → List ℕ
 framed piece = to_be_bytes w64 (length piece) ++ piece
 
--- the bytes of a file, where all are kept
+-- the framed bytes of a file, if all are kept
 abbrev pub framed_file : KeptFile → Option (List ℕ)
 framed_file (Whole bytes) = Some (framed bytes.items)
 framed_file kept = None
@@ -23,7 +23,7 @@ framed_files (app ∷ apps) =
     option_and_then (λ file. option_map (λ files. file ++ files) (framed_files apps))
     (framed_file app.kept)
 
--- of a manifest, and of its apps' files, where all bytes of each are kept
+-- the digest of a manifest and of its apps' files, if all bytes of each are kept
 abbrev pub digest_of : List ℕ → List GatheredApp → Option (List ℕ)
 digest_of manifest apps =
     option_map (λ files. sha256 (framed manifest ++ files)) (framed_files apps)

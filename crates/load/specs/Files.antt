@@ -1,4 +1,4 @@
--- What the reading of a file that a manifest names counts.
+-- How reading a file that a manifest names changes the count of unreadable files.
 use Rattle.std.specs.Prelude.{◌≡◌, ℕ, ◌+◌, Result, Ok, Err}
 use Rattle.bounded_files.specs.declared.fault.ResourceFault.{ResourceFault}
 use Rattle.bounded_files.specs.declared.fault.ResourceFault.TheVariants.{File, Memory}

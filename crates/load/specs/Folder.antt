@@ -1,4 +1,4 @@
--- Where the files of a manifest lie: names are taken from its folder.
+-- Where the files of a manifest are: names are relative to its folder.
 use Rattle.std.specs.Prelude.{ℕ, List, [], Option, Some, None, option_map}
 use Rattle.std.specs.Path.{path_parent, path_join}
 use Rattle.bounded_files.specs.Files.{KnownFiles, most_bytes, regular_files, within}
@@ -14,8 +14,8 @@ folder_of manifest = folder_or_none (path_parent manifest)
 abbrev pub path_beside : List ℕ → List ℕ → List ℕ
 path_beside manifest name = path_join (folder_of manifest) name
 
--- to what the names in a manifest lead: each is taken from the folder of that manifest, and what is
--- no regular file, or has more than 16 MiB, counts as one that can't be read
+-- what the names in a manifest lead to: each is relative to the folder of that manifest, and
+-- anything but a regular file of at most 16 MiB counts as unreadable
 abbrev pub known_beside : KnownFiles → List ℕ → KnownFiles
 known_beside known manifest =
     option_map (λ files. λ name. files (path_beside manifest name))

@@ -22,7 +22,7 @@ use Rattle.load.specs.App.{IsShapeOf}
 use Rattle.load.specs.Kept.{IsKeptFrom, is_unread, long_count}
 use Rattle.load.specs.Load.{IsLoadFault}
 
--- past so many bytes of files that are too long no further file is read: 64 MiB
+-- once files that are too long have more bytes than this in all, no further file is read: 64 MiB
 abbrev pub most_long : ℕ
 most_long = 2 ^ 26
 
@@ -33,15 +33,15 @@ module _ (known : KnownFiles) (directory : List CellArray) (numbers : List Array
     pub shape_is : IsShapeOf directory numbers entry app.shape
     pub kept_is : IsKeptFrom known entry.source app.kept
 
-  -- each entry has its own
+  -- each entry has its app
   pub data AreGathered : List AppEntry → List GatheredApp → Type 0 where
     no_app : AreGathered [] []
     next_app : {entries : List AppEntry} {apps : List GatheredApp} {entry : AppEntry}
         {app : GatheredApp} → IsGatheredApp entry app → AreGathered entries apps
         → AreGathered (entry ∷ entries) (app ∷ apps)
 
-  -- so have those whose files are read, behind so many bytes of files that are too long; and of how
-  -- many more no file is
+  -- so have the entries whose files are read, after files that are too long with `long` bytes in
+  -- all; and `unread` entries follow whose files aren't read
   pub data AreTaken : (long : ℕ) → List AppEntry → List GatheredApp → (unread : ℕ) → Type 0 where
     all_read : {long : ℕ} → AreTaken long [] [] 0
     not_read : {long : ℕ} {entries : List AppEntry} → most_long < long
@@ -55,12 +55,12 @@ module _ (known : KnownFiles) (directory : List CellArray) (numbers : List Array
 abbrev pub failures_in : List GatheredApp → ℕ
 failures_in apps = count_by (λ app. is_unread app.kept) apps
 
--- its shape has as many releases as it has
+-- an app's shape has as many releases as the app
 abbrev pub HasItsReleases : GatheredApp → Type 0
 HasItsReleases app = app.shape.releases ≡ length app.entry.releases
 
--- of the manifest of these bytes: its server's text, its arrays, declared behind those that stand,
--- and those of its apps whose files are read
+-- from the manifest of these bytes: its server's text, its arrays, declared after the existing
+-- ones, and those of its apps whose files are read
 pub record IsGathered (known : KnownFiles) (old : List CellArray) (bytes : List ℕ) (g : Gathered)
     : Type 0 where
   pub manifest : Manifest
@@ -71,25 +71,25 @@ pub record IsGathered (known : KnownFiles) (old : List CellArray) (bytes : List 
   pub declared : AreDeclared old manifest.arrays numbers g.directory
   pub apps_are : AreTaken known g.directory numbers 0 manifest.apps g.apps.items g.unread
 
--- the arrays of the manifest of these bytes, which was read
+-- the arrays of the manifest that these bytes spell
 abbrev pub AreArraysOf : List ℕ → List Declaration → Type 0
 AreArraysOf bytes arrays =
     (manifest : Manifest) × ReadsManifest bytes (Ok manifest) × (arrays ≡ manifest.arrays)
 
--- the arrays that are known beside a fault for which no file counts: none where the bytes are no
--- manifest, its own where one of them isn't declared, and none or its own for want of memory
+-- the arrays that are known with a fault that depends on no file. None if the bytes aren't a
+-- manifest; the manifest's if one of them can't be declared; either if out of memory
 abbrev pub AreArraysBeside : List ℕ → LoadFault → List Declaration → Type 0
 AreArraysBeside bytes (NoManifest fault) arrays = arrays ≡ []
 AreArraysBeside bytes (Cells number fault) arrays = AreArraysOf bytes arrays
 AreArraysBeside bytes Memory arrays = (arrays ≡ []) ⊎ AreArraysOf bytes arrays
 AreArraysBeside bytes fault arrays = ⊥
 
--- the fault of a manifest, as that of its load
+-- the fault of a manifest, as the fault of its load
 abbrev pub of_manifest : ManifestFault → LoadFault
 of_manifest unread.Memory = Memory
 of_manifest fault = NoManifest fault
 
--- what the bytes were parsed as, if they are no manifest; beside any other fault it is nothing
+-- what the bytes were parsed as, if they aren't a manifest; nothing for any other fault
 abbrev pub IsParsedBeside : List ℕ → LoadFault → Parsed → Type 0
 IsParsedBeside bytes (NoManifest fault) parsed = IsParsed bytes fault parsed
 IsParsedBeside bytes fault parsed = parsed ≡ Nothing

@@ -1,4 +1,4 @@
--- What apps that were gathered come to, by what is kept of their files alone.
+-- The verdict on gathered apps, only from what is kept of their files.
 use Rattle.std.specs.Prelude.{◌≡◌, ◌<◌, ℕ, suc, List, [], ◌∷◌, All}
 use Rattle.bounded_files.specs.Files.{KnownFiles}
 use Rattle.bpf_semantics.specs.Program.{ShapedProgram}
@@ -18,23 +18,23 @@ use Rattle.load.specs.Gathered.{failures_in}
 use Rattle.load.specs.Kept.{IsProgramKept, RefusesKept}
 use Rattle.load.specs.Load.{IsLoadFault, IsRulesetOf}
 
--- the program of an app: that of what is kept of its file
+-- the program of an app, from what is kept of its file
 pub record IsJudged (app : GatheredApp) (program : ShapedProgram) : Type 0 where
   pub shape_is : program.shape ≡ app.shape
   pub program_is : IsProgramKept app.entry.source app.kept program
 
--- why it has none
+-- why the app has no program
 abbrev pub RefusesGathered : GatheredApp → AppFault → Type 0
 RefusesGathered app fault = RefusesKept app.entry.source app.kept app.shape fault
 
--- each app has its own
+-- each app has its program
 pub data AreJudged : List GatheredApp → List ShapedProgram → Type 0 where
   no_program : AreJudged [] []
   next_program : {apps : List GatheredApp} {programs : List ShapedProgram} {app : GatheredApp}
       {program : ShapedProgram} → IsJudged app program → AreJudged apps programs
       → AreJudged (app ∷ apps) (program ∷ programs)
 
--- the first that has none has this number, counted from 1
+-- the first app without a program has this number, from 1
 pub data IsFirstRefused : List GatheredApp → ℕ → AppFault → Type 0 where
   here : {app : GatheredApp} {behind : List GatheredApp} {fault : AppFault}
       → RefusesGathered app fault → IsFirstRefused (app ∷ behind) 1 fault
@@ -42,7 +42,7 @@ pub data IsFirstRefused : List GatheredApp → ℕ → AppFault → Type 0 where
       (program : ShapedProgram) → IsJudged app program → IsFirstRefused behind number fault
       → IsFirstRefused (app ∷ behind) (suc number) fault
 
--- its fault; of want of memory nothing is said
+-- the fault of the first app without a program; running out of memory is always allowed
 abbrev pub RefusesFirst : List GatheredApp → LoadFault → Type 0
 RefusesFirst apps (File number) = IsFirstRefused apps number app.File
 RefusesFirst apps (Program number fault) = IsFirstRefused apps number (app.Program fault)
@@ -50,7 +50,7 @@ RefusesFirst apps (Rule number fault) = IsFirstRefused apps number (app.Rule fau
 RefusesFirst apps Memory = Unit {0}
 RefusesFirst apps fault = ⊥
 
--- ---- what is gathered of files comes to what their load comes to
+-- ---- the verdict on what is gathered is that of the load
 
 -- an app with its program
 abbrev pub app_of : GatheredApp → ShapedProgram → AppRule
@@ -74,7 +74,7 @@ pub record IsLoadedApp (known : KnownFiles) (directory : List CellArray) (number
 pub record IsLoadOf (known : KnownFiles) (old : List CellArray) (bytes : List ℕ) (g : Gathered)
     (is : IsGathered known old bytes g) : Type 0 where
   pub shaped : All HasItsReleases g.apps.items
-  -- where each has its program, no file was left unread
+  -- if each app has its program, no file was left unread
   pub gathered : (programs : List ShapedProgram) → AreJudged g.apps.items programs
       → AreGathered known g.directory is.numbers is.manifest.apps g.apps.items
   pub supplied : (programs : List ShapedProgram) → AreJudged g.apps.items programs
@@ -82,7 +82,7 @@ pub record IsLoadOf (known : KnownFiles) (old : List CellArray) (bytes : List �
       (record { server = is.manifest.server; apps = apps_of g.apps.items programs }) g.directory
   pub refused : (fault : LoadFault) → RefusesFirst g.apps.items fault
       → IsLoadFault known old bytes fault
-  -- a file is the fault only where one couldn't be read
+  -- a file is the fault only if one couldn't be read
   pub failed : (number : ℕ) → RefusesFirst g.apps.items (File number)
       → 0 < failures_in g.apps.items
 

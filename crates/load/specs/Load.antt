@@ -1,6 +1,5 @@
--- What a manifest and its files come to: a ruleset, and the directory in which the manifest's
--- arrays are declared; or the first fault, in the order M1, M2, M3, M7, and then app by app M4, M5
--- or M6.
+-- The load of a manifest and its files: a ruleset, and the directory in which the manifest's arrays
+-- are declared; or the first fault. The order is M1, M2, M3, M7, and then app by app M4, M5 or M6.
 use Rattle.std.specs.Prelude.{◌≡◌, ◌≢◌, ◌<◌, ◌≤◌, ℕ, List, Result, Ok, Err}
 use Rattle.cells.specs.Directory.{Declaration}
 use Rattle.cells.specs.declared.array.ArrayNo.{ArrayNo}
@@ -16,14 +15,14 @@ use Rattle.load.specs.declared.fault.LoadFault.TheVariants.{File, Program, Rule}
 use Rattle.bounded_files.specs.Files.{KnownFiles}
 use Rattle.load.specs.Apps.{AreAppsOf, RefusesApps}
 
--- why bytes are no manifest; of want of memory nothing is said, here and below
+-- why bytes aren't a manifest; running out of memory is always allowed, here and below
 abbrev pub RefusesManifest : List ℕ → LoadFault → Type 0
 RefusesManifest bytes (NoManifest manifest.Memory) = ⊥
 RefusesManifest bytes (NoManifest fault) = ReadsManifest bytes (Err fault)
 RefusesManifest bytes Memory = Unit {0}
 RefusesManifest bytes fault = ⊥
 
--- the first array of a manifest that isn't declared
+-- the first array of a manifest that can't be declared
 abbrev pub RefusesArrays : List CellArray → List Declaration → LoadFault → Type 0
 RefusesArrays old arrays (Cells number fault) =
     (between : List CellArray) × IsRefusedArray old arrays number fault between
@@ -32,7 +31,7 @@ RefusesArrays old arrays Memory = Unit {0}
 RefusesArrays old arrays fault = ⊥
 
 module _ (known : KnownFiles) (old : List CellArray) (bytes : List ℕ) where
-  -- the fault that counts: of the bytes, or else of the arrays, or else of the apps
+  -- the fault that counts: that of the bytes, or else of the arrays, or else of the apps
   pub data IsLoadFault : LoadFault → Type 0 where
     of_bytes : {fault : LoadFault} → RefusesManifest bytes fault → IsLoadFault fault
     of_arrays : {manifest : Manifest} {fault : LoadFault} → ReadsManifest bytes (Ok manifest)
@@ -55,13 +54,13 @@ module _ (known : KnownFiles) (old : List CellArray) (bytes : List ℕ) where
   LoadsOver (Ok loaded) = IsRulesetOf loaded.0 loaded.1
   LoadsOver (Err fault) = IsLoadFault fault
 
-  -- after a refusal the directory is as it was
+  -- after a refusal the directory is unchanged
   abbrev pub Loads : Result Rules LoadFault → List CellArray → Type 0
   Loads (Ok rules) new = IsRulesetOf rules new
   Loads (Err fault) new = IsLoadFault fault × (new ≡ old)
 
--- how the count of files that couldn't be read goes with a fault: M4 comes only if it rose, M1 to
--- M3 and M7 if no file was read
+-- how the count of unreadable files changes with a fault: M4 is returned only if it rose, M1 to M3
+-- and M7 only if no file was read
 abbrev pub CountsFault : (old new : ℕ) → LoadFault → Type 0
 CountsFault old new (File number) = old < new
 CountsFault old new (Program number fault) = old ≤ new

@@ -1,6 +1,6 @@
--- What the manifest at a path comes to, with the files of its folder. What is no regular file
--- counts as one that can't be read. Where nothing is known of the files, as of a device's, it is
--- what a manifest and files of some bytes come to.
+-- The load of the manifest at a path, with the files of its folder. Anything but a regular file
+-- counts as unreadable. If nothing is known of the files (those of a device), it is the load of
+-- some manifest and files.
 use Rattle.std.specs.Prelude.{ℕ, List, Some, None, Result, Ok, Err}
 use Rattle.cells.specs.declared.array.CellArray.{CellArray}
 use Rattle.bounded_files.specs.Files.{KnownFiles, Gives, regular_files}
@@ -18,7 +18,7 @@ module _ (known : KnownFiles) (path : List ℕ) (old : List CellArray) where
     pub given : Gives (regular_files known) path (Some bytes)
     pub loaded : IsRulesetOf (known_beside known path) old bytes rules new
 
-  -- the file can't be read, or its bytes come to no ruleset; of want of memory nothing is said
+  -- the file can't be read, or its bytes give no ruleset; running out of memory is always allowed
   abbrev pub RefusesPath : PathFault → Type 0
   RefusesPath (Resource File) = Gives (regular_files known) path None
   RefusesPath (Resource Memory) = Unit {0}

@@ -1,5 +1,5 @@
--- A ruleset that is made of a manifest and its files, as they were gathered, with the digest of all
--- of it.
+-- A ruleset made of a manifest and its files, as they were gathered, with the digest of all of
+-- them.
 use Rattle.std.specs.Prelude.{◌≡◌, ℕ, List, Some}
 use Rattle.bounded_files.specs.Files.{KnownFiles, Gives, regular_files}
 use Rattle.bpf_semantics.specs.Program.{ShapedProgram}
@@ -13,8 +13,8 @@ use Rattle.load.specs.declared.gathering.Gathered.{Gathered}
 use Rattle.load.specs.declared.made.MadeRuleset.{MadeRuleset}
 use Rattle.ruleset.specs.Rules.{HasTwice, appids_of}
 
--- Each app has the program that its file is judged to be, and the digest is that of the manifest's
--- bytes and of the very bytes that were judged.
+-- Each app has the program that its file is judged to be; the digest is that of the manifest's
+-- bytes and of exactly the bytes that were judged.
 pub record IsMadeOf (bytes : List ℕ) (g : Gathered) (made : MadeRuleset) : Type 0 where
   pub programs : List ShapedProgram
   pub judged : AreJudged g.apps.items programs
@@ -23,16 +23,16 @@ pub record IsMadeOf (bytes : List ℕ) (g : Gathered) (made : MadeRuleset) : Typ
   pub directory_is : made.directory ≡ g.directory
   pub digest_is : digest_of bytes g.apps.items ≡ Some made.digest
 
--- This is gathered of these bytes and of files over the arrays that stand, and of that the ruleset
--- is made.
+-- The ruleset is made of what is gathered from these bytes and from files, over the existing
+-- arrays.
 pub record IsMadeOver (known : KnownFiles) (old : List CellArray) (bytes : List ℕ)
     (made : MadeRuleset) : Type 0 where
   pub gathered : Gathered
   pub is_gathered : IsGathered known old bytes gathered
   pub made_of : IsMadeOf bytes gathered made
 
--- The file at a path gives these bytes, this is gathered of them and of the files of its folder
--- over the arrays that stand, and of that the ruleset is made.
+-- The file at a path gives these bytes, and the ruleset is made of what is gathered from them and
+-- from the files of its folder, over the existing arrays.
 pub record IsMadeFrom (known : KnownFiles) (path : List ℕ) (old : List CellArray)
     (made : MadeRuleset) : Type 0 where
   pub bytes : List ℕ
@@ -41,9 +41,9 @@ pub record IsMadeFrom (known : KnownFiles) (path : List ℕ) (old : List CellArr
   pub is_gathered : IsGathered (known_beside known path) old bytes gathered
   pub made_of : IsMadeOf bytes gathered made
 
--- ---- what is made of what was gathered is what is loaded
+-- ---- the ruleset made of what was gathered is the one that is loaded
 
--- whatever its programs, no appid stands twice; and what is made of it is the manifest's ruleset
+-- whatever its programs, no appid is a duplicate; and the ruleset made of it is the manifest's
 pub record IsMadeLoad (known : KnownFiles) (old : List CellArray) (bytes : List ℕ) (g : Gathered)
     : Type 0 where
   pub once : (programs : List ShapedProgram) → AreJudged g.apps.items programs

@@ -1,4 +1,4 @@
--- A manifest has one load, and what is gathered of one has one judgement.
+-- A manifest has one load, and what is gathered of one has one verdict.
 use Rattle.std.specs.Prelude.{◌≡◌, ◌≢◌, ℕ, List, Option, Some, Result, Ok, Err}
 use Rattle.bounded_files.specs.Files.{KnownFile}
 use Rattle.bpf_semantics.specs.Program.{ShapedProgram}
@@ -15,29 +15,29 @@ use Rattle.load.specs.Judged.{AreJudged, RefusesFirst}
 use Rattle.load.specs.Load.{Loads}
 use Rattle.load.specs.Loaded.{LoadsFrom}
 
--- of files that tell their bytes, one directory and one manifest have one load, want of memory
--- aside: one ruleset, or one fault, and one directory after it
+-- for files with known bytes, one directory and one manifest have one load, unless memory runs out:
+-- one ruleset or one fault, and one directory after it
 abbrev pub HasOneLoad : Type 0
 HasOneLoad = (files : List ℕ → Option KnownFile) (old : List CellArray) (bytes : List ℕ)
     (r s : Result Rules LoadFault) (new last : List CellArray) → IsDirectory old
     → Loads (Some files) old bytes r new → Loads (Some files) old bytes s last
     → r ≢ Err Memory → s ≢ Err Memory → (r ≡ s) × (new ≡ last)
 
--- what is gathered of apps comes to: a program each, or the first fault
+-- the verdict on gathered apps: a program for each, or the first fault
 abbrev pub Judges : List GatheredApp → Result (List ShapedProgram) LoadFault → Type 0
 Judges apps (Ok programs) = AreJudged apps programs
 Judges apps (Err fault) = RefusesFirst apps fault
 
--- and it comes to one of these alone, want of memory aside
+-- there is only one verdict, unless memory runs out
 abbrev pub HasOneJudgement : Type 0
 HasOneJudgement = (apps : List GatheredApp) (r s : Result (List ShapedProgram) LoadFault)
     → Judges apps r → Judges apps s → r ≢ Err Memory → s ≢ Err Memory → r ≡ s
 
--- no growth was refused for it
+-- no allocation failed for it
 abbrev pub IsUntroubled : Result (Rules × List CellArray) PathFault → Type 0
 IsUntroubled r = (r ≢ Err (path.Resource resource.Memory)) × (r ≢ Err (path.Load Memory))
 
--- and so has the manifest at a path, with the files of its folder
+-- and the manifest at a path, with the files of its folder, has one load
 abbrev pub HasOneLoadFrom : Type 0
 HasOneLoadFrom = (files : List ℕ → Option KnownFile) (place : List ℕ) (old : List CellArray)
     (r s : Result (Rules × List CellArray) PathFault) → IsDirectory old

@@ -1,4 +1,4 @@
--- The program that an app's file gives, as a program's bytes or as the text of a rule.
+-- The program that an app's file gives: a program's bytes, or the text of a rule.
 use Rattle.std.specs.Prelude.{◌≡◌, ℕ, List, Option, Some, None, false}
 use Rattle.acceptance.specs.Program as program
 use Rattle.acceptance.specs.Program.{IsProgramOf, RefusesProgram}
@@ -21,7 +21,7 @@ abbrev pub IsProgramFrom : ProgramSource → List ℕ → ShapedProgram → Type
 IsProgramFrom (source.Program file) bytes p = IsProgramOf bytes p
 IsProgramFrom (source.Rule file) bytes p = IsProgramOfRule bytes p
 
--- why bytes are no program, and why they spell no rule; of want of memory nothing is said
+-- why bytes aren't a program, or don't spell a rule; running out of memory is always allowed
 abbrev pub RefusesBytes : List ℕ → AppShape → AppFault → Type 0
 RefusesBytes bytes shape (app.Program fault) =
     RefusesProgram bytes shape fault × (program.is_memory fault ≡ false)
@@ -34,12 +34,12 @@ RefusesText bytes shape (app.Rule fault) =
 RefusesText bytes shape app.Memory = Unit {0}
 RefusesText bytes shape fault = ⊥
 
--- why the bytes of the file give none
+-- why the bytes of the file give no program
 abbrev pub RefusesFile : ProgramSource → List ℕ → AppShape → AppFault → Type 0
 RefusesFile (source.Program file) bytes shape fault = RefusesBytes bytes shape fault
 RefusesFile (source.Rule file) bytes shape fault = RefusesText bytes shape fault
 
--- what a file gave: its bytes, or nothing, where it couldn't be read
+-- what a file gave: its bytes, or nothing if it couldn't be read
 abbrev pub Given : Type 0
 Given = Option (List ℕ)
 
@@ -48,7 +48,7 @@ abbrev pub IsProgramIn : KnownFiles → ProgramSource → ShapedProgram → Type
 IsProgramIn known from p =
     (bytes : List ℕ) × Gives known (file_of from) (Some bytes) × IsProgramFrom from bytes p
 
--- why there is none: no file, or what its bytes are
+-- why there is no program: no file, or a fault of its bytes
 abbrev pub RefusesSource : KnownFiles → ProgramSource → AppShape → AppFault → Type 0
 RefusesSource known from shape app.File = Gives known (file_of from) None
 RefusesSource known from shape app.Memory = Unit {0}

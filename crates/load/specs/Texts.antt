@@ -1,5 +1,4 @@
--- The texts of why a manifest comes to no ruleset, as they are printed. Arrays and apps are
--- numbered from 1.
+-- The printed texts of why a manifest gives no ruleset. Arrays and apps are numbered from 1.
 use Rattle.std.specs.Prelude.{ℕ, List, ◌++◌, codes, decimal}
 use Rattle.bounded_files.specs.Texts.{resource_text}
 use Rattle.cells.specs.Texts.{cells_fault_text}

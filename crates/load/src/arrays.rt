@@ -1,4 +1,4 @@
-//! The arrays of a manifest are declared behind those that stand.
+//! The arrays of a manifest are declared after the existing ones.
 
 ghost use Rattle.std.specs.Prelude.{◌<◌, length, All, IfOk, IfErr};
 ghost use mathlib.Core.List.{IsPrefix};

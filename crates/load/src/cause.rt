@@ -1,4 +1,4 @@
-//! What a log tells of a load that is refused, beside the fault's own text.
+//! The cause of a refused load, which a log prints after the fault's own text.
 
 ghost use Rattle.std.specs.Prelude.{◌≡◌, ◌++◌, IfOk, IfSome, OnOk, Some, string_bytes};
 ghost use Rattle.declarations.specs.Texts as declarations;
@@ -12,8 +12,8 @@ use rule_lang::array_named;
 use std::alloc::{AllocError, Global};
 use std::fmt::Write;
 
-/// What is told of the fault of a manifest of these arrays over those that stand, if anything is,
-/// and memory isn't refused.
+/// The cause of this fault of a manifest with these arrays, loaded over this directory; None if the
+/// fault has none or an allocation fails.
 pub(crate) fn cause_of(
     alloc: Global,
     directory: &Directory,
@@ -95,7 +95,7 @@ fn full_text(alloc: Global, array: &ArrayDeclaration) -> Result<String, AllocErr
     format!(in alloc; "{array} passes the 4096 cells that all arrays of a width have")
 }
 
-// An array, as a declaration of it is written.
+// An array, spelled like its declaration.
 fn push_array(text: &mut String, array: &CellArray) -> Result<(), AllocError>
     ensures { OnOk result (string_bytes text.new
         ≡ string_bytes text.old ++ declarations.declaration_text (specs.as_declared array.now)) }

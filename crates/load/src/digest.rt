@@ -1,5 +1,5 @@
-//! The digest of a manifest and of its apps' files: whether what a server serves is what lies in a
-//! folder is one comparison.
+//! The digest of a manifest and of its apps' files: one comparison shows whether a server serves
+//! what is in a folder.
 
 ghost use Rattle.std.specs.Prelude.{◌≡◌, ◌++◌, ℕ, List, Some};
 ghost use Rattle.std.specs.Option.{IsSome};
@@ -13,12 +13,12 @@ use crate::kept::KeptFile;
 use bpf_verify::Verified;
 use sha2::{Digest, Sha256};
 
-/// SHA-256 (FIPS 180-4) of a manifest's bytes, and of the bytes of its apps' files in their order,
-/// each piece behind its length in 8 bytes, of which the high one is the first. None where not all
-/// bytes of a file are kept.
+/// SHA-256 (FIPS 180-4) of a manifest's bytes, followed by the bytes of its apps' files in order,
+/// each piece after its length in 8 bytes, high byte first. None if not all bytes of some file are
+/// kept.
 pub fn digest_of(manifest: &[u8], apps: &[GatheredApp]) -> Option<[u8; 32]>
     ensures digest { result ≡ specs.digest_of manifest.now apps.now }
-    // Where each app has its program, all bytes of each file are kept, so there is a digest.
+    // If each app has its program, all bytes of each file are kept, so there is a digest.
     ensures judged { (programs : List ShapedProgram) → AreJudged apps.now programs
         → IsSome result }
 {
@@ -35,7 +35,7 @@ pub fn digest_of(manifest: &[u8], apps: &[GatheredApp]) -> Option<[u8; 32]>
     Some(hasher.finalize())
 }
 
-/// The digest of a manifest and of apps that have these programs: it is always there.
+/// The digest of a manifest and of apps with these programs; it always exists.
 pub fn judged_digest(manifest: &[u8], apps: &[GatheredApp], programs: &[Verified]) -> [u8; 32]
     requires { AreJudged apps.now programs.now }
     ensures { specs.digest_of manifest.now apps.now ≡ Some result }

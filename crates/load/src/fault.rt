@@ -1,4 +1,4 @@
-//! Why a manifest and its files make no ruleset.
+//! Why a manifest and its files give no ruleset.
 
 ghost use Rattle.std.specs.Prelude.{Some};
 ghost use Rattle.load.specs.Texts.{load_fault_text, path_fault_text};
@@ -10,21 +10,21 @@ use manifest::ManifestFault;
 use std::error::Error;
 use std::fmt;
 
-/// What is wrong, with the numbers M1 to M8 that are printed. Arrays and apps are numbered from 1
-/// in the order of the manifest.
+/// What is wrong, with the codes M1 to M8 that are printed. Arrays and apps are numbered from 1 in
+/// the order of the manifest.
 #[derive(Debug, Drop)]
 pub enum LoadFault {
-    /// M1 to M3: the bytes are no manifest. What it holds tells more than is printed.
+    /// M1 to M3: the bytes aren't a manifest. The fault inside has more details than are printed.
     Manifest(ManifestFault),
-    /// The file of an app can't be read.
+    /// M4: the file of an app can't be read.
     File { app: usize },
-    /// The bytes of a file are no program of its app.
+    /// M5: the bytes of a file aren't a program for its app.
     Program { app: usize, fault: ProgramFault },
-    /// The text of a file is no rule of its app.
+    /// M6: the text of a file isn't a rule for its app.
     Rule { app: usize, fault: RuleTextFault },
-    /// An array isn't declared: N1 or N2.
+    /// M7: an array can't be declared: N1 or N2.
     Cells { array: usize, fault: CellsFault },
-    /// M8: memory was refused, anywhere.
+    /// M8: out of memory.
     Memory,
 }
 
@@ -45,12 +45,12 @@ impl fmt::Display for LoadFault {
 
 impl Error for LoadFault {}
 
-/// Why the manifest at a path comes to no ruleset.
+/// Why the manifest at a path gives no ruleset.
 #[derive(Debug, Drop)]
 pub enum PathFault {
-    /// B3 and B4: it can't be read, or memory for its bytes was refused.
+    /// B3 and B4: the manifest can't be read, or an allocation for its bytes failed.
     Resource(ResourceFault),
-    /// M1 to M8: it and its files come to no ruleset.
+    /// M1 to M8: the manifest and its files give no ruleset.
     Load(LoadFault),
 }
 
@@ -72,10 +72,10 @@ impl Error for PathFault {}
 pub enum AppFault {
     /// Its file can't be read.
     File,
-    /// The bytes of its file are no program.
+    /// The bytes of its file aren't a program.
     Program(ProgramFault),
-    /// The text of its file is no rule.
+    /// The text of its file isn't a rule.
     Rule(RuleTextFault),
-    /// Memory was refused.
+    /// Out of memory.
     Memory,
 }

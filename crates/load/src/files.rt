@@ -9,23 +9,23 @@ use bounded_files::{KeptBytes, ResourceFault};
 
 /// Files by their names.
 pub trait Files {
-    /// To what each name leads, a file or nothing that can be read: known of files in memory, and
-    /// not of those of a device.
+    /// What each name leads to: a file, or nothing readable. It is known for files in memory and
+    /// unknown for those of a device.
     ghost known: { Self → Option (List ℕ → Option KnownFile) };
 
     /// How many files couldn't be read so far.
     ghost failed: { Self → ℕ };
 
-    /// The bytes of a file. One that can't be read is counted.
+    /// The bytes of a file. A file that can't be read is counted.
     fn bytes(&mut self, name: &str) -> Result<Vec<u8>, ResourceFault>
         requires { failed self.old < 2 ^ 64 - 1 }
         ensures known { known self.new ≡ known self.old }
         ensures read { ReadsFile (known self.old) name.now result }
         ensures count { CountsUnread (failed self.old) (failed self.new) result };
 
-    /// What is kept of a file: its bytes, if they are at most `most`; or else so many of the first,
-    /// how many they are, and whether they are UTF-8 to their end. One that can't be read is
-    /// counted. Files that needn't hold all bytes of a longer one have their own.
+    /// What is kept of a file: its bytes, if they are at most `most`; otherwise the first `most` of
+    /// them, how many there are, and whether they are UTF-8 to their end. A file that can't be read
+    /// is counted. Implementations that needn't hold all bytes of a longer file override this.
     fn keep(&mut self, name: &str, most: u32) -> Result<KeptBytes, ResourceFault>
         requires { failed self.old < 2 ^ 64 - 1 }
         ensures known { known self.new ≡ known self.old }
@@ -42,8 +42,8 @@ pub trait Files {
     fn failures(&self) -> u64
         ensures { result ≡ failed self.now };
 
-    /// Whether a symbolic link stands on the way of a name: the file itself is one, or a folder of
-    /// its path below the manifest's. None does in memory, and nothing is promised of it.
+    /// Whether the path of a name has a symbolic link: the file itself, or a folder below the
+    /// manifest's. Files in memory have none. Nothing is promised about the result.
     fn is_behind_link(&self, _name: &str) -> bool {
         false
     }

@@ -1,4 +1,4 @@
-//! The files that lie in the folder of a manifest.
+//! The files in the folder of a manifest.
 
 ghost use Rattle.std.specs.Prelude.{◌≡◌, IfOk};
 ghost use Rattle.std.specs.Path.{path_buf_bytes};
@@ -9,9 +9,9 @@ use bounded_files::{Disk, KeptBytes, MOST_BYTES, ResourceFault, read_regular_wit
 use std::alloc::{AllocError, Global};
 use std::path::{Path, PathBuf};
 
-/// Files named from the folder of a manifest. A name that is an absolute path is taken as it
-/// stands, and `..` leads out of the folder. What is no regular file, as a FIFO, a folder or a
-/// device, or has more than 16 MiB, counts as one that can't be read.
+/// Files named relative to the folder of a manifest. An absolute path is used as it is, and `..`
+/// leads out of the folder. Anything but a regular file (such as a FIFO, a folder or a device), and
+/// any file of more than 16 MiB, counts as unreadable.
 #[derive(Drop)]
 pub struct FolderFiles<'a, D> {
     alloc: Global,
@@ -21,7 +21,7 @@ pub struct FolderFiles<'a, D> {
 }
 
 impl<'a, D> FolderFiles<'a, D> {
-    /// The files beside the manifest of this path, of which none was read yet.
+    /// The files next to the manifest at this path, none read yet.
     pub fn beside(alloc: Global, disk: &'a D, manifest: &'a str) -> FolderFiles<'a, D>
         ensures disk { result.disk.now ≡ disk.now }
         ensures manifest { result.manifest.now ≡ manifest.now }
@@ -57,7 +57,7 @@ impl<'a, D: Disk> Files for FolderFiles<'a, D> {
         }
     }
 
-    // The same, without all bytes of a longer one.
+    // Without holding all bytes of a longer file.
     fn keep(&mut self, name: &str, most: u32) -> Result<KeptBytes, ResourceFault> {
         let Ok(place) = path_beside(self.alloc, self.manifest, name) else {
             return Err(ResourceFault::Memory);
@@ -90,8 +90,8 @@ impl<'a, D: Disk> Files for FolderFiles<'a, D> {
     }
 }
 
-// Whether a name, or the beginning of one, is a link; where memory for its path is refused, it
-// counts as one. The folder itself isn't asked.
+// Whether a name, or a prefix of one, is a symbolic link; if an allocation for its path fails, it
+// counts as one. The folder itself isn't tested.
 fn is_link_beside<D: Disk>(alloc: Global, disk: &D, manifest: &str, part: &str) -> bool {
     if part.is_empty() {
         return false;
@@ -102,7 +102,7 @@ fn is_link_beside<D: Disk>(alloc: Global, disk: &D, manifest: &str, part: &str) 
     }
 }
 
-// The path of a name from the folder of a manifest.
+// The path of a name, relative to the folder of a manifest.
 fn path_beside(alloc: Global, manifest: &str, name: &str) -> Result<PathBuf, AllocError>
     ensures { IfOk result (λ path. path_buf_bytes path ≡ specs.path_beside manifest.now name.now) }
 {

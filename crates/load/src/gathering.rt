@@ -1,4 +1,4 @@
-//! All that is taken of a manifest and its files, gathered before any app is judged.
+//! A manifest and its files, gathered before any app is judged.
 
 ghost use Rattle.std.specs.Prelude.{◌≡◌, ◌≢◌, ◌^◌, ◌+◌, ◌-◌, ◌<◌, ℕ, List, length};
 ghost use Rattle.std.specs.Prelude.{All, IsTrue, IfOk, IfErr, Ok};
@@ -23,12 +23,12 @@ use manifest::{
 };
 use std::alloc::{AllocError, Global};
 
-/// The most bytes that are read of files that are longer than they may be, before no further file
-/// is read: 64 MiB.
+/// The most bytes of files that are longer than they may be; once past it, no further file is read:
+/// 64 MiB.
 const MOST_LONG: u128 = 0x400_0000;
 
-/// An app of a manifest, its shape, what is kept of its file, and whether that lay behind a
-/// symbolic link when it was about to be read.
+/// An app of a manifest, its shape, what is kept of its file, and whether the file's path had a
+/// symbolic link just before it was read.
 #[derive(Drop)]
 pub struct GatheredApp {
     pub entry: AppEntry,
@@ -37,30 +37,30 @@ pub struct GatheredApp {
     pub behind_link: bool,
 }
 
-/// A manifest that was read: the text that names its server, its arrays, the directory in which
-/// they are declared behind those that stand, and its apps. Of 256 files at most 64 KiB each are
-/// kept.
+/// A manifest that was read: the text with its server's name, its arrays, the directory in which
+/// they are declared after the existing ones, and its apps. It keeps at most 64 KiB of each of at
+/// most 256 files.
 #[derive(Drop)]
 pub struct Gathered {
     pub server: Text,
     pub arrays: Vec<ArrayDeclaration>,
     pub directory: Directory,
     pub apps: Vec<GatheredApp>,
-    /// How many apps there are behind these, of which no file is read, since those of the apps
-    /// before them that are longer than they may be have more than 64 MiB in all. Where there is
-    /// one, some app before it has no program.
+    /// How many apps after these have no file read, because the files before them that are longer
+    /// than they may be have more than 64 MiB in all. If there is such an app, some app before it
+    /// has no program.
     pub unread: usize,
 }
 
-/// The apps whose files are read, and how many there are behind them.
+/// The apps whose files are read, and how many apps come after them.
 struct ReadApps {
     apps: Vec<GatheredApp>,
     unread: usize,
 }
 
-/// Why nothing is gathered: M1 to M3 and M7, for which no file is asked, or M8, also where some
-/// were read. Beside M7 it has the manifest's arrays, beside M8 those or none, and beside M1 to M3
-/// none, but what the bytes were parsed as.
+/// Why nothing is gathered: M1 to M3 and M7, for which no file is read, or M8, possibly after some
+/// were read. With M7 it has the manifest's arrays, with M8 those or none, and with M1 to M3 none,
+/// but what the bytes were parsed as.
 #[derive(Drop)]
 pub struct Ungathered {
     pub fault: LoadFault,
@@ -68,11 +68,12 @@ pub struct Ungathered {
     pub parsed: Parsed,
 }
 
-/// Gathers a manifest and its files, each of which is read once, and none behind more than 64 MiB
-/// of files that are longer than they may be. M8 comes, too, where as many files couldn't be read
-/// as can be counted.
-// open: whether memory is refused (M8), and beside M8 how many of the files that were read couldn't
-// be; that it asks whether a file is behind a link: `bench/hostile`; what a device's files give.
+/// Gathers a manifest and its files. Each file is read once, and none after more than 64 MiB of
+/// files that are longer than they may be. Also returns M8 if the count of unreadable files
+/// overflows.
+// open: whether an allocation fails (M8), and for M8 how many of the files that were read couldn't
+// be; that it asks the disk whether a file's path has a symbolic link: `bench/hostile`; what a
+// device's files contain.
 pub fn gather<F: Files>(
     alloc: Global,
     manifest: &[u8],
@@ -82,10 +83,10 @@ pub fn gather<F: Files>(
     ensures known { F.known files.new ≡ F.known files.old }
     ensures gathered { IfOk result (IsGathered (F.known files.old) directory.now manifest.now) }
     ensures grown { IfOk result (λ g. IsPrefix directory.now g.directory) }
-    // A file that couldn't be read is counted, and no other.
+    // Each file that couldn't be read is counted, and no other.
     ensures count { IfOk result (λ g.
         F.failed files.new ≡ F.failed files.old + failures_in g.apps.items) }
-    // Nor is one counted where none is asked for.
+    // Nor is one counted if no file is read.
     ensures uncounted { IfErr result (λ u. u.fault ≢ LoadFault.Memory
         → F.failed files.new ≡ F.failed files.old) }
     ensures fault { IfErr result (IsUngathered directory.now manifest.now) }
@@ -232,7 +233,7 @@ fn gather_app<F: Files>(
     })
 }
 
-// Whether one more file that can't be read can be counted.
+// Whether the count of unreadable files can grow by one more.
 fn can_count<F: Files>(files: &F) -> bool
     ensures { IsTrue result → F.failed files.now < 2 ^ 64 - 1 }
 {

@@ -1,4 +1,4 @@
-//! What is kept of an app's file is judged: it gives a program of the app's shape, or has a fault.
+//! Judging what is kept of an app's file: it gives a program of the app's shape, or has a fault.
 
 ghost use Rattle.std.specs.Prelude.{◌≡◌, ◌↔◌, ◌<◌, ℕ, List, length, IfOk, IfErr};
 ghost use Rattle.std.specs.Prelude.{IsTrue, IsUtf8};
@@ -18,9 +18,9 @@ use manifest::ProgramSource;
 use rule_lang::{RuleFault, RuleFaultKind};
 use std::alloc::Global;
 
-/// The program of an app, by what is kept of its file: M4 where it couldn't be read, M5 where its
-/// bytes are no program, M6 where its text is no rule, and M8 where memory is refused. Whatever
-/// bytes the file gave of which this is kept, the answer is theirs.
+/// The program of an app, from what is kept of its file. Returns M4 if the file couldn't be read,
+/// M5 if its bytes aren't a program, M6 if its text isn't a rule, and M8 if an allocation fails.
+/// The verdict is the same for any file of which this is kept.
 pub(crate) fn judge_file(
     alloc: Global,
     source: &ProgramSource,
@@ -78,7 +78,7 @@ fn program_of_rule(alloc: Global, text: &[u8], shape: &Shape) -> Result<Verified
     }
 }
 
-// The fault of a file of more bytes than it may have, under any shape.
+// The fault of a file that is longer than it may be, for any shape.
 fn too_long(source: &ProgramSource, is_text: bool) -> AppFault
     ensures { (bytes : List ℕ) (shape : AppShape) → IsLonger source.now is_text bytes
         → RefusesFile source.now bytes shape result }

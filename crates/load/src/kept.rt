@@ -1,5 +1,5 @@
-//! What is kept of a file that an app names: its bytes, if they are no more than a program, or the
-//! text of a rule, may have; else their beginning.
+//! What is kept of an app's file: all its bytes, if a program or a rule may have that many;
+//! otherwise only the beginning.
 
 ghost use Rattle.std.specs.Prelude.{◌≡◌, ◌^◌, ◌-◌, ◌<◌, List, ℕ, IfOk, Some};
 ghost use Rattle.bounded_files.specs.Kept.{IsKeptOf};
@@ -21,12 +21,12 @@ const MOST_RULE: u32 = rule_lang::MOST_RULE as u32;
 /// What is kept of a file.
 #[derive(Drop)]
 pub enum KeptFile {
-    /// Nothing, since it can't be read.
+    /// Nothing: it can't be read.
     Unread,
     /// All its bytes.
     Whole(Vec<u8>),
-    /// The beginning of more bytes than it may have, how many they are, and whether they are UTF-8
-    /// to their end.
+    /// The beginning of a file that is longer than it may be, how many bytes it has, and whether
+    /// they are UTF-8 to their end.
     Longer {
         beginning: Vec<u8>,
         count: usize,
@@ -78,7 +78,7 @@ fn most_of(source: &ProgramSource) -> u32
     }
 }
 
-/// How many bytes a file has, if they are more than it may have; else 0.
+/// How many bytes a file has if it is longer than it may be; otherwise 0.
 pub(crate) fn long_count(kept: &KeptFile) -> u128
     ensures count { result ≡ specs.long_count kept.now }
     ensures within { result < 2 ^ 64 }

@@ -1,27 +1,27 @@
-//! Loading: a manifest and the files that it names become a ruleset, and its arrays are declared.
+//! Loading: a manifest and its files become a ruleset, and its arrays are declared.
 //!
 //! See docs/DECISIONS.md, "Manifests".
 #![tactic(auto)]
 
-// How a load goes. First all of it is gathered (`gathering.rt`): the manifest is read, and its
-// arrays are declared, in a copy of the directory; they make with the number of its releases the
-// shape of each app. Then of the file of each app so much is kept as judging it takes (`kept.rt`).
-// What was gathered is judged in the order of the apps (`programs.rt`), as often as one likes, and
-// no file is read again: each is taken as a program and verified, or as the text of a rule and
-// compiled (`judging.rt`), and the first fault counts. Where all apps have their programs a ruleset
-// is made of them, with the digest of the very bytes that were judged (`made.rt`, `digest.rt`).
-// Only then is the directory exchanged for the copy, so a load that is refused declares nothing.
+// How a load works. First everything is gathered (`gathering.rt`). The manifest is read, and its
+// arrays are declared in a copy of the directory. The arrays and the number of an app's releases
+// make the app's shape. Then as much of each app's file is kept as judging takes (`kept.rt`). What
+// was gathered is judged in the order of the apps (`programs.rt`), any number of times, without
+// reading a file again. Each file is verified as a program, or compiled as the text of a rule
+// (`judging.rt`); the first fault counts. If all apps have their programs, a ruleset is made of
+// them, with the digest of exactly the bytes that were judged (`made.rt`, `digest.rt`). Only then
+// is the directory replaced by the copy, so a refused load declares nothing.
 //
-// A load is this, of a manifest's bytes and of any files (`load_bytes` in `loading.rt`). Servers
-// load the manifest at a path by it (`path.rt`); `load_over` and `load_ruleset` are calls of it.
+// A load takes a manifest's bytes and any files (`load_bytes` in `loading.rt`). Servers use it to
+// load the manifest at a path (`path.rt`); `load_over` and `load_ruleset` call it.
 //
-// A file is read to its end, but of one that is longer than it may be only the beginning is kept,
-// how many bytes it has, and whether they are a text. Such a file is a fault of its own, so once
-// those that were gathered have more than 64 MiB in all, the first fault is among them, and no
-// further file is read.
+// A file is read to its end. If it is longer than it may be, only its beginning is kept, how many
+// bytes it has, and whether they are text. Such a file is always a fault. So once those that were
+// gathered have more than 64 MiB in all, the first fault is among them, and no further file is
+// read.
 //
-// Files are read through a trait, so that files in memory can stand in for those of a device; of
-// these the contracts say which file of which folder was taken.
+// Files are read through a trait, so that files in memory can replace those of a device; for files
+// in memory the contracts say which file of which folder was read.
 
 mod arrays;
 mod cause;

@@ -19,8 +19,7 @@ use cells::{Directory, arrays_stay};
 use ruleset::Ruleset;
 use std::alloc::Global;
 
-/// What `load_over` comes to, with the directory changed in place. After any refusal it is as it
-/// was.
+/// Does what `load_over` does, but changes the directory in place. After a refusal it is unchanged.
 // open: what `load_over` leaves open.
 pub fn load_ruleset<F: Files>(
     alloc: Global,
@@ -44,15 +43,20 @@ pub fn load_ruleset<F: Files>(
 }
 
 /// The ruleset of a manifest, a TOML document of at most 1048576 bytes, and the directory with its
-/// arrays declared behind those that stand; its programs know no others. Array i of the manifest,
-/// from 0, is map i of each of its programs.
+/// arrays declared after the existing ones; its programs know no other arrays. Array i of the
+/// manifest, from 0, is map i of each of its programs.
 ///
-/// The faults come in this order: M1 to M3 of the manifest; M7 of the first array that isn't
-/// declared; then app by app M4 if its file can't be read, M5 if its bytes are no program, or M6
-/// if they spell no rule. All files are read before the first is judged, as by `gather`. M8 comes
-/// if memory is refused, or if as many files couldn't be read as can be counted.
-// open: whether memory is refused (M8), and beside M8 how many of the files that were read couldn't
-// be; what a device's files give.
+/// Returns the first fault in this order:
+///
+/// - M1 to M3 of the manifest;
+/// - M7 of the first array that can't be declared;
+/// - app by app, M4 if its file can't be read, M5 if its bytes aren't a program, or M6 if they
+///   don't spell a rule.
+///
+/// All files are read before the first is judged, as in `gather`. Returns M8 if an allocation fails
+/// or the count of unreadable files overflows.
+// open: whether an allocation fails (M8), and for M8 how many of the files that were read couldn't
+// be; what a device's files contain.
 pub fn load_over<F: Files>(
     alloc: Global,
     manifest: &[u8],
@@ -82,14 +86,14 @@ pub fn load_over<F: Files>(
     }
 }
 
-/// Why the bytes of a manifest come to no ruleset, and what a log prints beside it.
+/// Why the bytes of a manifest give no ruleset, and the cause that a log prints with the fault.
 #[derive(Drop)]
 pub(crate) struct BytesRefusal {
     pub(crate) fault: LoadFault,
     pub(crate) cause: Option<String>,
 }
 
-/// What these bytes, of a manifest, and the files that they name come to.
+/// The load of these bytes, of a manifest, and of the files that they name.
 pub(crate) fn load_bytes<F: Files>(
     alloc: Global,
     manifest: &[u8],
@@ -105,7 +109,7 @@ pub(crate) fn load_bytes<F: Files>(
     ensures only { IfOk result (λ made. KnowsOnly made.directory made.rules) }
     ensures grown { IfOk result (λ made. IsPrefix directory.now made.directory) }
     ensures count { IfOk result (λ made. F.failed files.new ≡ F.failed files.old) }
-    // M4 comes only if the count rose.
+    // M4 is returned only if the count rose.
     ensures failed { IfErr result (λ refused.
         CountsFault (F.failed files.old) (F.failed files.new) refused.fault) }
 {
@@ -124,7 +128,7 @@ pub(crate) fn load_bytes<F: Files>(
     }
 }
 
-// Why nothing is gathered of a manifest's bytes, with its cause.
+// Why nothing is gathered from a manifest's bytes, with the cause.
 fn refused(alloc: Global, directory: &Directory, ungathered: Ungathered) -> BytesRefusal
     ensures fault { result.fault ≡ ungathered.fault }
     ensures cause { (known : KnownFiles) (bytes : List ℕ)

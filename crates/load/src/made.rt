@@ -1,4 +1,4 @@
-//! A ruleset that is made of what was gathered, with the digest of all that was judged.
+//! A ruleset made of what was gathered, with the digest of everything that was judged.
 
 ghost use Rattle.std.specs.Prelude.{All, List, IfOk, IfErr};
 ghost use Rattle.bpf_semantics.specs.Program.{ShapedProgram};
@@ -15,8 +15,8 @@ use cells::Directory;
 use ruleset::Ruleset;
 use std::alloc::Global;
 
-/// A ruleset, the directory with its arrays declared behind those that stood, and the digest of the
-/// manifest and of the files of which it was made (`digest_of`).
+/// A ruleset, the directory with its arrays declared after the existing ones, and the digest of the
+/// manifest and the files of which it was made (`digest_of`).
 #[derive(Drop)]
 pub struct MadeRuleset {
     pub rules: Ruleset,
@@ -24,9 +24,9 @@ pub struct MadeRuleset {
     pub digest: [u8; 32],
 }
 
-/// The ruleset of what was gathered of a manifest of these bytes, or the fault of the first app
-/// that has no program.
-// open: whether memory is refused (M8).
+/// The ruleset of what was gathered from a manifest with these bytes, or the fault of the first app
+/// without a program.
+// open: whether an allocation fails (M8).
 pub fn make_ruleset(
     alloc: Global,
     manifest: &[u8],

@@ -19,13 +19,13 @@ use manifest::{ManifestFault, TomlFault};
 use ruleset::Ruleset;
 use std::alloc::Global;
 
-/// The most bytes of a manifest, 1 MiB, as a disk counts them.
+/// The most bytes of a manifest, 1 MiB, in the disk's type.
 pub const MOST_MANIFEST: u32 = manifest::MOST_MANIFEST as u32;
 
-/// The ruleset of the manifest at a path, and the directory with its arrays declared behind those
-/// that stand. The files that it names lie in its folder. It has to be a regular file, as have
-/// they; B3 comes where it isn't, or can't be read.
-// open: whether memory is refused (M8, B4); what a device's files give.
+/// The ruleset of the manifest at a path, and the directory with its arrays declared after the
+/// existing ones. The manifest's files are named relative to its folder. It and its files must be
+/// regular files; returns B3 if the manifest isn't one or can't be read.
+// open: whether an allocation fails (M8, B4); what a device's files contain.
 #[tactic(auto, using(crate::proofs::Causes::refuses))]
 pub fn load_path<D: Disk>(
     alloc: Global,
@@ -54,9 +54,9 @@ pub fn load_path<D: Disk>(
     }
 }
 
-/// The same, with what a log tells of it: the digest of all that was judged, or beside a fault its
-/// cause. All files are read before the first is judged.
-// open: whether memory is refused (M8, B4), also to a cause; what a device's files give.
+/// Does what `load_path` does, and returns what a log prints: the digest of everything that was
+/// judged, or a fault's cause. All files are read before the first is judged.
+// open: whether an allocation fails (M8, B4), also for a cause; what a device's files contain.
 #[tactic(auto, using(crate::proofs::Making::is_loaded))]
 pub fn load_told<D: Disk>(
     alloc: Global,
@@ -84,13 +84,13 @@ pub fn load_told<D: Disk>(
     }
 }
 
-/// The bytes of the manifest at a path, at most 1048576: M1 where it has more, and B3 where it is
-/// no regular file, or can't be read.
-// open: whether memory is refused (B4); what a device's files give.
+/// The bytes of the manifest at a path, at most 1048576. Returns M1 if it has more, and B3 if it
+/// isn't a regular file or can't be read.
+// open: whether an allocation fails (B4); what a device's files contain.
 pub fn manifest_bytes<D: Disk>(disk: &D, path: &str) -> Result<Vec<u8>, PathFault>
     ensures given { IfOk result
         (λ bytes. Gives (regular_files (D.known disk.now)) path.now (Some bytes.items)) }
-    // Whatever the arrays are over which it would be loaded.
+    // For any arrays over which it would be loaded.
     ensures fault { IfErr result (λ fault.
         (old : List CellArray) → RefusesPath (D.known disk.now) path.now old fault) }
 {

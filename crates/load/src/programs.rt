@@ -1,4 +1,4 @@
-//! Apps that were gathered are judged: each gives its program, or the first that gives none counts.
+//! Judging the gathered apps: each gives its program, or the first fault counts.
 
 ghost use Rattle.std.specs.Prelude.{◌≡◌, All, IfOk, IfErr};
 ghost use Rattle.load.specs.Apps as specs;
@@ -15,8 +15,8 @@ use ruleset::App;
 use std::alloc::{AllocError, Global};
 use std::sync::Arc;
 
-/// The programs of all apps, in their order, or the fault of the first that has none.
-// open: whether memory is refused (M8).
+/// The programs of all apps, in order, or the fault of the first app without one.
+// open: whether an allocation fails (M8).
 pub fn judge(alloc: Global, apps: &[GatheredApp]) -> Result<Vec<Verified>, LoadFault>
     ensures programs { IfOk result (λ v. AreJudged apps.now v.items) }
     ensures fault { IfErr result (RefusesFirst apps.now) }
@@ -37,7 +37,7 @@ pub fn judge(alloc: Global, apps: &[GatheredApp]) -> Result<Vec<Verified>, LoadF
 }
 
 /// The program of an app by itself, or its fault.
-// open: whether memory is refused (M8).
+// open: whether an allocation fails (M8).
 pub fn judge_app(alloc: Global, app: &GatheredApp) -> Result<Verified, AppFault>
     ensures program { IfOk result (IsJudged app.now) }
     ensures fault { IfErr result (RefusesGathered app.now) }
@@ -45,7 +45,7 @@ pub fn judge_app(alloc: Global, app: &GatheredApp) -> Result<Verified, AppFault>
     judge_file(alloc, app.entry.source(), &app.kept, &app.shape)
 }
 
-/// The fault of the app of this number.
+/// The fault of the app with this number.
 pub fn in_app(app: usize, fault: AppFault) -> LoadFault
     ensures { result ≡ specs.in_app app fault }
 {
@@ -58,7 +58,7 @@ pub fn in_app(app: usize, fault: AppFault) -> LoadFault
 }
 
 /// The apps, each with its program.
-// open: whether memory is refused, its one error.
+// open: whether an allocation fails, its only error.
 pub fn supply(
     alloc: Global,
     apps: Vec<GatheredApp>,

@@ -1,4 +1,4 @@
-//! Why a load is refused, with what a log tells of it beside.
+//! Why a load is refused, with the cause that a log prints.
 
 ghost use Rattle.std.specs.Prelude.{◌≡◌, Some, None};
 ghost use Rattle.load.specs.Texts.{path_fault_text};
@@ -7,18 +7,18 @@ use crate::fault::PathFault;
 use std::error::Error;
 use std::fmt;
 
-/// Why the manifest at a path comes to no ruleset. It is shown as its fault.
+/// Why the manifest at a path gives no ruleset. It is displayed as its fault.
 #[derive(Debug, Drop)]
 pub struct LoadRefusal {
     pub fault: PathFault,
-    /// What is told beside: the member that doesn't fit, and what is wanted there; what stands
-    /// twice; or an array as it stands, and as the manifest has it. None of other faults, nor where
-    /// memory for it was refused.
+    /// The details that are logged with the fault: the wrong member, and what is expected there;
+    /// the duplicate name; or an array as it exists, and as the manifest has it. None for other
+    /// faults, or if an allocation for it failed.
     pub cause: Option<String>,
 }
 
 impl LoadRefusal {
-    // A fault of which nothing is told beside.
+    // A fault without a cause.
     pub(crate) fn of(fault: PathFault) -> LoadRefusal
         ensures fault { result.fault ≡ fault }
         ensures cause { result.cause ≡ None }

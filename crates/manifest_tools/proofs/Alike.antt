@@ -1,4 +1,4 @@
--- Clients that say the same, but for appid and cohort, are asked alike.
+-- Clients that differ only in appid and cohort give the same simulation.
 use Rattle.std.proofs.Common.{◌≡◌, ap, subst, ℕ, List, Option, Some, None}
 use Rattle.simulate.specs.Clients.{IsSameButApp, asking_for, attributes, clients}
 use Rattle.simulate.specs.Course.{AppByApp, AsksForApp, InTurn, IsSimulated}
@@ -37,7 +37,7 @@ simulated_alike c d apps chosen same is = record {
   course = course_alike c d is.zeros apps chosen is.left same is.course;
 }
 
--- so are those of one app
+-- also of one app
 picked_alike : (c d : Client) (apps : List AppRule) (appid : List ℕ) (s : Simulation)
     → IsSameButApp c d → HasPicked d apps appid s → HasPicked c apps appid s
 picked_alike c d apps appid s same (nothing lacks apps_none chosen_none) =

@@ -1,4 +1,4 @@
--- Values without a float: what is told of a check has none.
+-- Values without a float: the report on a check has none.
 use Rattle.std.proofs.Common.{◌≡◌, refl, ℕ, List, [], ◌∷◌, ◌++◌, Bool, true, false, ◌||◌, map}
 use Rattle.std.proofs.Common.{Option, None, Some}
 use Rattle.std.specs.Borrow.{Bor}

@@ -1,4 +1,4 @@
--- Manifests that are checked, one after the other.
+-- Manifests that are checked, in order.
 use Rattle.std.proofs.Common.{◌≡◌, ◌∙◌, ap, sym, ℕ, ◌+◌, ◌<◌, List, [], ◌∷◌, ◌++◌, length}
 use Rattle.std.proofs.Common.{Bool, true, false, ◌&&◌, add-one, append-nil, get_or, refl, take}
 use Rattle.std.proofs.Math.Seq.{take-suc}
@@ -47,9 +47,9 @@ refused_more known strict allowed path fault old new checked added = record {
   passes_is = added.passes_is ∙ sym (and_no old.passes);
 }
 
--- ---- one after the other
+-- ---- in order
 
--- so many of the manifests are told
+-- the first `n` manifests are reported
 abbrev pub AreToldSoFar : KnownFiles → (strict : Bool) → (allowed paths : List (Bor (List ℕ)))
     → (n : ℕ) → ToldChecks → Type 0
 AreToldSoFar known strict allowed paths n told =

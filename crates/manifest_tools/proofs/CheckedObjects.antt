@@ -1,4 +1,4 @@
--- Manifests that are checked and told as JSON, one after the other.
+-- Manifests that are checked and reported as JSON, in order.
 use Rattle.std.proofs.Common.{◌≡◌, ℕ, ◌+◌, ◌<◌, List, [], ◌∷◌, ◌++◌, length, map}
 use Rattle.std.proofs.Common.{Bool, true, add-one, get_or, take}
 use Rattle.std.proofs.Math.Seq.{take-suc}
@@ -11,7 +11,7 @@ use Rattle.manifest_tools.specs.declared.check_json.ToldObjects.{ToldObjects}
 use Rattle.serde_json.specs.View.{view}
 use Rattle.serde_json.specs.declared.value.Value.{Value}
 
--- so many of the manifests are told
+-- the first `n` manifests are reported
 abbrev pub AreToldSoFar : KnownFiles → (strict : Bool) → (allowed paths : List (Bor (List ℕ)))
     → (n : ℕ) → ToldObjects → Type 0
 AreToldSoFar known strict allowed paths n told =

@@ -1,5 +1,5 @@
 -- Checks of manifests as JSON (RFC 8259): an object for each, and whether they pass. The members of
--- an object are in the order of their names.
+-- an object are sorted by name.
 use Rattle.std.specs.Prelude.{◌≡◌, ℕ, List, [], ◌∷◌, ◌++◌, Bool, true, false, ◌&&◌, codes, map}
 use Rattle.std.specs.Prelude.{Option, Some, None, length}
 use Rattle.std.specs.Borrow.{Bor}
@@ -31,13 +31,13 @@ use Rattle.warnings.specs.declared.warning.Warning.{Warning}
 abbrev pub list_of : List Data → Data
 list_of values = array (items_of values)
 
--- ---- of a manifest that is accepted
+-- ---- an accepted manifest
 
 abbrev pub bits_of : CellWidth → ℕ
 bits_of Bits32 = 32
 bits_of Bits64 = 64
 
--- null where an array has no quota; where it has one, its number (a manifest's is 1 to 2^63 - 1)
+-- null if an array has no quota; otherwise its number (a manifest's is 1 to 2^63 - 1)
 abbrev pub quota_object : Option ℕ → Data
 quota_object None = null
 quota_object (Some quota) = number (unsigned quota)
@@ -50,7 +50,7 @@ array_object d = object (
     member (codes "width") (number (unsigned (bits_of d.width)))
     no_members))))
 
--- how many releases an app has, and how many slots its program
+-- how many releases an app has, and how many slots its program has
 abbrev pub checked_app_object : AppRule → Data
 checked_app_object app = object (
     member (codes "appid") (string app.appid) (
@@ -58,7 +58,7 @@ checked_app_object app = object (
     member (codes "slots") (number (unsigned (length app.program.code)))
     no_members)))
 
--- whether it counts in a strict check, told also where this check isn't strict; its name, and
+-- whether it would count in a strict check (given also if this check isn't strict); its name; and
 -- where it is and what it says
 abbrev pub warning_object : (allowed : List (Bor (List ℕ))) → Warning → Data
 warning_object allowed w = object (
@@ -78,10 +78,10 @@ accepted_object allowed path told = object (
     member (codes "warnings") (list_of (map (warning_object allowed) told.warnings.items))
     no_members))))))
 
--- ---- of one that is refused
+-- ---- a refused manifest
 
--- the words of its refusal, and the lines of where and why (in these a control character stands
--- by its number already)
+-- the text of its refusal, and the lines of where and why (in which control characters are already
+-- replaced by their numbers)
 abbrev pub fault_object : (refusal reason : List ℕ) → Data
 fault_object refusal reason = object (
     member (codes "reason") (string reason) (
@@ -91,7 +91,7 @@ fault_object refusal reason = object (
 abbrev pub further_object : ToldFault → Data
 further_object told = fault_object (load_fault_text told.fault) (string_bytes told.reason)
 
--- the fault that it is refused for, and further ones
+-- the fault for which it is refused, and further ones
 abbrev pub told_objects : Refused → List Data
 told_objects refused =
     fault_object (load_fault_text refused.fault) (string_bytes refused.own)
@@ -101,7 +101,7 @@ abbrev pub fault_objects : ManifestToolFault → List Data
 fault_objects (fault.Diagnosed refused) = told_objects refused
 fault_objects refused = fault_object (fault_text refused) [] ∷ []
 
--- how many further faults aren't told, and how many apps have files that weren't read
+-- how many further faults are left out, and how many apps have files that weren't read
 abbrev pub left_out_of : ManifestToolFault → ℕ
 left_out_of (fault.Diagnosed refused) = refused.left_out
 left_out_of refused = 0
@@ -119,7 +119,7 @@ refused_object path refused = object (
     member (codes "unread_apps") (number (unsigned (unread_of refused)))
     no_members)))))
 
--- ---- of all
+-- ---- all manifests
 
 abbrev pub checks_object : List Data → (passes : Bool) → Data
 checks_object manifests passes = object (
@@ -128,7 +128,7 @@ checks_object manifests passes = object (
     no_members))
 
 module _ (known : KnownFiles) (strict : Bool) (allowed : List (Bor (List ℕ))) where
-  -- what is told of one, and whether it passes
+  -- the object of a manifest, and whether it passes
   pub data IsToldAs (path : List ℕ) : Data → (passes : Bool) → Type 0 where
     accepted : (told : CheckedManifest) → IsChecked known path told
         → IsToldAs path (accepted_object allowed path told)
@@ -136,7 +136,7 @@ module _ (known : KnownFiles) (strict : Bool) (allowed : List (Bor (List ℕ))) 
     refused : (why : ManifestToolFault) → IsCheckRefusal known path why
         → IsToldAs path (refused_object path why) false
 
-  -- of one after the other; all of them have to pass
+  -- the objects of manifests, in order; all have to pass
   pub data AreToldAs : List (Bor (List ℕ)) → List Data → (passes : Bool) → Type 0 where
     none : AreToldAs [] [] true
     next : (paths : List (Bor (List ℕ))) (path : Bor (List ℕ)) (values : List Data)
@@ -144,7 +144,7 @@ module _ (known : KnownFiles) (strict : Bool) (allowed : List (Bor (List ℕ))) 
         → IsToldAs path.now value one
         → AreToldAs (paths ++ path ∷ []) (values ++ value ∷ []) (all && one)
 
-  -- a line of JSON, and nothing beside it
+  -- a line of JSON, and nothing in `beside`
   pub record AreCheckedAsJson (paths : List (Bor (List ℕ))) (told : ToldChecks) : Type 0 where
     pub values : List Data
     pub told_as : AreToldAs paths values told.passes
@@ -159,7 +159,7 @@ AreToldChecks known false strict allowed paths told = AreChecked known strict al
 AreToldChecks known true strict allowed paths told =
     AreCheckedAsJson known strict allowed paths told
 
--- as JSON each is told, where there is memory
+-- as JSON each manifest is reported, unless memory runs out
 abbrev pub AreToldRefusal : KnownFiles → (json : Bool) → List (Bor (List ℕ)) → ManifestToolFault
     → Type 0
 AreToldRefusal known false paths why = AreCheckRefusal known paths why

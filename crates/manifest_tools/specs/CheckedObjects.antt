@@ -1,4 +1,4 @@
--- One object more, of a check of manifests that is told as JSON.
+-- One more object of a check that is reported as JSON.
 use Rattle.std.specs.Prelude.{◌≡◌, ℕ, List, [], ◌∷◌, ◌++◌, Bool, ◌&&◌, map}
 use Rattle.std.specs.Borrow.{Bor}
 use Rattle.bounded_files.specs.Files.{KnownFiles}
@@ -7,7 +7,7 @@ use Rattle.manifest_tools.specs.declared.check_json.ToldObjects.{ToldObjects}
 use Rattle.serde_json.specs.Data.{Data}
 use Rattle.serde_json.specs.View.{view}
 
--- behind those that were told; all of them have to pass
+-- adds the object of a manifest; all have to pass
 pub record AddsToldAs (known : KnownFiles) (strict : Bool) (allowed : List (Bor (List ℕ)))
     (path : List ℕ) (old new : ToldObjects) : Type 0 where
   pub value : Data

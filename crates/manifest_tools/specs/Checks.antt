@@ -1,4 +1,4 @@
--- Manifests that are checked, one alone or several, and which of them pass.
+-- Manifests that are checked, one or several, and which of them pass.
 use Rattle.std.specs.Prelude.{◌≡◌, ℕ, List, [], ◌∷◌, ◌++◌, Bool, true, false, not, ◌&&◌, codes}
 use Rattle.std.specs.Borrow.{Bor}
 use Rattle.std.specs.String.{string_bytes}
@@ -18,7 +18,7 @@ use Rattle.warnings.specs.declared.warning.Warning.{Warning}
 
 -- ---- of one manifest
 
--- one that is accepted passes, but where the check is strict and a warning isn't allowed
+-- an accepted manifest passes, unless the check is strict and some warning isn't allowed
 abbrev pub passes : (strict : Bool) → (allowed : List (Bor (List ℕ))) → List Warning → Bool
 passes strict allowed warnings = not (strict && some_counts allowed warnings)
 
@@ -26,14 +26,15 @@ passes strict allowed warnings = not (strict && some_counts allowed warnings)
 abbrev pub digest_line : List ℕ → List ℕ
 digest_line digest = line (codes "digest " ++ encode_lower digest)
 
--- of an accepted one: its lines with the digest, those of its warnings, and whether it passes
+-- the report on an accepted manifest: its lines with the digest, those of its warnings, and whether
+-- it passes
 pub record TellsChecked (strict : Bool) (allowed : List (Bor (List ℕ))) (one : CheckedManifest)
     (told : ToldChecks) : Type 0 where
   pub text_is : string_bytes told.text ≡ string_bytes one.text ++ digest_line one.digest
   pub beside_is : string_bytes told.beside ≡ warnings_text one.warnings.items
   pub passes_is : told.passes ≡ passes strict allowed one.warnings.items
 
--- of a refused one: the line of its refusal, and behind it where and why
+-- the report on a refused manifest: the line of its refusal, followed by where and why
 abbrev pub reason_behind : ManifestToolFault → List ℕ
 reason_behind (fault.Diagnosed refused) = string_bytes refused.reason
 reason_behind refused = []
@@ -41,7 +42,7 @@ reason_behind refused = []
 abbrev pub refusal_text : ManifestToolFault → List ℕ
 refusal_text refused = line (codes "refused " ++ fault_text refused) ++ reason_behind refused
 
--- ---- of several: lines under the name of their manifest
+-- ---- several manifests: lines under the name of their manifest
 
 abbrev pub title : (path : List ℕ) → List ℕ
 title path = line (codes "manifest " ++ printed path)
@@ -53,14 +54,14 @@ abbrev pub titled_if_any : (path lines : List ℕ) → List ℕ
 titled_if_any path [] = []
 titled_if_any path (c ∷ cs) = titled path (c ∷ cs)
 
--- behind what was told, of one that is accepted: its lines, and those of its warnings
+-- adds an accepted manifest: its lines, and those of its warnings
 pub record AddsAccepted (path : List ℕ) (one old new : ToldChecks) : Type 0 where
   pub text_is : string_bytes new.text ≡ string_bytes old.text ++ titled path (string_bytes one.text)
   pub beside_is : string_bytes new.beside
       ≡ string_bytes old.beside ++ titled_if_any path (string_bytes one.beside)
   pub passes_is : new.passes ≡ (old.passes && one.passes)
 
--- and of one that is refused: why it is
+-- adds a refused manifest: why it is refused
 pub record AddsRefused (path : List ℕ) (why : ManifestToolFault) (old new : ToldChecks) : Type 0
   where
     pub text_is : new.text ≡ old.text
@@ -68,16 +69,16 @@ pub record AddsRefused (path : List ℕ) (why : ManifestToolFault) (old new : To
         ≡ string_bytes old.beside ++ titled path (refusal_text why)
     pub passes_is : new.passes ≡ false
 
--- ---- which are told
+-- ---- which manifests are reported
 
 module _ (known : KnownFiles) (strict : Bool) (allowed : List (Bor (List ℕ))) where
-  -- one alone
+  -- the check of a single manifest
   pub record IsCheckedAlone (path : List ℕ) (told : ToldChecks) : Type 0 where
     pub one : CheckedManifest
     pub checked : IsChecked known path one
     pub tells : TellsChecked strict allowed one told
 
-  -- one of several: its lines, what is told beside them, and whether it passes
+  -- one of several: its lines, those in `beside`, and whether it passes
   pub data IsCheckedAmong (path : List ℕ) : (text beside : List ℕ) → (passes : Bool) → Type 0
     where
       accepted : (told : ToldChecks) → IsCheckedAlone path told
@@ -86,7 +87,7 @@ module _ (known : KnownFiles) (strict : Bool) (allowed : List (Bor (List ℕ))) 
       refused : (why : ManifestToolFault) → IsCheckRefusal known path why
           → IsCheckedAmong path [] (titled path (refusal_text why)) false
 
-  -- one more, behind what was told; all of them have to pass
+  -- adds one more manifest; all have to pass
   pub record AddsChecked (path : List ℕ) (old new : ToldChecks) : Type 0 where
     pub text : List ℕ
     pub beside : List ℕ
@@ -96,7 +97,7 @@ module _ (known : KnownFiles) (strict : Bool) (allowed : List (Bor (List ℕ))) 
     pub beside_is : string_bytes new.beside ≡ string_bytes old.beside ++ beside
     pub passes_is : new.passes ≡ (old.passes && one)
 
-  -- several, one after the other
+  -- several manifests, in order
   pub data AreCheckedEach : List (Bor (List ℕ)) → (text beside : List ℕ) → (passes : Bool)
       → Type 0 where
     none : AreCheckedEach [] [] [] true
@@ -110,7 +111,7 @@ module _ (known : KnownFiles) (strict : Bool) (allowed : List (Bor (List ℕ))) 
   AreChecked paths told =
       AreCheckedEach paths (string_bytes told.text) (string_bytes told.beside) told.passes
 
--- one alone is refused; of several each is told, where there is memory
+-- a single manifest is refused; for several, each is reported, unless memory runs out
 abbrev pub AreCheckRefusal : KnownFiles → List (Bor (List ℕ)) → ManifestToolFault → Type 0
 AreCheckRefusal known (path ∷ []) why = IsCheckRefusal known path.now why
 AreCheckRefusal known paths (fault.Resource resource.Memory) = Unit {0}

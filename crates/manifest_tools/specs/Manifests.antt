@@ -22,14 +22,14 @@ reply_line reply = line (reply_text reply)
 module _ (known : KnownFiles) where
   -- ---- check
 
-  -- the manifest of the file comes to a ruleset, of whose arrays and apps this is told, and these
-  -- are its warnings
+  -- the manifest of the file loads as a ruleset, whose arrays and apps are reported, with its
+  -- warnings
   abbrev pub IsChecked : (path : List ℕ) → CheckedManifest → Type 0
   IsChecked path told = OfFile (regular_files known) path (λ bytes.
       PassesCheck (known_beside known path) bytes told)
 
-  -- it is no regular file that can be read, or its manifest comes to none, where and why this is;
-  -- of want of memory for the file nothing is said
+  -- the file can't be read or isn't regular, or its manifest is refused, with where and why;
+  -- running out of memory for the file is always allowed
   abbrev pub IsCheckRefusal : List ℕ → ManifestToolFault → Type 0
   IsCheckRefusal path (fault.Resource resource.File) = Gives (regular_files known) path None
   IsCheckRefusal path (fault.Resource resource.Memory) = Unit {0}
@@ -40,20 +40,20 @@ module _ (known : KnownFiles) where
 
   -- ---- replay
 
-  -- the script was played, and its events came to these lines
+  -- the script was played, and its events gave these lines
   pub record HasReplayed (manifest script : List ℕ) (text : List ℕ) : Type 0 where
     pub replies : List Reply
     pub replied : IsReplay known manifest script replies
     pub lines : text ≡ flat_map reply_line replies
 
-  -- it wasn't played; of memory for the lines no claim is made
+  -- the script wasn't played; running out of memory for the lines is always allowed
   abbrev pub IsReplayRefusal : (manifest script : List ℕ) → ManifestToolFault → Type 0
   IsReplayRefusal manifest script (fault.Replay refused) =
       IsReplayFault known manifest script refused
   IsReplayRefusal manifest script (fault.Resource resource.Memory) = Unit {0}
   IsReplayRefusal manifest script refused = ⊥
 
--- ---- texts; B8: a manifest that is simulated doesn't have the one app that is to be told
+-- ---- texts; B8: a simulated manifest doesn't have the one app that is to be reported
 
 abbrev pub fault_text : ManifestToolFault → List ℕ
 fault_text (fault.Resource refused) = resource_text refused

@@ -1,5 +1,5 @@
--- Manifests that are simulated: each is loaded over no arrays, and asked for the clients in all
--- buckets. Of want of memory nothing is said.
+-- Manifests that are simulated: each is loaded over no arrays and evaluated for the clients in all
+-- buckets. Running out of memory is always allowed.
 use Rattle.std.specs.Prelude.{◌≡◌, ◌++◌, ℕ, List, [], Option, Some, None, IsSome, is_none}
 use Rattle.std.specs.Prelude.{Bool, true, false}
 use Rattle.std.specs.Option.{option_map}
@@ -22,24 +22,24 @@ use Rattle.manifest_tools.specs.declared.fault.ManifestToolFault.{ManifestToolFa
 use Rattle.manifest_tools.specs.declared.fault.ManifestToolFault.TheVariants as fault
 use Rattle.manifest_tools.specs.declared.told_simulation.ToldSimulation.{ToldSimulation}
 
--- ---- what is told of rulesets
+-- ---- the report on rulesets
 
 -- what the clients in all buckets get by a ruleset
 pub record IsSimulationOfAll (client : Client) (rules : Rules) (s : Simulation) : Type 0 where
   pub apps_are : s.apps ≡ rules.apps
   pub asked : IsSimulated client rules.apps s.chosen
 
--- of all its apps, or of the one of an appid
+-- the simulation of all its apps, or of the app with this appid
 abbrev pub IsSimulationBy : Client → Rules → (appid : Option (List ℕ)) → Simulation → Type 0
 IsSimulationBy client rules None s = IsSimulationOfAll client rules s
 IsSimulationBy client rules (Some appid) s = HasPicked client rules.apps appid s
 
--- it doesn't have the app of which alone is to be told
+-- the ruleset lacks the one app that is to be reported
 abbrev pub lacks_app : (appid : Option (List ℕ)) → Rules → Bool
 lacks_app None rules = false
 lacks_app (Some appid) rules = is_none (app_in rules.apps appid)
 
--- its picture, where a file is named for one
+-- the picture, if a file is named for it
 abbrev pub picture_if : (file : Option (List ℕ)) → Simulation → Option (List ℕ)
 picture_if None simulation = None
 picture_if (Some file) simulation = Some (picture simulation)
@@ -54,28 +54,28 @@ abbrev pub text_against : (json : Bool) → (now next : Simulation) → List ℕ
 text_against false now next = shares_text next ++ moves_text now next
 text_against true now next = json_line (comparison_object now next)
 
--- what is told of a simulation alone, and the picture of the same one
+-- the report on a simulation, and the picture of the same simulation
 pub record TellsAlone (json : Bool) (next : Simulation) (file : Option (List ℕ))
     (told : ToldSimulation) : Type 0 where
   pub text_is : string_bytes told.text ≡ text_alone json next
   pub picture_is : option_map string_bytes told.picture ≡ picture_if file next
   pub loses_is : told.loses ≡ false
 
--- against another one
+-- compared with another one
 pub record TellsAgainst (json : Bool) (next now : Simulation) (file : Option (List ℕ))
     (told : ToldSimulation) : Type 0 where
   pub text_is : string_bytes told.text ≡ text_against json now next
   pub picture_is : option_map string_bytes told.picture ≡ picture_if file next
   pub loses_is : told.loses ≡ is_lossy now next
 
--- of a ruleset alone
+-- the report on a single ruleset
 pub record ShowsAlone (json : Bool) (client : Client) (rules : Rules)
     (appid file : Option (List ℕ)) (told : ToldSimulation) : Type 0 where
   pub next : Simulation
   pub simulated : IsSimulationBy client rules appid next
   pub tells : TellsAlone json next file told
 
--- of a ruleset, against another one
+-- the report on a ruleset compared with another one
 pub record ShowsAgainst (json : Bool) (client : Client) (rules serving : Rules)
     (appid file : Option (List ℕ)) (told : ToldSimulation) : Type 0 where
   pub next : Simulation
@@ -84,18 +84,18 @@ pub record ShowsAgainst (json : Bool) (client : Client) (rules serving : Rules)
   pub served : IsSimulationBy client serving appid now
   pub tells : TellsAgainst json next now file told
 
--- ---- and of manifests
+-- ---- manifests
 
 module _ (known : KnownFiles) where
   -- the ruleset of a manifest
   abbrev pub IsLoadedAlone : (path : List ℕ) → Rules → Type 0
   IsLoadedAlone path rules = (arrays : List CellArray) × IsLoadedFrom known path [] rules arrays
 
-  -- that of one which has the app of which alone is to be told
+  -- the ruleset of a manifest that has the one app that is to be reported
   abbrev pub IsLoadedFor : (path : List ℕ) → (appid : Option (List ℕ)) → Rules → Type 0
   IsLoadedFor path appid rules = IsLoadedAlone path rules × (lacks_app appid rules ≡ false)
 
-  -- what is told of a simulation, and its picture
+  -- the report on a simulation, and its picture
   abbrev pub HasSimulated : (json : Bool) → Client → (manifest : List ℕ)
       → (against appid file : Option (List ℕ)) → ToldSimulation → Type 0
   HasSimulated json client manifest None appid file told =
@@ -106,19 +106,19 @@ module _ (known : KnownFiles) where
       × (serving : Rules) × IsLoadedAlone path serving
       × ShowsAgainst json client rules serving appid file told
 
-  -- the other manifest isn't loaded, and the first one is
+  -- the other manifest can't be loaded, and the first one can
   abbrev pub RefusesAgainst : (manifest : List ℕ) → (against appid : Option (List ℕ))
       → PathFault → Type 0
   RefusesAgainst manifest None appid why = ⊥
   RefusesAgainst manifest (Some path) appid why =
       (rules : Rules) × IsLoadedFor manifest appid rules × RefusesPath known path [] why
 
-  -- the manifest is loaded, and doesn't have the app
+  -- the manifest is loaded, and lacks the app
   abbrev pub LacksApp : (manifest : List ℕ) → (appid : Option (List ℕ)) → Type 0
   LacksApp manifest appid =
       (rules : Rules) × IsLoadedAlone manifest rules × (lacks_app appid rules ≡ true)
 
-  -- a manifest isn't loaded, or the first lacks the app
+  -- a manifest can't be loaded, or the first lacks the app
   abbrev pub IsLoadRefusal : (manifest : List ℕ) → (against appid : Option (List ℕ))
       → ManifestToolFault → Type 0
   IsLoadRefusal manifest against appid (fault.Load why) = RefusesPath known manifest [] why
@@ -135,7 +135,7 @@ module _ (known : KnownFiles) where
     pub told : ToldSimulation
     pub simulated : HasSimulated json client manifest against appid file told
 
-  -- nothing is told of the manifests, or else the picture can't be written
+  -- the manifests give no report, or the picture can't be written
   abbrev pub IsSimulationRefusal : (json : Bool) → Client → (manifest : List ℕ)
       → (against appid file : Option (List ℕ)) → ManifestToolFault → Type 0
   IsSimulationRefusal json client manifest against appid file (fault.Resource resource.File) =

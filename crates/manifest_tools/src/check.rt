@@ -1,4 +1,4 @@
-//! `check`: what a manifest declares and hardly means, or where and why it is refused.
+//! `check`: what a manifest declares and its warnings, or where and why it is refused.
 
 ghost use Rattle.std.specs.Prelude.{IfOk, IfErr};
 ghost use Rattle.manifest_tools.specs.Manifests.{IsChecked, IsCheckRefusal};
@@ -9,8 +9,8 @@ use diagnosis::{CheckedManifest, check, too_long};
 use load::{FolderFiles, MOST_MANIFEST};
 use std::alloc::Global;
 
-/// What is told of a file's manifest. The files that it names lie in its folder. It has to be a
-/// regular file, as have they; B3 comes where it isn't, or can't be read.
+/// The report on a file's manifest. The files that it names are relative to its folder. It and its
+/// files must be regular files; returns B3 if the manifest isn't one or can't be read.
 // open: what `check` of `diagnosis` leaves open.
 pub(crate) fn check_file<D: Disk>(
     alloc: Global,

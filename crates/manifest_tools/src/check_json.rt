@@ -1,4 +1,4 @@
-//! `check --json`: all that is told of manifests, as a line of JSON.
+//! `check --json`: the report on manifests, as a line of JSON.
 
 ghost use Rattle.std.specs.Prelude.{IfOk, map};
 ghost use Rattle.serde_json.specs.View.{view};
@@ -20,7 +20,7 @@ struct ToldObjects {
     passes: bool,
 }
 
-/// What is told of manifests, as a line of JSON.
+/// The report on manifests, as a line of JSON.
 pub(crate) fn check_as_json<D: Disk>(
     alloc: Global,
     disk: &D,
@@ -41,7 +41,7 @@ pub(crate) fn check_as_json<D: Disk>(
     })
 }
 
-// An object a manifest, one after the other.
+// An object for each manifest, in order.
 fn objects_of<D: Disk>(
     alloc: Global,
     disk: &D,
@@ -62,7 +62,7 @@ fn objects_of<D: Disk>(
     Ok(told)
 }
 
-// That of one more.
+// Adds the object of one more manifest.
 fn add_object<D: Disk>(
     alloc: Global,
     disk: &D,
@@ -79,7 +79,7 @@ fn add_object<D: Disk>(
     Ok(told)
 }
 
-// The object of one, and whether it passes.
+// The object of a manifest, and whether it passes.
 fn object_of<D: Disk>(
     alloc: Global,
     disk: &D,
@@ -98,7 +98,8 @@ fn object_of<D: Disk>(
         }
         Err(fault) => {
             let value = refused_object(alloc, path, &fault);
-            // One call. Left to the `?`, each of its many parts would have a call of its own.
+            // Dropped by one call: left to the `?`, each of its many parts would be dropped by its
+            // own call.
             drop(fault);
             Ok((value?, false))
         }

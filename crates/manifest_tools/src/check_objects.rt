@@ -1,4 +1,4 @@
-//! What is told of a manifest that was checked, as a JSON value.
+//! The report on a checked manifest, as a JSON value.
 
 ghost use Rattle.std.specs.Prelude.{◌≡◌, ◌∷◌, ◌++◌, [], IfOk, OnOk, map, string_bytes};
 ghost use Rattle.serde_json.specs.View.{view};
@@ -16,7 +16,7 @@ use simulate::push_value;
 use std::alloc::{AllocError, Global};
 use warnings::{Warning, push_warning_text, some_counts};
 
-/// A manifest that is accepted.
+/// The object of an accepted manifest.
 pub(crate) fn accepted_object(
     alloc: Global,
     allowed: &[&str],
@@ -128,7 +128,7 @@ fn warning_object(alloc: Global, allowed: &[&str], warning: &Warning) -> Result<
     json!(in alloc; {"counts": counts, "name": warning.kind.name(), "text": text})
 }
 
-/// All manifests by their objects, and whether they pass.
+/// The objects of all manifests, and whether they pass.
 pub(crate) fn checks_object(
     alloc: Global,
     manifests: Vec<Value>,
@@ -142,7 +142,7 @@ pub(crate) fn checks_object(
 
 // ---- refused
 
-/// A manifest that is refused.
+/// The object of a refused manifest.
 pub(crate) fn refused_object(
     alloc: Global,
     path: &str,
@@ -169,7 +169,7 @@ fn fault_objects(alloc: Global, fault: &ManifestToolFault) -> Result<Vec<Value>,
     }
 }
 
-// Of a fault of which nothing is told but its words.
+// For a fault that has nothing but its text.
 fn other_objects(alloc: Global, fault: &ManifestToolFault) -> Result<Vec<Value>, AllocError>
     ensures { IfOk result (λ values. map view values.items
         ≡ specs.fault_object (fault_text fault.now) [] ∷ []) }

@@ -16,25 +16,26 @@ use std::alloc::{AllocError, Global};
 use std::fmt::Write;
 use warnings::{Warning, push_warnings, some_counts};
 
-/// What is told of manifests that were checked.
+/// The report on the checked manifests.
 #[derive(Drop)]
 pub struct ToldChecks {
     /// What they declare: lines, each ended by a line feed.
     pub text: String,
-    /// What is told beside it: what they hardly mean, and why some are refused. These are lines,
+    /// What goes to standard error: the warnings, and why manifests are refused. These are lines,
     /// each ended by a line feed.
     pub beside: String,
-    /// None is refused, and no warning counts.
+    /// No manifest is refused, and no warning counts.
     pub passes: bool,
 }
 
-/// Checks manifests, each by itself. In a strict check a warning counts whose name isn't allowed.
+/// Checks manifests, each by itself. In a strict check, warnings count unless their name is
+/// allowed.
 ///
-/// Of one alone its own lines are told, and last the digest of it and of its files, in 64
-/// hexadecimal digits; it is a fault if it is refused. Of several each is told under a line
-/// `manifest PATH`, in both texts, where there is something to tell of it; one that is refused is
-/// told beside the text, by the line of its refusal and its reason. With `json` all of it is one
-/// line of JSON, also of one that is refused, with nothing beside it.
+/// For one manifest, the text has its lines, then the digest of it and of its files in 64
+/// hexadecimal digits; a refusal is returned as a fault. For several, each is reported under a line
+/// `manifest PATH`, in either text that has lines about it. A refused manifest is reported in
+/// `beside`, by the line of its refusal and its reason. With `json` the text is one line of JSON,
+/// also for refused manifests, and `beside` is empty.
 // open: what `check_file` leaves open.
 pub fn check_files<D: Disk>(
     alloc: Global,
@@ -123,7 +124,7 @@ pub(crate) fn passes(strict: bool, allowed: &[&str], warnings: &[Warning]) -> bo
 
 // ---- several manifests
 
-// The checks of manifests, one after the other.
+// The checks of manifests, in order.
 fn check_each<D: Disk>(
     alloc: Global,
     disk: &D,
@@ -145,7 +146,7 @@ fn check_each<D: Disk>(
     Ok(told)
 }
 
-// That of one more.
+// Adds the check of one more manifest.
 #[tactic(auto, using(crate::proofs::Checked::accepted_more, crate::proofs::Checked::refused_more))]
 fn add_checked<D: Disk>(
     alloc: Global,
@@ -165,14 +166,15 @@ fn add_checked<D: Disk>(
         }
         Err(fault) => {
             let longer = add_refused(path, &fault, told);
-            // One call. Left to the `?`, each of its many parts would have a call of its own.
+            // Dropped by one call: left to the `?`, each of its many parts would be dropped by its
+            // own call.
             drop(fault);
             Ok(longer?)
         }
     }
 }
 
-// Adds what is told of a manifest that is accepted.
+// Adds the report on an accepted manifest.
 fn add_accepted(
     path: &str,
     one: &ToldChecks,
@@ -186,7 +188,7 @@ fn add_accepted(
     Ok(told)
 }
 
-// Adds why one is refused.
+// Adds why a manifest is refused.
 fn add_refused(
     path: &str,
     fault: &ManifestToolFault,
@@ -202,9 +204,9 @@ fn add_refused(
 
 // ---- lines
 
-/// Adds the line `digest ..` of a manifest and of its files, with the 64 hexadecimal digits, in
-/// lower case, of what `load`'s `digest_of` gives.
-// open: whether memory is refused, its one error.
+/// Adds the line `digest ..` of a manifest and of its files, with the 64 lower-case hexadecimal
+/// digits of `digest_of` of `load`.
+// open: whether an allocation fails, its only error.
 pub fn push_digest(text: &mut String, digest: [u8; 32]) -> Result<(), AllocError>
     ensures { OnOk result (Puts text.old text.new (specs.digest_line digest)) }
 {
@@ -235,7 +237,7 @@ fn push_if_any(text: &mut String, path: &str, lines: &str) -> Result<(), AllocEr
     push_titled(text, path, lines)
 }
 
-// The line of a refusal, and where and why behind it.
+// The line of a refusal, followed by where and why.
 fn push_refusal(text: &mut String, fault: &ManifestToolFault) -> Result<(), AllocError>
     ensures { OnOk result (Puts text.old text.new (specs.refusal_text fault.now)) }
 {

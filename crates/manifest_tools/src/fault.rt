@@ -9,21 +9,21 @@ use load::PathFault;
 use replay::ReplayFault;
 use std::fmt;
 
-/// What is wrong; it is shown as it is printed, but for the lines of a diagnosis.
+/// What is wrong; it is displayed as it is printed, except for the lines of a diagnosis.
 #[derive(Debug, Drop)]
 pub enum ManifestToolFault {
     /// B3 and B4: a manifest or a script can't be read, the picture of `simulate` can't be written,
-    /// or memory that the command wants is refused.
+    /// or an allocation of the command failed.
     Resource(ResourceFault),
-    /// M1 to M8: a manifest comes to no ruleset, and where and why.
+    /// M1 to M8: a manifest gives no ruleset, and where and why.
     Diagnosed(Refused),
-    /// B3, B4, M1 to M8: a manifest comes to no ruleset.
+    /// B3, B4, M1 to M8: a manifest gives no ruleset.
     Load(PathFault),
-    /// B8: a manifest doesn't have the one app that is to be told.
+    /// B8: a manifest doesn't have the one app that is to be reported.
     NoApp,
-    /// B3, B4, M1 to M8: the manifest that is served now gives no ruleset.
+    /// B3, B4, M1 to M8: the manifest to compare with gives no ruleset.
     Against(PathFault),
-    /// B2 to B4, M1 to M8: a script, or a manifest of it, isn't taken.
+    /// B2 to B4, M1 to M8: a script, or a manifest of it, is refused.
     Replay(ReplayFault),
 }
 

@@ -3,11 +3,11 @@
 //! See docs/PROGRAM.md, "check"; docs/PROGRAM.md, "replay"; docs/PROGRAM.md, "simulate".
 #![tactic(auto)]
 
-// How each goes. `check` reads each manifest and loads it over no arrays: what it declares, and
-// what it hardly means, is told by lines, or where and why it is refused; and if all pass. `replay`
-// plays a script on a world whose first ruleset is a manifest's, and tells of each event by a line.
-// `simulate` asks the ruleset of a manifest for the clients in all buckets, and tells how many get
-// which release, of all apps or of one.
+// How they work. `check` reads each manifest and loads it over no arrays. It prints what the
+// manifest declares and its warnings, or where and why it is refused, and returns whether all pass.
+// `replay` plays a script in a world whose first ruleset is a manifest's, and prints a line for
+// each event. `simulate` evaluates the ruleset of a manifest for the clients in all buckets, and
+// prints how many get which release, for all apps or one.
 
 mod check;
 mod check_json;

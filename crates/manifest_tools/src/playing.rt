@@ -1,4 +1,4 @@
-//! `replay`: the events of a script, and what each came to.
+//! `replay`: the events of a script and their results.
 
 ghost use Rattle.std.specs.Prelude.{◌≡◌, IfOk, IfErr};
 ghost use Rattle.std.specs.List.{flat_map};
@@ -11,7 +11,7 @@ use replay::{Reply, replay_files};
 use std::alloc::{AllocError, Global};
 use std::fmt::Write;
 
-/// The lines of a script's events, on a world whose first ruleset is the manifest's.
+/// The lines of a script's events, in a world whose first ruleset is the manifest's.
 // open: what `replay_files` leaves open.
 pub fn replay_script<D: Disk>(
     alloc: Global,
@@ -34,7 +34,7 @@ pub fn replay_script<D: Disk>(
     }
 }
 
-// A line a reply.
+// A line for each reply.
 fn lines_of(alloc: Global, replies: &[Reply]) -> Result<String, AllocError>
     ensures { IfOk result (λ text. string_bytes text ≡ flat_map reply_line replies.now) }
 {

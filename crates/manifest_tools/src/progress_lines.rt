@@ -1,10 +1,10 @@
-//! How far a simulation is, on standard error.
+//! The progress of a simulation, on standard error.
 
 use simulate::Onlooker;
 use std::time::{Clock, Instant};
 
-/// Says at most once a second how far a simulation is. It says nothing where the clock can't be
-/// read.
+/// Prints the progress of a simulation at most once a second. It prints nothing if the clock can't
+/// be read.
 #[derive(Drop)]
 pub(crate) struct ProgressLines<'a, R> {
     rt: &'a R,
@@ -12,7 +12,7 @@ pub(crate) struct ProgressLines<'a, R> {
 }
 
 impl<'a, R: Clock + Eprint> ProgressLines<'a, R> {
-    /// Of a simulation that begins now.
+    /// For a simulation that starts at this moment.
     pub(crate) fn new(rt: &'a R) -> ProgressLines<'a, R> {
         ProgressLines {
             rt,

@@ -1,5 +1,5 @@
-//! `simulate`: what the clients in all buckets get by a manifest, and what changes for them against
-//! one that serves now; of all apps, or of one, as lines or as JSON.
+//! `simulate`: what the clients in all buckets get by a manifest, and what changes for them
+//! compared with another one; for all apps or one, as lines or as JSON.
 
 ghost use Rattle.std.specs.Prelude.{◌≡◌, [], IfOk, IfErr, IsSome, OnErr, option_copied};
 ghost use Rattle.load.specs.Loaded.{RefusesPath};
@@ -18,16 +18,22 @@ use std::alloc::{AllocError, Global};
 use std::rt::Files;
 use std::time::Clock;
 
-/// What the clients in all buckets get by a manifest, and with another one what changes for them
-/// against it. Each is loaded over no arrays, as a server's first manifest is. With an appid all
-/// apps are asked as without it, and that app alone is told. The picture is written last, into the
-/// file that is named. Where it takes over a second, standard error is told how far it is. With
-/// `json` it is told by `shares_json` or `moves_json` of `simulate`, and else by tables.
+/// What the clients in all buckets get by a manifest, and, if there is another one, what changes
+/// for them compared with it. Each is loaded over no arrays, like a server's first manifest. With
+/// an appid all apps are still evaluated, but only that app is reported. The picture is written
+/// last, into the named file. If it takes over a second, its progress is printed on standard error.
+/// With `json` the report is that of `shares_json` or `moves_json` of `simulate`, otherwise it is
+/// tables.
 ///
-/// The faults come in this order: B3 of the manifest, or M1 to M7 of its load; B8 where it doesn't
-/// have the app; those of the other one, which may lack it; B3 where the picture can't be written,
-/// or would be written over what is none. B4, or M8 in a load, comes where memory is refused.
-// open: whether memory is refused; what is told of how far it is; that the file gets the picture.
+/// Returns the first fault in this order:
+///
+/// - B3 of the manifest, or M1 to M7 of its load;
+/// - B8 if it doesn't have the app;
+/// - B3 or M1 to M7 of the other manifest, which may lack the app;
+/// - B3 if the picture can't be written, or would overwrite a file that isn't a picture.
+///
+/// Returns B4, or M8 in a load, if an allocation fails.
+// open: whether an allocation fails; the progress that is printed; that the file gets the picture.
 pub fn simulate_files<R, D>(
     rt: &R,
     disk: &D,
@@ -55,8 +61,8 @@ where
     }
 }
 
-// Writes the picture of a simulation into the file that is named. A file that stands there has to
-// be a picture, or empty, so that no manifest and no rule is written over, by whatever path.
+// Writes the picture of a simulation into the named file. An existing file must be a picture or
+// empty, so that no manifest and no rule is overwritten, by whatever path.
 fn write_picture<R>(rt: &R, file: Option<&str>, told: &ToldSimulation) -> Result<(), ResourceFault>
 where
     R: Files + AllocGlobal,
@@ -73,9 +79,9 @@ where
     }
 }
 
-// What is told of the files, of which none is written yet. From here on the client is lent, and it
-// is dropped here, by one call: each `?` of a function that owned it would drop its twenty parts
-// one by one, and each of these calls would be proved. So it is with the simulations below.
+// The report on the files, none written yet. From here on the client is lent, and it is dropped
+// here, by one call. In a function that owned it, each `?` would drop its twenty parts one by one,
+// and each of these calls would be proved. The same holds for the simulations below.
 fn told_for<R, D>(
     rt: &R,
     disk: &D,
@@ -99,7 +105,7 @@ where
     told
 }
 
-// The same, for a client that is lent.
+// The same, with the client lent.
 fn told_of_files<R, D>(
     rt: &R,
     disk: &D,
@@ -140,7 +146,7 @@ where
     }
 }
 
-// The ruleset of a manifest that is loaded over no arrays.
+// The ruleset of a manifest, loaded over no arrays.
 fn load_alone<D: Disk>(alloc: Global, disk: &D, path: &str) -> Result<Ruleset, PathFault>
     ensures rules { IfOk result (specs.IsLoadedAlone (D.known disk.now) path.now) }
     ensures fault { IfErr result (RefusesPath (D.known disk.now) path.now []) }
@@ -152,7 +158,7 @@ fn load_alone<D: Disk>(alloc: Global, disk: &D, path: &str) -> Result<Ruleset, P
     }
 }
 
-// Whether a ruleset doesn't have the app of which alone is to be told.
+// Whether a ruleset lacks the one app that is to be reported.
 fn lacks_app(rules: &Ruleset, appid: Option<&str>) -> bool
     ensures { result ≡ specs.lacks_app (option_copied appid.entry) rules.now }
 {
@@ -165,7 +171,7 @@ fn lacks_app(rules: &Ruleset, appid: Option<&str>) -> bool
     }
 }
 
-// What is told of a ruleset alone.
+// The report on a single ruleset.
 fn told_alone<R>(
     rt: &R,
     rules: Ruleset,
@@ -185,7 +191,7 @@ where
     Ok(told?)
 }
 
-// The simulation of a ruleset: of all its apps, or of one alone.
+// The simulation of a ruleset: of all its apps, or only of one.
 fn simulation_of<R>(
     rt: &R,
     rules: Ruleset,
@@ -211,7 +217,7 @@ where
     }
 }
 
-// What is told of a ruleset against another, which serves now.
+// The report on a ruleset compared with the one that is served.
 fn told_against<R>(
     rt: &R,
     rules: Ruleset,

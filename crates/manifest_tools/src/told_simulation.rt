@@ -1,4 +1,4 @@
-//! What is told of a simulation: as lines or as JSON, and its picture.
+//! The report on a simulation, as lines or as JSON, and its picture.
 
 ghost use Rattle.std.specs.Prelude.{◌≡◌, IfOk, option_copied};
 ghost use Rattle.std.specs.Option.{option_map};
@@ -8,18 +8,18 @@ ghost use Rattle.manifest_tools.specs.Simulations as specs;
 use simulate::{Simulated, draw, is_lossy, moves_json, push_moves, push_shares, shares_json};
 use std::alloc::{AllocError, Global};
 
-/// What is told of a simulation: its lines, each ended by LF, or its line of JSON, and its picture
-/// as the text of an SVG file, where a file is named for it.
+/// The report on a simulation: its lines, each ended by LF, or its line of JSON; and its picture as
+/// the text of an SVG file, if a file is named for it.
 #[derive(Drop)]
 pub struct ToldSimulation {
     pub text: String,
     pub picture: Option<String>,
-    /// Against another manifest some bucket loses the release that it has of an app that is told,
-    /// as a row of the lines is marked.
+    /// Whether some bucket loses the release that it has of a reported app, compared with another
+    /// manifest; the lines mark such rows.
     pub loses: bool,
 }
 
-// What is told of a simulation, and its picture.
+// The report on a simulation, and its picture.
 pub(crate) fn tell_alone(
     alloc: Global,
     next: &Simulated,
@@ -49,7 +49,7 @@ fn text_alone(alloc: Global, next: &Simulated, json: bool) -> Result<String, All
     Ok(text)
 }
 
-// The same, and who moves behind what serves now.
+// The same, followed by the moves from what is served.
 pub(crate) fn tell_against(
     alloc: Global,
     now: &Simulated,
@@ -86,7 +86,7 @@ fn text_against(
     Ok(text)
 }
 
-// The picture of a simulation, where a file is named for one.
+// The picture of a simulation, if a file is named for it.
 fn picture_if(
     alloc: Global,
     file: Option<&str>,

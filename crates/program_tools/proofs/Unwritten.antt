@@ -1,4 +1,4 @@
--- A rule that gives no program gives none that is written.
+-- If a rule gives no program, none is written.
 use Rattle.std.proofs.Common.{ℕ, List, inl}
 use Rattle.bounded_files.specs.Files.{KnownFiles}
 use Rattle.command_line.specs.declared.request.DeclaredShape.{DeclaredShape}

@@ -1,5 +1,5 @@
--- What the commands `asm` and `list` answer from the bytes of a file: more than 16 MiB count as a
--- file that can't be read.
+-- The results of the commands `asm` and `list` for the bytes of a file: a file of more than 16 MiB
+-- counts as unreadable.
 use Rattle.std.specs.Prelude.{◌≡◌, ◌⊎◌, ℕ, List, Ok}
 use Rattle.std.specs.Str.{IsUtf8}
 use Rattle.bpf_text.specs.declared.fault.AsmFault.{AsmFault}
@@ -14,7 +14,7 @@ use Rattle.program_tools.specs.declared.fault.ProgramToolFault.TheVariants.{Reso
 
 -- ---- asm
 
--- the bytes are a text, which stands for this program
+-- the bytes are a text that assembles to this program
 abbrev pub IsAssembled : List ℕ → List ℕ → Type 0
 IsAssembled program bytes = IsUtf8 bytes × Assembles bytes (Ok program)
 
@@ -27,13 +27,13 @@ module _ (known : KnownFiles) (path : List ℕ) where
   abbrev pub IsAssembledFrom : List ℕ → Type 0
   IsAssembledFrom program = OfFileWithin most_bytes known path (IsAssembled program)
 
-  -- the file can't be read, or its bytes stand for no program
+  -- the file can't be read, or its bytes can't be assembled
   abbrev pub IsTextRefusal : ProgramToolFault → Type 0
   IsTextRefusal (Text fault) =
       OfFileWithin most_bytes known path (λ bytes. IsAssemblyFault bytes fault)
   IsTextRefusal fault = IsNoFile (within most_bytes known) path fault
 
-  -- or they stand for one, which can't be written
+  -- or they can, and the program can't be written
   abbrev pub IsAssemblyRefusal : ProgramToolFault → Type 0
   IsAssemblyRefusal (Resource fault) =
       IsTextRefusal (Resource fault) ⊎ ((program : List ℕ) × IsAssembledFrom program)
@@ -44,7 +44,7 @@ module _ (known : KnownFiles) (path : List ℕ) where
   abbrev pub IsListedFrom : List ℕ → Type 0
   IsListedFrom text = OfFileWithin most_bytes known path (λ bytes. Lists bytes text)
 
-  -- the file can't be read, or an instruction of its bytes is at fault
+  -- the file can't be read, or its bytes have a faulty instruction
   abbrev pub IsListingRefusal : ProgramToolFault → Type 0
   IsListingRefusal (Bytes (Insn slot fault)) =
       OfFileWithin most_bytes known path (λ bytes. IsFirstFault bytes slot fault)

@@ -1,4 +1,4 @@
--- What the command `explain` answers from the bytes of a file.
+-- The results of the command `explain` for the bytes of a file.
 use Rattle.std.specs.Prelude.{ℕ, List, Option, Some, None, Ok}
 use Rattle.std.specs.String.{string_bytes}
 use Rattle.acceptance.specs.Program.{AreOnly}
@@ -16,8 +16,8 @@ use Rattle.program_tools.specs.declared.fault.ProgramToolFault.TheVariants.{Expl
 use Rattle.explain.specs.Lines.{IsExplained, IsFinding}
 use Rattle.bpf_text.specs.Assembly.{Assembles}
 
--- the bytes are a program that is accepted under the shape, or refused so; the text tells what is
--- known of it, and stands for the same bytes
+-- the bytes are a program that is accepted with the shape, or refused like this; the text has what
+-- is known about it, and assembles to the same bytes
 pub record IsExplanation (bytes : List ℕ) (shape : AppShape) (refused : Option Refusal)
     (text : List ℕ) : Type 0 where
   pub code : Code
@@ -26,8 +26,8 @@ pub record IsExplanation (bytes : List ℕ) (shape : AppShape) (refused : Option
   pub told : IsExplained (shaped code shape) text
   pub same : Assembles text (Ok bytes)
 
--- why the bytes are refused, as `verify` refuses them; of a program that a rule refuses it is told
--- what is known
+-- why the bytes are refused, as by `verify`; if a rule refuses the program, with what is known
+-- about it
 abbrev pub IsExplainFault : AppShape → ProgramToolFault → List ℕ → Type 0
 IsExplainFault shape (Explained text refused) bytes =
     IsExplanation bytes shape (Some refused) (string_bytes text)
@@ -35,12 +35,12 @@ IsExplainFault shape (Program (Verify (refusal.Rule slot rule))) bytes = ⊥
 IsExplainFault shape fault bytes = IsProgramFault shape fault bytes
 
 module _ (known : KnownFiles) (path : List ℕ) (asked : DeclaredShape) where
-  -- the file's program is accepted under the declared shape, and this is what is known of it
+  -- the file's program is accepted with the declared shape, and this is what is known about it
   pub record HasExplained (text : List ℕ) : Type 0 where
     pub shape : AppShape
     pub shape_is : IsShapeFor asked shape
     pub explained : OfFile known path (λ bytes. IsExplanation bytes shape None text)
 
-  -- why nothing is told of a file
+  -- why there is no explanation of a file
   abbrev pub IsExplainRefusal : ProgramToolFault → Type 0
   IsExplainRefusal fault = IsRefusedUnder known path asked IsExplainFault fault

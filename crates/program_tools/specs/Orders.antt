@@ -1,4 +1,4 @@
--- What the command `order` answers from the bytes of a file.
+-- The results of the command `order` for the bytes of a file.
 use Rattle.std.specs.Prelude.{◌≡◌, ◌⊎◌, ℕ, ◌<◌, List, length}
 use Rattle.block_order.specs.Order.{IsOrdered}
 use Rattle.block_order.specs.Refusal.{IsOrderFault}
@@ -13,18 +13,19 @@ use Rattle.program_tools.specs.Resources.{IsNoFile}
 use Rattle.program_tools.specs.declared.fault.ProgramToolFault.{ProgramToolFault}
 use Rattle.program_tools.specs.declared.fault.ProgramToolFault.TheVariants as fault
 
--- the bytes are a program, and this is the same one in order; one that is in order already stays
--- byte for byte as it is
+-- the bytes are a program, and this is the same program in order; a program that is already in
+-- order stays the same, byte for byte
 pub record IsOrderedAs (bytes program : List ℕ) : Type 0 where
   pub order : IsOrdered bytes program
   pub same : (p : Program) → IsAcceptedAs bytes p → program ≡ bytes
 
--- why the bytes have no order; one that is in order already is refused for want of memory alone
+-- why the bytes can't be put in order; a program that is already in order is refused only if out of
+-- memory
 pub record HasNoOrder (bytes : List ℕ) (fault : FlowFault) : Type 0 where
   pub why : IsOrderFault bytes fault
   pub memory : (p : Program) → IsAcceptedAs bytes p → fault ≡ flow.Memory
 
--- of more than 32768 bytes, which aren't read, it isn't said that they have no other fault
+-- more than 32768 bytes aren't read, so they may have other faults
 abbrev pub IsNoOrder : ProgramToolFault → List ℕ → Type 0
 IsNoOrder (fault.Program (Flow why)) bytes =
     HasNoOrder bytes why
@@ -35,12 +36,12 @@ module _ (known : KnownFiles) (path : List ℕ) where
   abbrev pub IsOrderedFrom : List ℕ → Type 0
   IsOrderedFrom program = OfFile known path (λ bytes. IsOrderedAs bytes program)
 
-  -- the file can't be read, or its bytes have no order
+  -- the file can't be read, or its bytes can't be put in order
   abbrev pub IsUnordered : ProgramToolFault → Type 0
   IsUnordered (fault.Program why) = OfFile known path (IsNoOrder (fault.Program why))
   IsUnordered refused = IsNoFile known path refused
 
-  -- or they have one, which can't be written
+  -- or they can, and the program can't be written
   abbrev pub IsOrderRefusal : ProgramToolFault → Type 0
   IsOrderRefusal (fault.Resource why) =
       IsUnordered (fault.Resource why) ⊎ ((program : List ℕ) × IsOrderedFrom program)

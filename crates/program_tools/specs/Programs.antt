@@ -1,5 +1,5 @@
--- Programs of files, under the shape that the words declare: which are accepted, and what their
--- runs are.
+-- Programs of files, with the shape that the command line declares: which are accepted, and what
+-- their runs are.
 use Rattle.std.specs.Prelude.{◌≡◌, ◌⊎◌, ℕ, ◌^◌, ◌<◌, List, [], length}
 use Rattle.attrs.specs.Attributes.{Attributes}
 use Rattle.bpf_semantics.specs.Program.{ShapedProgram}
@@ -35,7 +35,8 @@ most_program = 2 ^ 15
 
 -- ---- shapes
 
--- the shape has the arrays that the words declare, in a directory that begins with none
+-- the shape has the arrays that the command line declares, in a directory that starts without
+-- arrays
 pub record IsShapeFor (asked : DeclaredShape) (shape : AppShape) : Type 0 where
   pub releases : shape.releases ≡ asked.releases
   pub numbers : List ArrayNo
@@ -43,7 +44,7 @@ pub record IsShapeFor (asked : DeclaredShape) (shape : AppShape) : Type 0 where
   pub declared : AreDeclared [] asked.arrays.items numbers directory
   pub arrays : AreNumbered directory numbers shape.arrays
 
--- an array is refused; of memory no claim is made
+-- an array is refused; running out of memory is always allowed
 abbrev pub IsShapeRefusal : DeclaredShape → ProgramToolFault → Type 0
 IsShapeRefusal asked (Arrays cells.Memory) = Unit {0}
 IsShapeRefusal asked (Arrays fault) =
@@ -53,18 +54,18 @@ IsShapeRefusal asked fault = ⊥
 
 -- ---- programs
 
--- the program of a file, which is accepted under the declared shape
+-- the program of a file, accepted with the declared shape
 pub record IsProgramFor (known : KnownFiles) (path : List ℕ) (asked : DeclaredShape)
     (p : ShapedProgram) : Type 0 where
   pub shape : IsShapeFor asked p.shape
   pub program : OfFile known path (λ bytes. IsProgramOf bytes p)
 
--- the fault of a file that has more bytes than a program
+-- the fault of a file that has more bytes than a program can have
 abbrev pub too_long : ProgramToolFault
 too_long = Program (Flow (flow.Rule 0 TooLong))
 
--- why the bytes of a file are none; more than 32768 aren't read, so of these it isn't said that
--- they have no other fault
+-- why the bytes of a file aren't an accepted program; more than 32768 bytes aren't read, so they
+-- may have other faults
 abbrev pub IsProgramFault : AppShape → ProgramToolFault → List ℕ → Type 0
 IsProgramFault shape (Program fault) bytes =
     RefusesProgram bytes shape fault
@@ -72,7 +73,7 @@ IsProgramFault shape (Program fault) bytes =
 IsProgramFault shape fault bytes = ⊥
 
 -- why a file is refused: the shape comes first, then the file, then its bytes, by the faults that
--- they have under a shape
+-- they have with a shape
 pub data IsRefusedUnder (known : KnownFiles) (path : List ℕ) (asked : DeclaredShape)
     (faults : AppShape → ProgramToolFault → List ℕ → Type 0)
     (fault : ProgramToolFault) : Type 0 where
@@ -82,19 +83,19 @@ pub data IsRefusedUnder (known : KnownFiles) (path : List ℕ) (asked : Declared
   of_bytes : {s : AppShape} → IsShapeFor asked s → OfFile known path (faults s fault)
       → IsRefusedUnder known path asked faults fault
 
--- why a file has no program that is accepted: the shape comes first, then the file, then its bytes
+-- why a file has no accepted program: the shape comes first, then the file, then its bytes
 abbrev pub IsProgramRefusal : KnownFiles → List ℕ → DeclaredShape → ProgramToolFault → Type 0
 IsProgramRefusal known path asked fault = IsRefusedUnder known path asked IsProgramFault fault
 
--- an accepted program has so many slots
+-- an accepted program has `slots` slots
 abbrev pub HasSlots : KnownFiles → List ℕ → DeclaredShape → ℕ → Type 0
 HasSlots known path asked slots =
     (p : ShapedProgram) × IsProgramFor known path asked p × (slots ≡ length p.code)
 
 -- ---- runs
 
--- the program's run for an app of these attributes, on cells that open at 0; each of its events is
--- on a cell of the shape's arrays, and on one of an array with a quota it is a load or an add of 1
+-- the program's run for an app with these attributes, on cells that start at 0. Each of its events
+-- is on a cell of the shape's arrays; on an array with a quota it is a load or an add of 1
 pub record RunsTo (p : ShapedProgram) (a : Attributes) (choice count : ℕ) : Type 0 where
   pub values : List ℕ
   pub opens : AreZeros 8192 values
@@ -104,7 +105,7 @@ pub record RunsTo (p : ShapedProgram) (a : Attributes) (choice count : ℕ) : Ty
   pub ends : Ends p (opening a) events choice count
   pub lawful : AreLawful p.shape events
 
--- the program that is asked for is accepted, and comes to this choice after so many instructions
+-- the requested program is accepted, and makes this choice after `count` instructions
 abbrev pub HasChosen : KnownFiles → AskedRun → (choice count : ℕ) → Type 0
 HasChosen known asked choice count =
     (p : ShapedProgram) × IsProgramFor known asked.path.now asked.shape p
@@ -116,7 +117,7 @@ HasTraced known asked choice count text =
     (p : ShapedProgram) × IsProgramFor known asked.path.now asked.shape p
     × IsTrace p (attributes_told asked.app asked.bucket) choice count text
 
--- it isn't accepted, or memory for the run is refused
+-- it isn't accepted, or an allocation for the run fails
 abbrev pub IsRunRefusal : KnownFiles → List ℕ → DeclaredShape → ProgramToolFault → Type 0
 IsRunRefusal known path asked fault =
     (fault ≡ Resource Memory) ⊎ IsProgramRefusal known path asked fault

@@ -5,7 +5,7 @@ use Rattle.bounded_files.specs.declared.fault.ResourceFault.TheVariants.{File, M
 use Rattle.program_tools.specs.declared.fault.ProgramToolFault.{ProgramToolFault}
 use Rattle.program_tools.specs.declared.fault.ProgramToolFault.TheVariants.{Resource}
 
--- the file can't be read; of want of memory nothing is said
+-- the file can't be read; running out of memory is always allowed
 abbrev pub IsNoFile : KnownFiles → List ℕ → ProgramToolFault → Type 0
 IsNoFile known path (Resource File) = Gives known path None
 IsNoFile known path (Resource Memory) = Unit {0}

@@ -1,5 +1,5 @@
--- Programs of rules, under the shape that the words declare. A file of more than 16 MiB counts as
--- one that can't be read.
+-- Programs of rules, with the shape that the command line declares. A file of more than 16 MiB
+-- counts as unreadable.
 use Rattle.std.specs.Prelude.{◌≡◌, ◌⊎◌, ◌≤◌, ℕ, List, length}
 use Rattle.bpf_semantics.specs.Program.{ShapedProgram}
 use Rattle.cells.specs.Arrays.{AppShape}
@@ -17,8 +17,7 @@ IsCompileFault shape (Rule fault) bytes =
 IsCompileFault shape fault bytes = ⊥
 
 module _ (known : KnownFiles) (path : List ℕ) (asked : DeclaredShape) where
-  -- the program is accepted under the declared shape, and means what the rule does that the file
-  -- spells
+  -- the program is accepted with the declared shape, and has the meaning of the rule in the file
   pub record IsRuleProgramFor (p : ShapedProgram) : Type 0 where
     pub shape : IsShapeFor asked p.shape
     pub program : OfFileWithin most_bytes known path (λ bytes. IsProgramOfRule bytes p)
@@ -26,11 +25,11 @@ module _ (known : KnownFiles) (path : List ℕ) (asked : DeclaredShape) where
   abbrev pub IsRuleRefusal : ProgramToolFault → Type 0
   IsRuleRefusal fault = IsRefusedUnder (within most_bytes known) path asked IsCompileFault fault
 
-  -- such a program has so many slots
+  -- such a program has `slots` slots
   abbrev pub HasCompiled : ℕ → Type 0
   HasCompiled slots = (p : ShapedProgram) × IsRuleProgramFor p × (slots ≡ length p.code)
 
-  -- there is none, or it can't be written
+  -- there is no such program, or it can't be written
   abbrev pub IsCompileRefusal : ProgramToolFault → Type 0
   IsCompileRefusal (Resource fault) =
       IsRuleRefusal (Resource fault) ⊎ ((p : ShapedProgram) × IsRuleProgramFor p)

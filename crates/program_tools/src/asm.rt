@@ -1,4 +1,4 @@
-//! `asm`: the bytes that a text stands for.
+//! `asm`: the bytes for a text of assembly.
 
 ghost use Rattle.std.specs.Prelude.{IfOk, IfErr};
 ghost use Rattle.program_tools.specs.Assembly.{IsAssembled, IsAssembledFrom, IsAssemblyFault};
@@ -11,8 +11,9 @@ use std::alloc::Global;
 use std::rt::Files;
 use std::str;
 
-/// The program that a file's text stands for. It is written only where the whole text has bytes.
-// open: whether memory is refused (A7, B4); what a device's files give, and which bytes OUT got.
+/// Assembles a file's text into a program. It is written only if the whole text can be assembled.
+// open: whether an allocation fails (A7, B4); what a device's files contain, and which bytes OUT
+// got.
 pub fn assemble_file<R: Files + AllocGlobal, D: Disk>(
     rt: &R,
     disk: &D,
@@ -32,7 +33,7 @@ pub fn assemble_file<R: Files + AllocGlobal, D: Disk>(
     }
 }
 
-// The program of a file's text.
+// The program that a file's text assembles to.
 fn program_of_text<D: Disk>(
     alloc: Global,
     disk: &D,
@@ -51,7 +52,7 @@ fn program_of_text<D: Disk>(
     }
 }
 
-// The program that bytes stand for.
+// The program that the text in these bytes assembles to.
 fn assembled(alloc: Global, bytes: &[u8]) -> Result<Vec<u8>, AsmFault>
     ensures program { IfOk result (λ v. IsAssembled v.items bytes.now) }
     ensures fault { IfErr result (IsAssemblyFault bytes.now) }

@@ -13,9 +13,10 @@ use command_line::DeclaredShape;
 use std::alloc::Global;
 use std::rt::Files;
 
-/// The slots of the program of a file's rule. It is written only where the whole rule has one.
-// open: whether memory is refused (L5, C2, N3, B4); what a device's files give, and which bytes OUT
-// got.
+/// The number of slots of the program for a file's rule. The program is written only if the whole
+/// rule has one.
+// open: whether an allocation fails (L5, C2, N3, B4); what a device's files contain, and which
+// bytes OUT got.
 pub fn compile_file<R: Files + AllocGlobal, D: Disk>(
     rt: &R,
     disk: &D,
@@ -36,8 +37,8 @@ pub fn compile_file<R: Files + AllocGlobal, D: Disk>(
     }
 }
 
-// The program of a file's rule, under the shape that the words declare. Refused is the shape before
-// the file is read.
+// The program of a file's rule, with the shape that the command line declares. The shape is checked
+// before the file is read.
 fn program_of_rule<D: Disk>(
     alloc: Global,
     disk: &D,

@@ -15,10 +15,10 @@ use explain::explain;
 use flow_check::{Flow, one_verdict};
 use std::alloc::Global;
 
-/// The listing of a file's program, with what is known before each instruction, once it is
-/// accepted; what refuses it comes with the same, up to the slot that is refused. It is refused as
-/// by `verify_file`, and the shape before the file is read.
-// open: whether memory is refused (N3, F9, V15); what a device's files give.
+/// The listing of a file's program, with what is known before each instruction, if it is accepted;
+/// a rule's refusal has the same listing, up to the refused slot. Programs are refused like in
+/// `verify_file`, and the shape is checked before the file is read.
+// open: whether an allocation fails (N3, F9, V15); what a device's files contain.
 pub fn explain_file<D: Disk>(
     alloc: Global,
     disk: &D,
@@ -41,7 +41,7 @@ pub fn explain_file<D: Disk>(
     }
 }
 
-// What is known of the program that bytes are.
+// What is known about the program in these bytes.
 fn explanation(alloc: Global, bytes: &[u8], shape: &Shape) -> Result<String, ProgramToolFault>
     ensures text { IfOk result
         (λ text. IsExplanation bytes.now shape.now None (string_bytes text)) }

@@ -10,22 +10,22 @@ use bpf_verify::Refusal;
 use cells::CellsFault;
 use std::fmt;
 
-/// What is wrong; it is shown as it is printed.
+/// What is wrong; it is displayed as it is printed.
 #[derive(Debug, Drop)]
 pub enum ProgramToolFault {
-    /// B3 and B4: a file can't be read or written, or memory that the command wants is refused.
+    /// B3 and B4: a file can't be read or written, or an allocation of the command failed.
     Resource(ResourceFault),
-    /// N1 to N3: an array of the words can't be declared.
+    /// N1 to N3: an array from the command line can't be declared.
     Arrays(CellsFault),
-    /// A1 to A7: the text stands for no bytes.
+    /// A1 to A7: the text can't be assembled.
     Text(AsmFault),
-    /// L1 to L5, C1 and C2: the text spells no rule, or one that has no program.
+    /// L1 to L5, C1 and C2: the text isn't a rule, or the rule has no program.
     Rule(RuleTextFault),
-    /// I1 to I7: the bytes spell no instructions.
+    /// I1 to I7: the bytes aren't instructions.
     Bytes(ListFault),
-    /// F1 to F9, V1 to V15: the bytes are no program, or one that isn't accepted.
+    /// F1 to F9, V1 to V15: the bytes aren't a program, or the program isn't accepted.
     Program(ProgramFault),
-    /// V1 to V14, of `explain`: the program isn't accepted; the text has what is known of it.
+    /// V1 to V14, from `explain`: the program isn't accepted; the text has what is known about it.
     Explained { text: String, refusal: Refusal },
 }
 

@@ -3,9 +3,10 @@
 //! See docs/PROGRAM.md, "Refusals".
 #![tactic(auto)]
 
-// How each goes. The shape is made that the words declare, where the command has one. Then the file
-// is read, and its bytes are taken as a text, as a rule or as a program; a program is verified, and
-// may be explained or run. What is made of it is written last, and only where all of it stands.
+// How they work. The shape that the command line declares is made, if the command has one. Then the
+// file is read, and its bytes are taken as a text, as a rule or as a program; a program is
+// verified, and may be explained or run. The output file is written last, and only if all of it
+// could be made.
 
 mod asm;
 mod compile;

@@ -10,7 +10,7 @@ use bpf_text::{ListFault, listing};
 use std::alloc::Global;
 
 /// The listing of a file's bytes.
-// open: whether memory is refused; what a device's files give.
+// open: whether an allocation fails; what a device's files contain.
 pub fn list_file<D: Disk>(alloc: Global, disk: &D, path: &str) -> Result<String, ProgramToolFault>
     ensures text { IfOk result
         (λ text. IsListedFrom (D.known disk.now) path.now (string_bytes text)) }

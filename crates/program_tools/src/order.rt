@@ -13,8 +13,9 @@ use flow_check::FlowFault;
 use std::alloc::Global;
 use std::rt::Files;
 
-/// The program of a file in order. It is written only where the whole program has an order.
-// open: whether memory is refused (F9, B4); what a device's files give, and which bytes OUT got.
+/// The program of a file, in order. It is written only if the whole program can be put in order.
+// open: whether an allocation fails (F9, B4); what a device's files contain, and which bytes OUT
+// got.
 pub fn order_file<R: Files + AllocGlobal, D: Disk>(
     rt: &R,
     disk: &D,
@@ -34,7 +35,7 @@ pub fn order_file<R: Files + AllocGlobal, D: Disk>(
     }
 }
 
-// The program of a file in order.
+// The program of a file, in order.
 fn order_of_file<D: Disk>(alloc: Global, disk: &D, path: &str) -> Result<Vec<u8>, ProgramToolFault>
     ensures program { IfOk result (λ v. IsOrderedFrom (D.known disk.now) path.now v.items) }
     ensures fault { IfErr result (IsUnordered (D.known disk.now) path.now) }
@@ -50,7 +51,7 @@ fn order_of_file<D: Disk>(alloc: Global, disk: &D, path: &str) -> Result<Vec<u8>
     }
 }
 
-// The program of bytes in order.
+// The program in these bytes, in order.
 fn order_of(alloc: Global, bytes: &[u8]) -> Result<Vec<u8>, FlowFault>
     ensures program { IfOk result (λ v. IsOrderedAs bytes.now v.items) }
     ensures fault { IfErr result (HasNoOrder bytes.now) }

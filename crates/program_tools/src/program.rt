@@ -15,11 +15,11 @@ use declarations::declare_all;
 use flow_check::{FlowFault, FlowRule};
 use std::alloc::Global;
 
-/// The most bytes that a program can have, as a disk counts them.
+/// The most bytes that a program can have, in the disk's type.
 pub const MOST_PROGRAM: u32 = flow_check::MOST_PROGRAM as u32;
 
-/// The program of a file, once it is accepted under the shape that the words declare. Refused is
-/// the shape before the file is read.
+/// The program of a file, if it is accepted with the shape that the command line declares. The
+/// shape is checked before the file is read.
 pub fn program_of_file<D: Disk>(
     alloc: Global,
     disk: &D,
@@ -51,7 +51,7 @@ pub fn too_long() -> ProgramToolFault
     }))
 }
 
-/// The shape that the words declare, with arrays of a directory of its own.
+/// The shape that the command line declares, with arrays of its own directory.
 pub fn declared_shape(alloc: Global, shape: &DeclaredShape) -> Result<Shape, ProgramToolFault>
     ensures shape { IfOk result (IsShapeFor shape.now) }
     ensures fault { IfErr result (IsShapeRefusal shape.now) }

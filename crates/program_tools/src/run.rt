@@ -1,4 +1,4 @@
-//! `run`: the run of a file's program for one app, as its choice alone or step by step.
+//! `run`: the run of a file's program for one app, as its choice or step by step.
 
 ghost use Rattle.std.specs.Prelude.{◌≡◌, ◌≤◌, length, IfOk, IfErr, string_bytes};
 ghost use Rattle.std.specs.Arc.{arc_value};
@@ -18,9 +18,9 @@ use std::alloc::{AllocError, Global};
 use std::sync::Arc;
 use trace::{TracedRun, trace};
 
-/// The choice of a file's program for an app, once it is accepted, and the number of its
-/// instructions.
-// open: whether memory is refused (N3, F9, V15); what a device's files give.
+/// The choice of a file's program for an app, if the program is accepted, and the number of
+/// executed instructions.
+// open: whether an allocation fails (N3, F9, V15); what a device's files contain.
 pub fn run_file<D: Disk>(
     alloc: Global,
     disk: &D,
@@ -40,8 +40,8 @@ pub fn run_file<D: Disk>(
     }
 }
 
-/// Runs a file's program as `run_file` does, and tells a line for each instruction of the run.
-// open: whether memory is refused (N3, F9, V15); what a device's files give.
+/// Runs a file's program like `run_file`, and writes a line for each instruction of the run.
+// open: whether an allocation fails (N3, F9, V15); what a device's files contain.
 pub fn trace_file<D: Disk>(
     alloc: Global,
     disk: &D,
@@ -62,8 +62,8 @@ pub fn trace_file<D: Disk>(
     }
 }
 
-// The program's run for an app, on cells of its own that open at 0: its choice and the number of
-// its instructions.
+// The program's run for an app, on its own cells that start at 0: its choice and the number of
+// executed instructions.
 fn choose(
     alloc: Global,
     program: Verified,

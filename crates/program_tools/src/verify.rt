@@ -9,8 +9,8 @@ use bounded_files::Disk;
 use command_line::DeclaredShape;
 use std::alloc::Global;
 
-/// The slots of a file's program, once it is accepted.
-// open: whether memory is refused (N3, F9, V15); what a device's files give.
+/// The number of slots of a file's program, if it is accepted.
+// open: whether an allocation fails (N3, F9, V15); what a device's files contain.
 pub fn verify_file<D: Disk>(
     alloc: Global,
     disk: &D,

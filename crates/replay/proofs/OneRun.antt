@@ -1,4 +1,4 @@
--- Lines that are played one after the other are one run of the world.
+-- Lines that are played in order are one run of the world.
 use Rattle.std.proofs.Common.{◌≡◌, suc, ◌-◌, ◌<◌, List, [], ◌∷◌, ◌++◌, length, get_or}
 use Rattle.std.proofs.Common.{take, drop, append_assoc, append-nil, refl, sym, ap, ◌∙◌, arith}
 use Rattle.std.proofs.Math.Seq.{take-length}
@@ -11,9 +11,9 @@ use Rattle.replay.specs.Played.{repeated, IsLineReplied, AreRepliesFrom}
 use Rattle.replay.specs.declared.line.EventLine.{EventLine}
 use Rattle.replay.specs.declared.reply.Reply.{Reply}
 
--- ---- a line before others
+-- ---- one line before others
 
--- each event has an answer
+-- each event has a result
 as_many : (w v : WorldState) (es : List Event) (rs : List Answer) → Plays w es rs v
     → length rs ≡ length es
 as_many w v [] [] plays = refl
@@ -41,7 +41,7 @@ told_first join before between asked lines e events reply replies own others w s
 
 -- ---- the lines so far
 
--- whatever the lines that are left come to, all lines come to with the replies so far before it
+-- the replies for the lines that are left, after those so far, are the replies for all lines
 pub record Leads (before now : Parts) (lines left : List EventLine) (events behind : List Event)
     (done : List Reply) : Type 0 where
   pub tells : (more : List Reply) → AreRepliesFrom now left behind more
@@ -85,7 +85,7 @@ none_left : {X : Type 0} (xs : List X) → length xs < 1 → xs ≡ []
 none_left [] few = refl
 none_left (x ∷ xs) few = absurd (omega (arith, few))
 
--- none is left
+-- no line is left
 pub ends : (before now : Parts) (lines left : List EventLine) (events behind : List Event)
     (replies : List Reply) → length left < 1 → length behind < 1
     → Leads before now lines left events behind replies

@@ -1,4 +1,4 @@
--- The events of the lines so far, and what those that are left come to.
+-- The events of the lines so far, and those of the lines that are left.
 use Rattle.std.proofs.Common.{◌≡◌, ℕ, ◌+◌, ◌<◌, ◌≤◌, List, [], ◌∷◌, ◌++◌, length, drop, get_or}
 use Rattle.std.proofs.Common.{append_assoc, append-nil, refl, sym, ap, ◌∙◌}
 use Rattle.std.proofs.lemmas.List.{drop_more, drop_all}
@@ -10,7 +10,7 @@ use Rattle.replay.specs.declared.fault.ReplayFault.{ReplayFault}
 use Rattle.replay.specs.declared.line.EventLine.{EventLine}
 
 module _ (known : KnownFiles) where
-  -- whatever the lines that are left come to, all lines come to with the events so far before it
+  -- the events of the lines that are left, after those so far, are the events of all lines
   pub record Leads (lines rest : List EventLine) (old between : List CellArray)
       (done : List Event) : Type 0 where
     pub asks : (more : List Event) (new : List CellArray) → AreEventsOf known rest between more new

@@ -1,5 +1,5 @@
--- What the lines of a script ask, one after another: a swap line asks for the ruleset of its
--- manifest, whose arrays are declared in the directory that the lines before it left.
+-- The events that the lines of a script request, in order: that of a swap line has the ruleset of
+-- its manifest, whose arrays are declared in the directory that the lines before it left.
 use Rattle.std.specs.Prelude.{◌≡◌, List, [], ◌∷◌}
 use Rattle.std.specs.Arc.{arc_value}
 use Rattle.attrs.specs.Attributes as attrs
@@ -16,7 +16,7 @@ use Rattle.replay.specs.declared.line.EventLine.{EventLine}
 use Rattle.replay.specs.declared.line.EventLine.TheVariants as line
 
 module _ (known : KnownFiles) where
-  -- the event of a world that a line asks for, a swap with the ruleset of its manifest
+  -- the event that a line requests in a world, a swap with the ruleset of its manifest
   abbrev pub IsEventOf : EventLine → List CellArray → Event → List CellArray → Type 0
   IsEventOf (line.Start worker appid bucket version) old (event.Start k sent) new =
       (k ≡ worker) × (arc_value sent ≡ attrs.plain appid version bucket) × (new ≡ old)
@@ -34,7 +34,7 @@ module _ (known : KnownFiles) where
       × AreEventsOf lines between events new
   AreEventsOf lines old events new = ⊥
 
-  -- why a line asks nothing: its manifest is refused
+  -- why a line has no event: its manifest is refused
   abbrev pub RefusesLine : EventLine → List CellArray → ReplayFault → Type 0
   RefusesLine (line.Swap manifest) old fault = GivesNoRuleset known manifest old fault
   RefusesLine asked old (Resource Memory) = Unit {0}

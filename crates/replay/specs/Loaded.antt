@@ -7,7 +7,7 @@ use Rattle.load.specs.Loaded.{RefusesPath}
 use Rattle.replay.specs.declared.fault.ReplayFault.{ReplayFault}
 use Rattle.replay.specs.declared.fault.ReplayFault.TheVariants.{Resource, Manifest}
 
--- of want of memory nothing is said, here and below
+-- running out of memory is always allowed, here and below
 abbrev pub GivesNoRuleset : KnownFiles → List ℕ → List CellArray → ReplayFault → Type 0
 GivesNoRuleset known path old (Manifest fault) = RefusesPath known path old fault
 GivesNoRuleset known path old (Resource Memory) = Unit {0}

@@ -1,4 +1,4 @@
--- The lines of a script, played one after the other: all their events are one run of the world.
+-- The lines of a script, played in order: all their events are one run of the world.
 use Rattle.std.specs.Prelude.{◌≡◌, List, [], ◌∷◌, ◌++◌, length, replicate, Bool, true, false, Some}
 use Rattle.std.specs.List.{flat_map}
 use Rattle.world.specs.Happens.{Answer, Plays}
@@ -14,17 +14,17 @@ use Rattle.replay.specs.declared.reply.Reply.{Reply}
 
 -- ---- one line
 
--- whether the line is a Step with a count, which is so many Steps
+-- whether the line is a Step with a count
 abbrev pub is_counted : EventLine → Bool
 is_counted (line.Step worker (Some count)) = true
 is_counted asked = false
 
--- a Step with a count is so many Steps, each other line is its event once
+-- a Step with a count is that many Steps; any other line is its event once
 abbrev pub repeated : EventLine → Event → List Event
 repeated (line.Step worker (Some count)) e = replicate count (event.Step worker)
 repeated asked e = e ∷ []
 
--- the events with some answers are a run of the world, and the reply is that to the answers
+-- the events with some results are a run of the world, and the reply is the one for these results
 pub record IsReplied (before : Parts) (counted : Bool) (events : List Event) (reply : Reply)
     (after : Parts) : Type 0 where
   pub answers : List Answer
@@ -41,7 +41,7 @@ abbrev pub all_events : List EventLine → List Event → List Event
 all_events (asked ∷ lines) (e ∷ events) = repeated asked e ++ all_events lines events
 all_events lines events = []
 
--- each line has an answer to each of its events, and the reply to these
+-- each line has a result for each of its events, and the reply for these
 abbrev pub AreTold : List EventLine → List Event → List (List Answer) → List Reply → Type 0
 AreTold [] [] [] [] = Unit {0}
 AreTold (asked ∷ lines) (e ∷ events) (own ∷ answers) (reply ∷ replies) =
@@ -49,7 +49,7 @@ AreTold (asked ∷ lines) (e ∷ events) (own ∷ answers) (reply ∷ replies) =
     × AreTold lines events answers replies
 AreTold lines events answers replies = ⊥
 
--- the events of all lines, in their order, are a run of the world
+-- the events of all lines, in order, are a run of the world
 pub record AreRepliesTo (w : WorldState) (lines : List EventLine) (events : List Event)
     (replies : List Reply) : Type 0 where
   pub answers : List (List Answer)
@@ -57,7 +57,7 @@ pub record AreRepliesTo (w : WorldState) (lines : List EventLine) (events : List
   pub run : Plays w (all_events lines events) (flat_map (λ own. own) answers) after
   pub told : AreTold lines events answers replies
 
--- so it is from every world that is stood for
+-- this holds from every world that `before` stands for
 abbrev pub AreRepliesFrom : Parts → List EventLine → List Event → List Reply → Type 0
 AreRepliesFrom before lines events replies = (w : WorldState) → WorldStandsFor before w
     → AreRepliesTo w lines events replies

@@ -1,4 +1,4 @@
--- What a manifest and a script, by their paths, come to.
+-- The result of a manifest and a script, given by their paths.
 use Rattle.std.specs.Prelude.{ℕ, List, [], Some, None}
 use Rattle.cells.specs.declared.array.CellArray.{CellArray}
 use Rattle.bounded_files.specs.Files.{KnownFiles, Gives, most_bytes, within}
@@ -46,7 +46,7 @@ module _ (known : KnownFiles) (manifest script : List ℕ) where
     pub asked : AreEventsOf known lines between events after
     pub replied : AreRepliesTo (opening_world first 64) lines events replies
 
-  -- the fault that counts: of the script, or else of the manifest, or else of a swap line
+  -- the fault that counts: that of the script, or else of the manifest, or else of a swap line
   pub data IsReplayFault : ReplayFault → Type 0 where
     of_memory : IsReplayFault (Resource Memory)
     of_script : {fault : ReplayFault} → RefusesScript known script fault → IsReplayFault fault

@@ -1,4 +1,4 @@
--- What the answers to a line's events come to, and how that is printed.
+-- The reply for the results of a line's events, and how it is printed.
 use Rattle.std.specs.Prelude.{ℕ, ◌+◌, List, [], ◌++◌, codes, Ok, Err, Bool, if◌then◌else◌}
 use Rattle.std.specs.List.{fold}
 use Rattle.std.specs.Fmt.{decimal}
@@ -19,11 +19,11 @@ joined_answer reply (Err fault) answer = reply
 joined_answer reply (Ok e) (Ok f) = record reply { answer = Ok f; done = reply.done + 1 }
 joined_answer reply (Ok e) (Err fault) = record reply { answer = Err fault }
 
--- one answer more; what follows a refusal doesn't count
+-- one more result; those after a refusal don't count
 abbrev pub with_answer : Reply → Answer → Reply
 with_answer reply answer = joined_answer reply reply.answer answer
 
--- what the answers to a line come to, up to the first that is refused
+-- the reply for the results of a line, up to the first refusal
 abbrev pub reply_to : (counted : Bool) → List Answer → Reply
 reply_to counted answers = fold with_answer (opening_reply counted) answers
 
@@ -44,6 +44,6 @@ answer_text done counted (Err fault) =
     codes "refused " ++ fault_text fault
     ++ (if counted then codes " after " ++ decimal done else [])
 
--- what is printed of it
+-- the printed text of a reply
 abbrev pub reply_text : Reply → List ℕ
 reply_text reply = answer_text reply.done reply.counted reply.answer

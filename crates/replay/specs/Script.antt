@@ -1,10 +1,10 @@
--- The text of a script: each of its lines says an event, but for those that are passed over.
+-- The text of a script: each line has an event, except for those that are skipped.
 --   start W APPID BUCKET VERSION
 --   step W
 --   step W N
 --   finish W
 --   swap MANIFEST
--- The fields are divided by one blank, and none is empty.
+-- The fields are separated by one blank, and none is empty.
 use Rattle.std.specs.Prelude.{◌≡◌, ◌⊎◌, ℕ, List, [], ◌∷◌, codes, Option, Some, None, is_none, Bool}
 use Rattle.std.specs.Prelude.{true, false, not, ◌&&◌, ◌==◌, option_and_then, option_map}
 use Rattle.std.specs.Prelude.{◌-◌, ◌^◌, if◌then◌else◌}
@@ -35,7 +35,7 @@ abbrev pub text : List ℕ → Option (List ℕ)
 text [] = None
 text (c ∷ cs) = Some (c ∷ cs)
 
--- `-` stands for no version
+-- `-` means no version
 abbrev pub version_text : List ℕ → Option (Option (List ℕ))
 version_text field =
     if bytes_eq field (codes "-") then Some None else option_map (λ v. Some v) (text field)
@@ -72,7 +72,7 @@ of_fields fields = None
 abbrev pub swap : List ℕ → Option EventLine
 swap rest = option_map (λ m. Swap m) (text rest)
 
--- the event that a line says
+-- the event of a line
 abbrev pub event_of : List ℕ → Option EventLine
 event_of line =
     if bytes_eq (before_first is_blank line) (codes "swap") then swap (after_first is_blank line)
@@ -80,7 +80,7 @@ event_of line =
 
 -- ---- all lines
 
--- a line that is empty or begins with `#` says nothing
+-- a line that is empty or begins with `#` is skipped
 abbrev pub is_passed : List ℕ → Bool
 is_passed [] = true
 is_passed (c ∷ cs) = c == byte "#"
@@ -95,7 +95,7 @@ pub record Says (line : List ℕ) (e : Option EventLine) : Type 0 where
   pub well_formed : is_malformed line ≡ false
   pub said : said_by line ≡ e
 
--- no line is malformed, and these are the events that they say, in their order
+-- no line is malformed, and these are the events of the lines, in order
 pub record AreSaid (lines : List (List ℕ)) (events : List EventLine) : Type 0 where
   pub well_formed : position_from is_malformed 1 lines ≡ None
   pub events_are : events ≡ filter_map said_by lines
@@ -105,12 +105,12 @@ abbrev pub IsFirstMalformed : List (List ℕ) → ScriptFault → Type 0
 IsFirstMalformed lines (Malformed line) = position_from is_malformed 1 lines ≡ Some line
 IsFirstMalformed lines Memory = Unit {0}
 
--- the events of all lines, or the first line that says none
+-- the text is UTF-8, and these are the events of all its lines
 pub record IsScript (bytes : List ℕ) (events : List EventLine) : Type 0 where
   pub is_text : IsUtf8 bytes
   pub said : AreSaid (lines bytes) events
 
--- of bytes that are no text line 1
+-- the first malformed line, or line 1 of bytes that aren't text
 abbrev pub IsScriptFault : List ℕ → ScriptFault → Type 0
 IsScriptFault bytes Memory = Unit {0}
 IsScriptFault bytes (Malformed line) =

@@ -1,5 +1,5 @@
-//! The events that the lines of a script ask for, one after another: that of a swap line has the
-//! ruleset of its manifest.
+//! The events that the lines of a script request, in order: that of a swap line has the ruleset of
+//! its manifest.
 
 ghost use Rattle.std.specs.Prelude.{◌≡◌, IfOk, IfErr};
 ghost use Rattle.std.specs.Arc.{arc_value};
@@ -17,7 +17,7 @@ use std::alloc::{AllocError, Global};
 use std::sync::Arc;
 use world::Event;
 
-/// The events of all lines, in their order, an event a line.
+/// The events of all lines, in order, one for each line.
 pub(crate) fn events_of<D: Disk>(
     alloc: Global,
     disk: &D,

@@ -1,4 +1,4 @@
-//! Why a text is no script, and why a script isn't played.
+//! Why a text isn't a script, and why a script isn't played.
 
 ghost use Rattle.std.specs.Prelude.{Some};
 ghost use Rattle.replay.specs.Texts.{script_fault_text, replay_fault_text};
@@ -8,12 +8,12 @@ use load::PathFault;
 use std::error::Error;
 use std::fmt;
 
-/// Why a text is no script.
+/// Why a text isn't a script.
 #[derive(Clone, Copy, Debug, PartialEq, Eq)]
 pub enum ScriptFault {
-    /// The first line that says no event, from 1; of a text that isn't UTF-8 line 1.
+    /// The first line without an event, from 1; line 1 if the text isn't UTF-8.
     Malformed { line: usize },
-    /// Memory was refused.
+    /// Out of memory.
     Memory,
 }
 
@@ -30,14 +30,14 @@ impl fmt::Display for ScriptFault {
 
 impl Error for ScriptFault {}
 
-/// Why a script isn't played; it is shown as it is printed.
+/// Why a script isn't played; it is displayed as it is printed.
 #[derive(Debug, Drop)]
 pub enum ReplayFault {
-    /// B3 and B4: the script can't be read, or memory is refused, but to a manifest.
+    /// B3 and B4: the script can't be read, or an allocation fails outside of loading a manifest.
     Resource(ResourceFault),
-    /// B2: a line of the script says no event.
+    /// B2: a line of the script has no event.
     Script(ScriptFault),
-    /// B3, B4, M1 to M8: a manifest comes to no ruleset.
+    /// B3, B4, M1 to M8: a manifest gives no ruleset.
     Manifest(PathFault),
 }
 

@@ -20,15 +20,20 @@ use std::alloc::{AllocError, Global};
 use std::sync::Arc;
 use world::{Event, World};
 
-/// The replies to the lines of a script, each in turn, on a world of 64 workers whose first ruleset
-/// is the manifest's. Both are paths, as is the manifest of a swap line; relative ones are relative
-/// to the working folder, and the files that a manifest names to that manifest's folder.
+/// The replies to the lines of a script, in order, in a world of 64 workers whose first ruleset is
+/// the manifest's. Both are paths, as is the manifest of a swap line; relative paths are relative
+/// to the working folder, and the files that a manifest names are relative to that manifest's
+/// folder.
 ///
-/// The faults come in this order: B3 of a script that can't be read, or is longer than 16 MiB; B2
-/// of its first malformed line; B3 of the manifest, or M1 to M7 of its load; and then those of the
-/// swap lines' manifests, one by one. After any of them no line was played. B4, or M8 in a load,
-/// comes if memory is refused.
-// open: whether memory is refused; what a device's files give.
+/// Returns the first fault in this order:
+///
+/// - B3 of a script that can't be read, or is longer than 16 MiB;
+/// - B2 of its first malformed line;
+/// - B3 of the manifest, or M1 to M7 of its load;
+/// - the same for the manifests of the swap lines, one by one.
+///
+/// After a fault no line was played. Returns B4, or M8 in a load, if an allocation fails.
+// open: whether an allocation fails; what a device's files contain.
 pub fn replay_files<D: Disk>(
     alloc: Global,
     disk: &D,
@@ -65,7 +70,7 @@ fn read_lines<D: Disk>(alloc: Global, disk: &D, path: &str) -> Result<Vec<EventL
     }
 }
 
-// The replies to the lines, from where a server of 64 workers begins.
+// The replies to the lines, from the initial state of a server with 64 workers.
 fn play_from(
     alloc: Global,
     first: Arc<Ruleset>,

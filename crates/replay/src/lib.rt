@@ -1,6 +1,6 @@
-//! Replays: scripts of events, played on a world from the files of a script and its manifests.
+//! Replays: scripts of events, played in a world from the files of a script and its manifests.
 //!
-//! A script has a line an event, in the order in which they are played:
+//! A script has a line for each event, in the order in which they are played:
 //!
 //! ```text
 //! # A worker starts a run for the app x, in bucket 4999, with no version.
@@ -13,25 +13,25 @@
 //! swap next.toml
 //! ```
 //!
-//! The fields of a line are divided by one blank, and none is empty. Numbers are decimal digits, a
-//! worker's is at most 4294967295, a bucket's 9999. Lines end at LF, or at CR LF.
+//! The fields of a line are separated by one blank, and none is empty. Numbers are decimal digits;
+//! a worker's is at most 4294967295, a bucket's 9999. Lines end with LF, or with CR LF.
 //!
 //! See docs/PROGRAM.md, "replay".
 #![tactic(auto)]
 
 // How a script is played from its files. All lines of the script are read first. Then the manifests
-// are loaded: the first one, whose ruleset has number 1, and then those of the swap lines, in their
-// order. All are loaded into one directory, so an array of one name is the same counters in each.
-// The first script or manifest that is refused ends it, and nothing is played. So each line has its
-// event of the world before one of them is played.
+// are loaded: the first one, whose ruleset has number 1, and then those of the swap lines, in
+// order. All are loaded into one directory, so arrays with the same name have the same counters.
+// The first refused script or manifest ends the replay, and nothing is played. So each line has its
+// event before any of them is played.
 //
-// Then the lines are played on a world of 64 workers, each by a call of `play`: with its event, or
-// with as many Steps as it counts. Each goes on in the world that the line before it left, so all
-// of them are one run of the world. After a refused Step the others are refused too and change
-// nothing, so the reply to a line looks no further than the first answer that is a refusal.
+// Then the lines are played in a world of 64 workers, each by a call of `play`: with its event, or
+// with as many Steps as it counts. Each continues in the world that the line before it left, so all
+// of them are one run of the world. After a refused Step the others are also refused and change
+// nothing, so the reply to a line depends on nothing after the first refusal.
 //
-// Files are read through a trait, so that files in memory can stand in for those of a device; of
-// these the contract says which replies or which refusal they come to.
+// Files are read through a trait, so that files in memory can replace those of a device; for files
+// in memory the contract says which replies or which refusal they give.
 
 mod event;
 mod fault;

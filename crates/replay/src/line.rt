@@ -1,4 +1,4 @@
-//! One line of a script: the event that it says.
+//! One line of a script, and its event.
 
 ghost use Rattle.std.specs.Prelude.{◌≡◌, ◌==◌, Err, IfOk, Some, None, map};
 ghost use Rattle.std.specs.List.{slice_split, before_first, after_first};
@@ -8,7 +8,7 @@ use crate::number::{bucket_number, step_count, worker_number};
 use attrs::{Bucket, Text};
 use std::alloc::{AllocError, Global};
 
-/// What a line says. Workers are numbered from 0.
+/// The content of a line. Workers are numbered from 0.
 #[derive(Drop)]
 pub enum EventLine {
     /// The worker starts a run for an app.
@@ -18,8 +18,8 @@ pub enum EventLine {
         bucket: Bucket,
         version: Option<Text>,
     },
-    /// The worker's run does one instruction, or so many, 1 to 4097. The reply to a line with a
-    /// count tells how many it did, also where one was refused.
+    /// The worker's run executes one instruction, or `count` of them, 1 to 4097. The reply to a
+    /// line with a count has the number of those that were executed, also if one was refused.
     Step {
         worker: u32,
         count: Option<u32>,
@@ -34,14 +34,14 @@ pub enum EventLine {
     },
 }
 
-/// Why a line says no event.
+/// Why a line has no event.
 #[derive(Clone, Copy, PartialEq, Eq)]
 pub enum LineFault {
     Malformed,
     Memory,
 }
 
-/// The event that a line says.
+/// The event of a line.
 pub fn read_event(alloc: Global, line: &str) -> Result<EventLine, LineFault>
     ensures said { IfOk result (λ e. specs.event_of line.now ≡ Some e) }
     ensures malformed { result ≡ Err LineFault.Malformed → specs.event_of line.now ≡ None }
@@ -56,7 +56,7 @@ pub fn read_event(alloc: Global, line: &str) -> Result<EventLine, LineFault>
     }
 }
 
-// What stands before the first blank, and after it.
+// The text before the first blank, and the text after it.
 fn halves<'a>(line: &'a str) -> (&'a str, &'a str)
     ensures word { result.0.now ≡ before_first (λ b. b == 32) line.now }
     ensures rest { result.1.now ≡ after_first (λ b. b == 32) line.now }

@@ -9,8 +9,8 @@ use crate::line::{EventLine, LineFault, read_event};
 use std::alloc::{AllocError, Global};
 use std::str;
 
-/// The events of a script, in their order, or the first line that is malformed.
-// open: whether memory is refused.
+/// The events of a script, in order, or the first line that is malformed.
+// open: whether an allocation fails.
 pub fn read_script(alloc: Global, bytes: &[u8]) -> Result<Vec<EventLine>, ScriptFault>
     ensures script { IfOk result (λ v. specs.IsScript bytes.now v.items) }
     ensures fault { IfErr result (specs.IsScriptFault bytes.now) }
@@ -50,7 +50,7 @@ fn read_lines(alloc: Global, lines: &[&str]) -> Result<Vec<EventLine>, ScriptFau
     Ok(events)
 }
 
-// The event of a line, if it isn't passed over.
+// The event of a line, unless the line is skipped.
 fn read_line(alloc: Global, line: &str) -> Result<Option<EventLine>, LineFault>
     ensures said { IfOk result (λ e. specs.Says line.now e) }
     ensures malformed { result ≡ Err LineFault.Malformed → specs.is_malformed line.now ≡ true }

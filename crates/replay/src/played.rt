@@ -1,4 +1,4 @@
-//! The lines of a script, played one after the other. Each is a call of `play`.
+//! The lines of a script, played in order, each by a call of `play`.
 
 ghost use Rattle.std.specs.Prelude.{◌≡◌, IfOk, replicate};
 ghost use Rattle.replay.specs.Played.{AreRepliesFrom, IsLineReplied, IsReplied};
@@ -9,7 +9,7 @@ use std::alloc::{AllocError, Global};
 use std::slice;
 use world::{Event, World, batches_compose, play};
 
-/// Plays the lines with the events that they ask for, an event a line, and gives what each came to.
+/// Plays the lines with their events, one for each line, and returns the replies.
 pub(crate) fn play_lines(
     alloc: Global,
     world: &mut World,
@@ -32,7 +32,7 @@ pub(crate) fn play_lines(
         left = others;
         events = behind;
     }
-    // Each line has its event: were there more of either, nothing would be replied.
+    // Each line has its event; with more of either, there would be no replies.
     if let [_, ..] = events {
         return Err(AllocError);
     }
@@ -59,7 +59,7 @@ fn play_line(
     }
 }
 
-// So many Steps of a worker.
+// `count` Steps of a worker.
 fn steps_of(alloc: Global, worker: usize, count: u32) -> Result<Vec<Event>, AllocError>
     ensures { IfOk result (λ steps. steps.items ≡ replicate count (Event.Step worker)) }
 {
@@ -70,7 +70,7 @@ fn steps_of(alloc: Global, worker: usize, count: u32) -> Result<Vec<Event>, Allo
     Ok(steps)
 }
 
-// What these events come to, of a line with a count or without one.
+// The reply to these events, of a line with a count or without one.
 fn reply_to(
     alloc: Global,
     world: &mut World,

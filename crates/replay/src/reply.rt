@@ -1,4 +1,4 @@
-//! What a line came to, and how it is printed.
+//! The reply to a line, and how it is printed.
 
 ghost use Rattle.std.specs.Prelude.{◌≡◌, ◌+◌, ◌-◌, ◌<◌, ◌≤◌, ◌^◌, Some};
 ghost use Rattle.replay.specs.Replies.{opening_reply, with_answer, reply_to, reply_text};
@@ -6,19 +6,19 @@ ghost use Rattle.replay.specs.Replies.{opening_reply, with_answer, reply_to, rep
 use std::fmt;
 use world::{Effect, WorldFault};
 
-/// What a line came to; it is shown as the line that is printed.
+/// The reply to a line; it is displayed as the line that is printed.
 #[derive(Clone, Copy)]
 pub struct Reply {
-    /// The answer to its last event, or to the first one that was refused.
+    /// The result of its last event, or of the first one that was refused.
     pub answer: Result<Effect, WorldFault>,
     /// How many of its events were done.
     pub done: usize,
-    /// The line had a count.
+    /// Whether the line had a count.
     pub counted: bool,
 }
 
 impl Reply {
-    /// The reply to these answers; what follows a refusal doesn't count.
+    /// The reply for these results; those after a refusal don't count.
     pub(crate) fn to(counted: bool, answers: &[Result<Effect, WorldFault>]) -> Reply
         ensures { result ≡ reply_to counted answers.now }
     {
@@ -42,7 +42,7 @@ impl Reply {
         }
     }
 
-    // One answer more.
+    // Adds one more result.
     fn with(self, answer: Result<Effect, WorldFault>) -> Reply
         requires { self.done < 2 ^ 64 - 1 }
         ensures reply { result ≡ with_answer self answer }

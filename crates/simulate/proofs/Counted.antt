@@ -1,4 +1,4 @@
--- Counts of the buckets so far, by one bucket more.
+-- Counts of the buckets so far, and of one more bucket.
 use Rattle.std.proofs.Common.{◌≡◌, ◌≢◌, ℕ, ◌+◌, ◌*◌, ◌<◌, ◌≤◌, ◌==◌, ◌&&◌, ◌∙◌, List, length, take}
 use Rattle.std.proofs.Common.{get_or, set, Bool, true, false, refl, sym, ap, arith, inl, inr}
 use Rattle.std.proofs.Common.{length-take}
@@ -97,7 +97,7 @@ all_moves now next i table from to first second past is =
     is ∙ ap (λ (moves : List (ℕ × ℕ)). count_by (is_move from to) moves)
     (take_all i (zip now next) (omega (arith, long, first, second, past)))
 
--- at the end all are counted
+-- at the end all buckets are counted
 pub all_choices : (choices : List ℕ) (i : ℕ) (counts : List ℕ) (k : ℕ) → length choices ≡ 10000
     → 10000 ≤ i
     → get_or counts k 0 ≡ count_by (λ choice. choice == k) (take i choices)

@@ -1,4 +1,4 @@
--- A course may be one run longer.
+-- A course can be extended by one run.
 use Rattle.std.proofs.Common.{◌≡◌, ℕ, suc, ◌+◌, ◌<◌, ◌≤◌, ◌%◌, ◌∙◌, List, [], ◌∷◌, ◌++◌, length}
 use Rattle.std.proofs.Common.{All, ap, subst, refl, sym, arith, take, get_or}
 use Rattle.std.proofs.Common.{length-append, add-one}
@@ -22,7 +22,7 @@ digit n = decimal_digit (n % 10) (omega arith)
 abbrev pub few : ℕ → Type 0
 few choice = choice ≤ 64
 
--- so many clients have chosen
+-- `n` clients have chosen
 pub record IsUnderWay (program : ShapedProgram) (first now : Client) (old new : List ℕ) (n : ℕ)
     (choices : List ℕ) : Type 0 where
   pub turns : InTurn program (clients first) old n choices new
@@ -64,7 +64,7 @@ one_more program first now moved old between new n choice choices longer so_far 
 
 -- ---- apps
 
--- so many apps were asked for
+-- `i` apps are evaluated
 pub record IsAtApp (first now : Client) (old new : List ℕ) (apps : List AppRule) (i : ℕ)
     (chosen : List (List ℕ)) : Type 0 where
   pub course : AppByApp first old (take i apps) chosen new

@@ -1,4 +1,4 @@
--- The place of an app is found by going along the apps.
+-- The place of an app is found by traversing the apps.
 use Rattle.std.proofs.Common.{◌≡◌, ◌∙◌, sym, ap, refl, ℕ, ◌+◌, ◌-◌, ◌<◌, List, [], ◌∷◌, length}
 use Rattle.std.proofs.Common.{true, false, Some, None, arith, drop, get_or, take}
 use Rattle.std.proofs.lemmas.List.{drop_more, get_or-drop, take_all}
@@ -7,7 +7,7 @@ use Rattle.std.specs.Str.{bytes_eq}
 use Rattle.ruleset.specs.Rules.{AppRule, app_in}
 use Rattle.simulate.specs.Picked.{IsPlaceOf}
 
--- what is left, by its first and those behind it
+-- a list that isn't empty begins with its first item
 pub first_left : {X : Type 0} (left : List X) (x : X) → 0 < length left → x ≡ get_or left 0 x
     → left ≡ x ∷ take (length left - 1) (drop 1 left)
 first_left [] x some first = absurd (omega (arith, some))
@@ -20,7 +20,7 @@ none_left [] few = refl
 none_left (x ∷ rest) few = absurd (omega (arith, few))
 
 module _ (apps : List AppRule) (appid : List ℕ) where
-  -- the apps from a place on are left, and that of the appid is none of those before it
+  -- the apps from a place on are left, and the one with the appid isn't before it
   pub record IsBehind (place : ℕ) (left : List AppRule) : Type 0 where
     pub left_are : left ≡ drop place apps
     pub same : app_in left appid ≡ app_in apps appid

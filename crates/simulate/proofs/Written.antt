@@ -1,4 +1,4 @@
--- What is written part by part is written as a whole.
+-- A text that is written part by part is written as a whole.
 use Rattle.std.proofs.Common.{Bool, None, ap₂, drop, get_or, take}
 use Rattle.std.proofs.Common.{◌≡◌, ◌∙◌, refl, sym, ap, ℕ, zero, suc, ◌+◌, ◌-◌, ◌<◌, ◌≤◌}
 use Rattle.std.proofs.Common.{List, [], ◌∷◌, ◌++◌, append_assoc, arith, length, replicate}
@@ -25,7 +25,7 @@ one_further {A} o part rest new whole grown is =
 pub at_end : {A : Type 0} (o whole : List A) → o ++ [] ≡ whole → o ≡ whole
 at_end o whole is = sym (append-nil o) ∙ is
 
--- one of so many marks, and then the others
+-- one of `n` marks, and then the others
 one_mark : (o : List ℕ) (c n : ℕ) → 0 < n
     → (o ++ (c ∷ [])) ++ replicate (n - 1) c ≡ o ++ replicate n c
 one_mark o c zero some = absurd (omega (arith, some))
@@ -60,7 +60,7 @@ numbers_done f i n o whole past is =
     at_end o whole
     (ap (λ (l : List ℕ). o ++ flat_map f l) (sym (no_number i n past)) ∙ is)
 
--- what is written of a count is written of its number
+-- the row of a count is that of the equal number
 pub row_counted : (width own : ℕ) (label : List ℕ) (count n : ℕ) (old new : List ℕ)
     → new ≡ old ++ row_if_any width label count → width ≡ own → count ≡ n
     → new ≡ old ++ row_if_any own label n
@@ -91,7 +91,7 @@ pub move_object_counted : (now next : List (List ℕ)) (from to count n : ℕ) (
 move_object_counted now next from to count n old new grown is_count =
     grown ∙ ap (λ (m : ℕ). old ++ move_object_if_any now next from to m) is_count
 
--- a row of a legend further: the next row is below the last
+-- one more row of a legend: the next row is below the last
 pub entry_further : (versions : List (List ℕ)) (choices : List ℕ) (i n count top next : ℕ)
     (o new whole : List ℕ) → i ≤ n → count ≡ buckets_with choices i
     → new ≡ o ++ entry_if_any top i (choice_label versions i) count
@@ -113,7 +113,7 @@ entry_further versions choices i n count top next o new whole within is_count gr
     ∙ one_further o part (legend_rows versions choices (top + entry_height own) rest) new whole put
     opened
 
--- a panel further, of lists that have a first element: the next panel is below the last
+-- one more panel, for lists that have a first element: the next panel is below the last
 pub panel_further : (top next : ℕ) (apps : List AppRule) (chosen : List (List ℕ)) (app : AppRule)
     (choices o new whole : List ℕ) → 0 < length apps → 0 < length chosen
     → app ≡ get_or apps 0 app → choices ≡ get_or chosen 0 choices → next ≡ top + panel_height app
@@ -137,7 +137,7 @@ panel_further top next (a ∷ apps) (c ∷ chosen) app choices o new whole some 
     ∙ ap (λ (t : ℕ). new ++ panels t apps chosen) lower
     ∙ one_further o (panel top a c) (panels (top + panel_height a) apps chosen) new whole put is
 
--- ---- an app that isn't there
+-- ---- an app that doesn't exist
 
 pub none_offered : (choices : List ℕ) → choices ≡ choices_or_none None
     → offered None choices ≡ no_offer

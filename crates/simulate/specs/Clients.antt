@@ -1,27 +1,27 @@
--- The clients of a simulation: one in each bucket, which keeps the cohort that it was told.
+-- The clients of a simulation: one in each bucket, which keeps the cohort that a server gave it.
 use Rattle.std.specs.Prelude.{◌≡◌, ℕ, List, Some}
 use Rattle.attrs.specs.Attributes.{Attributes}
 use Rattle.attrs.specs.Bucket.{told_cohort}
 use Rattle.attrs.specs.Facts.{attributes_of}
 use Rattle.simulate.specs.declared.client.Client.{Client}
 
--- the client of a bucket: it says the cohort that it was told, and else what all say
+-- the client of a bucket: it sends the bucket's cohort, and otherwise what all clients send
 abbrev pub in_bucket : Client → ℕ → Client
 in_bucket c bucket = record c { app = record c.app { cohort = Some (told_cohort bucket) } }
 
--- a client that asks for the app of an appid
+-- a client that requests the app with an appid
 abbrev pub asking_for : Client → List ℕ → Client
 asking_for c appid = record c { app = record c.app { appid = appid } }
 
--- the attributes of a client, and of the client of each bucket
+-- the attributes of a client
 abbrev pub attributes : Client → Attributes
 attributes c = attributes_of c.app c.request c.moment
 
--- the attributes of the client of each bucket, which says the cohort that it was told
+-- the attributes of the client of each bucket, which sends the cohort that a server gave it
 abbrev pub clients : Client → ℕ → Attributes
 clients c bucket = attributes (in_bucket c bucket)
 
--- both say the same, but for the cohort; and but for cohort and appid
+-- both send the same, except for the cohort; and except for cohort and appid
 abbrev pub IsSameButCohort : Client → Client → Type 0
 IsSameButCohort c d = (bucket : ℕ) → in_bucket d bucket ≡ in_bucket c bucket
 

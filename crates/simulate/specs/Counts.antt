@@ -13,21 +13,21 @@ pub record AreChoices (choices : List ℕ) : Type 0 where
 abbrev pub buckets_with : List ℕ → ℕ → ℕ
 buckets_with choices release = count_by (λ choice. choice == release) choices
 
--- of an app that a ruleset doesn't have no bucket gets a release
+-- no bucket gets a release of an app that a ruleset doesn't have
 abbrev pub choices_or_none : Option (List ℕ) → List ℕ
 choices_or_none (Some choices) = choices
 choices_or_none None = replicate bucket_count 0
 
--- how many buckets get the one release by these choices, and the other by those
+-- how many buckets get `from` by the first choices and `to` by the second
 abbrev pub buckets_moving : (now next : List ℕ) → (from to : ℕ) → ℕ
 buckets_moving now next from to =
     count_by (λ move. (move.0 == from) && (move.1 == to)) (zip now next)
 
--- a table of them: 65 numbers for each release that a bucket has
+-- the count of a move in a table, which has 65 numbers for each release that a bucket has
 abbrev pub moves_in : List ℕ → (from to : ℕ) → ℕ
 moves_in table from to = slice_index table (65 * from + to)
 
--- how many get one release by these choices and another by those
+-- the table has the counts of all moves
 abbrev pub AreMoves : (now next table : List ℕ) → Type 0
 AreMoves now next table = (from to : ℕ) → from ≤ 64 → to ≤ 64
     → moves_in table from to ≡ buckets_moving now next from to

@@ -1,4 +1,4 @@
--- The course of a simulation: the runs of the clients, one after the other, on the same counters.
+-- The course of a simulation: the runs of the clients, in order, on the same counters.
 use Rattle.std.specs.Prelude.{ℕ, ◌+◌, List, [], ◌∷◌, ◌++◌}
 use Rattle.attrs.specs.Attributes.{Attributes}
 use Rattle.cells.specs.Events.{AreZeros, IsEvent}
@@ -15,8 +15,8 @@ use Rattle.simulate.specs.declared.client.Client.{Client}
 abbrev pub bucket_count : ℕ
 bucket_count = 10000
 
--- a run by the definition, on counters of these values: it makes its events, to each of which the
--- counter replies by its value, leaves the counters' new values, and ends with the choice
+-- a run by the definition, on counters with these values: each event's reply is the counter's
+-- value; the run leaves the counters' new values, and ends with the choice
 pub record Chooses (program : ShapedProgram) (a : Attributes) (old : List ℕ) (choice : ℕ)
     (new : List ℕ) : Type 0 where
   pub events : List CellEvent
@@ -24,7 +24,7 @@ pub record Chooses (program : ShapedProgram) (a : Attributes) (old : List ℕ) (
   pub legal : GrewBy IsEvent old events new
   pub ends : Ends program (opening a) events choice count
 
--- the clients below a number, one after the other: their choices, and the values that they leave
+-- the clients below a number, in order: their choices, and the values that they leave
 pub data InTurn (program : ShapedProgram) (client : ℕ → Attributes) (old : List ℕ)
     : ℕ → List ℕ → List ℕ → Type 0 where
   none : InTurn program client old 0 [] old
@@ -33,12 +33,12 @@ pub data InTurn (program : ShapedProgram) (client : ℕ → Attributes) (old : L
       → Chooses program (client n) between choice new
       → InTurn program client old (n + 1) (choices ++ choice ∷ []) new
 
--- what the clients of all buckets choose of an app
+-- the choices of the clients of all buckets for an app
 abbrev pub AsksForApp : Client → AppRule → (old choices new : List ℕ) → Type 0
 AsksForApp client app old choices new =
     InTurn app.program (clients (asking_for client app.appid)) old bucket_count choices new
 
--- the apps, one after the other: what the clients choose of each, and the values that they leave
+-- the apps, in order: the clients' choices for each, and the values that they leave
 pub data AppByApp (client : Client) (old : List ℕ)
     : List AppRule → List (List ℕ) → List ℕ → Type 0 where
   none : AppByApp client old [] [] old

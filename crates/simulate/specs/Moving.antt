@@ -1,6 +1,6 @@
--- How many buckets move from which release to which between two rulesets: a table an app, with a
--- row for each move that some bucket makes, and a mark at those that lose a release. Choices are 0
--- to 64; a width is counted in characters, a count in buckets: 0 to 10000.
+-- How many buckets move from which release to which between two rulesets. Each app has a table,
+-- with a row for each move that some bucket makes, marked if it loses a release. Choices are 0 to
+-- 64; a width is counted in characters, a count in buckets: 0 to 10000.
 use Rattle.std.specs.Prelude.{ℕ, ◌+◌, List, [], ◌++◌, codes, decimal}
 use Rattle.std.specs.Prelude.{slice_index, max, nat_lt, ◌==◌, ◌&&◌, ◌||◌, if◌then◌else◌}
 use Rattle.std.specs.Prelude.{Bool, true, false, Option, Some, None}
@@ -17,7 +17,7 @@ use Rattle.ruleset.specs.Rules.{AppRule}
 
 -- ---- what is lost
 
--- by its four numbers, each below 2^32, the first version is below the second
+-- the first version is below the second, by its four numbers, each below 2^32
 abbrev pub lower_numbers : List ℕ → List ℕ → Bool
 lower_numbers v w =
     nat_lt (slice_index v 0) (slice_index w 0)
@@ -34,18 +34,18 @@ lower_if_read (Some v) (Some w) = lower_numbers v w
 lower_if_read (Some v) None = false
 lower_if_read None w = false
 
--- the text of a version tells a lower one than the other text
+-- the text of a version names a lower version than the other text
 abbrev pub is_lower : List ℕ → List ℕ → Bool
 is_lower version other = lower_if_read (version_of version) (version_of other)
 
--- a bucket that has a release loses it where it gets none, or one of a lower version
+-- a bucket that has a release loses it if it gets none, or one with a lower version
 abbrev pub loses : (now next : List (List ℕ)) → (from to : ℕ) → Bool
 loses now next from to =
     if from == 0 then false
     else if to == 0 then true
     else is_lower (version_at next to) (version_at now from)
 
--- some bucket of an app does
+-- some bucket of an app loses its release
 abbrev pub some_lose : (now next : Offer) → Bool
 some_lose now next =
     list_any (λ move. loses now.versions next.versions move.0 move.1)
@@ -53,8 +53,8 @@ some_lose now next =
 
 -- ---- the table of an app
 
--- the first column is as wide as the title, and 15 at least, the others as the widest version, and
--- 9 at least
+-- the first column is as wide as the title, but at least 15; the others as the widest version, but
+-- at least 9
 abbrev pub move_widths : (appid : List ℕ) → (now next : List (List ℕ)) → MoveWidths
 move_widths appid now next = record {
   app = max (width_of (printed appid) + 4) 15;
@@ -62,7 +62,7 @@ move_widths appid now next = record {
   next = widest 9 next;
 }
 
--- a column with two blanks behind it, and three of them
+-- a column followed by two blanks, and three of these
 abbrev pub move_column : ℕ → List ℕ → List ℕ
 move_column width text = at_left width text ++ codes "  "
 
@@ -80,12 +80,12 @@ abbrev pub mark_if : Bool → List ℕ
 mark_if true = codes "  lost\n"
 mark_if false = codes "\n"
 
--- the row of a move that so many buckets make: 1 to 10000, at the right of 7 characters
+-- the row of a move that `count` buckets make: 1 to 10000, at the right of 7 characters
 abbrev pub move_row : MoveWidths → (from to : List ℕ) → (count : ℕ) → (lost : Bool) → List ℕ
 move_row widths from to count lost =
     move_columns widths [] from to ++ at_right 7 (decimal count) ++ mark_if lost
 
--- the same of a count that may be 0, which has no row
+-- the row for a count that may be 0, which has no row
 unfoldable pub move_if_any : MoveWidths → (from to : List ℕ) → (count : ℕ) → (lost : Bool)
     → List ℕ
 move_if_any widths from to count lost =
@@ -114,7 +114,7 @@ moves_table appid now next =
 
 -- ---- all apps
 
--- the table of the app of an appid, which either ruleset may not have
+-- the table of the app with an appid, which either ruleset may lack
 abbrev pub moves_of : (now next : Simulation) → (appid : List ℕ) → List ℕ
 moves_of now next appid = moves_table appid (offer_of now appid) (offer_of next appid)
 
@@ -127,7 +127,7 @@ abbrev pub is_lossy : (now next : Simulation) → Bool
 is_lossy now next =
     list_any (λ app. some_lose (offer_of now app.appid) (offer_of next app.appid)) now.apps
 
--- the tables of the next ruleset's apps, and of those that it doesn't have any more
+-- the tables of the next ruleset's apps, and of those that only the current one has
 abbrev pub moves_text : (now next : Simulation) → List ℕ
 moves_text now next =
     moves_of_apps now next next.apps

@@ -1,4 +1,4 @@
--- A simulation of which one app alone is told.
+-- A simulation of which only one app is reported.
 use Rattle.std.specs.Prelude.{◌≡◌, ℕ, ◌<◌, ◌≤◌, List, [], take, drop, length, Some, None}
 use Rattle.std.specs.Prelude.{slice_get}
 use Rattle.ruleset.specs.Rules.{AppRule, app_in}
@@ -6,20 +6,20 @@ use Rattle.simulate.specs.Course.{IsSimulated}
 use Rattle.simulate.specs.Shown.{Simulation}
 use Rattle.simulate.specs.declared.client.Client.{Client}
 
--- places of apps: from the first on, and before the end
+-- a range of apps: the first place, and the end, which isn't part of it
 pub record ArePlaces (first end : ℕ) (apps : List AppRule) : Type 0 where
   pub ordered : first ≤ end
   pub within : end ≤ length apps
 
--- the app of an appid stands at a place, from 0, among others
+-- the app with an appid is at a place, from 0
 pub record IsPlaceOf (apps : List AppRule) (appid : List ℕ) (place : ℕ) : Type 0 where
   pub app : AppRule
   pub found : app_in apps appid ≡ Some app
   pub stands : slice_get apps place ≡ Some app
   pub within : place < length apps
 
--- of the app of an appid its choices in a simulation of all apps; where there is no such app, of no
--- app
+-- the choices for the app with an appid in a simulation of all apps; no app if there is none with
+-- it
 pub data HasPicked (client : Client) (apps : List AppRule) (appid : List ℕ) (s : Simulation)
     : Type 0 where
   nothing : app_in apps appid ≡ None → s.apps ≡ [] → s.chosen ≡ []

@@ -1,7 +1,7 @@
--- The picture of a simulation, in SVG 1.1: for each app a square of 100 by 100 buckets, row by row
--- from the first, with a colour a release, and a legend with counts. Lengths and places are in
--- pixels, of which a bucket has 4 by 4, and heights grow downwards; those of a legend are measured
--- from its app's top. Choices are 0 to 64, buckets 0 to 9999, and counts 0 to 10000.
+-- The picture of a simulation, in SVG 1.1. Each app has a square of 100 by 100 buckets, row by row
+-- from the first, with a colour for each release, and a legend with counts. Lengths and places are
+-- in pixels; a bucket has 4 by 4. Heights grow downwards; those in a legend are measured from its
+-- app's top. Choices are 0 to 64, buckets 0 to 9999, and counts 0 to 10000.
 use Rattle.std.specs.Prelude.{ℕ, ◌+◌, ◌*◌, ◌/◌, ◌%◌, List, [], ◌∷◌, ◌++◌, codes, decimal, length}
 use Rattle.std.specs.Prelude.{max}
 use Rattle.std.specs.Prelude.{◌==◌, ◌||◌, if◌then◌else◌}
@@ -22,7 +22,7 @@ abbrev pub bucket_path : ℕ → List ℕ
 bucket_path bucket =
     codes "M" ++ decimal (bucket % 100) ++ codes " " ++ decimal (bucket / 100) ++ codes "h1"
 
--- the buckets that make this choice, of those from a number on
+-- the buckets that make this choice, among those from a number on
 abbrev pub buckets_path : (choice bucket : ℕ) → List ℕ → List ℕ
 buckets_path choice bucket [] = []
 buckets_path choice bucket (own ∷ choices) =
@@ -34,7 +34,7 @@ choice_path choices choice =
     codes "<path stroke=\"" ++ colour_of choice ++ codes "\" d=\""
     ++ buckets_path choice 0 choices ++ codes "\"/>\n"
 
--- none is the ground, on which the others lie, and a choice that no bucket makes has no path
+-- the choice none is the background, and a choice that no bucket makes has no path
 unfoldable pub path_if_any : List ℕ → (choice count : ℕ) → List ℕ
 path_if_any choices choice count =
     if (choice == 0) || (count == 0) then [] else choice_path choices choice
@@ -46,7 +46,7 @@ path_of_choice choices choice = path_if_any choices choice (buckets_with choices
 abbrev pub paths : List (List ℕ) → List ℕ → List ℕ
 paths versions choices = flat_map (path_of_choice choices) (choices_among versions)
 
--- the square, 400 by 400, 30 below the app's top: its ground, and the paths in buckets
+-- the square, 400 by 400, 30 below the app's top: its background, and the paths in units of buckets
 unfoldable pub square_opens : List ℕ
 square_opens = codes "<rect y=\"30\" width=\"400\" height=\"400\" fill=\""
 
@@ -60,12 +60,12 @@ square versions choices =
 
 -- ---- the legend
 
--- a row from this height on, 32 to 1312: a patch of the colour, 12 by 12 at 430 from the left, the
--- label at 450, and the count and the percent, which end at 740 and 840
+-- a row from this height on, 32 to 1312. It has a patch of the colour, 12 by 12 at 430 from the
+-- left, the label at 450, and the count and the percent, which end at 740 and 840
 unfoldable pub patch_opens : List ℕ
 patch_opens = codes "<rect width=\"12\" height=\"12\" x=\"430\" y=\""
 
--- its patch
+-- the patch of a row
 abbrev pub legend_patch : (top choice : ℕ) → List ℕ
 legend_patch top choice =
     patch_opens ++ decimal top ++ codes "\" fill=\"" ++ colour_of choice ++ codes "\"/>"
@@ -80,7 +80,7 @@ abbrev pub legend_text : (x top : ℕ) → List ℕ → List ℕ
 legend_text x top text =
     legend_place (codes "<text x=\"") x top ++ text ++ codes "</text>"
 
--- of a number, which ends at its place
+-- for a number, which ends at its place
 unfoldable pub number_opens : List ℕ
 number_opens = codes "<text text-anchor=\"end\" x=\""
 
@@ -95,7 +95,7 @@ legend_count top count = number_place 740 top ++ decimal count ++ codes "</text>
 abbrev pub legend_share : (top count : ℕ) → List ℕ
 legend_share top count = number_place 840 top ++ percent count ++ codes " %</text>"
 
--- a row of a count from 1 on
+-- a row with a count from 1 on
 abbrev pub legend_row : (top choice : ℕ) → (label : List ℕ) → (count : ℕ) → List ℕ
 legend_row top choice label count =
     legend_patch top choice ++ legend_text 450 top (xml_text label) ++ legend_count top count
@@ -136,18 +136,18 @@ panel top app choices =
     panel_head top ++ panel_title app.appid ++ square (versions_of app) choices
     ++ legend (versions_of app) choices ++ codes "</g>\n"
 
--- a square, or the legend of all releases, and what is above and below it
+-- the height of a square, or of the legend of all releases, and of what is above and below it
 abbrev pub panel_height : AppRule → ℕ
 panel_height app = max (20 * length app.releases + 20) 400 + 60
 
--- apps and their choices in step, one below the other
+-- apps and their choices, pair by pair, one below the other
 abbrev pub panels : (top : ℕ) → List AppRule → (chosen : List (List ℕ)) → List ℕ
 panels top [] chosen = []
 panels top (app ∷ apps) [] = []
 panels top (app ∷ apps) (choices ∷ chosen) =
     panel top app choices ++ panels (top + panel_height app) apps chosen
 
--- how high these apps reach
+-- the height that these apps reach
 abbrev pub height_from : (top : ℕ) → List AppRule → ℕ
 height_from top [] = top
 height_from top (app ∷ apps) = height_from (top + panel_height app) apps

@@ -1,4 +1,4 @@
-//! The runs of the clients of an app, one after the other.
+//! The runs of the clients of an app, in order.
 
 ghost use Rattle.std.specs.Prelude.{◌≤◌, IfOk};
 ghost use Rattle.std.specs.Arc.{arc_value};
@@ -14,7 +14,7 @@ use cells::{PlainCells, PlainPass};
 use std::alloc::{AllocError, Global};
 use std::sync::Arc;
 
-/// The choices of the clients of all buckets, in their order.
+/// The choices of the clients of all buckets, in order.
 pub(crate) fn ask_all(
     alloc: Global,
     program: &Arc<Verified>,

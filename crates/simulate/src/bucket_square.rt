@@ -27,7 +27,7 @@ fn paths_open() -> &'static str
     "\"/>\n<g transform=\"translate(0,32) scale(4)\" shape-rendering=\"crispEdges\">\n"
 }
 
-/// Puts the square of an app.
+/// Appends the square of an app.
 pub fn push_square(text: &mut String, app: &App, choices: &Choices) -> Result<(), AllocError>
     ensures { OnOk result
         (Puts text.old text.new (specs.square (versions_of app.now) choices.now)) }

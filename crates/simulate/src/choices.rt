@@ -1,4 +1,4 @@
-//! What the clients of all buckets choose of an app.
+//! The choices of the clients of all buckets for one app.
 
 ghost use Rattle.std.specs.Prelude.{◌≡◌, None, IfOk};
 ghost use Rattle.simulate.specs.Counts.{AreChoices, choices_or_none};
@@ -7,8 +7,8 @@ use attrs::Bucket;
 use std::alloc::{AllocError, Global};
 use std::marker::Model;
 
-/// A choice for each of the 10000 buckets, in their order: 0 for none, or a release by its number,
-/// at most 64.
+/// A choice for each of the 10000 buckets, in order: 0 for none, or the number of a release, at
+/// most 64.
 #[derive(Drop)]
 pub struct Choices {
     choices: Vec<u8>,
@@ -26,7 +26,7 @@ impl Model for Choices {
 }
 
 impl Choices {
-    /// These choices.
+    /// Wraps these choices.
     pub(crate) fn new(choices: Vec<u8>) -> Choices
         requires { AreChoices choices.items }
         ensures { result ≡ choices.items }
@@ -34,8 +34,8 @@ impl Choices {
         Choices { choices }
     }
 
-    /// No release for any bucket, as of an app that a ruleset doesn't have.
-    // open: whether memory is refused.
+    /// No release for any bucket: the choices for an app that a ruleset doesn't have.
+    // open: whether an allocation fails.
     pub fn none(alloc: Global) -> Result<Choices, AllocError>
         ensures { IfOk result (λ c. c ≡ choices_or_none None) }
     {
@@ -43,7 +43,7 @@ impl Choices {
         Ok(Choices { choices })
     }
 
-    /// The choices, lent.
+    /// The choices as a slice.
     pub fn as_slice(&self) -> &[u8]
         ensures value { result.now ≡ self.now }
         ensures all { AreChoices result.now }

@@ -1,4 +1,4 @@
-//! What the clients of a simulation say.
+//! What the clients of a simulation send.
 
 ghost use Rattle.std.specs.Prelude.{◌≡◌, IfOk, OnOk};
 ghost use Rattle.attrs.specs.Bucket as specs;
@@ -6,8 +6,8 @@ ghost use Rattle.attrs.specs.Bucket as specs;
 use attrs::{AppFacts, Attrs, Moment, RequestFacts, Text};
 use std::alloc::{AllocError, Global};
 
-/// What every client says in the same way: of the app, of itself, and when. The appid and the
-/// cohort are put in place app by app and bucket by bucket.
+/// What every client sends alike: about the app, about itself, and when. The appid and the cohort
+/// are replaced for each app and each bucket.
 #[derive(Drop)]
 pub struct Client {
     pub app: AppFacts,
@@ -19,7 +19,7 @@ impl Client {
     ghost use Rattle.simulate.specs.Clients.{in_bucket, asking_for, attributes};
     ghost use Rattle.simulate.specs.Clients.{IsSameButCohort, IsSameButApp};
 
-    /// Asks for another app.
+    /// Changes the app for which the client requests an update.
     pub(crate) fn ask_for(&mut self, alloc: Global, appid: &str) -> Result<(), AllocError>
         ensures asks { OnOk result (self.new ≡ asking_for self.old appid.now) }
         ensures same { IsSameButApp self.old self.new }
@@ -39,7 +39,7 @@ impl Client {
         Ok(())
     }
 
-    /// What a program sees of it.
+    /// The attributes that a program reads for this client.
     pub(crate) fn attributes(&self, alloc: Global) -> Result<Attrs, AllocError>
         ensures { IfOk result (λ a. a ≡ attributes self.now) }
     {
@@ -51,7 +51,7 @@ impl Client {
     }
 }
 
-// The cohort that the client of a bucket was told: `b:` and four digits.
+// The cohort that a server gave to the client of a bucket: `b:` and four digits.
 fn told_cohort(alloc: Global, bucket: u16) -> Result<Text, AllocError>
     ensures { IfOk result (λ text. text ≡ specs.told_cohort bucket) }
 {

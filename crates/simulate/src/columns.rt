@@ -15,7 +15,7 @@ pub fn width_of(text: &str) -> usize
     text.chars().count()
 }
 
-/// Puts so many blanks behind a text.
+/// Appends `count` blanks to a text.
 pub fn push_blanks(text: &mut String, count: usize) -> Result<(), AllocError>
     ensures { OnOk result (Puts text.old text.new (specs.blanks count)) }
 {
@@ -27,7 +27,7 @@ pub fn push_blanks(text: &mut String, count: usize) -> Result<(), AllocError>
     Ok(())
 }
 
-/// Puts a text and the blanks that fill it up to a width.
+/// Appends a text, followed by the blanks that fill it up to a width.
 pub fn push_left(text: &mut String, width: usize, more: &str) -> Result<(), AllocError>
     ensures { OnOk result (Puts text.old text.new (specs.at_left width more.now)) }
 {
@@ -35,7 +35,7 @@ pub fn push_left(text: &mut String, width: usize, more: &str) -> Result<(), Allo
     push_blanks(text, width.saturating_sub(width_of(more)))
 }
 
-/// Puts a text with the blanks before it that fill it up to a width.
+/// Appends a text, preceded by the blanks that fill it up to a width.
 pub fn push_right(text: &mut String, width: usize, more: &str) -> Result<(), AllocError>
     ensures { OnOk result (Puts text.old text.new (specs.at_right width more.now)) }
 {
@@ -43,7 +43,7 @@ pub fn push_right(text: &mut String, width: usize, more: &str) -> Result<(), All
     text.push_str(more)
 }
 
-/// Puts a number at the left of a column, and at its right.
+/// Appends a number at the left of a column.
 pub fn push_number_left(text: &mut String, width: usize, number: usize) -> Result<(), AllocError>
     ensures { OnOk result (Puts text.old text.new (specs.at_left width (decimal number))) }
 {
@@ -58,7 +58,7 @@ pub fn push_number_right(text: &mut String, width: usize, number: u32) -> Result
     push_right(text, width, digits.as_str())
 }
 
-/// Puts a count of 10000 in percent.
+/// Appends a count of 10000 in percent.
 pub fn push_percent(text: &mut String, count: u32) -> Result<(), AllocError>
     ensures { OnOk result (Puts text.old text.new (specs.percent count)) }
 {
@@ -68,7 +68,7 @@ pub fn push_percent(text: &mut String, count: u32) -> Result<(), AllocError>
     write!(text, "{whole}.{tenths}{hundredths}")
 }
 
-/// Puts a percentage with two decimals at the right of a column of this width.
+/// Appends a percentage with two decimals at the right of a column with this width.
 pub fn push_percent_right(text: &mut String, width: usize, count: u32) -> Result<(), AllocError>
     ensures { OnOk result (Puts text.old text.new (specs.at_right width (specs.percent count))) }
 {
@@ -77,7 +77,7 @@ pub fn push_percent_right(text: &mut String, width: usize, count: u32) -> Result
     push_right(text, width, percent.as_str())
 }
 
-/// Puts the bar of a count of 10000.
+/// Appends the bar of a count of 10000.
 pub fn push_bar(text: &mut String, count: u32) -> Result<(), AllocError>
     requires { count ≤ 10000 }
     ensures { OnOk result (Puts text.old text.new (specs.bar count)) }

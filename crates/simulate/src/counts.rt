@@ -27,9 +27,9 @@ pub fn count_buckets(choices: &Choices) -> [u32; KINDS]
     counts
 }
 
-/// How many buckets move from which release to which, as a table: the number of those that get
-/// `from` by the first choices and `to` by the second stands at place `65 * from + to`.
-// open: whether memory is refused.
+/// How many buckets move from which release to which, as a table. Place `65 * from + to` has the
+/// number of buckets that get `from` by the first choices and `to` by the second.
+// open: whether an allocation fails.
 pub fn count_moves(alloc: Global, now: &Choices, next: &Choices) -> Result<Vec<u32>, AllocError>
     ensures moves { IfOk result (λ table. AreMoves now.now next.now table.items) }
     ensures length { IfOk result (λ table. length table.items ≡ 4225) }

@@ -1,4 +1,4 @@
-//! The apps of a ruleset, one after the other.
+//! The apps of a ruleset, in order.
 
 ghost use Rattle.std.specs.Prelude.{◌≡◌, length, IfOk};
 ghost use Rattle.simulate.specs.Clients.{IsSameButApp};
@@ -11,15 +11,15 @@ use cells::{PlainCells, PlainPass};
 use ruleset::{App, Ruleset};
 use std::alloc::{AllocError, Global};
 
-/// Who is told how far a simulation is.
+/// An observer of a simulation's progress.
 pub trait Onlooker {
-    /// Is told that so many of all apps have been asked.
+    /// Reports that `done` of `all` apps are evaluated.
     fn asked(&mut self, done: usize, all: usize);
 }
 
-/// What the clients of all buckets choose of each app, in the ruleset's order. All counters are 0
-/// as it begins, and each run leaves them to the next. The onlooker is told after each app.
-// open: whether memory is refused; what an onlooker hears of it.
+/// The choices of the clients of all buckets for each app, in the ruleset's order. All counters are
+/// 0 at the beginning, and each run leaves them to the next. The observer is called after each app.
+// open: whether an allocation fails; what is reported to an observer.
 pub fn simulate<O: Onlooker>(
     alloc: Global,
     rules: &Ruleset,
@@ -43,7 +43,7 @@ pub fn simulate<O: Onlooker>(
     Ok(chosen)
 }
 
-// What the clients choose of an app.
+// The clients' choices for an app.
 fn ask_for_app(
     alloc: Global,
     app: &App,

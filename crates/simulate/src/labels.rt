@@ -1,4 +1,4 @@
-//! Releases by their versions, and what a choice is called.
+//! Releases by their versions, and the names of choices.
 
 ghost use Rattle.std.specs.Prelude.{◌≡◌, ◌<◌, ◌≤◌, OnOk, length, option_copied};
 ghost use Rattle.printing.specs.Pushed.{Puts};
@@ -31,7 +31,7 @@ fn count_of(app: &App) -> usize
     app.releases().len()
 }
 
-/// The version of the release that a choice is.
+/// The version of the release with this number.
 pub fn version_at<'a>(app: Option<&'a App>, choice: usize) -> &'a str
     ensures { result.now
         ≡ specs.version_at (specs.versions_or_none (option_copied app.entry)) choice }
@@ -53,7 +53,7 @@ fn version_in(app: &App, place: usize) -> &str
     }
 }
 
-/// What a choice is called: none, or the version.
+/// The name of a choice: none, or the version.
 pub fn choice_name<'a>(app: Option<&'a App>, choice: usize) -> &'a str
     ensures { result.now
         ≡ specs.choice_name (specs.versions_or_none (option_copied app.entry)) choice }
@@ -65,7 +65,7 @@ pub fn choice_name<'a>(app: Option<&'a App>, choice: usize) -> &'a str
     }
 }
 
-/// The width of the widest version, and at least this.
+/// The width of the widest version, but at least `least`.
 pub fn widest_version(least: usize, app: Option<&App>) -> usize
     ensures { result ≡ widest least (specs.versions_or_none (option_copied app.entry)) }
 {
@@ -87,7 +87,7 @@ fn widest_of(least: usize, app: &App) -> usize
     most
 }
 
-/// Puts none, or a release's number and version.
+/// Appends none, or a release's number and version.
 pub fn push_choice_label(text: &mut String, app: &App, choice: usize) -> Result<(), AllocError>
     ensures { OnOk result
         (Puts text.old text.new (choice_label (specs.versions_of app.now) choice)) }

@@ -30,7 +30,7 @@ fn number_opens() -> &'static str
     "<text text-anchor=\"end\" x=\""
 }
 
-/// Puts the legend of an app.
+/// Appends the legend of an app.
 pub fn push_legend(text: &mut String, app: &App, choices: &Choices) -> Result<(), AllocError>
     ensures { OnOk result
         (Puts text.old text.new (specs.legend (versions_of app.now) choices.now)) }
@@ -127,7 +127,7 @@ fn push_share(text: &mut String, top: u32, count: u32) -> Result<(), AllocError>
     text.push_str(" %</text>")
 }
 
-// The beginning of an element of text, at a place.
+// The beginning of a text element at a place.
 fn push_place(text: &mut String, opens: &str, x: u32, top: u32) -> Result<(), AllocError>
     requires { top ≤ 2000 }
     ensures { OnOk result (Puts text.old text.new (specs.legend_place opens.now x top)) }

@@ -1,16 +1,16 @@
 //! Simulation: what a ruleset chooses for a client in each bucket, how many get which release, and
-//! what that comes to, as tables of text, as JSON and as a picture.
+//! reports of both as tables of text, as JSON and as a picture.
 //!
 //! See docs/PROGRAM.md, "simulate".
 #![tactic(auto)]
 
-// How it goes. App after app, in the ruleset's order, each is asked once for each of the 10000
-// buckets, in their order, as a client that keeps the cohort that it was told (`b:NNNN`). All runs
+// How it works. App after app, in the ruleset's order, the program is run once for each of the
+// 10000 buckets, in order. The client keeps the cohort that a server gave it (`b:NNNN`). All runs
 // are on the same counters, which are 0 before the first. So the choices are those of one legal
 // history, run after run.
 //
-// A simulation is kept with its ruleset, so an app has its releases beside the choices of its
-// buckets. Each text is written part by part behind what stands, and each part is a definition.
+// A simulation is kept with its ruleset, so the releases of an app are available with the choices
+// of its buckets. Each text is written by appending part after part, and each part is a definition.
 
 mod asking;
 mod bucket_square;

@@ -12,8 +12,8 @@ use attrs::read_version;
 use ruleset::App;
 use std::alloc::{AllocError, Global};
 
-/// Whether a bucket loses its release where it moves from the one choice to the other: it gets
-/// none, or a release of a lower version.
+/// Whether a bucket loses its release when it moves from one choice to the other: it gets none, or
+/// a release with a lower version.
 pub fn loses(now: Option<&App>, next: Option<&App>, from: usize, to: usize) -> bool
     ensures { result ≡ specs.loses (versions_or_none (option_copied now.entry))
         (versions_or_none (option_copied next.entry)) from to }
@@ -74,8 +74,8 @@ fn loses_of(now: &Simulated, next: &Simulated, none: &Choices, appid: &str) -> b
 }
 
 /// Whether some bucket loses the release that it has of an app: the next ruleset gives it none, or
-/// one of a lower version. Such a move is marked as lost in the tables of `push_moves`.
-// open: whether memory is refused.
+/// a release with a lower version. The tables of `push_moves` mark such a move as lost.
+// open: whether an allocation fails.
 pub fn is_lossy(alloc: Global, now: &Simulated, next: &Simulated) -> Result<bool, AllocError>
     ensures { IfOk result (λ lossy. lossy ≡ specs.is_lossy now.now next.now) }
 {

@@ -1,4 +1,4 @@
-//! How many buckets move from which release to which, as JSON: an object an app.
+//! How many buckets move from which release to which, as JSON: an object for each app.
 
 ghost use Rattle.std.specs.Prelude.{◌≡◌, ◌≤◌, ◌∷◌, ◌++◌, [], None, IfOk, OnOk, length, map};
 ghost use Rattle.std.specs.Prelude.{option_copied};
@@ -17,7 +17,7 @@ use ruleset::App;
 use serde_json::{Value, json};
 use std::alloc::{AllocError, Global};
 
-/// An object an app that one of two rulesets has.
+/// An object for each app that one of two rulesets has.
 pub fn moving_objects(
     alloc: Global,
     now: &Simulated,
@@ -33,7 +33,7 @@ pub fn moving_objects(
     Ok(values)
 }
 
-// Those of the apps of the next ruleset.
+// The objects of the next ruleset's apps.
 fn push_kept(
     values: &mut Vec<Value>,
     now: &Simulated,
@@ -52,7 +52,7 @@ fn push_kept(
     Ok(())
 }
 
-// Those of the apps that it doesn't have any more.
+// The objects of the apps that only the current ruleset has.
 fn push_gone(
     values: &mut Vec<Value>,
     now: &Simulated,
@@ -154,7 +154,7 @@ fn push_moves_from(
     Ok(())
 }
 
-// A move that so many buckets make.
+// The object of a move, if some bucket makes it.
 #[tactic(auto, unfolding(crate::specs::Objects::move_object_if_any))]
 fn push_move_if_any(
     values: &mut Vec<Value>,

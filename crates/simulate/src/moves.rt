@@ -1,4 +1,4 @@
-//! How many buckets move from which release to which: a table an app.
+//! How many buckets move from which release to which: a table for each app.
 
 ghost use Rattle.std.specs.Prelude.{◌≡◌, ◌≤◌, OnOk, IfOk, None, length, option_copied};
 ghost use Rattle.printing.specs.Pushed.{Puts};
@@ -17,7 +17,7 @@ use printing::Printed;
 use ruleset::App;
 use std::alloc::{AllocError, Global};
 
-/// How wide the columns of a table of moves are.
+/// The widths of the columns of a table of moves.
 #[derive(Clone, Copy)]
 pub struct MoveWidths {
     pub app: usize,
@@ -25,8 +25,8 @@ pub struct MoveWidths {
     pub next: usize,
 }
 
-/// Puts the tables of all apps that one of two rulesets has behind a text.
-// open: whether memory is refused.
+/// Appends the tables of all apps that one of two rulesets has.
+// open: whether an allocation fails.
 pub fn push_moves(
     alloc: Global,
     text: &mut String,
@@ -60,7 +60,7 @@ fn push_kept(
     Ok(())
 }
 
-// Those of the apps that it doesn't have any more.
+// The tables of the apps that only the current ruleset has.
 fn push_gone(
     alloc: Global,
     text: &mut String,
@@ -219,7 +219,7 @@ fn push_moves_from(
     Ok(())
 }
 
-// A move that so many buckets make.
+// The row of a move, if some bucket makes it.
 #[tactic(auto, unfolding(crate::specs::Moving::move_if_any))]
 fn push_move(
     text: &mut String,

@@ -13,9 +13,10 @@ use serde_json::{Value, json};
 use std::alloc::{AllocError, Global};
 
 /// A simulation as a line of JSON, ended by a line feed: `{"apps":[{"appid":"x","shares":[..]}]}`
-/// with an object in `shares` for each choice that some bucket makes, as
-/// `{"buckets":507,"offer":{"release":1,"version":"3.0.0"}}`. An offer of no release is null.
-// open: whether memory is refused.
+/// with an object in `shares` for each choice that some bucket makes, such as
+/// `{"buckets":507,"offer":{"release":1,"version":"3.0.0"}}`. If no release is offered, `offer` is
+/// null.
+// open: whether an allocation fails.
 pub fn shares_json(alloc: Global, simulated: &Simulated) -> Result<String, AllocError>
     ensures { IfOk result (λ text. string_bytes text
         ≡ specs.json_line (specs.simulation_object simulated.now)) }
@@ -31,11 +32,11 @@ fn simulation_object(alloc: Global, simulated: &Simulated) -> Result<Value, Allo
     json!(in alloc; {"apps": apps})
 }
 
-/// The next simulation in the same way, and behind it whether some bucket loses its release
-/// (`lost`), and `moves`, with an object for each app that one of the two has. Of an app there is
-/// an object for each move that some bucket makes, as
+/// The next simulation in the same form, followed by whether some bucket loses its release
+/// (`lost`), and by `moves`, with an object for each app that one of the two rulesets has. Each has
+/// an object for each move that some bucket makes, such as
 /// `{"buckets":9493,"lost":false,"next":{"release":1,"version":"3.0.0"},"now":null}`.
-// open: whether memory is refused.
+// open: whether an allocation fails.
 pub fn moves_json(alloc: Global, now: &Simulated, next: &Simulated) -> Result<String, AllocError>
     ensures { IfOk result (λ text. string_bytes text
         ≡ specs.json_line (specs.comparison_object now.now next.now)) }
@@ -53,8 +54,8 @@ fn comparison_object(alloc: Global, now: &Simulated, next: &Simulated) -> Result
     json!(in alloc; {"apps": apps, "lost": lost, "moves": moves})
 }
 
-/// A value without blanks, ended by a line feed; it has no float, whose text nothing pins.
-// open: whether memory is refused.
+/// A value without blanks, ended by a line feed; it has no float, whose text no contract specifies.
+// open: whether an allocation fails.
 #[tactic(auto, unfolding(crate::specs::Objects::json_line))]
 pub fn json_line(alloc: Global, value: &Value) -> Result<String, AllocError>
     requires { has_float (view value.now) ≡ false }

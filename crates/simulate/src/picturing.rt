@@ -14,9 +14,9 @@ use std::alloc::{AllocError, Global};
 use std::fmt::Write;
 use svg::{push_frame, push_xml};
 
-/// The picture of a simulation, as the text of an SVG file. Want of memory is answered, too, where
-/// its height passes 64 bits.
-// open: whether memory is refused.
+/// The picture of a simulation, as the text of an SVG file. Also reports "out of memory" if its
+/// height overflows 64 bits.
+// open: whether an allocation fails.
 pub fn draw(alloc: Global, simulated: &Simulated) -> Result<String, AllocError>
     ensures { IfOk result (λ text. string_bytes text ≡ specs.picture simulated.now) }
 {
@@ -30,7 +30,7 @@ pub fn draw(alloc: Global, simulated: &Simulated) -> Result<String, AllocError>
     Ok(text)
 }
 
-// How high the apps reach, from a height on.
+// The height that the apps reach, from `top` on.
 fn height_from(top: u64, apps: &[App]) -> Option<u64>
     ensures { IfSome result (λ height. height ≡ specs.height_from top apps.now) }
 {
@@ -78,7 +78,7 @@ fn next_top(top: u64, app: &App) -> Result<u64, AllocError>
     }
 }
 
-// An app, from a height on.
+// The panel of an app, from a height on.
 fn push_panel(text: &mut String, top: u64, app: &App, choices: &Choices) -> Result<(), AllocError>
     ensures { OnOk result (Puts text.old text.new (specs.panel top app.now choices.now)) }
 {

@@ -1,4 +1,4 @@
-//! How many buckets get which release, as JSON: an object an app.
+//! How many buckets get which release, as JSON: an object for each app.
 
 ghost use Rattle.std.specs.Prelude.{◌≡◌, ◌∷◌, ◌++◌, [], IfOk, OnOk, map, option_copied};
 ghost use Rattle.serde_json.specs.View.{view};
@@ -13,8 +13,8 @@ use ruleset::App;
 use serde_json::{Value, json};
 use std::alloc::{AllocError, Global};
 
-/// Puts a value behind others: for lists of JSON, here and above.
-// open: whether memory is refused.
+/// Appends a value to a list of JSON.
+// open: whether an allocation fails.
 pub fn push_value(values: &mut Vec<Value>, value: Value) -> Result<(), AllocError>
     ensures { OnOk result
         (map view values.new.items ≡ map view values.old.items ++ view value ∷ []) }
@@ -22,7 +22,7 @@ pub fn push_value(values: &mut Vec<Value>, value: Value) -> Result<(), AllocErro
     Ok(values.push(value)?)
 }
 
-/// The release of an app that a choice is, by its number and version; null is none.
+/// The release of an app that a choice names, with its number and version; null is none.
 pub fn release_object(alloc: Global, app: Option<&App>, choice: usize) -> Result<Value, AllocError>
     ensures { IfOk result (λ value. view value
         ≡ specs.release_object (versions_or_none (option_copied app.entry)) choice) }
@@ -33,7 +33,7 @@ pub fn release_object(alloc: Global, app: Option<&App>, choice: usize) -> Result
     json!(in alloc; {"release": choice, "version": version_at(app, choice)})
 }
 
-/// An object an app, in the ruleset's order.
+/// An object for each app, in the ruleset's order.
 pub fn app_objects(alloc: Global, simulated: &Simulated) -> Result<Vec<Value>, AllocError>
     ensures { IfOk result (λ values. map view values.items
         ≡ specs.app_objects simulated.now.apps simulated.now.chosen) }

@@ -1,4 +1,4 @@
-//! How many buckets get which release: a table an app.
+//! How many buckets get which release: a table for each app.
 
 ghost use Rattle.std.specs.Prelude.{◌≡◌, ◌≤◌, OnOk};
 ghost use Rattle.printing.specs.Pushed.{Puts};
@@ -15,8 +15,8 @@ use ruleset::App;
 use std::alloc::AllocError;
 use std::fmt::Write;
 
-/// Puts the tables of all apps behind a text.
-// open: whether memory is refused.
+/// Appends the tables of all apps.
+// open: whether an allocation fails.
 pub fn push_shares(text: &mut String, simulated: &Simulated) -> Result<(), AllocError>
     ensures { OnOk result (Puts text.old text.new (specs.shares_text simulated.now)) }
 {
@@ -44,7 +44,7 @@ fn push_table(text: &mut String, app: &App, choices: &Choices) -> Result<(), All
     push_rows(text, app, choices, width)
 }
 
-/// Puts what stands above an app.
+/// Appends the title of an app's table.
 pub fn push_title(text: &mut String, appid: &str) -> Result<(), AllocError>
     ensures { OnOk result (Puts text.old text.new (specs.app_title appid.now)) }
 {

@@ -1,4 +1,4 @@
-//! A ruleset with what the buckets choose of each of its apps.
+//! A ruleset with the buckets' choices for each of its apps.
 
 ghost use Rattle.std.specs.Prelude.{◌≡◌, ◌<◌, None, IfOk, IfSome, IfNone, is_none, length};
 ghost use Rattle.std.specs.Prelude.{option_copied, take, drop};
@@ -16,14 +16,14 @@ use ruleset::{App, Ruleset};
 use std::alloc::{AllocError, Global};
 use std::marker::Model;
 
-/// The app of an appid, if there is one, and what each bucket chooses.
+/// The app with an appid, if there is one, and each bucket's choice.
 pub(crate) type Offered<'a> = (Option<&'a App>, &'a Choices);
 
-/// What a simulation of a ruleset came to: of all its apps, or of one.
+/// The result of simulating a ruleset: for all its apps, or for one.
 #[derive(Drop)]
 pub struct Simulated {
     rules: Ruleset,
-    // The apps that it is of: those from this place on, and before that one.
+    // The range of the simulated apps: `first` up to and without `end`.
     first: usize,
     end: usize,
     chosen: Vec<Choices>,
@@ -45,9 +45,9 @@ impl Model for Simulated {
 }
 
 impl Simulated {
-    /// The simulation of a ruleset for clients that say what this one does. The onlooker is told
-    /// how far it is.
-    // open: whether memory is refused.
+    /// The simulation of a ruleset for clients like this one. The observer is called with its
+    /// progress.
+    // open: whether an allocation fails.
     pub fn of<O: Onlooker>(
         alloc: Global,
         rules: Ruleset,
@@ -68,9 +68,9 @@ impl Simulated {
         })
     }
 
-    /// The same of the app of an appid alone. All apps are asked, as above, and what is chosen of
-    /// this one is kept; of a ruleset that doesn't have it nothing is.
-    // open: whether memory is refused.
+    /// The simulation of only the app with an appid. All apps are run, as above, and the choices
+    /// for this app are kept; none if the ruleset doesn't have it.
+    // open: whether an allocation fails.
     pub fn of_app<O: Onlooker>(
         alloc: Global,
         rules: Ruleset,
@@ -106,14 +106,14 @@ impl Simulated {
         &self.rules.apps()[self.first..self.end]
     }
 
-    /// What the buckets choose of each.
+    /// The buckets' choices for each app.
     pub(crate) fn chosen(&self) -> &[Choices]
         ensures { result.now ≡ self.now.chosen }
     {
         self.chosen.as_slice()
     }
 
-    /// Whether none of the apps has an appid.
+    /// Whether no app has this appid.
     pub(crate) fn lacks(&self, appid: &str) -> bool
         ensures { result ≡ is_none (app_in self.now.apps appid.now) }
     {
@@ -123,8 +123,7 @@ impl Simulated {
         }
     }
 
-    /// The app of an appid, and what the buckets choose of it; these choices of none where there is
-    /// no such app.
+    /// The app with an appid, and the buckets' choices for it; `none` if there is no such app.
     pub(crate) fn offer<'a>(&'a self, none: &'a Choices, appid: &str) -> Offered<'a>
         requires { none.now ≡ choices_or_none None }
         ensures { specs.offered (option_copied result.0) result.1.now
@@ -134,7 +133,7 @@ impl Simulated {
     }
 }
 
-// The place of the first app of an appid, from 0.
+// The place of the first app with an appid, from 0.
 fn place_of(apps: &[App], appid: &str) -> Option<usize>
     ensures some { IfSome result (IsPlaceOf apps.now appid.now) }
     ensures none { IfNone result (app_in apps.now appid.now ≡ None) }
@@ -151,7 +150,7 @@ fn place_of(apps: &[App], appid: &str) -> Option<usize>
     None
 }
 
-// The choices at a place, and no others.
+// Only the choices at a place.
 fn one_of(mut chosen: Vec<Choices>, place: usize) -> Result<Vec<Choices>, AllocError>
     requires { place < length chosen.items }
     ensures { IfOk result (λ one. one.items ≡ take 1 (drop place chosen.items)) }

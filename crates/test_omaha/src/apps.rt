@@ -1,4 +1,4 @@
-//! Rulesets of the apps x and one with braces in its appid, and the reply to a body under them.
+//! Rulesets of the app x and one with braces in its appid, and the reply to a body under them.
 
 ghost use Rattle.std.specs.Prelude.{◌≡◌, ◌≤◌, IfOk, IsTrue, length};
 ghost use Rattle.releases.specs.Appid.{is_appid};
@@ -18,10 +18,10 @@ use std::test::Fail;
 /// The SHA-256 of `abc`.
 const HASH: &str = "ba7816bf8f01cfea414140de5dae2223b00361a396177a9cb410ff61f20015ad";
 
-/// An appid as updaters write a GUID.
+/// An appid in the form of a GUID, as updaters write it.
 const BRACED: &str = "{5b6f8a1e-3c2d-4e7f-9a0b-1c2d3e4f5a6b}";
 
-/// A program that offers nothing, of an app with so many releases.
+/// A program that offers nothing, for an app with `count` releases.
 fn program(alloc: Global, count: u8) -> Result<Arc<Verified>, Fail>
     requires { count ≤ 64 }
     ensures { IfOk result (λ p. p.value.shape.releases ≡ count) }
@@ -31,7 +31,7 @@ fn program(alloc: Global, count: u8) -> Result<Arc<Verified>, Fail>
     Ok(Arc::new(alloc, program)?)
 }
 
-/// The server `prod` with its two apps, each of so many releases of so many packages each.
+/// The server `prod` with its two apps, each with `count` releases of `packages` packages each.
 pub(crate) fn rules_of(alloc: Global, count: u8, packages: u8) -> Result<Ruleset, Fail> {
     let (count, packages) = (count.min(64), packages.clamp(1, 16));
     let plain = app(alloc, "x", count, packages)?;
@@ -89,7 +89,7 @@ fn package(alloc: Global) -> Result<Package, AllocError> {
     Ok(Package::new(name, hash, 3, true))
 }
 
-/// Who takes no notice of apps.
+/// An observer that ignores apps.
 #[derive(Clone, Copy)]
 struct Deaf;
 
@@ -97,7 +97,7 @@ impl HearsApps for Deaf {
     fn hear_app(&mut self, _app: WrittenApp<'_>) {}
 }
 
-/// The request that a body is. It has no clauses, so that no proof reads the bytes of a test.
+/// The request that a body is. It has no clauses, so that no proof evaluates the bytes of a test.
 pub(crate) fn read(alloc: Global, body: &[u8]) -> Result<Request, OmahaFault> {
     read_request(alloc, body, &mut Deaf)
 }
@@ -117,7 +117,7 @@ pub(crate) fn reply_to(
     reply_text(alloc, &request, rules, choices, moment)
 }
 
-/// `ok` of a body that is a request, or its printed fault.
+/// `ok` if a body is a request, or its printed fault.
 pub(crate) fn told(alloc: Global, body: &[u8]) -> Result<String, AllocError> {
     match read(alloc, body) {
         Ok(_) => format!(in alloc; "ok"),

@@ -1,4 +1,4 @@
-//! The longest id of a request, and the one fault that no body has.
+//! The longest id of a request, and the only fault that no body has.
 
 use crate::apps::told;
 use omaha_json::OmahaFault;
@@ -11,7 +11,7 @@ fn memory_is_printed(rt: HostRuntime) -> Result<(), Fail> {
     Ok(())
 }
 
-/// A request with a text of so many bytes as its id.
+/// A request with a text of `length` bytes as its id.
 fn long(alloc: Global, length: usize) -> Result<String, AllocError> {
     let id = "a".repeat(alloc, length)?;
     format!(in alloc; "{{\"request\":{{\"protocol\":\"3.1\",\"requestid\":\"{id}\"}}}}")

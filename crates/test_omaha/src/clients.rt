@@ -1,5 +1,5 @@
-//! Whole requests as updaters of other products may write them: what is read of each, and the
-//! reply, byte for byte.
+//! Whole requests in the form of other products' updaters: what is read of each, and the reply,
+//! byte for byte.
 
 use crate::apps::{reply_to, rules_of};
 use crate::facts::told;
@@ -7,12 +7,13 @@ use std::alloc::{AllocError, Global};
 use std::test::Fail;
 
 /// A name, how many releases of one package the app x has, the moment, and the choices that the
-/// runs made (`-` is none); a body; what is read of it; and the reply behind its first line. Of the
-/// request that is its `requestid`, its `sessionid` and its platform, and of each app a line. Bodies
-/// and replies are without the ends of their lines. An updater says much that isn't read: how it was
-/// started, what machine it is on, what it has fetched. A cohort that another server gave it names
-/// no bucket, so the reply's is drawn from `requestid`. The moment 1772413200 is 2026-03-02 01:00:00
-/// UTC, which is day 7000 and second 3600 of Omaha's count.
+/// runs made (`-` is none); a body; what is read of it; and the reply after its first line. What is
+/// read of the request is its `requestid`, its `sessionid` and its platform, and a line for each
+/// app. Bodies and replies are without the ends of their lines. An updater sends many members that
+/// aren't read: how it was started, what machine it is on, what it has fetched. A cohort that
+/// another server gave it names no bucket, so the reply's bucket is drawn from `requestid`. The
+/// moment 1772413200 is 2026-03-02 01:00:00 UTC, which is day 7000 and second 3600 of Omaha's
+/// count.
 const ROWS: &str = r##"
 * a check of an updater that says much of itself | 1 | 1772413200 | 1
 {"request":{"@os":"win","@updater":"updater","acceptformat":"crx3,download,puff,run","app":[
@@ -139,7 +140,7 @@ fn clients(rt: HostRuntime) -> Result<(), Fail> {
     Ok(())
 }
 
-/// Whether these facts are read of a body.
+/// Whether these facts are read from a body.
 fn is_read(alloc: Global, body: &str, facts: &str) -> Result<bool, Fail> {
     let found = told(alloc, body)?;
     Ok(found.as_str() == facts)

@@ -1,10 +1,10 @@
-//! The events of a request's apps, as a log is told of them.
+//! The events of a request's apps, as they are passed to a log.
 
 use omaha_json::{HearsApps, OmahaFault, WrittenApp, read_request};
 use std::alloc::{AllocError, Global};
 use std::test::Fail;
 
-/// A witness that writes each app's event in a line, `-` where there is none.
+/// An observer that writes each app's event in a line, `-` if there is none.
 #[derive(Drop)]
 struct Events {
     alloc: Global,
@@ -67,7 +67,7 @@ fn events_are_compact(rt: HostRuntime) -> Result<(), Fail> {
     Ok(())
 }
 
-// The third app is none, so what comes behind it isn't shown.
+// The third app isn't one, so the observer isn't called for the app after it.
 const REFUSED: &str = r#"{"request":{"protocol":"3.1","app":[
 {"appid":"x","event":1},{"appid":"y","event":true},{"event":2},{"appid":"z","event":3}]}}"#;
 

@@ -1,11 +1,11 @@
-//! What a request says of itself and of its apps.
+//! The facts that a request has about itself and its apps.
 
 use crate::apps::read;
 use attrs::{AppFacts, RequestFacts, Text};
 use std::alloc::{AllocError, Global};
 use std::test::Fail;
 
-/// A text that was given, or `-`.
+/// A text, or `-` if there is none.
 fn given(text: &Option<Text>) -> &str {
     match text {
         Some(text) => text.as_str(),
@@ -27,7 +27,7 @@ fn told_request(alloc: Global, facts: &RequestFacts) -> Result<String, AllocErro
     texts.join(alloc, " ")
 }
 
-/// An app in a line: its texts, the day of its installation, and what it asks for.
+/// An app in a line: its texts, the day of its installation, and what it requests.
 fn told_app(alloc: Global, facts: &AppFacts) -> Result<String, AllocError> {
     let day = match facts.installdate {
         Some(day) => format!(in alloc; "{day}")?,
@@ -48,7 +48,7 @@ fn told_app(alloc: Global, facts: &AppFacts) -> Result<String, AllocError> {
     words.join(alloc, " ")
 }
 
-/// What is read of a body, in lines: the request's ids and platform, and then each app.
+/// What is read from a body, in lines: the request's ids and platform, and then each app.
 pub(crate) fn told(alloc: Global, body: &str) -> Result<String, Fail> {
     let request = read(alloc, body.as_bytes())?;
     let mut lines = vec![in alloc; told_request(alloc, request.facts())?]?;

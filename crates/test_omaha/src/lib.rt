@@ -1,6 +1,7 @@
-//! Requests and replies of Omaha 3.1 in JSON, worked by hand, as far as no command shows them: what a
-//! request says of itself and of its apps, whole requests of other products' updaters, and the
-//! longest reply. Bodies and their faults, and replies byte for byte, are rows of the program `rows`.
+//! Requests and replies of Omaha 3.1 in JSON, worked by hand, as far as no command shows them.
+//! These are a request's facts about itself and its apps, whole requests of other products'
+//! updaters, and the longest reply. Bodies and their faults, and replies byte for byte, are rows of
+//! the program `rows`.
 #![tactic(auto)]
 
 #[cfg(test)]

@@ -1,4 +1,4 @@
-//! As many apps, releases and packages as there may be.
+//! As many apps, releases and packages as there can be.
 
 use crate::apps::{reply_to, rules_of};
 use std::alloc::{AllocError, Global};
@@ -6,7 +6,7 @@ use std::test::Fail;
 
 const APP: &str = r#"{"appid":"x","updatecheck":{}}"#;
 
-/// A request of so many apps x and one more, which ask for an update.
+/// A request of `count` apps x and one more, which request an update.
 fn asking(alloc: Global, count: usize) -> Result<String, AllocError> {
     let before = format!(in alloc; "{APP},")?.repeat(alloc, count)?;
     format!(in alloc; "{{\"request\":{{\"protocol\":\"3.1\",\"app\":[{before}{APP}]}}}}")

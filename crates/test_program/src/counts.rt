@@ -1,5 +1,5 @@
-//! How many entries are kept at once: the one at hand, and one for each target ahead to which an
-//! edge leads that isn't dropped.
+//! How many entries are kept at once: the current one, and one for each later target of an edge
+//! that isn't dropped.
 
 use crate::row::{case_of, lines, must};
 use bpf_text::assemble;
@@ -9,7 +9,7 @@ use flow_check::Flow;
 use std::alloc::{AllocError, Global};
 use std::test::Fail;
 
-/// A row has the verdict under two releases and a map of four cells of 64 bits, and the greatest
+/// A row has the verdict with two releases and a map of four cells of 64 bits, and the greatest
 /// number of entries that are kept at once.
 const COUNTS: &str = r#"
 - straight code | ok | 1
@@ -64,7 +64,7 @@ fn judged_over(
     format!(in alloc; "{verdict} | {count}")
 }
 
-/// The printed refusal, or `ok` if the program comes back as it was; and the count.
+/// The printed refusal, or `ok` if the program is returned unchanged; and the count.
 fn judged(alloc: Global, shape: &Shape, text: &str) -> Result<String, Fail> {
     let bytes = assemble(alloc, text)?;
     let flow = Flow::check(alloc, &bytes)?;
@@ -99,7 +99,7 @@ fn is_counted_once(alloc: Global, length: usize) -> Result<(), Fail> {
     must("straight code", found.as_str(), found.as_str() == "ok | 1")
 }
 
-/// Straight code, of the most slots that a program has.
+/// Straight code, of the most slots that a program can have.
 #[test]
 fn straight_code(rt: HostRuntime) -> Result<(), Fail> {
     is_counted_once(rt.alloc(), 1)?;

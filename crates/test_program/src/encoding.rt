@@ -1,12 +1,12 @@
 //! Worked rows: bytes, and the instruction and its width that they spell. The calls are made by
-//! helpers without clauses, so that no proof computes with the rows.
+//! helpers without clauses, so that no proof evaluates the rows.
 
 use bpf_insn::{
     AluOp, AtomicOp, AtomicSize, Bits, ByteOrder, Condition, Distance, EndSize, Extension, Insn,
     InsnFault, LoadKind, Operand, Reg, WideValue, Width, decode_at, encode,
 };
 
-/// Bytes, padded by zeroes, and the instruction that they spell.
+/// Bytes, padded with zeroes, and the instruction that they spell.
 #[derive(Clone, Copy)]
 struct Spelled {
     text: &'static str,

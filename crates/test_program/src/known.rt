@@ -1,13 +1,12 @@
-//! Rows of what is asked of what the verifier knows: whether it knows the same of two numbers, two
-//! lookups or two cells' addresses, and where bytes lie in the stack. The calls have no clauses
-//! here.
+//! Rows about what the verifier knows: whether it knows the same about two numbers, two lookups or
+//! two cells' addresses, and where bytes are in the stack. The calls have no clauses here.
 
 use crate::row::must;
 use abs_value::{Abs, Interval, KnownBits, Lookup, Number, Origin, Places};
 use bpf_checks::stack_place;
 use std::test::Fail;
 
-/// What is tested, and two numbers: the ends of the range, the bits that are there, and those that
+/// What is tested, and two numbers: the ends of the range, the bits that are set, and those that
 /// may be.
 const NUMBERS: [(&str, [u64; 4], [u64; 4], bool); 6] = [
     ("the same", [1, 6, 0, 7], [1, 6, 0, 7], true),
@@ -40,7 +39,7 @@ const ORIGINS: [(&str, Origin, Origin, bool); 6] = [
     ("a cell and a lookup", Origin::Fixed(3), FOUND, false),
 ];
 
-/// What is tested, a place in the stack, the offset from it, how many bytes, and where they lie.
+/// What is tested, a place in the stack, the offset from it, how many bytes, and where they are.
 const STACK: [(&str, u16, i16, u16, Option<u16>); 11] = [
     ("the last slot", 512, -8, 8, Some(504)),
     ("the whole stack", 512, -512, 512, Some(0)),
@@ -55,7 +54,7 @@ const STACK: [(&str, u16, i16, u16, Option<u16>); 11] = [
     ("the greatest offset", 0, i16::MAX, 1, None),
 ];
 
-/// What has no place in the stack.
+/// Values that aren't a place in the stack.
 const ELSEWHERE: [(&str, Abs); 4] = [
     ("the context", Abs::Ctx(Places { lo: 0, hi: 0 })),
     ("an array", Abs::Map { index: 0 }),

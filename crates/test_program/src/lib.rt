@@ -1,7 +1,7 @@
 //! Tests of programs that no command shows: how many slots an instruction takes, how a program is
 //! laid out, what is known about values, and how many entries are kept at once. The listing of
-//! twelve opcodes is tried with every offset. The rows of texts, verdicts and orders are data of the
-//! program `rows`.
+//! twelve opcodes is tried with every offset. The rows of texts, verdicts and orders are data of
+//! the program `rows`.
 #![tactic(auto)]
 
 #[cfg(test)]

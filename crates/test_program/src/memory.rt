@@ -1,4 +1,4 @@
-//! How refusals of memory are printed, which no row brings about.
+//! How a failed allocation is printed, which no row shows.
 
 use bpf_text::AsmFault;
 use bpf_verify::Refusal;

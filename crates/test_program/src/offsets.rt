@@ -1,5 +1,5 @@
-//! The opcodes of MUL, DIV and MOD, each with every offset: what it lists as with 0 and with 1, and
-//! the one fault of all others.
+//! The opcodes of MUL, DIV and MOD, each with every offset: its listing with 0 and with 1, and the
+//! one fault of all others.
 
 use crate::row::must;
 use bpf_text::listing;
@@ -22,7 +22,7 @@ const OPCODES: &str = r#"
 9f | mod r1, r0 | smod r1, r0 | I6 Offset
 "#;
 
-/// What is wanted of an opcode.
+/// The expected result for an opcode.
 #[derive(Clone, Copy)]
 struct Wanted<'a> {
     opcode: u8,

@@ -1,4 +1,4 @@
-//! Rows of bytes that are read as a program, wherever its edges lead.
+//! Rows of bytes that are read as a program, for any targets of its edges.
 
 use crate::row::{case_of, lines, must};
 use bpf_insn::Insn;
@@ -25,7 +25,7 @@ const PROGRAMS: &str = r#"
   mov r0, 0 / exit / exit
 "#;
 
-/// A letter a slot.
+/// A letter for each slot.
 fn letters(alloc: Global, slots: &[Option<Insn>]) -> Result<String, AllocError> {
     let mut text = String::new(alloc);
     for slot in slots {

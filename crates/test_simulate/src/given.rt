@@ -1,5 +1,5 @@
 //! Programs, apps and clients of the tests. The calls have no clauses here, so that no proof
-//! computes with the texts of a test.
+//! evaluates the texts of a test.
 
 use attrs::{AppFacts, Attrs, RequestFacts, Text, read_version};
 use bpf_text::assemble;
@@ -15,7 +15,7 @@ use std::test::Fail;
 
 const HASH: &str = "ba7816bf8f01cfea414140de5dae2223b00361a396177a9cb410ff61f20015ad";
 
-/// An onlooker that nothing is seen of.
+/// An observer that does nothing.
 #[derive(Drop)]
 pub(crate) struct NobodyLooks;
 
@@ -23,7 +23,7 @@ impl Onlooker for NobodyLooks {
     fn asked(&mut self, _done: usize, _all: usize) {}
 }
 
-/// So many releases, 64 at most, and the array q of one counter with a quota of 2.
+/// A shape with `releases` releases, at most 64, and the array q of one counter with a quota of 2.
 pub(crate) fn shape_of(alloc: Global, releases: usize) -> Result<Shape, Fail> {
     if releases > 64 {
         return Err(Fail::from("too many releases"));
@@ -36,7 +36,7 @@ pub(crate) fn shape_of(alloc: Global, releases: usize) -> Result<Shape, Fail> {
     Ok(Shape::of(alloc, releases as u8, &all, &[ArrayNo { number: 0 }])?)
 }
 
-/// The program of a text, of this shape.
+/// The program of a text, with this shape.
 pub(crate) fn program_of(alloc: Global, text: &str, shape: &Shape) -> Result<Verified, Fail> {
     let flow = Flow::check(alloc, &assemble(alloc, text)?)?;
     Ok(verify(alloc, flow, shape)?)
@@ -48,8 +48,8 @@ pub(crate) fn attributes(alloc: Global) -> Result<Arc<Attrs>, Fail> {
     Ok(Arc::new(alloc, attrs)?)
 }
 
-/// The ruleset of a text: a line an app, which has its appid, the versions of its releases and its
-/// program, with ` | ` between them.
+/// The ruleset of a text: a line for each app, with its appid, the versions of its releases and its
+/// program, separated by ` | `.
 pub(crate) fn rules_of(alloc: Global, text: &str) -> Result<Ruleset, Fail> {
     let mut apps = Vec::new(alloc);
     for line in text.lines() {
@@ -106,7 +106,7 @@ fn package(alloc: Global) -> Result<Package, AllocError> {
     Ok(Package::new(name, hash, 3, true))
 }
 
-/// A client that asks for an update at the first second of 2007.
+/// A client that requests an update at the first second of 2007.
 pub(crate) fn client(alloc: Global) -> Result<Client, AllocError> {
     Ok(Client {
         app: AppFacts {

@@ -1,4 +1,4 @@
-//! Pictures of what a simulation came to: their texts are those of another program.
+//! Pictures of simulations: their texts are those of another program.
 
 use crate::given::{NobodyLooks, client, rules_of};
 use simulate::{Simulated, draw};
@@ -6,12 +6,12 @@ use std::alloc::Global;
 use std::test::Fail;
 
 /// Two apps, the first with an appid of markup: a release for the first bucket and for the second
-/// of the second row, and one for the last bucket.
+/// bucket of the second row, and one for the last bucket.
 const RULES: &str = "<&\"> | 1 2 | ldxh r2, [r1+16] / mov r0, 1 / jeq r2, 0, +4 / \
 jeq r2, 101, +3 / mov r0, 2 / jeq r2, 9999, +1 / mov r0, 0 / exit
 y |  | mov r0, 0 / exit";
 
-/// Its picture. A line that begins with blanks goes on where the one before it ends.
+/// Its picture. A line that begins with blanks continues the line before it.
 const PICTURE: &str = r#"<svg xmlns="http://www.w3.org/2000/svg" width="880" height="940"
      font-family="sans-serif" font-size="14">
 <rect width="880" height="940" fill="rgb(255,255,255)"/>
@@ -48,7 +48,7 @@ const PICTURE: &str = r#"<svg xmlns="http://www.w3.org/2000/svg" width="880" hei
 </svg>
 "#;
 
-/// An app of 64 releases, of which each has one bucket.
+/// An app with 64 releases, each for one bucket.
 const MANY: &str =
     "x | 1 2 3 4 5 6 7 8 9 10 11 12 13 14 15 16 17 18 19 20 21 22 23 24 25 26 27 28 29 30 \
 31 32 33 34 35 36 37 38 39 40 41 42 43 44 45 46 47 48 49 50 51 52 53 54 55 56 57 \
@@ -74,7 +74,7 @@ fn a_picture_has_squares_and_legends(rt: HostRuntime) -> Result<(), Fail> {
     Ok(())
 }
 
-// The colours of the paths, each on a line; none of them stands twice.
+// The colours of the paths, each on a line, without duplicates.
 fn colours(alloc: Global, picture: &str) -> Result<String, Fail> {
     let mut seen = String::new(alloc);
     for line in picture.lines() {

@@ -1,4 +1,4 @@
-//! Traces of programs on counters that have values.
+//! Traces of programs on counters with given values.
 
 use crate::given::{attributes, program_of, shape_of};
 use cells::{CellNo, CellOp, CellSteps, PlainCells, PlainPass};
@@ -6,7 +6,7 @@ use std::alloc::{AllocError, Global};
 use std::test::Fail;
 use trace::{Jump, trace_on};
 
-/// The program of the first two rows jumps by what q[0] has.
+/// The program of the first two rows, which jumps by the value of q[0].
 const BY_COUNTER: &str = "ldcell r6, 0, 0
 mov r2, 1
 fadddw [r6+0], r2
@@ -17,8 +17,8 @@ mov r0, 0
 exit
 ";
 
-/// A program, with one release and q[0] of a quota of 2; what q[0] has before its run, and the
-/// trace; then what it comes to, the last jump that was taken, and what q[0] has after it.
+/// A program, with one release and q[0] with a quota of 2; the value of q[0] before its run, and
+/// the trace; then its choice, the last jump that was taken, and the value of q[0] after it.
 const ROWS_ON: &[(&str, u64, &str)] = &[
     (
         BY_COUNTER,

@@ -1,5 +1,5 @@
 //! Apps whose releases no test reads, and the events of worlds. The calls have no clauses here, so
-//! that no proof computes with the events of a test.
+//! that no proof evaluates the events of a test.
 
 ghost use Rattle.std.specs.Prelude.{◌≡◌, IfOk, length};
 
@@ -18,14 +18,14 @@ use world::{Effect, Event, World, WorldFault, play};
 /// Two slots, and no release.
 pub(crate) const NONE: &str = "mov r0, 0\nexit\n";
 
-/// Takes one of the quota q[0], which is 2, and offers the release where one was left.
+/// Takes 1 from the quota of q[0], which is 2, and offers the release if one was left.
 pub(crate) const TAKE: &str = "ldcell r6, 0, 0\nmov r2, 1\nfadddw [r6+0], r2\njge r2, 2, +2
 mov r0, 1\nexit\nmov r0, 0\nexit\n";
 
 const HASH: &str = "ba7816bf8f01cfea414140de5dae2223b00361a396177a9cb410ff61f20015ad";
 
-/// The app that runs this program, with as many releases as its shape says. A text that is no appid
-/// fails the test, as want of memory does.
+/// The app that runs this program, with as many releases as its shape has. A text that isn't an
+/// appid fails the test, as does running out of memory.
 pub(crate) fn app_of(
     alloc: Global,
     appid: &str,
@@ -62,7 +62,7 @@ fn package(alloc: Global) -> Result<Package, AllocError> {
     Ok(Package::new(name, hash, 3, true))
 }
 
-/// The app that runs the program of a text, of this shape.
+/// The app that runs the program of a text, with this shape.
 pub(crate) fn app_over(alloc: Global, appid: &str, text: &str, shape: &Shape) -> Result<App, Fail> {
     let program = accept(alloc, &assemble(alloc, text)?, shape)?;
     Ok(app_of(alloc, appid, Arc::new(alloc, program)?)?)
@@ -72,7 +72,7 @@ pub(crate) fn applied(world: &mut World, event: &Event) -> Result<Effect, WorldF
     world.apply(event)
 }
 
-/// What events come to, one after another.
+/// The results of events, in order.
 pub(crate) type Answers = Vec<Result<Effect, WorldFault>>;
 
 pub(crate) fn played(

@@ -1,5 +1,5 @@
-//! Tests of rulesets and worlds: that a ruleset has its apps, and memory that is refused once in each
-//! call of the libraries. Lists of events with their effects are rows of the program `rows`.
+//! Tests of rulesets and worlds: that a ruleset has its apps, and an allocation that fails once in
+//! each call of the libraries. Lists of events with their effects are rows of the program `rows`.
 #![tactic(auto)]
 
 #[cfg(test)]

@@ -1,7 +1,7 @@
-//! Memory that is refused once. Each call is asked for its answer. Where that is its own refusal of
-//! memory, the test prints it, what was lent to the call is as it was, and the call is asked again:
-//! the second answer is the untroubled one. So these tests pass with ample memory, and wherever one
-//! growth of theirs is refused, which `bench/refused` does for each in turn.
+//! Allocations that fail once. If a call reports that it is out of memory, the test prints this,
+//! and what was lent to the call is unchanged. The call is repeated, and the second result is the
+//! one with ample memory. So these tests pass with ample memory, and also if any one allocation
+//! fails; `bench/refused` makes each fail in turn.
 
 use crate::apps::TAKE;
 use attrs::{AttrFault, Attrs};
@@ -13,8 +13,8 @@ use flow_check::{Flow, FlowFault, FlowRule};
 use std::alloc::Global;
 use std::test::Fail;
 
-/// The answer of a call, or of a second one where the first is this refusal of memory. With a
-/// runtime and a line, that is printed in between.
+/// The result of a call, or of a second one if the first was out of memory. With a runtime and a
+/// line, the line is printed in between.
 macro_rules! again {
     ($memory:pat, $call:expr) => {
         match $call {
@@ -100,7 +100,7 @@ fn graphs(rt: HostRuntime) -> Result<(), Fail> {
     Ok(())
 }
 
-/// Whether the program is accepted under the shape. Its flow check is asked again by itself.
+/// Whether the program is accepted with the shape. Its flow check is repeated by itself.
 fn is_accepted(alloc: Global, bytes: &[u8], shape: &Shape) -> Result<bool, Refusal> {
     let Ok(flow) = again!(FlowFault::Memory, Flow::check(alloc, bytes)) else {
         return Ok(false);
@@ -153,7 +153,7 @@ fn verdicts_over_arrays(rt: HostRuntime) -> Result<(), Fail> {
     Ok(())
 }
 
-// The same program, with more labels than one node of their map holds.
+// The same program, with more labels than one node of their map can hold.
 const LABELS: &str = "a:\nb:\nc:\nd:\ne:\nf:\ng:\nh:\ni:\nj:\nk:\nl:\nm:\nn:\no:\np:\nq:
 ldxh r2, [r1+16]\nr: mov r0, 0\njge r2, 100, u\ns: mov r0, 1\nu: exit\n";
 

@@ -1,5 +1,5 @@
-//! That a ruleset is made where there is memory and no appid stands twice, and how long an appid
-//! is.
+//! That a ruleset is made if there is memory and no appid is a duplicate, and how long an appid can
+//! be.
 
 use crate::apps::{NONE, app_over};
 use cells::Shape;
@@ -8,7 +8,7 @@ use ruleset::{App, Ruleset};
 use std::alloc::Global;
 use std::test::Fail;
 
-/// Adds apps of a program that chooses none, each with so many releases.
+/// Adds apps of a program that chooses none, each with the given number of releases.
 fn push_apps(alloc: Global, apps: &mut Vec<App>, given: &[(&str, u8)]) -> Result<(), Fail> {
     for (appid, releases) in given {
         let shape = Shape::plain(alloc, (*releases).min(64));
@@ -17,7 +17,7 @@ fn push_apps(alloc: Global, apps: &mut Vec<App>, given: &[(&str, u8)]) -> Result
     Ok(())
 }
 
-/// The ruleset of the server `prod` and these apps, if no appid stands twice.
+/// The ruleset of the server `prod` and these apps, unless an appid is a duplicate.
 fn rules_of(alloc: Global, given: &[(&str, u8)]) -> Result<Option<Ruleset>, Fail> {
     let mut apps = Vec::new(alloc);
     push_apps(alloc, &mut apps, given)?;
@@ -25,7 +25,7 @@ fn rules_of(alloc: Global, given: &[(&str, u8)]) -> Result<Option<Ruleset>, Fail
     Ok(Ruleset::new(server, apps)?)
 }
 
-/// How many releases the app has, if one is found.
+/// How many releases the app has, if it is found.
 fn releases_of(rules: &Ruleset, appid: &str) -> Option<usize> {
     match rules.find(appid) {
         Some(app) => Some(app.releases().len()),
@@ -55,7 +55,7 @@ fn appids_stand_once(rt: HostRuntime) -> Result<(), Fail> {
     Ok(())
 }
 
-/// A length in bytes, and whether a text of it is an appid.
+/// A length in bytes, and whether a text of that length is an appid.
 const LENGTHS: &[(usize, bool)] = &[
     (0, false),
     (1, true),

@@ -1,4 +1,4 @@
--- A cell as a text tells it: NAME[INDEX], and its value.
+-- A cell as a text: NAME[INDEX], and its value.
 use Rattle.std.specs.Prelude.{ℕ, ◌-◌, ◌^◌, ◌==◌, nat_lt, Bool, if◌then◌else◌}
 use Rattle.std.specs.Prelude.{List, length, Option, Some, None}
 use Rattle.std.specs.List.{filter_map, position_or_len, before_first, after_first}
@@ -11,7 +11,7 @@ pub record Told : Type 0 where
   pub index : ℕ
   pub value : ℕ
 
--- such a byte stands in the text
+-- the text has such a byte
 abbrev pub stands : (ℕ → Bool) → List ℕ → Bool
 stands is_it text = nat_lt (position_or_len is_it text) (length text)
 
@@ -32,12 +32,12 @@ of_parts array (Some index) (Some value) =
     Some (record { array = array; index = index; value = value })
 of_parts array index value = None
 
--- nothing stands behind the index
+-- nothing follows the index
 abbrev pub ended : (array behind : List ℕ) → (index value : Option ℕ) → Option Told
 ended array behind index value =
     if length behind == 0 then of_parts array index value else None
 
--- behind the name and `[`
+-- the rest after the name and `[`
 abbrev pub indexed : (array rest : List ℕ) → (value : Option ℕ) → Option Told
 indexed array rest value =
     if stands is_closing rest
@@ -66,6 +66,6 @@ listed text =
     if stands is_blank text
     then valued (before_first is_blank text) (value_in (after_first is_blank text)) else None
 
--- the cells that lines tell; another line is passed over
+-- the cells in lines; other lines are skipped
 abbrev pub told_by : List (List ℕ) → List Told
 told_by lines = filter_map listed lines

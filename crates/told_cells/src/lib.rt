@@ -1,4 +1,5 @@
-//! Counters as they are told in words and replies: `early[0]=283`, or `early[0] 283`.
+//! Counters with their values, as texts: `early[0]=283` on a command line, or `early[0] 283` in
+//! replies.
 #![tactic(auto)]
 
 mod line;

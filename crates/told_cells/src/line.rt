@@ -1,4 +1,4 @@
-//! The cells of a server's counters, as its operator's port tells them.
+//! The cells of a server's counters, as printed at its operator's port.
 
 ghost use Rattle.std.specs.Prelude.{◌≡◌, IfOk, map};
 ghost use Rattle.std.specs.Str.Lines.{lines};
@@ -7,7 +7,7 @@ ghost use Rattle.told_cells.specs.Told as specs;
 use crate::told::ToldCell;
 use std::alloc::{AllocError, Global};
 
-/// The cells that the lines of a text tell, each `NAME[INDEX] VALUE`; other lines are passed over.
+/// The cells in the lines of a text, each `NAME[INDEX] VALUE`; other lines are skipped.
 pub fn told_lines<'a>(alloc: Global, text: &'a str) -> Result<Vec<ToldCell<'a>>, AllocError>
     ensures { IfOk result (λ v. v.items ≡ specs.told_by (lines text.now)) }
 {

@@ -6,11 +6,10 @@ ghost use Rattle.told_cells.specs.Told as specs;
 use lexing::decimal_within;
 use std::marker::Model;
 
-/// The greatest index that is told.
+/// The greatest index of a cell in a text.
 const LAST_INDEX: u64 = 65535;
 
-/// A cell by the name of its array and its index, and its value. That there is such an array isn't
-/// said.
+/// A cell, by the name of its array and its index, and its value. The array may not exist.
 #[derive(Debug, Drop)]
 pub struct ToldCell<'a> {
     array: &'a str,
@@ -27,8 +26,8 @@ impl<'a> Model for ToldCell<'a> {
 }
 
 impl<'a> ToldCell<'a> {
-    /// The cell of a text `NAME[INDEX]=VALUE`. The index is 0 to 65535, the value one of 64 bits,
-    /// both in decimal digits.
+    /// The cell of a text `NAME[INDEX]=VALUE`. The index is 0 to 65535, the value has 64 bits, both
+    /// in decimal digits.
     pub fn assigned(text: &'a str) -> Option<ToldCell<'a>>
         ensures { result ≡ specs.assigned text.now }
     {
@@ -38,7 +37,7 @@ impl<'a> ToldCell<'a> {
         }
     }
 
-    /// The counter with its value that a text `NAME[INDEX] VALUE` names.
+    /// The cell of a text `NAME[INDEX] VALUE`.
     pub fn listed(text: &'a str) -> Option<ToldCell<'a>>
         ensures { result ≡ specs.listed text.now }
     {
@@ -88,7 +87,7 @@ fn indexed<'a>(array: &'a str, rest: &str, value: Option<u64>) -> Option<ToldCel
     }
 }
 
-// Nothing stands behind the index.
+// Nothing follows the index.
 fn ended<'a>(
     array: &'a str,
     behind: &str,

@@ -1,6 +1,6 @@
--- A run that is told step by step: whatever run there is from where it stands, behind the steps so
--- far it is a run from the first state, told by the text so far and then by its own lines; its last
--- jump is its own, or else the last one so far.
+-- A run that is traced step by step. Any run from the present state, after the steps so far, is a
+-- run from the first state. Its trace is the text so far followed by its own lines. Its last jump
+-- is its own, or else the last one so far.
 use Rattle.std.proofs.Common.{◌≡◌, ℕ, ◌+◌, ◌<◌, ◌≤◌, List, [], ◌∷◌, ◌++◌, subst, sym}
 use Rattle.std.proofs.Common.{refl, append_assoc, arith, Option, Some, None}
 use Rattle.std.specs.Option.{option_or}
@@ -25,7 +25,7 @@ use Rattle.trace.specs.Lines.{line_between}
 use Rattle.trace.specs.Trace.{trace_of, IsTraced}
 use Rattle.trace.specs.declared.jump.Jump.{Jump}
 
--- the first of three that is there, from whichever side they are taken
+-- the first of three jumps that exists, in either grouping
 or_again : (a b c : Option Jump) → option_or (option_or a b) c ≡ option_or a (option_or b c)
 or_again None b c = refl
 or_again (Some jump) b c = refl
@@ -43,7 +43,7 @@ module _ (p : ShapedProgram) where
       → IsTraced p first old left choice count (text ++ trace_of p s events choice count rest)
       (option_or (last_jump_of p s events choice count rest) jump)
 
-  -- the state is covered, and no more instructions were done than lie before it
+  -- the state is covered, and at most as many instructions were executed as come before it
   pub record IsTold (first : State) (old text : List ℕ) (jump : Option Jump) (s : State)
       (values : List ℕ) : Type 0 where
     pub covered : IsCovered p s
@@ -147,7 +147,7 @@ module _ (p : ShapedProgram) where
       rw (grown, same) (told.goes_on [] choice (s.count + 1) values (last is refl) refl
       (All-nil HasPossibleReply) (All-nil (λ d. IsLawful p.shape d.cell d.op)))
 
-  -- a step is none that the machine doesn't define, and it chooses a release
+  -- the machine defines every step, and the choice is a release or 0
   pub no_trap : StepsAreSafe p → (s : State) → IsCovered p s → step p s ≡ Trap → ⊥
   no_trap safe s covered is = subst (IsSafeOutcome p s) is (safe s covered)
 
@@ -155,7 +155,7 @@ module _ (p : ShapedProgram) where
       → step p s ≡ Done choice → choice ≤ p.shape.releases
   chooses safe s choice covered is = subst (IsSafeOutcome p s) is (safe s covered)
 
-  -- a step goes ahead, and stays in the program
+  -- a step goes forward, and stays in the program
   pub ahead : StepsAreSafe p → (s t : State) → IsCovered p s → step p s ≡ Going t → s.slot < t.slot
   ahead safe s t covered is = (subst (IsSafeOutcome p s) is (safe s covered)).0
 

@@ -14,7 +14,7 @@ use Rattle.trace.specs.Jumps.{jump_by, jump_between}
 use Rattle.trace.specs.Lines.{step_line, line_between}
 use Rattle.trace.specs.declared.jump.Jump.{Jump}
 
--- what is written part by part is written as a whole
+-- a text that is written part by part is written as a whole
 pub gathered : (o w a b c d e : List ℕ)
     → o ++ w ++ a ++ b ++ c ++ d ++ e ≡ o ++ (w ++ a ++ b ++ c ++ d ++ e)
 gathered o w a b c d e = simp append_assoc refl
@@ -25,7 +25,7 @@ place_within (i ∷ p) zero found = omega arith
 place_within (i ∷ p) (suc s) found =
     let less = place_within p s found in omega (arith, less)
 
--- a line of this shape and slot is that of the step
+-- a line with this shape and slot is that of the step
 pub line_is : (p : ShapedProgram) (s : State) (shape : AppShape) (slot : ℕ) (i : Insn)
     (asked : Option CellEvent) (t : State) (old new : List ℕ)
     → shape ≡ p.shape → slot ≡ s.slot → at p.code slot ≡ Some i
@@ -36,7 +36,7 @@ line_is p s shape slot i asked t old new of_shape of_slot found grown =
     rw (of_shape, of_slot, there) refl in
     grown ∙ ap (λ (l : List ℕ). old ++ l) line
 
--- the last jump after an instruction of this slot is that after the step
+-- the last jump after an instruction at this slot is that after the step
 pub jump_is : (p : ShapedProgram) (s t : State) (slot : ℕ) (i : Insn) (jump later : Option Jump)
     → slot ≡ s.slot → at p.code slot ≡ Some i → later ≡ option_or (jump_by i slot t.slot) jump
     → later ≡ option_or (jump_between p s t) jump
@@ -45,7 +45,7 @@ jump_is p s t slot i jump later of_slot found latest =
     let same : jump_by i slot t.slot ≡ jump_between p s t = rw (of_slot, there) refl in
     latest ∙ ap (λ (j : Option Jump). option_or j jump) same
 
--- the program as it is taken apart
+-- the program, put together from its parts
 pub whole : (p : ShapedProgram) (slots code : Program) (shape : AppShape)
     → slots ≡ code → code ≡ p.code → shape ≡ p.shape → shaped slots shape ≡ p
 whole p slots code shape e f g = rw (e, f, g) refl

@@ -1,7 +1,6 @@
 -- The jumps that a run takes: JA and the conditional jumps (RFC 9669, "Jump Instructions"), and not
--- CALL and EXIT. A jump is taken where the run goes on at another slot than the one behind it. So
--- a jump whose target is the slot behind it counts as not taken, whether its condition holds or
--- not.
+-- CALL and EXIT. A jump is taken if the run continues at another slot than the next one. So a jump
+-- whose target is the next slot counts as not taken, whether its condition holds or not.
 use Rattle.std.specs.Prelude.{ℕ, ◌+◌, ◌==◌, if◌then◌else◌, List, Option, Some, None}
 use Rattle.std.specs.Option.{option_or}
 use Rattle.bpf_insn.specs.declared.insn.Insn.{Insn}
@@ -14,11 +13,11 @@ use Rattle.bpf_semantics.specs.State.{State}
 use Rattle.cells.specs.declared.event.CellEvent.{CellEvent}
 use Rattle.trace.specs.declared.jump.Jump.{Jump}
 
--- from a jump's slot to the slot at which the run goes on
+-- from a jump's slot to the slot at which the run continues
 abbrev pub taken_jump : (from to : ℕ) → Option Jump
 taken_jump from to = if to == from + 1 then None else Some (record { from = from; to = to })
 
--- the jump that an instruction takes where the run goes on at a slot
+-- the jump that an instruction takes if the run continues at slot `to`
 abbrev pub jump_by : Insn → (from to : ℕ) → Option Jump
 jump_by (Ja distance) from to = taken_jump from to
 jump_by (JumpIf bits condition left right offset) from to = taken_jump from to

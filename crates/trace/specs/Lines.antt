@@ -1,6 +1,6 @@
--- The line that tells one step of a run: slot and instruction, and behind a semicolon each what a
--- counter was asked and replied, the register that was written, and the bytes of the stack that
--- were, as a number.
+-- The line of one step of a run: slot and instruction, followed by up to three parts, each after a
+-- semicolon. These are the operation on a counter and its reply, the register that was written, and
+-- the bytes of the stack that were written, as a number.
 use Rattle.std.specs.Prelude.{ℕ, ◌-◌, ℤ, List, [], ◌++◌, codes, Option, Some, None}
 use Rattle.std.specs.Fmt.{decimal}
 use Rattle.bpf_insn.specs.declared.insn.Insn.{Insn}
@@ -32,7 +32,7 @@ op_text (op.Xor x) = codes "xor " ++ decimal x
 op_text (op.Swap x) = codes "swap " ++ decimal x
 op_text (op.CompareExchange x y) = codes "compare " ++ decimal x ++ codes " swap " ++ decimal y
 
--- what a counter was asked, and what it replied
+-- the operation on a counter, and its reply
 abbrev pub event_part : AppShape → Option CellEvent → List ℕ
 event_part shape None = []
 event_part shape (Some e) =
@@ -46,7 +46,7 @@ register_part (Some r) (Some value) =
     codes " ; r" ++ decimal (number_of r) ++ codes " " ++ decimal value
 register_part r value = []
 
--- the number of the bytes at an address, which is told by its distance from the stack's top
+-- the number of the bytes at an address, which is given by its distance from the stack's top
 abbrev pub stack_part : ℕ → Option ℕ → List ℕ
 stack_part address None = []
 stack_part address (Some value) =
@@ -57,7 +57,7 @@ bytes_part t None offset count = []
 bytes_part t (Some base) offset count =
     let address = address_of base offset in stack_part address (read_at t address count)
 
--- the bytes that a store leaves there
+-- the bytes that a store leaves
 abbrev pub stored_part : Insn → State → List ℕ
 stored_part (StoreImm size dst offset imm) t =
     bytes_part t (register t dst) offset (byte_count size)
@@ -70,7 +70,7 @@ written_part i t = register_part (writes i) (writes i >>= λ r. register t r)
 
 -- ---- a step
 
--- the instruction at a slot, what it asked, and what it left
+-- the instruction at a slot, its operation on a counter, and what it left
 abbrev pub step_line : AppShape → ℕ → Insn → Option CellEvent → State → List ℕ
 step_line shape slot i asked t =
     decimal slot ++ codes ": " ++ bare_line i ++ event_part shape asked ++ written_part i t

@@ -1,4 +1,4 @@
--- The trace of a run: a line a step, in their order; with the last jump that the run takes.
+-- The trace of a run: a line for each step, in order; and the last jump that the run takes.
 use Rattle.std.specs.Prelude.{◌≡◌, ℕ, List, ◌++◌, All, Option, Some, None}
 use Rattle.attrs.specs.Attributes.{Attributes}
 use Rattle.bpf_semantics.specs.Program.{ShapedProgram}
@@ -13,8 +13,8 @@ use Rattle.trace.specs.Jumps.{last_jump_of}
 use Rattle.trace.specs.Lines.{line_between}
 use Rattle.trace.specs.declared.jump.Jump.{Jump}
 
--- the lines of a run that ends: of each step from the state before it to the one after it, and of
--- EXIT, which leaves the state as it was
+-- the lines of a run that ends: for each step, from the state before it to the one after it, and
+-- for EXIT, which leaves the state unchanged
 unfoldable pub trace_of : (p : ShapedProgram) (s : State) (events : List CellEvent)
     (choice count : ℕ) → Ends p s events choice count → List ℕ
 trace_of p s events choice count (last step is_count) = line_between p s None s
@@ -23,9 +23,9 @@ trace_of p s events choice count (more {t = t} step rest) =
 trace_of p s events choice count (asked {next = next} {e = e} {es = es} step rest) =
     line_between p s (Some e) (next e.reply) ++ trace_of p (next e.reply) es choice count rest
 
--- a run from a state, by which the counters' values change from these to those, with its trace and
--- the last jump that it takes; its events are such as the program's arrays allow, and each reply is
--- one that its counter can give
+-- a run from a state that changes the counters' values from `old` to `new`, with its trace and the
+-- last jump that it takes. Its events are allowed by the program's arrays, and each reply is one
+-- that its counter can give
 pub record IsTraced (p : ShapedProgram) (s : State) (old new : List ℕ) (choice count : ℕ)
     (text : List ℕ) (jump : Option Jump) : Type 0 where
   pub events : List CellEvent
@@ -36,7 +36,7 @@ pub record IsTraced (p : ShapedProgram) (s : State) (old new : List ℕ) (choice
   pub text_is : text ≡ trace_of p s events choice count ends
   pub jump_is : jump ≡ last_jump_of p s events choice count ends
 
--- the run of a program for an app, on counters that are 0 before it
+-- the run of a program for an app, on counters that start at 0
 pub record IsTracedRun (p : ShapedProgram) (a : Attributes) (choice count : ℕ) (text : List ℕ)
     (jump : Option Jump) : Type 0 where
   pub zeros : List ℕ

@@ -13,7 +13,7 @@ use reference::Interpreter;
 use std::alloc::AllocError;
 use std::fmt::Write;
 
-/// Writes what the register has that the instruction wrote, if it wrote one.
+/// Writes the value of the register that the instruction wrote, if it wrote one.
 pub fn push_written(text: &mut String, insn: Insn, run: &Interpreter) -> Result<(), AllocError>
     ensures { OnOk result (string_bytes text.new
         ≡ string_bytes text.old ++ specs.written_part insn (state_of run.now)) }
@@ -28,7 +28,7 @@ pub fn push_written(text: &mut String, insn: Insn, run: &Interpreter) -> Result<
     write!(text, " ; r{number} {value}")
 }
 
-/// Writes the bytes of the stack that the instruction wrote, if it wrote some, as a number.
+/// Writes the bytes of the stack that the instruction wrote, if it wrote any, as a number.
 pub fn push_stored(text: &mut String, insn: Insn, run: &Interpreter) -> Result<(), AllocError>
     ensures { OnOk result (string_bytes text.new
         ≡ string_bytes text.old ++ specs.stored_part insn (state_of run.now)) }
@@ -78,7 +78,8 @@ fn push_at(text: &mut String, run: &Interpreter, address: u64, size: Size) -> Re
     write!(text, " ; [r10-{below}] {value}")
 }
 
-// The register that an instruction writes: of an atomic operation the one that takes the old value.
+// The register that an instruction writes; for an atomic operation, the one that gets the old
+// value.
 fn written(insn: Insn) -> Option<Reg>
     ensures { result ≡ writes insn }
 {

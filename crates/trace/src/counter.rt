@@ -1,4 +1,4 @@
-//! What is told of a counter: its name, the operation and the reply.
+//! A counter in a line: its name, the operation and the reply.
 
 ghost use Rattle.std.specs.Prelude.{◌≡◌, ◌++◌, OnOk, string_bytes};
 ghost use Rattle.trace.specs.Lines as specs;
@@ -8,7 +8,7 @@ use explain::push_counter;
 use std::alloc::AllocError;
 use std::fmt::Write;
 
-/// Writes what was asked of a counter, if one was.
+/// Writes the operation on a counter, if there was one.
 pub fn push_event(
     text: &mut String,
     shape: &Shape,

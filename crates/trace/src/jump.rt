@@ -8,7 +8,7 @@ ghost use Rattle.trace.specs.Jumps as specs;
 use bpf_insn::Insn;
 use reference::Interpreter;
 
-/// A jump that was taken: the slot of its instruction, and the slot at which the run went on.
+/// A jump that was taken: the slot of its instruction, and the slot at which the run continued.
 #[derive(Clone, Copy)]
 pub struct Jump {
     pub from: usize,
@@ -26,7 +26,7 @@ pub fn latest_jump(before: Option<Jump>, insn: Insn, slot: usize, run: &Interpre
     }
 }
 
-// The jump that an instruction takes where the run goes on at a slot.
+// The jump that an instruction takes if the run continues at slot `to`.
 fn jump_by(insn: Insn, from: usize, to: usize) -> Option<Jump>
     ensures { result ≡ specs.jump_by insn from to }
 {
@@ -37,7 +37,7 @@ fn jump_by(insn: Insn, from: usize, to: usize) -> Option<Jump>
     }
 }
 
-// A jump to the slot behind it isn't taken.
+// A jump to the next slot isn't taken.
 fn taken_jump(from: usize, to: usize) -> Option<Jump>
     ensures { result ≡ specs.taken_jump from to }
 {

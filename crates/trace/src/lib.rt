@@ -1,13 +1,12 @@
 //! The trace of a run: each step with its slot, its instruction and what it wrote; and the last
-//! jump that it took.
+//! jump that the run took.
 //!
 //! See docs/PROGRAM.md, "run --trace".
 #![tactic(auto)]
 
-// The run is the definition's own: the interpreter that holds what is set and what isn't makes its
-// steps, and after each of them the line is written of the state that it left. Since the program
-// is accepted, no step is one that the machine doesn't define. Counters are named as `explain`
-// names them.
+// The run is the definition's own: the interpreter that keeps track of what is set makes its steps,
+// and after each step a line with the state after it is written. The program is accepted, so the
+// machine defines every step. Counters are named like in `explain`.
 
 mod changes;
 mod counter;

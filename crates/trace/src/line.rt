@@ -13,8 +13,8 @@ use reference::Interpreter;
 use std::alloc::AllocError;
 use std::fmt::Write;
 
-/// Writes the line of a step: the instruction at a slot, and what it asked; the run is in the state
-/// after it.
+/// Writes the line of a step: the instruction at a slot, and its operation on a counter; the run is
+/// in the state after it.
 pub fn push_step(
     text: &mut String,
     shape: &Shape,

@@ -17,8 +17,8 @@ use reference::{Interpreter, Observed};
 use std::alloc::{AllocError, Global};
 use std::sync::Arc;
 
-/// What a run came to: a line a step, its choice, how many instructions it did, EXIT included, and
-/// the last jump that it took, if it took one.
+/// The result of a run: a line for each step, its choice, how many instructions it executed,
+/// including EXIT, and the last jump that it took, if any.
 #[derive(Drop)]
 pub struct TracedRun {
     pub text: String,
@@ -27,12 +27,12 @@ pub struct TracedRun {
     pub last_jump: Option<Jump>,
 }
 
-/// The trace of a program's run for an app, on counters of its own that open at 0.
-// open: whether memory is refused, its one error.
+/// The trace of a program's run for an app, on its own counters, which start at 0.
+// open: whether an allocation fails, its only error.
 pub fn trace(alloc: Global, program: &Verified, attrs: Arc<Attrs>) -> Result<TracedRun, AllocError>
     ensures run { IfOk result (λ t. IsTracedRun program.now (arc_value attrs)
         t.choice t.count (string_bytes t.text) t.last_jump) }
-    // So it is the run's trace, for a caller that tells no jump.
+    // So it is the run's trace, for a caller that needs no jump.
     ensures trace { IfOk result (λ t. IsTrace program.now (arc_value attrs)
         t.choice t.count (string_bytes t.text)) }
     ensures release { IfOk result (λ t. t.choice ≤ program.now.shape.releases) }
@@ -44,9 +44,9 @@ pub fn trace(alloc: Global, program: &Verified, attrs: Arc<Attrs>) -> Result<Tra
     Ok(run)
 }
 
-/// The trace of a program's run for an app, on counters of these values, which it leaves as its
-/// operations make them.
-// open: whether memory is refused, and what the counters are then.
+/// The trace of a program's run for an app, on counters with these values, which its operations
+/// change.
+// open: whether an allocation fails, and the counters in that case.
 pub fn trace_on(
     alloc: Global,
     program: &Verified,
@@ -93,7 +93,7 @@ pub fn trace_on(
     }
 }
 
-// The program, an entry a slot.
+// The program, with an entry for each slot.
 fn slots_of(alloc: Global, program: &Verified) -> Result<Vec<Option<Insn>>, AllocError>
     ensures { IfOk result (λ code. code.items ≡ program.now.code) }
 {

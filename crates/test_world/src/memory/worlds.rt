@@ -1,4 +1,4 @@
-//! Memory that is refused to rulesets and worlds.
+//! Allocations that fail in rulesets and worlds.
 
 use super::{print_line, quota_of_two};
 use crate::apps::{TAKE, app_of, applied, played};
@@ -13,7 +13,7 @@ use std::sync::Arc;
 use std::test::Fail;
 use world::{Effect, Event, World, WorldFault};
 
-/// The program that takes of a quota of two.
+/// The program that takes from a quota of 2.
 fn taking(alloc: Global) -> Result<Verified, Refusal> {
     let Ok(shape) = quota_of_two(alloc) else {
         return Err(Refusal::Memory);
@@ -34,7 +34,7 @@ fn program(alloc: Global) -> Result<Arc<Verified>, AllocError> {
     }
 }
 
-/// The ruleset of these two apps; none where their appids are one.
+/// The ruleset of these two apps; None if their appids are equal.
 fn rules_of(alloc: Global, appids: [&str; 2]) -> Result<Option<Ruleset>, AllocError> {
     let mut apps = Vec::new(alloc);
     for appid in appids {
@@ -43,7 +43,7 @@ fn rules_of(alloc: Global, appids: [&str; 2]) -> Result<Option<Ruleset>, AllocEr
     Ruleset::new(String::new(alloc), apps)
 }
 
-/// Whether the ruleset has both apps; none where there is no ruleset.
+/// Whether the ruleset has both apps; None if there is no ruleset.
 fn has_both(alloc: Global, appids: [&str; 2]) -> Result<Option<bool>, AllocError> {
     Ok(match rules_of(alloc, appids)? {
         Some(rules) => Some(rules.find(appids[0]).is_some() && rules.find(appids[1]).is_some()),
@@ -66,7 +66,7 @@ fn shared_rules(alloc: Global) -> Result<Arc<Ruleset>, AllocError> {
     }
 }
 
-/// A world of two workers. Its ruleset is asked again by itself.
+/// A world of two workers. Making its ruleset is repeated by itself.
 fn world_of(alloc: Global) -> Result<Result<World, WorldFault>, AllocError> {
     let rules = again!(AllocError, shared_rules(alloc))?;
     Ok(World::new(alloc, 2, rules))
@@ -90,7 +90,7 @@ fn start(alloc: Global) -> Result<Event, AllocError> {
     Ok(Event::Start { worker: 1, attrs })
 }
 
-/// Whether a Start is done that is asked once.
+/// Whether a Start succeeds, applied once.
 fn starts(alloc: Global, world: &mut World) -> Result<bool, AllocError> {
     let start = again!(AllocError, start(alloc))?;
     Ok(applied(world, &start) == Ok(Effect::Started))
@@ -135,7 +135,7 @@ const ANSWERS: [Result<Effect, WorldFault>; 7] = [
     }),
 ];
 
-/// Whether the events have their answers.
+/// Whether the events have their results.
 fn plays(alloc: Global, world: &mut World, events: &[Event]) -> Result<bool, WorldFault> {
     Ok(played(alloc, world, events)?.as_slice() == ANSWERS.as_slice())
 }
@@ -144,7 +144,7 @@ fn taken(world: &World) -> u64 {
     world.cell(CellNo::new(0))
 }
 
-/// A list of events that is refused plays none of them: nothing is taken of the quota.
+/// If playing a list of events fails, none of them is played: nothing is taken from the quota.
 fn plays_again<R: Print>(rt: &R, alloc: Global, world: &mut World) -> Result<bool, Fail> {
     let events = again!(AllocError, steps(alloc))?;
     match plays(alloc, world, &events) {
@@ -156,8 +156,8 @@ fn plays_again<R: Print>(rt: &R, alloc: Global, world: &mut World) -> Result<boo
     }
 }
 
-/// A Start, a Step and a Finish want no memory: a Start is asked once. A Swap that is refused adds
-/// no ruleset, and leaves the run and the counters as they are.
+/// A Start, a Step and a Finish allocate nothing, so a Start is applied once. A Swap that fails
+/// adds no ruleset, and leaves the run and the counters unchanged.
 #[test]
 fn worlds(rt: HostRuntime) -> Result<(), Fail> {
     let alloc = rt.alloc();

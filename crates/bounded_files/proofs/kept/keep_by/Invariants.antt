@@ -2,7 +2,7 @@ use Rattle.std.proofs.Common.{◌-◌, ◌<◌, ◌≤◌, length}
 use Rattle.bounded_files.specs.SoFar.{IsReadSoFar}
 use Rattle.bounded_files.proofs.kept.keep_by.Given as goal
 
--- what was read so far is kept as it is to be
+-- what was read so far is kept as specified
 abbrev pub invariant-reading : goal.invariant-reading
 invariant-reading g l =
     IsReadSoFar l.kept (g.R.Read.remaining l.fn.reader) (g.R.Read.remaining l.reader) l.far

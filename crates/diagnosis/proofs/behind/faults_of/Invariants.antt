@@ -3,7 +3,7 @@ use Rattle.diagnosis.specs.Further.{AreFaultsOf}
 use Rattle.load.specs.declared.fault.LoadFault.{LoadFault}
 use Rattle.diagnosis.proofs.behind.faults_of.Given as goal
 
--- the faults of the apps that are left, behind those so far, are the faults of all
+-- the faults so far, followed by those of the apps that are left, are the faults of all
 abbrev pub invariant-loop-left : goal.invariant-loop-left
 invariant-loop-left l = record {
   so_far : (rest : List LoadFault) → AreFaultsOf l.number l.left rest

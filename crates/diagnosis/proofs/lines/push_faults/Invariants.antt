@@ -2,7 +2,7 @@ use Rattle.std.proofs.Common.{◌≡◌, ◌++◌, flat_map, length, string_byte
 use Rattle.diagnosis.specs.Lines.{fault_lines}
 use Rattle.diagnosis.proofs.lines.push_faults.Given as goal
 
--- the lines so far, and those of the faults that are left, are all
+-- the lines so far, followed by those of the faults that are left, are all lines
 abbrev pub invariant-loop-left : goal.invariant-loop-left
 invariant-loop-left l =
     string_bytes l.text ++ flat_map fault_lines l.left

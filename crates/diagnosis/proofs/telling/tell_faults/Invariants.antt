@@ -4,7 +4,7 @@ use Rattle.diagnosis.specs.Told.{IsFaultTold}
 use Rattle.diagnosis.proofs.FaultsTold.{faults_in}
 use Rattle.diagnosis.proofs.telling.tell_faults.Given as goal
 
--- each so far is told, and these, and those that are left, are all
+-- each fault so far is reported, and these and those that are left are all
 abbrev pub invariant-loop-fault : goal.invariant-loop-fault
 invariant-loop-fault l = record {
   so_far : faults_in l.all.items ++ into_iter_items l.fault-iterator ≡ l.fn.faults.items;

@@ -3,7 +3,7 @@ use Rattle.diagnosis.specs.Undeclared.{AreFaultsOfArrays}
 use Rattle.load.specs.declared.fault.LoadFault.{LoadFault}
 use Rattle.diagnosis.proofs.undeclared.faults_of_arrays.Given as goal
 
--- the faults of the arrays that are left, behind those so far, are the faults of all
+-- the faults so far, followed by those of the arrays that are left, are the faults of all
 abbrev pub invariant-loop-left : goal.invariant-loop-left
 invariant-loop-left l = record {
   so_far : (rest : List LoadFault) → AreFaultsOfArrays l.number l.directory l.left rest

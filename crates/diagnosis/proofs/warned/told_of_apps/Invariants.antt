@@ -4,7 +4,7 @@ use Rattle.warnings.specs.Asked.{all_room}
 use Rattle.warnings.specs.declared.warning.Warning.{Warning}
 use Rattle.diagnosis.proofs.warned.told_of_apps.Given as goal
 
--- what is told of the apps that are left, behind what was told, is told of all
+-- the warnings so far, followed by those on the apps that are left, are those on all
 abbrev pub invariant-loop-left : goal.invariant-loop-left
 invariant-loop-left l = record {
   so_far : (rest : List Warning) → WarnsOfApps l.number l.room l.left rest

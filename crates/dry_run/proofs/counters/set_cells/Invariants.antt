@@ -2,7 +2,7 @@ use Rattle.std.proofs.Common.{◌≡◌, drop}
 use Rattle.dry_run.specs.Counters.{with_cells}
 use Rattle.dry_run.proofs.counters.set_cells.Given as goal
 
--- all cells are set by those that are left
+-- setting the cells that are left sets all cells
 abbrev pub invariant-loop-cell : goal.invariant-loop-cell
 invariant-loop-cell l =
     with_cells l.arrays l.counters (drop l.cell-index l.told)

@@ -2,7 +2,7 @@ use Rattle.std.proofs.Common.{◌≡◌, drop}
 use Rattle.dry_run.specs.Counters.{with_known}
 use Rattle.dry_run.proofs.counters.set_known.Given as goal
 
--- those that are known are set by those that are left
+-- setting the known cells that are left sets all known cells
 abbrev pub invariant-loop-cell : goal.invariant-loop-cell
 invariant-loop-cell l =
     with_known l.arrays l.counters (drop l.cell-index l.told)

@@ -3,7 +3,7 @@ use Rattle.serde_json.specs.View.{items_view}
 use Rattle.dry_run.specs.IgnoredLines.{notes_of}
 use Rattle.dry_run.proofs.ignored.notes_of.Given as goal
 
--- with those of the apps that are left the notes are those of all
+-- the notes so far, with those of the apps that are left, are those of all
 abbrev pub invariant-loop-left : goal.invariant-loop-left
 invariant-loop-left l =
     map string_bytes l.notes.items ++ notes_of (items_view l.left)

@@ -3,7 +3,7 @@ use Rattle.dry_run.specs.KeptRules.{AreReadFrom}
 use Rattle.dry_run.specs.Meanings.{KnownRule}
 use Rattle.dry_run.proofs.kept_rules.read_rules.Given as goal
 
--- what is read of the apps that are left, behind the rules so far, is read of all
+-- the rules so far, followed by those of the apps that are left, are those of all
 abbrev pub invariant-loop-left : goal.invariant-loop-left
 invariant-loop-left l =
     (rest : List KnownRule) → AreReadFrom l.left rest

@@ -2,7 +2,7 @@ use Rattle.std.proofs.Common.{◌≡◌, map, take, string_bytes}
 use Rattle.dry_run.specs.Why.{ExplainsAll}
 use Rattle.dry_run.proofs.why.explain_apps.Given as goal
 
--- what is told so far is told of the apps that were passed
+-- the lines so far are those of the apps that were passed
 abbrev pub invariant-loop-app : goal.invariant-loop-app
 invariant-loop-app l =
     (l.place ≡ l.app-index)

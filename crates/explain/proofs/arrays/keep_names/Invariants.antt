@@ -2,7 +2,7 @@ use Rattle.std.proofs.Common.{length}
 use Rattle.explain.specs.Values.{HaveNames}
 use Rattle.explain.proofs.arrays.keep_names.Given as goal
 
--- with those that are left all have names
+-- the arrays so far have names, and with those that are left all have
 abbrev pub invariant-loop-left : goal.invariant-loop-left
 invariant-loop-left l = HaveNames l.left → HaveNames l.fn.arrays
 

@@ -2,7 +2,7 @@ use Rattle.std.proofs.Common.{◌≡◌, ◌++◌, true, length, string_bytes}
 use Rattle.explain.specs.Known.{all_registers, registers_text}
 use Rattle.explain.proofs.known.push_registers.Given as goal
 
--- with the registers that are left the text is the whole
+-- the text, with the registers that are left, is the whole
 abbrev pub invariant-loop-left : goal.invariant-loop-left
 invariant-loop-left l =
     string_bytes l.text ++ registers_text l.shape l.e l.reads l.way l.first l.left

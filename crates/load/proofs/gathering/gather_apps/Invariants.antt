@@ -4,7 +4,7 @@ use Rattle.load.specs.Gathered.{failures_in}
 use Rattle.load.proofs.Gathers.{ReadsOn}
 use Rattle.load.proofs.gathering.gather_apps.Given as goal
 
--- whatever is read of the entries that are left, behind the apps so far, is read of all; and the
+-- reading the entries that are left, after the apps so far, completes the reading of all; and the
 -- files that couldn't be read are counted
 abbrev pub invariant-loop-entry : goal.invariant-loop-entry
 invariant-loop-entry g l =

@@ -4,7 +4,7 @@ use Rattle.load.specs.declared.fault.AppFault.{AppFault}
 use Rattle.load.specs.Judged.{AreJudged, IsFirstRefused}
 use Rattle.load.proofs.programs.judge.Given as goal
 
--- what the apps that are left come to, behind the programs so far, is what all come to
+-- the verdicts on the apps that are left, after the programs so far, complete the verdict on all
 abbrev pub invariant-loop-left : goal.invariant-loop-left
 invariant-loop-left l = record {
   so_far : (rest : List ShapedProgram) → AreJudged l.left rest

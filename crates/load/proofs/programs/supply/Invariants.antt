@@ -4,7 +4,7 @@ use Rattle.load.specs.Gathered.{HasItsReleases}
 use Rattle.load.specs.Judged.{AreJudged, apps_of}
 use Rattle.load.proofs.programs.supply.Given as goal
 
--- the apps so far, and those of what is left, are the apps of all
+-- the apps so far, followed by those of what is left, are all apps
 abbrev pub invariant-loop-app : goal.invariant-loop-app
 invariant-loop-app l = record {
   so_far : l.supplied.items ++ apps_of (into_iter_items l.app-iterator) (into_iter_items l.left)

@@ -2,7 +2,7 @@ use Rattle.std.proofs.Common.{◌∙◌, ap, subst, Ok}
 use Rattle.bounded_files.specs.Files.{ReadsAtMost, regular_files}
 use Rattle.manifest_tools.proofs.check.check_file.Goals as goal
 
--- every longer manifest comes to this fault, so this one does
+-- every longer manifest has this fault, so this one does
 pub returns-in-Ok-None-clause-fault : goal.returns-in-Ok-None-clause-fault
 returns-in-Ok-None-clause-fault g c =
     let known = regular_files (g.D.Disk.known c.args.disk.now) in

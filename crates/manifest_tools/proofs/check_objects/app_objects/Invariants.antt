@@ -3,7 +3,7 @@ use Rattle.serde_json.specs.View.{view}
 use Rattle.manifest_tools.specs.CheckObjects.{checked_app_object}
 use Rattle.manifest_tools.proofs.check_objects.app_objects.Given as goal
 
--- with the objects of those that are left they are all
+-- the objects so far, with those of the apps that are left, are all
 abbrev pub invariant-loop-app : goal.invariant-loop-app
 invariant-loop-app l =
     map view l.values.items ++ map checked_app_object (drop l.app-index l.apps)

@@ -3,7 +3,7 @@ use Rattle.serde_json.specs.View.{view}
 use Rattle.manifest_tools.specs.CheckObjects.{further_object}
 use Rattle.manifest_tools.proofs.check_objects.push_further.Given as goal
 
--- with the objects of those that are left they are all
+-- the objects so far, with those of the faults that are left, are all
 abbrev pub invariant-loop-told : goal.invariant-loop-told
 invariant-loop-told l =
     map view l.values.items ++ map further_object (drop l.told-index l.further)

@@ -3,7 +3,7 @@ use Rattle.serde_json.specs.View.{view}
 use Rattle.manifest_tools.specs.CheckObjects.{warning_object}
 use Rattle.manifest_tools.proofs.check_objects.warning_objects.Given as goal
 
--- with the objects of those that are left they are all
+-- the objects so far, with those of the warnings that are left, are all
 abbrev pub invariant-loop-warning : goal.invariant-loop-warning
 invariant-loop-warning l =
     map view l.values.items ++ map (warning_object l.allowed) (drop l.warning-index l.warnings)

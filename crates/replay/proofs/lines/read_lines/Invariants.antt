@@ -3,8 +3,8 @@ use Rattle.std.specs.List.{filter_map, position_from}
 use Rattle.replay.specs.Script as specs
 use Rattle.replay.proofs.lines.read_lines.Given as goal
 
--- the first malformed line of all is that of the lines that are left, and the events that were said
--- before and then those that they say are all
+-- the first malformed line of all is that of the lines that are left; the events so far, followed
+-- by those of the lines that are left, are all
 abbrev pub invariant-loop-rest : goal.invariant-loop-rest
 invariant-loop-rest l = record {
   first :

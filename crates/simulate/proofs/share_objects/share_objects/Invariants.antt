@@ -5,7 +5,7 @@ use Rattle.simulate.specs.Objects.{share_objects, share_of_choice}
 use Rattle.simulate.specs.Shown.{versions_of}
 use Rattle.simulate.proofs.share_objects.share_objects.Given as goal
 
--- with the objects of the choices that are left they are all
+-- the objects so far, with those of the choices that are left, are all
 abbrev pub invariant-loop-choice : goal.invariant-loop-choice
 invariant-loop-choice l = record {
   within : l.choice ≤ l.count + 1;

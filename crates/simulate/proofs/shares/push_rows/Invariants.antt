@@ -4,7 +4,7 @@ use Rattle.simulate.specs.Shares.{row_of_choice, rows_of}
 use Rattle.simulate.specs.Shown.{versions_of}
 use Rattle.simulate.proofs.shares.push_rows.Given as goal
 
--- with the rows of the choices that are left the text is the whole
+-- the text, with the rows of the choices that are left, is the whole
 abbrev pub invariant-loop-choice : goal.invariant-loop-choice
 invariant-loop-choice l = record {
   within : l.choice ≤ l.count + 1;

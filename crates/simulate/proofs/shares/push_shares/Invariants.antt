@@ -2,7 +2,7 @@ use Rattle.std.proofs.Common.{◌≡◌, ◌++◌, length, string_bytes}
 use Rattle.simulate.specs.Shares.{shares_tables, shares_text}
 use Rattle.simulate.proofs.shares.push_shares.Given as goal
 
--- with the tables of the apps that are left the text is the whole
+-- the text, with the tables of the apps that are left, is the whole
 abbrev pub invariant-loop-apps : goal.invariant-loop-apps
 invariant-loop-apps l =
     string_bytes l.text ++ shares_tables l.apps l.chosen

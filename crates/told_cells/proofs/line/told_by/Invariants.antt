@@ -2,7 +2,7 @@ use Rattle.std.proofs.Common.{◌≡◌, ◌++◌, map, length}
 use Rattle.told_cells.specs.Told as specs
 use Rattle.told_cells.proofs.line.told_by.Given as goal
 
--- the cells told so far, and then those of the lines that are left, are all
+-- the cells so far, followed by those of the lines that are left, are all
 abbrev pub invariant-loop-rest : goal.invariant-loop-rest
 invariant-loop-rest l =
     specs.told_by (map (λ line. line.now) l.lines)

@@ -3,7 +3,7 @@ use Rattle.std.specs.List.{fold}
 use Rattle.replay.specs.Replies.{reply_to, with_answer}
 use Rattle.replay.proofs.reply.Reply.to.Given as goal
 
--- the answers that are left make of the reply so far that to all
+-- the reply so far, with the results that are left, gives the reply for all
 abbrev pub invariant-loop-left : goal.invariant-loop-left
 invariant-loop-left l = record {
   all : fold with_answer l.reply l.left ≡ reply_to l.counted l.answers;
