@@ -18,7 +18,7 @@ to sources work in the folder docs/reference, which git ignores. --long prints t
 import sys
 from pathlib import Path
 
-from checking import crates_page, left_open, quotes, reference
+from checking import crates_page, left_open, plain, quotes, reference
 from checking.exports import lost_comments
 from checking.names import contracts, false_clauses, lost_edits, strangers, unknown_names
 from checking.pages import (
@@ -38,6 +38,7 @@ CHECKS = {
 def write():
     for page, anew in WRITTEN.items():
         page.write_text(anew(page.read_text()))
+    plain.lower()
 
 
 def faults():
@@ -57,6 +58,7 @@ def faults():
     reference.texts()  # each install writes these, so none may fail
     yield from other_versions()
     yield from too_many_long()
+    yield from plain.too_many()
     yield from lost_edits()
 
 
@@ -64,6 +66,8 @@ def main():
     words = sys.argv[1:]
     if words == ["--long"]:
         return tell_long()
+    if words[:1] == ["--words"] and len(words) == 2:
+        return plain.print_words(words[1])
     if words[:1] == ["--write"] and len(words) == 2:
         return reference.write(Path(words[1]))
     if words not in ([], ["--write"]):
