@@ -6,19 +6,20 @@ contract. What PROOF quotes is to the letter what its file has, each name that i
 the sources, each definition stands in the file of its link, and its sizes are no more than a tenth
 off. README is short, and names the logic of the toolchain that there is; VERSION, README and
 CHANGELOG name one version. The pages by hand have few long sentences. Each wrong body can be put in
-place: what it replaces stands once in its file.
+place: what it replaces occurs once in its file. The comments of a crate have no more words of this
+house than `checking/plain.txt` allows, and each file of rows is run.
 
-usage: docs/check.py [--write [FOLDER] | --long]
+usage: docs/check.py [--write [FOLDER] | --long | --words CRATE]
 
 --write writes the picture, OPEN, and PROOF's quotes and sizes anew. With a FOLDER it writes the
 reference there instead: a page for each crate, with its contracts and definitions. The pages' links
 to sources work in the folder docs/reference, which git ignores. --long prints the sentences of over
-35 words of each page by hand.
+35 words of each page by hand, --words the words of this house in a crate's comments.
 """
 import sys
 from pathlib import Path
 
-from checking import crates_page, left_open, plain, quotes, reference
+from checking import crates_page, left_open, plain, quotes, reference, rows
 from checking.exports import lost_comments
 from checking.names import contracts, false_clauses, lost_edits, strangers, unknown_names
 from checking.pages import (
@@ -59,6 +60,7 @@ def faults():
     yield from other_versions()
     yield from too_many_long()
     yield from plain.too_many()
+    yield from rows.left_out()
     yield from lost_edits()
 
 

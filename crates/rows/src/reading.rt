@@ -26,7 +26,7 @@
 //! in one folder, and stay there until they are written again.
 
 use crate::steps::{Step, Steps};
-use anyhow::Result;
+use anyhow::{Result, bail};
 use std::alloc::Global;
 
 /// How lines are read: plain, as the lines of a block, or as those of its table.
@@ -37,11 +37,15 @@ enum Part {
     Table,
 }
 
-/// A line of a block, with the columns that it names filled in.
-fn filled(alloc: Global, line: &str, columns: &[&str]) -> Result<String> {
+/// A line of a block, with the columns that it names filled in. It may name no further one.
+fn filled(alloc: Global, number: usize, line: &str, columns: &[&str]) -> Result<String> {
     let mut line = String::from_str(alloc, line)?;
-    for (number, column) in columns.iter().enumerate() {
-        let name = format!(in alloc; "<{}>", number.saturating_add(1))?;
+    let further = format!(in alloc; "<{}>", columns.len().saturating_add(1))?;
+    if line.contains(further.as_str()) {
+        bail!("line {number}: it has fewer columns than its block names")
+    }
+    for (place, column) in columns.iter().enumerate() {
+        let name = format!(in alloc; "<{}>", place.saturating_add(1))?;
         line = line.replace(alloc, name.as_str(), column)?;
     }
     Ok(line)
@@ -60,7 +64,7 @@ fn read_block(
     }
     let columns: Vec<&str> = row.split(" | ").collect(alloc)?;
     for line in block {
-        let line = filled(alloc, line, columns.as_slice())?;
+        let line = filled(alloc, number, line, columns.as_slice())?;
         steps.read(number, line.as_str())?;
     }
     Ok(())
@@ -84,6 +88,9 @@ pub(crate) fn read_steps(alloc: Global, text: &str) -> Result<Vec<Step>> {
             (Part::Table, "") => part = Part::Plain,
             (Part::Table, row) => read_block(alloc, &mut steps, block.as_slice(), number, row)?,
         }
+    }
+    if matches!(part, Part::Block) {
+        bail!("the last block has no line `rows`")
     }
     steps.finish()
 }

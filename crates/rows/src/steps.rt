@@ -83,10 +83,10 @@ impl Steps {
                 let name = String::from_str(alloc, name)?;
                 self.begin(Step::Write { name, bytes }, false)
             }
-            "*" => self.repeat(text),
+            "*" => self.repeat(number, text),
             "%" => self.run(number, text, None),
             "$" => self.run(number, text, Some(Wanted::nothing(alloc))),
-            _ => self.go_on(number, line, mark, text),
+            _ => self.go_on(number, line),
         }
     }
 
@@ -103,21 +103,22 @@ impl Steps {
     }
 
     /// Appends a text to the last file as often as the number in front of it says.
-    fn repeat(&mut self, text: &str) -> Result<()> {
+    fn repeat(&mut self, number: usize, text: &str) -> Result<()> {
         self.is_text = false;
         let (times, text) = text.split_once(' ').unwrap_or((text, ""));
         let times: u32 = times.parse()?;
         let more = unescape(self.alloc, text)?;
-        if let Some(Step::Write { bytes, .. }) = &mut self.last {
-            for _ in 0..times {
-                bytes.extend_from_slice(&more)?;
-            }
+        let Some(Step::Write { bytes, .. }) = &mut self.last else {
+            bail!("line {number}: there is no file before it")
+        };
+        for _ in 0..times {
+            bytes.extend_from_slice(&more)?;
         }
         Ok(())
     }
 
     /// Reads a line that belongs to the last step.
-    fn go_on(&mut self, number: usize, line: &str, mark: &str, text: &str) -> Result<()> {
+    fn go_on(&mut self, number: usize, line: &str) -> Result<()> {
         match &mut self.last {
             Some(Step::Write { bytes, .. }) if self.is_text => {
                 bytes.extend_from_slice(line.as_bytes())?;
@@ -129,29 +130,30 @@ impl Steps {
                     wanted: Some(wanted),
                     ..
                 },
-            ) => { want(self.alloc, wanted, number, mark, text) }
-            _ => pass_over(number, mark),
+            ) => { want(self.alloc, wanted, number, line) }
+            _ => pass_over(number, line),
         }
     }
 }
 
 /// Adds a line's text to what a row wants.
-fn want(alloc: Global, wanted: &mut Wanted, number: usize, mark: &str, text: &str) -> Result<()> {
+fn want(alloc: Global, wanted: &mut Wanted, number: usize, line: &str) -> Result<()> {
+    let (mark, text) = line.split_once(' ').unwrap_or((line, ""));
     match mark {
         "|" => push_line(&mut wanted.printed.out, text)?,
         "!" => push_line(&mut wanted.printed.err, text)?,
         "=" => wanted.printed.status = text.parse()?,
         "?" => wanted.want_line(text)?,
         "~" => wanted.parts.push(String::from_str(alloc, text)?)?,
-        _ => pass_over(number, mark)?,
+        _ => pass_over(number, line)?,
     }
     Ok(())
 }
 
 /// Skips a comment or an empty line, and refuses any other line.
-fn pass_over(number: usize, mark: &str) -> Result<()> {
-    if mark.is_empty() || mark.starts_with('#') {
+fn pass_over(number: usize, line: &str) -> Result<()> {
+    if line.is_empty() || line.starts_with('#') {
         return Ok(());
     }
-    bail!("line {number}: {mark} is no mark")
+    bail!("line {number}: it has no mark that may come here")
 }
