@@ -1,20 +1,19 @@
 #!/usr/bin/env python3
-"""Checks that the pages speak of what is there. The picture of all crates is what crates.txt says,
-and OPEN has each comment of the sources on what is open. What a library hands out has a comment.
-Each link leads to a file, and each clause that is cited behind a call stands in that call's
-contract. What PROOF quotes is to the letter what its file has, each name that it cites is one of
-the sources, each definition stands in the file of its link, and its sizes are no more than a tenth
-off. README is short, and names the logic of the toolchain that there is; VERSION, README and
-CHANGELOG name one version. The pages by hand have few long sentences. Each wrong body can be put in
-place: what it replaces occurs once in its file. The comments of a crate have no more words of this
-house than `checking/plain.txt` allows, and each file of rows is run.
+"""Checks that the pages describe what is there. ARCHITECTURE draws the layers of crates.txt, and
+has each crate in one part of the program and in one short row. OPEN has each comment of the sources
+on what is open. What a library exports has a comment. Each link leads to a file, and each clause
+that is cited after a call is in that call's contract. PROOF quotes its files to the letter; each
+name that it cites is in the sources, each definition is in the file of its link, and its figures
+are no more than a tenth off. README is short, and names the logic of the installed toolchain;
+VERSION, README and CHANGELOG name one version. The pages by hand have few long sentences. Each
+wrong body can be put in place: what it replaces is in its file once.
 
 usage: docs/check.py [--write [FOLDER] | --long | --words CRATE]
 
---write writes the picture, OPEN, and PROOF's quotes and sizes anew. With a FOLDER it writes the
-reference there instead: a page for each crate, with its contracts and definitions. The pages' links
-to sources work in the folder docs/reference, which git ignores. --long prints the sentences of over
-35 words of each page by hand, --words the words of this house in a crate's comments.
+--write writes the layers and the rows of crates, OPEN, and PROOF's quotes and figures anew. With a
+FOLDER it writes the reference there instead: a page for each crate, with its contracts and
+definitions. The pages' links to sources work in the folder docs/reference, which git ignores.
+--long prints the sentences of over 35 words of each page by hand.
 """
 import sys
 from pathlib import Path

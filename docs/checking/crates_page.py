@@ -1,26 +1,33 @@
-"""The pages that list all crates: the picture of the layers, which is drawn from crates.txt, and
-the index of the reference, with a link to each crate's page."""
+"""The pages that list all crates: ARCHITECTURE, and the index of the reference, with a link to each
+crate's page. ARCHITECTURE has the layers, which are drawn from crates.txt, the parts of the program
+with their crates, and a table with a line for each crate, sorted by name."""
 import re
 import textwrap
 
 from checking.places import CRATES, crates, storeys
 from checking.sources import first_lines
 
-PICTURE = re.compile(r"(?<=\n## By storeys\n\n```\n).*?(?=```\n)", re.S)
+PICTURE = re.compile(r"(?<=\n## Layers\n\n```\n).*?(?=```\n)", re.S)
+# A part of the program: its name, and its crates.
+PART = re.compile(r"^\| ([^|`]+) \| ((?:`\w+`(?:, )?)+) \|", re.M)
+# The table of all crates; its texts are written by hand, after the crates' `lib.rt`.
+TABLE = re.compile(r"(?<=\n\| Crate \| What it is \|\n\|---\|---\|\n)(?:\|.*\n)+")
+ROW = re.compile(r"^\| `(\w+)` \| (.*) \|$", re.M)
+MOST_WORDS = 12
 INDEX = """# Reference
 
 A page for each crate, from its sources: what it exports, with the comments and the contracts, and
-its definitions. The crates are ordered by storeys, the lowest first; crates of tests have no page.
+its definitions. The crates are ordered by layers, the lowest first; crates of tests have no page.
 
-- **Open** says what no clause of a call pins, and [OPEN](../OPEN.md) has these on one page. Most
-  often it is whether memory is refused: this may happen at any allocation, so no clause says that a
-  call succeeds, but a test makes each such call with ample memory.
-- **In contracts** says what a contract reads in a value of a type, and by which definitions the
-  type has a trait.
+- **Open** lists what no clause of a call says, and [OPEN](../OPEN.md) has these on one page. Most
+  often it is whether an allocation fails: any may, so no clause says that a call succeeds. A test
+  makes each such call with ample memory.
+- **In contracts** says what a contract reads in a value of a type, and which definitions the type
+  gives for a trait.
 - **Terms** lead to the definitions that a contract names. Those that aren't among them are in the
   toolchain's library `std`: `IfOk result P` says that P holds for the value of an Ok. `x.old` and
   `x.new` are values before and after the call, and `x.now` is one that the call doesn't change.
-- **Inside the crate** are calls that aren't exported, and on which exported ones rest.
+- **Inside the crate** are calls that aren't exported, but that exported ones use.
 
 The texts of help, of usage and of wrong command lines are in no clause; tests have some.
 """
@@ -36,16 +43,41 @@ def picture():
     return "\n".join(lines) + "\n"
 
 
+def rows(text):
+    """The crates in the table of all crates, each with its text."""
+    table = TABLE.search(text)
+    return ROW.findall(table[0]) if table else []
+
+
+def table(text):
+    """The table's rows by the crates' names. A crate that has no row gets its first sentence."""
+    told = dict(rows(text))
+    lines = (f"| `{it}` | {told.get(it) or first_sentence(it)} |" for it in sorted(crates()))
+    return "\n".join(lines) + "\n"
+
+
 def anew(text):
-    return PICTURE.sub(lambda _: picture(), text)
+    return TABLE.sub(lambda _: table(text), PICTURE.sub(lambda _: picture(), text))
+
+
+def parts(text):
+    """Each part of the program, with its crates."""
+    return {name: re.findall(r"\w+", named) for name, named in PART.findall(text)}
 
 
 def other_crates(text):
-    """Crates without a row, on a page that has rows of crates."""
-    rows = [it.split("|")[1] for it in text.splitlines() if it.startswith("| `")]
-    named = {name for row in rows for name in re.findall(r"`(\w+)`", row)}
-    if not {*crates()}.isdisjoint(named):
-        yield from (f"no row of the crate {it}" for it in crates() if it not in named)
+    """Crates that aren't in one part and one row, and rows that are too long for a table."""
+    listed = {
+        "part": [it for part in parts(text).values() for it in part],
+        "row": [it for it, _ in rows(text)],
+    }
+    for what, named in listed.items():
+        for it in sorted({*crates(), *named}):
+            if named.count(it) != (it in crates()):
+                yield f"the crate {it} is in {named.count(it)} {what}s"
+    for name, what in rows(text):
+        if len(what.split()) > MOST_WORDS:
+            yield f"the row of {name} has more than {MOST_WORDS} words"
 
 
 def first_sentence(crate):

@@ -1,14 +1,21 @@
-"""PROOF's quotes from the sources, and the sizes in it."""
+"""PROOF's quotes from the sources, and its figures: the sizes of the parts in ARCHITECTURE."""
 import re
 import textwrap
 
-from checking.places import CRATES, ROOT, crates
+from checking.crates_page import parts
+from checking.places import CRATES, CRATES_PAGE, ROOT
 
 # A quote: a comment with its file and its name, followed by the block.
 QUOTE = re.compile(r"<!-- quote (\S+) (\S+) -->\n```\n(.*?)```\n", re.S)
 QUOTABLE = re.compile(r"(?: *pub fn |(?:abbrev |unfoldable )?pub (?:record |data )?)(\w+)\b")
-# The rows of the table of sizes: a part's name, its crates, and their counts.
-SIZES = re.compile(r"^(\| [^|]+ \| )((?:`\w+`(?:, )?)+)( \|)((?: +[\d,]+ \|)+)$", re.M)
+# The rows of the table of sizes: a part's name, and its counts.
+SIZES = re.compile(r"^\| ([^|`]+) \|((?: +[\d,]+ \|)+)$", re.M)
+# How many of the parts carry the theorems. The next one is the tools, with which they are the
+# program.
+CARRYING = 4
+# The figures that sentences have of the sizes.
+RATIO = re.compile(r"(?<=They have )\d+\.\d+(?= lines of proof for each line of source)")
+SHARE = re.compile(r"(?<=The tools are )\d+(?= percent of the program's source)")
 LEMMA = re.compile(r"^(?:pub )?[^\s:({]+ :", re.M)
 
 
@@ -68,28 +75,47 @@ def sizes(names):
     ]
 
 
-def is_near(told, counted):
-    return abs(told - counted) <= max(counted / 10, 5)
+def is_near(told, counted, least=5):
+    """Whether it is no more than a tenth off, or `least`."""
+    return abs(told - counted) <= max(counted / 10, least)
+
+
+def all_sizes():
+    """The sizes of each part of the program."""
+    return {name: sizes(named) for name, named in parts(CRATES_PAGE.read_text()).items()}
+
+
+def figures(counted):
+    """The figures of sentences: lines of proof by lines of source, and the tools' share."""
+    *carrying, tools = [*counted.values()][:CARRYING + 1]
+    source, proofs = (sum(it[k] for it in carrying) for k in (0, 2))
+    return {RATIO: f"{proofs / source:.1f}", SHARE: f"{100 * tools[0] / (source + tools[0]):.0f}"}
 
 
 def false_sizes(text):
-    named = []
-    for row in SIZES.finditer(text):
-        names = re.findall(r"\w+", row[2])
-        named += names
-        told = [int(it) for it in re.findall(r"\d+", row[4].replace(",", ""))]
-        counted = sizes(names)
-        if len(told) != len(counted) or not all(map(is_near, told, counted)):
-            yield f"{row[1].strip('| ')}: the sizes are {counted} (docs/check.py --write)"
-    if sorted(named) != sorted(crates()):
-        yield "the table of sizes doesn't name each crate once"
+    counted, named = all_sizes(), []
+    for name, row in SIZES.findall(text):
+        named.append(name)
+        told = [int(it.replace(",", "")) for it in re.findall(r"[\d,]+", row)]
+        there = counted.get(name, [])
+        if len(told) != len(there) or not all(map(is_near, told, there)):
+            yield f"{name}: the sizes are {there} (docs/check.py --write)"
+    if named != [*counted]:
+        yield f"the table of sizes has other parts than {CRATES_PAGE.name}"
+    for pattern, figure in figures(counted).items():
+        if not (found := pattern.search(text)) or not is_near(float(found[0]), float(figure), 0):
+            yield f"no figure {figure}: {pattern.pattern} (docs/check.py --write)"
 
 
 def resized(text):
-    def anew(row):
-        counts = " |".join(f" {it:,}" for it in sizes(re.findall(r"\w+", row[2])))
-        return f"{row[1]}{row[2]}{row[3]}{counts} |"
+    counted = all_sizes()
 
+    def anew(row):
+        counts = " |".join(f" {it:,}" for it in counted.get(row[1], []))
+        return f"| {row[1]} |{counts} |" if counts else row[0]
+
+    for pattern, figure in figures(counted).items():
+        text = pattern.sub(figure, text)
     return SIZES.sub(anew, text)
 
 
