@@ -29,13 +29,7 @@ OFFERS = ["editor b:2 1.9 2.1"]
 # What each recipe before the last counts, in the page's order. In the day below, one machine is
 # offered 2.1, one has no cohort, two installs end, and the event of a third is cut. No client is
 # dropped, or waits.
-COUNTS = [
-    ['1 "editor 2.1"'],
-    ['1 "editor 2.0.4 to 2.0.4 result 0"', '1 "editor 2.0.4 to 2.0.4 result 1"'],
-    ['1 "editor"'],
-    ['1 "editor 1.9"'],
-    [],
-]
+COUNTS = [[]]
 # What `report` counts for the same day, and a part of it in Prometheus's format.
 REPORTED = {
     "offers": ["1 editor 2.1"],
