@@ -6,19 +6,21 @@ that is cited after a call is in that call's contract. PROOF quotes its files to
 name that it cites is in the sources, each definition is in the file of its link, and its figures
 are no more than a tenth off. README is short, and names the logic of the installed toolchain;
 VERSION, README and CHANGELOG name one version. The pages by hand have few long sentences. Each
-wrong body can be put in place: what it replaces is in its file once.
+wrong body can be put in place: what it replaces is in its file once. `plain.txt` and `weight.txt`
+bound the words of this house in comments, and the words of each page. Each file of rows is run.
 
 usage: docs/check.py [--write [FOLDER] | --long | --words CRATE]
 
 --write writes the layers and the rows of crates, OPEN, and PROOF's quotes and figures anew. With a
 FOLDER it writes the reference there instead: a page for each crate, with its contracts and
 definitions. The pages' links to sources work in the folder docs/reference, which git ignores.
---long prints the sentences of over 35 words of each page by hand.
+--long prints the sentences of over 35 words of each page by hand, --words the words of this house
+in a crate's comments.
 """
 import sys
 from pathlib import Path
 
-from checking import crates_page, left_open, plain, quotes, reference, rows
+from checking import crates_page, left_open, plain, quotes, reference, rows, weight
 from checking.exports import lost_comments
 from checking.names import contracts, false_clauses, lost_edits, strangers, unknown_names
 from checking.pages import (
@@ -39,6 +41,7 @@ def write():
     for page, anew in WRITTEN.items():
         page.write_text(anew(page.read_text()))
     plain.lower()
+    weight.lower()
 
 
 def faults():
@@ -59,6 +62,7 @@ def faults():
     yield from other_versions()
     yield from too_many_long()
     yield from plain.too_many()
+    yield from weight.too_heavy()
     yield from rows.left_out()
     yield from lost_edits()
 
