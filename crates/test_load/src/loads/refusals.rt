@@ -27,8 +27,8 @@ fn asked_and_told(row: &str) -> Result<(&str, &str), Fail> {
     halves(rest, " | ")
 }
 
-/// Checks the result of a load, and of the same load again. A refused load declares no arrays, and
-/// only M4 counts a failure.
+/// Checks the result of a load, and of the same load again. A refused load declares no arrays. In
+/// these rows M4 counts one failure; with M5 and M6 the row's other files can be read.
 fn must_tell_twice(
     alloc: Global,
     loader: &mut Loader,
