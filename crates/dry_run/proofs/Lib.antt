@@ -5,7 +5,6 @@ mod Finding
 mod Opening
 mod Spelled
 mod WholeRuns
-mod Noting
 mod Noted
 mod MembersNoted
 mod Written

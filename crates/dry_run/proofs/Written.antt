@@ -7,9 +7,9 @@ use Rattle.serde_json.specs.Data.{Data, null, boolean, number, string, array, ob
 use Rattle.serde_json.specs.Data.{Items, Members, no_items}
 use Rattle.serde_json.specs.Find.{get, as_array, as_object}
 use Rattle.attrs.specs.declared.facts.AppFacts.{AppFacts}
+use Rattle.json_value.specs.Bytes.{json_of}
 use Rattle.omaha_json.specs.Request.{Request, all_facts, count_of, is_protocol, listed, of_apps}
 use Rattle.omaha_json.specs.Request.{of_request, of_value, or_fault, request_facts, text_in}
-use Rattle.omaha_json.specs.Request.{value_in}
 use Rattle.omaha_json.specs.declared.fault.OmahaFault.{OmahaFault}
 use Rattle.omaha_json.specs.declared.fault.OmahaFault.TheVariants.{Json, Shape}
 use Rattle.omaha_json.specs.declared.fault.OmahaFault.TheVariants.{Protocol, TooManyApps}
@@ -85,4 +85,4 @@ by_top None asked is = absurd cc
 by_top (Some top) asked is = by_request (get (codes "request") top) asked is
 
 pub read_members_are_told : ReadMembersAreTold
-read_members_are_told body asked is = by_top (value_in body) asked is
+read_members_are_told body asked is = by_top (json_of body) asked is

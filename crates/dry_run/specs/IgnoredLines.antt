@@ -9,8 +9,9 @@ use Rattle.serde_json.specs.Data.{Data, null, boolean, number, string, array, ob
 use Rattle.serde_json.specs.Data.{Items, no_items, item}
 use Rattle.serde_json.specs.Find.{get, as_array, as_number, as_object, as_str, as_u64}
 use Rattle.attrs.specs.Facts.{known_day}
+use Rattle.json_value.specs.Bytes.{json_of}
 use Rattle.omaha_json.specs.Ignored.{is_no_text}
-use Rattle.omaha_json.specs.Request.{is_value, value_in}
+use Rattle.omaha_json.specs.Request.{is_value}
 
 -- ---- a line
 
@@ -196,7 +197,7 @@ app_notes request = notes_of (unwrap_or (apps_written request) no_items)
 
 -- its member `request`
 abbrev pub request_written : (body : List ℕ) → Option Data
-request_written body = option_and_then (get (codes "request")) (value_in body)
+request_written body = option_and_then (get (codes "request")) (json_of body)
 
 -- for a request, if there is one
 abbrev pub request_note_of : (request : Option Data) → List ℕ

@@ -5,13 +5,13 @@ ghost use Rattle.std.specs.Prelude.{◌≡◌, [], IfOk, OnOk, map, option_map, 
 ghost use Rattle.std.specs.Prelude.{slice_index_or};
 ghost use Rattle.printing.specs.Pushed.{Puts};
 ghost use Rattle.serde_json.specs.View.{view, items_view};
-ghost use Rattle.omaha_json.specs.Request as requests;
 ghost use Rattle.dry_run.specs.IgnoredLines as specs;
 
 use crate::ignored_lines::{
     push_attribute_note, push_day_note, push_object_note, push_text_note, push_value_note,
     push_version_note,
 };
+use json_value::read_json;
 use serde_json::Value;
 use std::alloc::{AllocError, Global};
 
@@ -29,7 +29,7 @@ pub(crate) fn notes_in(alloc: Global, body: &[u8]) -> Result<Notes, AllocError>
     ensures apps { IfOk result (λ notes.
         map string_bytes notes.apps.items ≡ specs.app_notes_in body.now) }
 {
-    match value_in(alloc, body)? {
+    match read_json(alloc, body)? {
         Some(top) => notes_if_some(alloc, top.get("request")),
         None => notes_if_some(alloc, None),
     }
@@ -42,18 +42,6 @@ pub(crate) fn note_at(notes: &[String], place: usize) -> &str
     match notes.get(place) {
         Some(note) => note.as_str(),
         None => "",
-    }
-}
-
-// The JSON value of a body.
-#[tactic(auto, using(crate::proofs::Noting::value_is, crate::proofs::Noting::value_is_none))]
-fn value_in(alloc: Global, body: &[u8]) -> Result<Option<Value>, AllocError>
-    ensures { IfOk result (λ top. option_map view top ≡ requests.value_in body.now) }
-{
-    match Value::from_slice(alloc, body) {
-        Ok(top) => Ok(Some(top)),
-        Err(e) if e.is_memory() => Err(AllocError),
-        Err(_) => Ok(None),
     }
 }
 

@@ -1,10 +1,10 @@
 -- Which request a body is, by this project's profile of Omaha 3.1, or its first fault.
 use Rattle.std.specs.Prelude.{ℕ, suc, List, [], ◌∷◌, codes, Bool, false, nat_lt, Option, Some, None}
 use Rattle.std.specs.Prelude.{is_none, option_map, option_and_then, if◌then◌else◌, Result, Ok, Err}
-use Rattle.std.specs.Str.{is_utf8, bytes_eq}
+use Rattle.std.specs.Str.{bytes_eq}
 use Rattle.serde_json.specs.Data.{Data, object, Items, no_items, item}
 use Rattle.serde_json.specs.Find.{get, as_array, as_null, as_number, as_object, as_str, as_u64}
-use Rattle.serde_json.specs.Read.{read}
+use Rattle.json_value.specs.Bytes.{json_of}
 use Rattle.attrs.specs.declared.facts.AppFacts.{AppFacts}
 use Rattle.attrs.specs.declared.facts.RequestFacts.{RequestFacts}
 use Rattle.omaha_json.specs.declared.fault.OmahaFault.{OmahaFault}
@@ -100,10 +100,6 @@ of_request request =
 abbrev pub of_value : Data → Result Request OmahaFault
 of_value top = or_fault Shape of_request (object_in (codes "request") top)
 
--- the JSON value of a body
-unfoldable pub value_in : List ℕ → Option Data
-value_in body = if is_utf8 body then read body else None
-
 -- the request that a body is, or its first fault
 abbrev pub request_in : List ℕ → Result Request OmahaFault
-request_in body = or_fault Json of_value (value_in body)
+request_in body = or_fault Json of_value (json_of body)

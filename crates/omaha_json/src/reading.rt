@@ -3,7 +3,7 @@
 ghost use Rattle.std.specs.Prelude.{◌≡◌, ◌≢◌, Some, None, Ok, IfOk, IfErr, option_map};
 ghost use Rattle.serde_json.specs.Data.{object};
 ghost use Rattle.serde_json.specs.View.{view, items_view, members_view};
-ghost use Rattle.omaha_json.specs.Request.{request_in, of_request, value_in};
+ghost use Rattle.omaha_json.specs.Request.{request_in, of_request, of_value};
 ghost use Rattle.omaha_json.specs.Request.{all_facts, listed};
 ghost use Rattle.omaha_json.specs.Members.{request_found};
 
@@ -14,6 +14,7 @@ use crate::request::Request;
 use crate::request_members::{RequestMembers, request_members};
 use crate::value::object_in;
 use attrs::{RequestFacts, SharedFacts};
+use json_value::read_json;
 use releases::MOST_APPS;
 use serde_json::{Map, Value};
 use std::alloc::Global;
@@ -29,24 +30,26 @@ pub fn read_request<H: HearsApps>(
 ) -> Result<Request, OmahaFault>
     ensures { result ≢ Err OmahaFault.Memory → result ≡ request_in body.now }
 {
-    let value = value_in(alloc, body)?;
-    match object_in(value, "request") {
-        Some(request) => of_request(alloc, request, witness),
-        None => Err(OmahaFault::Shape),
+    let Ok(found) = read_json(alloc, body) else {
+        return Err(OmahaFault::Memory);
+    };
+    match found {
+        Some(value) => of_value(alloc, value, witness),
+        None => Err(OmahaFault::Json),
     }
 }
 
-// The JSON value of a body.
-#[tactic(auto, using(crate::proofs::Bodies::value_found, crate::proofs::Bodies::value_missing))]
-fn value_in(alloc: Global, body: &[u8]) -> Result<Value, OmahaFault>
-    ensures ok { IfOk result (λ v. value_in body.now ≡ Some (view v)) }
-    ensures err { IfErr result (λ e. e ≢ OmahaFault.Memory
-        → (e ≡ OmahaFault.Json) × (value_in body.now ≡ None)) }
+// The request that a body's value is.
+fn of_value<H: HearsApps>(
+    alloc: Global,
+    value: Value,
+    witness: &mut H,
+) -> Result<Request, OmahaFault>
+    ensures { result ≢ Err OmahaFault.Memory → result ≡ of_value (view value) }
 {
-    match Value::from_slice(alloc, body) {
-        Ok(value) => Ok(value),
-        Err(e) if e.is_memory() => Err(OmahaFault::Memory),
-        Err(_) => Err(OmahaFault::Json),
+    match object_in(value, "request") {
+        Some(request) => of_request(alloc, request, witness),
+        None => Err(OmahaFault::Shape),
     }
 }
 

@@ -2,5 +2,4 @@ pub mod Counted
 pub mod Loops
 pub mod Read
 pub mod Tallied
-pub mod Values
 pub mod Written

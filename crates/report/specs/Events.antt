@@ -7,7 +7,8 @@ use Rattle.std.specs.List.{position, slice_index}
 use Rattle.std.specs.Str.{byte}
 use Rattle.serde_json.specs.Data.{Data, Items, no_items, item}
 use Rattle.report.specs.Tallies.{RowName}
-use Rattle.report.specs.Told.{text_in, number_in, list_in, is_number, value_of}
+use Rattle.json_value.specs.Bytes.{json_of}
+use Rattle.report.specs.Told.{text_in, number_in, list_in, is_number}
 use Rattle.report.specs.Names.{two, three, course_name, if_holds, listed, text_or_mark}
 use Rattle.report.specs.declared.question.EventQuestion.{EventQuestion}
 use Rattle.report.specs.declared.question.EventQuestion.TheVariants.{Ended, Result, FailedTo}
@@ -90,7 +91,7 @@ event_name question app appid event =
 
 abbrev pub event_name_at : EventQuestion → Data → List ℕ → List ℕ → Option RowName
 event_name_at question app appid text =
-    option_and_then (λ object. option_and_then (event_name question app appid) (value_of object))
+    option_and_then (λ object. option_and_then (event_name question app appid) (json_of object))
     (object_at text)
 
 abbrev pub event_names_at : EventQuestion → Data → List ℕ → List ℕ → List RowName

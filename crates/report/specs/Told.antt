@@ -4,10 +4,10 @@ use Rattle.std.specs.Prelude.{Option, Some, None, is_some, option_and_then, if�
 use Rattle.std.specs.Prelude.{option_copied}
 use Rattle.std.specs.Cmp.Lexicographic.{slice_cmp}
 use Rattle.std.specs.Ordering.{is_lt, nat_cmp}
-use Rattle.std.specs.Str.{bytes_eq, is_utf8}
+use Rattle.std.specs.Str.{bytes_eq}
 use Rattle.serde_json.specs.Data.{Data, Items}
 use Rattle.serde_json.specs.Find.{get, as_array, as_bool, as_number, as_str, as_u64}
-use Rattle.serde_json.specs.Read.{read}
+use Rattle.json_value.specs.Bytes.{json_of}
 use Rattle.report.specs.declared.window.Window.{Window}
 
 -- ---- members; a member of another type counts as missing
@@ -46,14 +46,10 @@ is_event d = is_some (text_in (codes "time") d) && is_some (text_in (codes "kind
 abbrev pub if_event : Data → Option Data
 if_event d = if is_event d then Some d else None
 
--- the JSON value of a text
-unfoldable pub value_of : List ℕ → Option Data
-value_of text = if is_utf8 text then read text else None
-
 -- a line of the server has at most 65536 bytes, and is a JSON object that is an event
 abbrev pub event_in : List ℕ → Option Data
 event_in line =
-    if nat_le (length line) 65536 then option_and_then if_event (value_of line) else None
+    if nat_le (length line) 65536 then option_and_then if_event (json_of line) else None
 
 -- ---- the window
 

@@ -11,7 +11,8 @@ ghost use Rattle.report.specs.Tallies.{Notes};
 use crate::name_text::{course_name, decimal, text_or_mark, three, two};
 use crate::question::EventQuestion;
 use crate::tally::{Tally, note_if, note_nothing};
-use crate::told::{is_number, number_in, text_in, value_of};
+use crate::told::{is_number, number_in, text_in};
+use json_value::read_json;
 use serde_json::Value;
 use std::alloc::{AllocError, Global};
 
@@ -97,7 +98,7 @@ fn event_name_at(
     let Some(object) = object_at(text) else {
         return Ok(None);
     };
-    match value_of(alloc, object)? {
+    match read_json(alloc, object)? {
         Some(event) => event_name(alloc, question, app, appid, &event),
         None => Ok(None),
     }

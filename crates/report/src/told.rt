@@ -6,6 +6,7 @@ ghost use Rattle.serde_json.specs.View.{view, items_view};
 ghost use Rattle.report.specs.Told as specs;
 
 use crate::window::Window;
+use json_value::read_json;
 use serde_json::Value;
 use std::alloc::{AllocError, Global};
 
@@ -76,18 +77,6 @@ pub(crate) fn is_text(text: &str, found: Option<&str>) -> bool
     }
 }
 
-/// The JSON value of a text, if it is one.
-#[tactic(auto, using(crate::proofs::Values::value_found, crate::proofs::Values::value_missing))]
-pub(crate) fn value_of(alloc: Global, text: &[u8]) -> Result<Option<Value>, AllocError>
-    ensures { IfOk result (λ v. option_map view v ≡ specs.value_of text.now) }
-{
-    match Value::from_slice(alloc, text) {
-        Ok(value) => Ok(Some(value)),
-        Err(e) if e.is_memory() => Err(AllocError),
-        Err(_) => Ok(None),
-    }
-}
-
 /// The event of a line, if the line is the server's.
 pub(crate) fn event_in(alloc: Global, line: &[u8]) -> Result<Option<Value>, AllocError>
     ensures { IfOk result (λ v. option_map view v ≡ specs.event_in line.now) }
@@ -95,7 +84,7 @@ pub(crate) fn event_in(alloc: Global, line: &[u8]) -> Result<Option<Value>, Allo
     if line.len() > LINE_LIMIT {
         return Ok(None);
     }
-    match value_of(alloc, line)? {
+    match read_json(alloc, line)? {
         Some(value) => Ok(if_event(value)),
         None => Ok(None),
     }
