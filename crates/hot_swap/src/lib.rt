@@ -33,6 +33,3 @@ pub use laws::generations_go_onwards;
 pub use notice::Notice;
 pub use publisher::Publisher;
 pub use watcher::Watcher;
-
-#[cfg(test)]
-mod tests;

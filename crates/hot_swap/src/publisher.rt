@@ -193,17 +193,3 @@ impl Publisher {
         writer.take(rt);
     }
 }
-
-#[cfg(test)]
-impl Publisher {
-    /// Leaves an operation waiting, as a failed publish does.
-    pub(crate) fn leave_waiting(&mut self, rules: &Arc<Ruleset>) -> bool {
-        if self.known.generation() == u64::MAX {
-            return false;
-        }
-        let Ok(operation) = NextInstall::new(&self.end, &self.known, rules) else {
-            return false;
-        };
-        self.writer.append(operation).is_ok()
-    }
-}

@@ -28,6 +28,3 @@ pub use status::Status;
 
 // These are named in the contracts of this crate.
 pub use net_io::{Counted, FailAt, Failed, WriteFault};
-
-#[cfg(test)]
-mod tests;

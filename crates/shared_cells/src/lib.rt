@@ -58,6 +58,3 @@ pub use fault::SharedFault;
 pub use laws::{loads_can_go, passes_gain_lists};
 pub use pass::SharedPass;
 pub use shared::SharedCells;
-
-#[cfg(test)]
-mod tests;

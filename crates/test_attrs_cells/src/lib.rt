@@ -1,6 +1,6 @@
-//! Tests of `attrs` and `cells`, against values that were worked out by hand: the attributes of an
-//! app of a request, and a program's helpers; directories, shapes and counters. A crate with tests
-//! is proved twice, so they are in a crate of their own.
+//! Tests of `attrs`, `cells` and `shared_cells`, against values that were worked out by hand: the
+//! attributes of an app of a request, and a program's helpers; directories, shapes and counters. A
+//! crate with tests is proved twice, so they are in a crate of their own.
 #![tactic(auto)]
 
 #[cfg(test)]
@@ -13,6 +13,8 @@ mod counters;
 mod facts;
 #[cfg(test)]
 mod memory;
+#[cfg(test)]
+mod passes;
 #[cfg(test)]
 mod shared;
 #[cfg(test)]

@@ -1,21 +1,15 @@
-//! Whole requests in the form of other products' updaters: what is read of each, and the reply,
-//! byte for byte.
+//! Whole requests in the form of other products' updaters: what is read of each. The replies are
+//! rows of the program `rows`.
 
-use crate::apps::{reply_to, rules_of};
 use crate::facts::told;
-use std::alloc::{AllocError, Global};
+use std::alloc::Global;
 use std::test::Fail;
 
-/// A name, how many releases of one package the app x has, the moment, and the choices that the
-/// runs made (`-` is none); a body; what is read of it; and the reply after its first line. What is
-/// read of the request is its `requestid`, its `sessionid` and its platform, and a line for each
-/// app. Bodies and replies are without the ends of their lines. An updater sends many members that
-/// aren't read: how it was started, what machine it is on, what it has fetched. A cohort that
-/// another server gave it names no bucket, so the reply's bucket is drawn from `requestid`. The
-/// moment 1772413200 is 2026-03-02 01:00:00 UTC, which is day 7000 and second 3600 of Omaha's
-/// count.
+/// A name, a body, and what is read of it: its `requestid`, its `sessionid` and its platform, and a
+/// line for each app. An updater sends many members that aren't read: how it was started, what
+/// machine it is on, what it has fetched.
 const ROWS: &str = r##"
-* a check of an updater that says much of itself | 1 | 1772413200 | 1
+* a check of an updater that says much of itself
 {"request":{"@os":"win","@updater":"updater","acceptformat":"crx3,download,puff,run","app":[
 {"appid":"{5b6f8a1e-3c2d-4e7f-9a0b-1c2d3e4f5a6b}","brand":"ABCD","cohort":"1:abc:",
 "cohorthint":"early","cohortname":"Stable","enabled":true,"iid":"{00000000-0000-0000}",
@@ -32,15 +26,7 @@ const ROWS: &str = r##"
 =>
 {b6fce9a4-1f43-4e0e-8a6d-2f9b5b0c7d11} {0c3a71d2-84be-4d0a-9a55-6f1e2d3c4b5a} Windows
 {5b6f8a1e-3c2d-4e7f-9a0b-1c2d3e4f5a6b} 1.9.0.12 ABCD - en-US 1:abc: - updatecheck ping -
-=>
-{"response":{"app":[
-{"appid":"{5b6f8a1e-3c2d-4e7f-9a0b-1c2d3e4f5a6b}","cohort":"b:2698","ping":{"status":"ok"},
-"status":"ok","updatecheck":{"manifest":{"packages":{"package":[{
-"hash_sha256":"ba7816bf8f01cfea414140de5dae2223b00361a396177a9cb410ff61f20015ad",
-"name":"x.bin","required":true,"size":3}]},"version":"2.0.0.0"},
-"status":"ok","urls":{"url":[{"codebase":"http://dl.example/"}]}}}],
-"daystart":{"elapsed_days":7000,"elapsed_seconds":3600},"protocol":"3.1","server":"prod"}}
-* events of an update, which ask for nothing | 1 | 1772413200 | -
+* events of an update, which ask for nothing
 {"request":{"acceptformat":"crx3","app":[
 {"appid":"{5b6f8a1e-3c2d-4e7f-9a0b-1c2d3e4f5a6b}","cohort":"b:0042","cohortname":"Stable",
 "event":[{"download_time_ms":812,"downloaded":3,"downloader":"bits","eventresult":1,
@@ -54,11 +40,7 @@ const ROWS: &str = r##"
 =>
 {e27b5c90-61fd-4a3b-8c14-0d9e8f7a6b5c} {0c3a71d2-84be-4d0a-9a55-6f1e2d3c4b5a} Mac OS X
 {5b6f8a1e-3c2d-4e7f-9a0b-1c2d3e4f5a6b} 1.9.0.12 - - de b:0042 6999 - - event
-=>
-{"response":{"app":[
-{"appid":"{5b6f8a1e-3c2d-4e7f-9a0b-1c2d3e4f5a6b}","cohort":"b:0042","status":"ok"}],
-"daystart":{"elapsed_days":7000,"elapsed_seconds":3600},"protocol":"3.1","server":"prod"}}
-* a first installation with its data, by a version that is no version | 1 | 0 | 0
+* a first installation with its data, by a version that is no version
 {"request":{"protocol":"3.1","requestid":"{9d41f0b7-2c6e-4f88-b1a3-7e5d4c3b2a19}","app":[
 {"appid":"x","ap":"x64-beta","cohort":"1:3o:8vr@0.05","data":[{"index":"quiet","name":"install"},
 {"#text":"{\"keys\":[1]}","name":"untrusted"}],"installdate":-2,"version":"new",
@@ -66,11 +48,7 @@ const ROWS: &str = r##"
 =>
 {9d41f0b7-2c6e-4f88-b1a3-7e5d4c3b2a19} - -
 x new - x64-beta - 1:3o:8vr@0.05 - updatecheck - -
-=>
-{"response":{"app":[
-{"appid":"x","cohort":"b:3603","status":"ok","updatecheck":{"status":"noupdate"}}],
-"daystart":{"elapsed_days":0,"elapsed_seconds":0},"protocol":"3.1","server":"prod"}}
-* several products of one machine, one of them of another server | 1 | 0 | 0 - -
+* several products of one machine, one of them of another server
 {"request":{"protocol":"3.1","requestid":"{9d41f0b7-2c6e-4f88-b1a3-7e5d4c3b2a19}","app":[
 {"appid":"{5b6f8a1e-3c2d-4e7f-9a0b-1c2d3e4f5a6b}","ping":{"a":-1,"r":1},"updatecheck":{}},
 {"appid":"{de000000-0000-4000-8000-00000000be11}","cohort":"b:0001","updatecheck":{}},
@@ -80,68 +58,26 @@ x new - x64-beta - 1:3o:8vr@0.05 - updatecheck - -
 {5b6f8a1e-3c2d-4e7f-9a0b-1c2d3e4f5a6b} - - - - - - updatecheck ping -
 {de000000-0000-4000-8000-00000000be11} - - - - b:0001 - updatecheck - -
 x - - - - b:9999 - - ping -
-=>
-{"response":{"app":[
-{"appid":"{5b6f8a1e-3c2d-4e7f-9a0b-1c2d3e4f5a6b}","cohort":"b:3603","ping":{"status":"ok"},
-"status":"ok","updatecheck":{"status":"noupdate"}},
-{"appid":"{de000000-0000-4000-8000-00000000be11}","status":"error-unknownApplication"},
-{"appid":"x","cohort":"b:9999","ping":{"status":"ok"},"status":"ok"}],
-"daystart":{"elapsed_days":0,"elapsed_seconds":0},"protocol":"3.1","server":"prod"}}
-* members of another kind, or in another place | 1 | 0 | 1
+* members of another kind, or in another place
 {"request":{"protocol":"3.1","requestid":5,"sessionid":"{0c3a71d2-84be-4d0a-9a55-6f1e2d3c4b5a}",
 "os":"linux","platform":"linux","lang":"de","app":[
 {"appid":"x","installdate":"6999","cohort":42,"ping":[],"updatecheck":true,"version":"1.0"}]}}
 =>
 - {0c3a71d2-84be-4d0a-9a55-6f1e2d3c4b5a} -
-x 1.0 - - - - - updatecheck ping -
-=>
-{"response":{"app":[
-{"appid":"x","cohort":"b:7630","ping":{"status":"ok"},"status":"ok","updatecheck":{
-"manifest":{"packages":{"package":[{
-"hash_sha256":"ba7816bf8f01cfea414140de5dae2223b00361a396177a9cb410ff61f20015ad",
-"name":"x.bin","required":true,"size":3}]},"version":"2.0.0.0"},
-"status":"ok","urls":{"url":[{"codebase":"http://dl.example/"}]}}}],
-"daystart":{"elapsed_days":0,"elapsed_seconds":0},"protocol":"3.1","server":"prod"}}"##;
-
-/// The choices of a row.
-fn choices_of(alloc: Global, text: &str) -> Result<Vec<Option<u8>>, AllocError> {
-    let mut choices = Vec::new(alloc);
-    for word in text.split_whitespace() {
-        choices.push(word.parse::<u8>().ok())?;
-    }
-    Ok(choices)
-}
-
-/// Whether a body has this reply, under the releases, moment and choices of the title.
-fn is_replied(alloc: Global, title: &str, body: &str, reply: &str) -> Result<bool, Fail> {
-    let mut words = title.split(" |").skip(1);
-    let releases = words.next().unwrap_or("").trim().parse::<u8>()?;
-    let moment = words.next().unwrap_or("").trim().parse::<i64>()?;
-    let choices = choices_of(alloc, words.next().unwrap_or(""))?;
-    let rules = rules_of(alloc, releases, 1)?;
-    let body = body.replace(alloc, "\n", "")?;
-    let found = reply_to(alloc, &rules, body.as_bytes(), &choices, moment)?;
-    let want = reply.replace(alloc, "\n", "")?;
-    Ok(found.strip_prefix(b")]}'\n") == Some(want.as_bytes()))
-}
-
-#[test]
-fn clients(rt: HostRuntime) -> Result<(), Fail> {
-    for row in ROWS.split("\n* ").skip(1) {
-        let (title, texts) = row.split_once('\n').ok_or("no texts")?;
-        let (body, rest) = texts.split_once("\n=>\n").ok_or("no facts")?;
-        let (facts, reply) = rest.split_once("\n=>\n").ok_or("no reply")?;
-        assert!(rt; is_read(rt.alloc(), body, facts)?, "what is read: {title}");
-        assert!(rt;
-            is_replied(rt.alloc(), title, body, reply)?,
-            "the reply: {title}"
-        );
-    }
-    Ok(())
-}
+x 1.0 - - - - - updatecheck ping -"##;
 
 /// Whether these facts are read from a body.
 fn is_read(alloc: Global, body: &str, facts: &str) -> Result<bool, Fail> {
     let found = told(alloc, body)?;
     Ok(found.as_str() == facts)
+}
+
+#[test]
+fn clients(rt: HostRuntime) -> Result<(), Fail> {
+    for row in ROWS.split("\n* ").skip(1) {
+        let (name, texts) = row.split_once('\n').ok_or("no texts")?;
+        let (body, facts) = texts.split_once("\n=>\n").ok_or("no facts")?;
+        assert!(rt; is_read(rt.alloc(), body, facts)?, "{name}");
+    }
+    Ok(())
 }

@@ -1,13 +1,11 @@
-//! Requests and replies of Omaha 3.1 in JSON, worked by hand, as far as no command shows them.
-//! These are a request's facts about itself and its apps, whole requests of other products'
-//! updaters, and the longest reply. Bodies and their faults, and replies byte for byte, are rows of
-//! the program `rows`.
+//! Requests and replies of HTTP, and requests of Omaha 3.1 in JSON, worked by hand, as far as no
+//! command shows them: of Omaha a request's facts about itself and its apps, and what is read of
+//! whole requests of other products' updaters. Bodies and their faults, and Omaha's replies byte
+//! for byte, are rows of the program `rows`.
 #![tactic(auto)]
 
 #[cfg(test)]
 mod apps;
-#[cfg(test)]
-mod bodies;
 #[cfg(test)]
 mod clients;
 #[cfg(test)]
@@ -15,4 +13,8 @@ mod events;
 #[cfg(test)]
 mod facts;
 #[cfg(test)]
-mod limits;
+mod http_limits;
+#[cfg(test)]
+mod http_posts;
+#[cfg(test)]
+mod http_replies;

@@ -3,20 +3,13 @@
 
 ghost use Rattle.std.specs.Prelude.{◌≡◌, IfOk, length};
 
-use acceptance::accept;
 use attrs::Text;
-use bpf_text::assemble;
 use bpf_verify::Verified;
-use cells::Shape;
 use releases::{Package, Release, is_appid};
 use ruleset::App;
 use std::alloc::{AllocError, Global};
 use std::sync::Arc;
-use std::test::Fail;
 use world::{Effect, Event, World, WorldFault, play};
-
-/// Two slots, and no release.
-pub(crate) const NONE: &str = "mov r0, 0\nexit\n";
 
 /// Takes 1 from the quota of q[0], which is 2, and offers the release if one was left.
 pub(crate) const TAKE: &str = "ldcell r6, 0, 0\nmov r2, 1\nfadddw [r6+0], r2\njge r2, 2, +2
@@ -60,12 +53,6 @@ fn package(alloc: Global) -> Result<Package, AllocError> {
     let name = Text::new(String::from_str(alloc, "x.bin")?);
     let hash = Text::new(String::from_str(alloc, HASH)?);
     Ok(Package::new(name, hash, 3, true))
-}
-
-/// The app that runs the program of a text, with this shape.
-pub(crate) fn app_over(alloc: Global, appid: &str, text: &str, shape: &Shape) -> Result<App, Fail> {
-    let program = accept(alloc, &assemble(alloc, text)?, shape)?;
-    Ok(app_of(alloc, appid, Arc::new(alloc, program)?)?)
 }
 
 pub(crate) fn applied(world: &mut World, event: &Event) -> Result<Effect, WorldFault> {

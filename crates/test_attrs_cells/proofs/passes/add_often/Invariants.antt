@@ -1,5 +1,5 @@
 use Rattle.shared_cells.specs.Passes.{IsPassOf}
-use Rattle.shared_cells.proofs.tests.add_often.Given as goal
+use Rattle.test_attrs_cells.proofs.passes.add_often.Given as goal
 
 abbrev pub invariant-loop : goal.invariant-loop
 invariant-loop l = IsPassOf l.cells l.pass

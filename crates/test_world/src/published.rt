@@ -1,0 +1,174 @@
+//! The published ruleset: what watchers get after an install, with a notice of it and without one,
+//! and during a hundred installs. `memory` is a test that passes if one allocation fails.
+
+ghost use Rattle.std.specs.Prelude.{◌≡◌};
+
+use hot_swap::{Notice, Publisher, SwapFault, Watcher};
+use ruleset::Ruleset;
+use std::alloc::{AllocError, Global};
+use std::sync::{Arc, Wait};
+use std::test::Fail;
+use std::thread::{Threads, join};
+
+fn numbered_once(alloc: Global, number: u64) -> Result<Arc<Ruleset>, AllocError> {
+    let server = format!(in alloc; "{number}")?;
+    let Ok(Some(rules)) = Ruleset::new(server, Vec::new(alloc)) else {
+        return Err(AllocError);
+    };
+    Ok(Arc::new(alloc, rules)?)
+}
+
+/// A ruleset whose server has this number for its name. A failed allocation is tried again.
+fn numbered(alloc: Global, number: u64) -> Result<Arc<Ruleset>, AllocError> {
+    match numbered_once(alloc, number) {
+        Ok(rules) => Ok(rules),
+        Err(_) => numbered_once(alloc, number),
+    }
+}
+
+/// A publisher of the ruleset 1, with places for two watchers. A failed allocation is tried again.
+fn publisher<R: Wait + Print>(rt: &R, alloc: Global) -> Result<Publisher, Fail> {
+    match Publisher::new(rt, alloc, numbered(alloc, 1)?, 2) {
+        Err(SwapFault::Memory) => {
+            println!(rt; "Publisher::new: H1 Memory")?;
+            Ok(Publisher::new(rt, alloc, numbered(alloc, 1)?, 2)?)
+        }
+        made => Ok(made?),
+    }
+}
+
+/// The generation that a watcher gets, or 0 if it gets none, or another generation's ruleset.
+fn seen(watcher: &mut Watcher) -> u64 {
+    match watcher.current() {
+        Ok((generation, rules)) if rules.server().parse::<u64>() == Ok(generation) => generation,
+        _ => 0,
+    }
+}
+
+/// What a watcher without notices gets, before an install and after it; and what another gets after
+/// a notice, and then after an install without a notice.
+fn seen_in_turn<R: Wait>(
+    rt: &R,
+    alloc: Global,
+    publisher: &mut Publisher,
+) -> Result<[u64; 4], Fail> {
+    let mut first = publisher.watcher()?;
+    let mut second = publisher.watcher()?;
+    let before = seen(&mut first);
+    publisher.install(rt, numbered(alloc, 2)?)?;
+    let after = seen(&mut first);
+    drop(first);
+    let notice = publisher.tell();
+    second.learn(&notice);
+    let at_once = seen(&mut second);
+    publisher.install(rt, numbered(alloc, 3)?)?;
+    let last = seen(&mut second);
+    Ok([before, after, at_once, last])
+}
+
+// Once there is a publisher no call allocates, so this passes if any single allocation fails.
+#[test]
+fn memory(rt: HostRuntime) -> Result<(), Fail> {
+    let mut publisher = publisher(&rt, rt.alloc())?;
+    let found = seen_in_turn(&rt, rt.alloc(), &mut publisher);
+    let third = publisher.watcher().err();
+    publisher.close(&rt);
+    assert_eq!(rt; found?, [1, 2, 2, 3]);
+    assert_eq!(rt; third, Some(SwapFault::NoPlace));
+    Ok(())
+}
+
+/// What a watcher gets after a notice.
+fn seen_after(mut watcher: Watcher, notice: &Notice) -> u64
+    requires { notice.now.publisher ≡ watcher.publisher }
+{
+    watcher.learn(notice);
+    seen(&mut watcher)
+}
+
+/// What two watchers in two threads get that learn one notice.
+fn both_seen<R: Threads + Wait + Sync>(
+    rt: &R,
+    alloc: Global,
+    publisher: &mut Publisher,
+) -> Result<(u64, u64), Fail> {
+    let one = publisher.watcher()?;
+    let two = publisher.watcher()?;
+    publisher.install(rt, numbered(alloc, 2)?)?;
+    let notice = publisher.tell();
+    let notice = &notice;
+    Ok(join(
+        rt,
+        move ||
+            requires { notice.now.publisher ≡ one.publisher }
+        { seen_after(one, notice) },
+        move ||
+            requires { notice.now.publisher ≡ two.publisher }
+        { seen_after(two, notice) },
+    ))
+}
+
+#[test]
+fn one_notice_tells_two(rt: HostRuntime) -> Result<(), Fail> {
+    let mut publisher = publisher(&rt, rt.alloc())?;
+    let found = both_seen(&rt, rt.alloc(), &mut publisher);
+    publisher.close(&rt);
+    assert_eq!(rt; found?, (2, 2));
+    Ok(())
+}
+
+/// How often, among a thousand times, a watcher gets a lower generation than the time before, or
+/// another generation's ruleset.
+fn falls(mut watcher: Watcher) -> (Watcher, u64) {
+    let mut last = 1;
+    let mut count = 0u64;
+    for _ in 0..1000 {
+        let generation = seen(&mut watcher);
+        if generation < last {
+            count = count.saturating_add(1);
+        }
+        last = generation;
+    }
+    (watcher, count)
+}
+
+/// Installs the rulesets 2 to 101, and returns how many installs failed.
+fn install_all<R: Wait>(rt: &R, alloc: Global, publisher: &mut Publisher) -> Result<u64, Fail> {
+    let mut refused = 0u64;
+    for number in 2..102 {
+        let rules = numbered(alloc, number)?;
+        if publisher.install(rt, rules) != Ok(number) {
+            refused = refused.saturating_add(1);
+        }
+    }
+    Ok(refused)
+}
+
+/// Two threads watch while a third installs: how many installs fail, how often each watcher falls
+/// back, and which generation each gets afterwards.
+fn watch_twice<R: Threads + Wait + Sync>(
+    rt: &R,
+    alloc: Global,
+    publisher: &mut Publisher,
+) -> Result<[u64; 5], Fail> {
+    let one = publisher.watcher()?;
+    let two = publisher.watcher()?;
+    let ((mut one, one_falls), ((mut two, two_falls), refused)) = join(
+        rt,
+        move || falls(one),
+        || join(rt, move || falls(two), || install_all(rt, alloc, publisher)),
+    );
+    let seen_last = [seen(&mut one), seen(&mut two)];
+    drop(one);
+    drop(two);
+    Ok([refused?, one_falls, two_falls, seen_last[0], seen_last[1]])
+}
+
+#[test]
+fn generations_never_fall(rt: HostRuntime) -> Result<(), Fail> {
+    let mut publisher = publisher(&rt, rt.alloc())?;
+    let found = watch_twice(&rt, rt.alloc(), &mut publisher);
+    publisher.close(&rt);
+    assert_eq!(rt; found?, [0, 0, 0, 101, 101]);
+    Ok(())
+}
