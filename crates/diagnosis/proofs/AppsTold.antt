@@ -1,16 +1,15 @@
 -- The warnings on apps, one app after the other.
 use Rattle.std.proofs.Common.{◌≡◌, ℕ, ◌+◌, ◌-◌, ◌<◌, List, [], ◌∷◌, ◌++◌, length, take, drop}
-use Rattle.std.proofs.Common.{get_or, Vec, Ok, arith, refl, sym, ap, ◌∙◌, subst}
+use Rattle.std.proofs.Common.{get_or, Some, Ok, arith, refl, sym, ap, ◌∙◌, subst}
 use Rattle.std.proofs.Common.{append_assoc, append-nil}
 use Rattle.std.proofs.Math.Seq.{take-length}
 use Rattle.std.specs.Prelude.{IsUtf8}
-use Rattle.std.specs.declared.alloc.Global.{Global}
 use Rattle.rule_lang.specs.Verdicts.{IsVerdict}
 use Rattle.rule_lang.specs.declared.rule.Statement.{Statement}
 use Rattle.manifest.specs.declared.app.ProgramSource.{ProgramSource}
 use Rattle.manifest.specs.declared.app.ProgramSource.TheVariants.{Program, Rule}
 use Rattle.load.specs.declared.gathering.GatheredApp.{GatheredApp}
-use Rattle.load.specs.declared.kept.KeptFile.TheVariants.{Whole}
+use Rattle.load.specs.Kept.{whole_file}
 use Rattle.diagnosis.specs.Asked.{AddsApp, AddsRule}
 use Rattle.diagnosis.specs.Warned.{AsksApp, WarnsOfApps, app_rule, app_warnings}
 use Rattle.diagnosis.specs.Warned.WarnsOfApps.{no_app, next}
@@ -61,26 +60,26 @@ same_asked : (asked : RuleOfApp) (app : GatheredApp) (rule : List Statement)
 same_asked asked app rule appid shape releases is =
     rw (← appid, ← shape, ← releases, ← is) refl
 
-pub added_rule : (number room : ℕ) (app : GatheredApp) (v : Vec ℕ Global) (bytes text : List ℕ)
+pub added_rule : (number room : ℕ) (app : GatheredApp) (bytes text : List ℕ)
     (asked : RuleOfApp) (rule : List Statement) (old new : List Warning) (left : ℕ)
-    → app.kept ≡ Whole v → bytes ≡ v.items → text ≡ bytes → IsUtf8 bytes
+    → whole_file app.kept ≡ Some bytes → text ≡ bytes → IsUtf8 bytes
     → asked.appid ≡ app.entry.appid → asked.shape ≡ app.shape
     → asked.releases ≡ app.entry.releases → asked.rule ≡ rule
     → IsVerdict app.shape text (Ok rule)
     → new ≡ old ++ rule_warnings number room asked → left ≡ room_left room asked
     → AddsRule number room app old new left
-added_rule number room app v bytes text asked rule old new left kept lent same utf8 appid shape
+added_rule number room app bytes text asked rule old new left kept same utf8 appid shape
     releases is verdict told room_is =
     let all = same_asked asked app rule appid shape releases is in
     record {
       asked = rule_warnings number room (app_rule app rule);
       asks = record {
-        text = v;
+        text = bytes;
         kept_is = kept;
         rule = rule;
         spelled = record {
-          utf8 = subst IsUtf8 lent utf8;
-          spelled = subst (λ (b : List ℕ). IsVerdict app.shape b (Ok rule)) (same ∙ lent) verdict;
+          utf8 = utf8;
+          spelled = subst (λ (b : List ℕ). IsVerdict app.shape b (Ok rule)) same verdict;
         };
         asked_is = refl;
         left_is = room_is ∙ ap (room_left room) all;

@@ -1,9 +1,12 @@
 -- For files with known bytes the kept bytes are unique, over any arrays, so the digest is unique.
 use Rattle.std.proofs.Common.{◌≡◌, ℕ, ◌+◌, List, [], ◌∷◌, ◌++◌, Option, Some, None}
 use Rattle.std.proofs.Common.{refl, sym, ap, ◌∙◌, subst, arith}
-use Rattle.std.proofs.lemmas.Option.{same_Some}
+use Rattle.std.proofs.lemmas.Option.{same_Some, none-some}
 use Rattle.std.specs.Prelude.{option_map, option_and_then}
 use Rattle.bounded_files.specs.Files.{KnownFile}
+use Rattle.bounded_files.specs.Kept.{IsKeptOf}
+use Rattle.bounded_files.specs.declared.kept.KeptBytes.{KeptBytes}
+use Rattle.bounded_files.specs.declared.kept.KeptBytes.TheVariants.{Longer, Whole}
 use Rattle.cells.specs.declared.array.ArrayNo.{ArrayNo}
 use Rattle.cells.specs.declared.array.CellArray.{CellArray}
 use Rattle.manifest.specs.App.{AppEntry}
@@ -11,36 +14,23 @@ use Rattle.manifest.specs.declared.app.ProgramSource.{ProgramSource}
 use Rattle.load.specs.Digest.{digest_of, framed, framed_file, framed_files}
 use Rattle.load.specs.Gathered.{AreTaken}
 use Rattle.load.specs.Gathered.AreTaken.{next_read, not_read}
-use Rattle.load.specs.Kept.{IsKeptFrom, Retains, long_count, most_of}
-use Rattle.load.specs.Source.{Given}
+use Rattle.load.specs.Kept.{IsKeptFrom, long_count, most_of}
 use Rattle.load.specs.declared.gathering.GatheredApp.{GatheredApp}
-use Rattle.load.specs.declared.kept.KeptFile.{KeptFile}
-use Rattle.load.specs.declared.kept.KeptFile.TheVariants.{Longer, Unread, Whole}
 
 -- two results of keeping the same file
-record IsKeptAlike (a b : KeptFile) : Type 0 where
+record IsKeptAlike (a b : Option KeptBytes) : Type 0 where
   pub framed_are : framed_file a ≡ framed_file b
   pub long_is : long_count a ≡ long_count b
 
-kept_once : (most : ℕ) (given : Given) (a b : KeptFile) → Retains most given a
-    → Retains most given b → IsKeptAlike a b
-kept_once most None Unread Unread h k = record { framed_are = refl; long_is = refl }
-kept_once most None Unread (Whole w) h k = absurd k
-kept_once most None Unread (Longer w count is_text) h k = absurd k
-kept_once most None (Whole v) b h k = absurd h
-kept_once most None (Longer v count is_text) b h k = absurd h
-kept_once most (Some bytes) Unread b h k = absurd h
-kept_once most (Some bytes) (Whole v) Unread h k = absurd k
-kept_once most (Some bytes) (Whole v) (Whole w) h k = record {
+kept_once : (most : ℕ) (bytes : List ℕ) (a b : KeptBytes) → IsKeptOf most bytes a
+    → IsKeptOf most bytes b → IsKeptAlike (Some a) (Some b)
+kept_once most bytes (Whole v) (Whole w) h k = record {
   framed_are = ap (λ (l : List ℕ). Some (framed l)) (h.0 ∙ sym k.0);
   long_is = refl;
 }
-kept_once most (Some bytes) (Whole v) (Longer w count is_text) h k =
-    absurd (omega (arith, h.1, k.1))
-kept_once most (Some bytes) (Longer v count is_text) Unread h k = absurd k
-kept_once most (Some bytes) (Longer v count is_text) (Whole w) h k =
-    absurd (omega (arith, h.1, k.1))
-kept_once most (Some bytes) (Longer v count is_text) (Longer w other also_text) h k = record {
+kept_once most bytes (Whole v) (Longer w count is_text) h k = absurd (omega (arith, h.1, k.1))
+kept_once most bytes (Longer v count is_text) (Whole w) h k = absurd (omega (arith, h.1, k.1))
+kept_once most bytes (Longer v count is_text) (Longer w other also_text) h k = record {
   framed_are = refl;
   long_is = h.2 ∙ sym k.2;
 }
@@ -56,11 +46,15 @@ framed_more a b apps others one rest =
     option_map (λ files. file ++ files) rest) (framed_file b.kept)) rest
 
 module _ (files : List ℕ → Option KnownFile) where
-  kept_alike : (from : ProgramSource) (a b : KeptFile) → IsKeptFrom (Some files) from a
+  kept_alike : (from : ProgramSource) (a b : Option KeptBytes) → IsKeptFrom (Some files) from a
       → IsKeptFrom (Some files) from b → IsKeptAlike a b
-  kept_alike from a b h k =
+  kept_alike from None None h k = record { framed_are = refl; long_is = refl }
+  kept_alike from None (Some b) h k = absurd (none-some k.0 (sym h ∙ k.1))
+  kept_alike from (Some a) None h k = absurd (none-some h.0 (sym k ∙ h.1))
+  kept_alike from (Some a) (Some b) h k =
       kept_once (most_of from) k.0 a b
-      (subst (λ (given : Given). Retains (most_of from) given a) (sym h.1 ∙ k.1) h.2) k.2
+      (subst (λ (bytes : List ℕ). IsKeptOf (most_of from) bytes a)
+      (same_Some h.0 k.0 (sym h.1 ∙ k.1)) h.2) k.2
 
   module _ (directory other : List CellArray) (numbers more : List ArrayNo) where
     pub files_once : (long : ℕ) (entries : List AppEntry) (apps others : List GatheredApp)

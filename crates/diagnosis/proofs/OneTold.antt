@@ -1,9 +1,11 @@
 -- For files with known bytes the warnings on apps are unique.
-use Rattle.std.proofs.Common.{◌≡◌, ℕ, ◌+◌, List, [], ◌∷◌, ◌++◌, Vec, Option, Some, None}
+use Rattle.std.proofs.Common.{◌≡◌, ℕ, ◌+◌, List, [], ◌∷◌, ◌++◌, Option, Some, None}
 use Rattle.std.proofs.Common.{Ok, refl, sym, ap, ◌∙◌, subst}
 use Rattle.std.proofs.lemmas.Option.{same_Some}
-use Rattle.std.specs.declared.alloc.Global.{Global}
-use Rattle.bounded_files.specs.Files.{KnownFile}
+use Rattle.bounded_files.specs.Files.{KnownFile, bytes_of}
+use Rattle.bounded_files.specs.Kept.{IsKeptOf}
+use Rattle.bounded_files.specs.declared.kept.KeptBytes.{KeptBytes}
+use Rattle.bounded_files.specs.declared.kept.KeptBytes.TheVariants.{Whole, Longer}
 use Rattle.acceptance.specs.Rule.{IsTextOf}
 use Rattle.bpf_semantics.specs.Program.{ShapedProgram}
 use Rattle.cells.specs.Arrays.{AppShape}
@@ -20,12 +22,10 @@ use Rattle.manifest.specs.declared.app.ProgramSource.TheVariants.{Program, Rule}
 use Rattle.ruleset.specs.Rules.{AppRule}
 use Rattle.load.specs.Gathered.{AreGathered, next_app, IsGathered, IsGatheredApp}
 use Rattle.load.specs.Judged.{AreJudged, next_program, IsJudged, app_of, apps_of}
-use Rattle.load.specs.Kept.{IsKeptFrom, Retains, most_of}
-use Rattle.load.specs.Source.{Given}
+use Rattle.load.specs.Kept.{IsKeptFrom, most_of, whole_file}
+use Rattle.load.specs.Source.{file_of}
 use Rattle.load.specs.declared.gathering.Gathered.{Gathered}
 use Rattle.load.specs.declared.gathering.GatheredApp.{GatheredApp}
-use Rattle.load.specs.declared.kept.KeptFile.{KeptFile}
-use Rattle.load.specs.declared.kept.KeptFile.TheVariants.{Whole}
 use Rattle.diagnosis.specs.Unused.{unused_from}
 use Rattle.diagnosis.specs.Warned.{AsksApp, AsksRule, WarnsOf, WarnsOfApp, WarnsOfApps}
 use Rattle.diagnosis.specs.Warned.{app_rule, app_warnings}
@@ -33,11 +33,6 @@ use Rattle.diagnosis.specs.Warned.WarnsOfApps.{no_app as none_told, next as next
 use Rattle.warnings.specs.Asked.{all_room, room_left, rule_warnings}
 use Rattle.warnings.specs.Asking.{RuleOfApp}
 use Rattle.warnings.specs.declared.warning.Warning.{Warning}
-
-kept_whole : (most : ℕ) (given : Given) (v : Vec ℕ Global) → Retains most given (Whole v)
-    → given ≡ Some v.items
-kept_whole most None v k = absurd k
-kept_whole most (Some bytes) v k = ap (λ b. Some b) (sym k.0)
 
 -- two apps that are alike but for what is kept
 pub record AreAlike (a b : GatheredApp) : Type 0 where
@@ -78,15 +73,23 @@ same_rule a b rule other h is =
 
 module _ (verdict : (s : AppShape) (text : Text) → RuleHasOneVerdict s text)
     (files : List ℕ → Option KnownFile) where
-  same_bytes : (from : ProgramSource) (a b : KeptFile) (v w : Vec ℕ Global)
-      → IsKeptFrom (Some files) from a → IsKeptFrom (Some files) from b → a ≡ Whole v
-      → b ≡ Whole w → v.items ≡ w.items
+  whole_given : (from : ProgramSource) (k : KeptBytes) (v bytes : List ℕ)
+      → bytes_of (files (file_of from)) ≡ Some bytes → IsKeptOf (most_of from) bytes k
+      → whole_file (Some k) ≡ Some v → bytes_of (files (file_of from)) ≡ Some v
+  whole_given from (Whole w) v bytes gives kept is = gives ∙ ap (λ b. Some b) (sym kept.0) ∙ is
+  whole_given from (Longer w count is_text) v bytes gives kept is = absurd cc
+
+  kept_whole : (from : ProgramSource) (kept : Option KeptBytes) (v : List ℕ)
+      → IsKeptFrom (Some files) from kept → whole_file kept ≡ Some v
+      → bytes_of (files (file_of from)) ≡ Some v
+  kept_whole from None v h is = absurd cc
+  kept_whole from (Some k) v h is = whole_given from k v h.0 h.1 h.2 is
+
+  same_bytes : (from : ProgramSource) (a b : Option KeptBytes) (v w : List ℕ)
+      → IsKeptFrom (Some files) from a → IsKeptFrom (Some files) from b
+      → whole_file a ≡ Some v → whole_file b ≡ Some w → v ≡ w
   same_bytes from a b v w h k is are =
-      let first = kept_whole (most_of from) h.0 v
-      (subst (λ (x : KeptFile). Retains (most_of from) h.0 x) is h.2) in
-      let second = kept_whole (most_of from) k.0 w
-      (subst (λ (x : KeptFile). Retains (most_of from) k.0 x) are k.2) in
-      same_Some v.items w.items (sym first ∙ sym h.1 ∙ k.1 ∙ second)
+      same_Some v w (sym (kept_whole from a v h is) ∙ kept_whole from b w k are)
 
   one_rule : (bytes : List ℕ) (s : AppShape) (rule other : List Statement)
       → IsTextOf bytes s rule → IsTextOf bytes s other → rule ≡ other
@@ -101,11 +104,11 @@ module _ (verdict : (s : AppShape) (text : Text) → RuleHasOneVerdict s text)
       → AsksRule number room b other also → (asked ≡ other) × (left ≡ also)
   asked_once number room from a b asked other left also same h k p q =
       let bytes = same_bytes from a.kept b.kept p.text q.text h k p.kept_is q.kept_is in
-      let there : IsTextOf q.text.items b.shape p.rule =
-      subst (λ (s : AppShape). IsTextOf q.text.items s p.rule) same.shape
+      let there : IsTextOf q.text b.shape p.rule =
+      subst (λ (s : AppShape). IsTextOf q.text s p.rule) same.shape
       (subst (λ (t : List ℕ). IsTextOf t a.shape p.rule) bytes p.spelled) in
       let rules = same_rule a b p.rule q.rule same
-      (one_rule q.text.items b.shape p.rule q.rule there q.spelled) in (
+      (one_rule q.text b.shape p.rule q.rule there q.spelled) in (
         p.asked_is ∙ ap (λ (r : RuleOfApp). rule_warnings number room r) rules ∙ sym q.asked_is,
         p.left_is ∙ ap (λ (r : RuleOfApp). room_left room r) rules ∙ sym q.left_is,
       )

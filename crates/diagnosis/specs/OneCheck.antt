@@ -6,7 +6,7 @@ use Rattle.load.specs.Gathered.{IsGathered}
 use Rattle.load.specs.Made.{IsMadeOf}
 use Rattle.load.specs.declared.fault.LoadFault.TheVariants.{Memory}
 use Rattle.load.specs.declared.gathering.Gathered.{Gathered}
-use Rattle.load.specs.declared.made.MadeRuleset.{MadeRuleset}
+use Rattle.ruleset.specs.declared.loaded.LoadedRuleset.{LoadedRuleset}
 use Rattle.diagnosis.specs.Check.{FailsCheck, PassesCheck}
 use Rattle.diagnosis.specs.declared.accepted.CheckedManifest.{CheckedManifest}
 use Rattle.diagnosis.specs.declared.told.Refused.{Refused}
@@ -30,7 +30,7 @@ pub record HasOneCheck (files : List ℕ → Option KnownFile) (bytes : List ℕ
   pub either : (told : CheckedManifest) (r : Refused) → PassesCheck (Some files) bytes told
       → FailsCheck (Some files) bytes r → r.fault ≡ Memory
   -- and each load of it has the reported digest, over any arrays
-  pub digest : (told : CheckedManifest) (old : List CellArray) (g : Gathered) (made : MadeRuleset)
+  pub digest : (told : CheckedManifest) (old : List CellArray) (g : Gathered) (made : LoadedRuleset)
       → PassesCheck (Some files) bytes told → IsGathered (Some files) old bytes g
       → IsMadeOf bytes g made → told.digest ≡ made.digest
 

@@ -1,6 +1,6 @@
 -- The excerpt of an app's file: the place of its fault.
 use Rattle.std.specs.Prelude.{◌≡◌, ◌⊎◌, ℕ, List, [], ◌++◌, codes, decimal, Bool, true, IsUtf8}
-use Rattle.std.specs.Prelude.{if◌then◌else◌, not, ◌&&◌}
+use Rattle.std.specs.Prelude.{if◌then◌else◌, not, ◌&&◌, Option, Some, None}
 use Rattle.bpf_insn.specs.Spelling.{Spells}
 use Rattle.bpf_insn.specs.declared.insn.Insn.{Insn}
 use Rattle.bpf_text.specs.Listing.{line_of}
@@ -20,8 +20,8 @@ use Rattle.rule_diagnosis.specs.Places.{line_text}
 use Rattle.rule_diagnosis.specs.Told.{IsRuleTold, rule_too_long}
 use Rattle.load.specs.Source.{file_of}
 use Rattle.load.specs.declared.gathering.GatheredApp.{GatheredApp}
-use Rattle.load.specs.declared.kept.KeptFile.{KeptFile}
-use Rattle.load.specs.declared.kept.KeptFile.TheVariants.{Unread, Longer, Whole as WholeFile}
+use Rattle.bounded_files.specs.declared.kept.KeptBytes.{KeptBytes}
+use Rattle.bounded_files.specs.declared.kept.KeptBytes.TheVariants.{Longer, Whole as WholeFile}
 
 -- a line and its number, from 1, as printed
 abbrev pub numbered_line : ℕ → List ℕ → List ℕ
@@ -73,10 +73,11 @@ IsLongShown (InRule number kind) beginning is_text text =
 IsLongShown place beginning is_text text = ⊥
 
 -- from what is kept of a file
-abbrev pub IsKeptShown : AppShape → Place → KeptFile → List ℕ → Type 0
-IsKeptShown s place Unread text = ⊥
-IsKeptShown s place (WholeFile v) text = IsShown s place v.items text
-IsKeptShown s place (Longer v count is_text) text = IsLongShown place v.items is_text text
+abbrev pub IsKeptShown : AppShape → Place → Option KeptBytes → List ℕ → Type 0
+IsKeptShown s place None text = ⊥
+IsKeptShown s place (Some (WholeFile v)) text = IsShown s place v.items text
+IsKeptShown s place (Some (Longer v count is_text)) text =
+    IsLongShown place v.items is_text text
 
 -- the file of an app is in the manifest's folder, by its name and with no symbolic link in its path
 abbrev pub lies_inside : GatheredApp → Bool

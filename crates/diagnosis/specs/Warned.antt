@@ -1,7 +1,6 @@
 -- The warnings on an accepted manifest: on its arrays, then on each app in order: on its appid, its
 -- releases and its rule.
-use Rattle.std.specs.Prelude.{◌≡◌, ℕ, ◌+◌, List, [], ◌∷◌, ◌++◌, Vec}
-use Rattle.std.specs.declared.alloc.Global.{Global}
+use Rattle.std.specs.Prelude.{◌≡◌, ℕ, ◌+◌, List, [], ◌∷◌, ◌++◌, Some}
 use Rattle.acceptance.specs.Rule.{IsTextOf}
 use Rattle.bpf_semantics.specs.Program.{ShapedProgram}
 use Rattle.rule_lang.specs.declared.rule.Statement.{Statement}
@@ -9,9 +8,9 @@ use Rattle.manifest.specs.App.{AppEntry}
 use Rattle.manifest.specs.declared.app.ProgramSource.{ProgramSource}
 use Rattle.manifest.specs.declared.app.ProgramSource.TheVariants.{Program, Rule}
 use Rattle.load.specs.Judged.{apps_of}
+use Rattle.load.specs.Kept.{whole_file}
 use Rattle.load.specs.declared.gathering.Gathered.{Gathered}
 use Rattle.load.specs.declared.gathering.GatheredApp.{GatheredApp}
-use Rattle.load.specs.declared.kept.KeptFile.TheVariants.{Whole}
 use Rattle.diagnosis.specs.Unused.{unused_from}
 use Rattle.warnings.specs.Asked.{all_room, room_left, rule_warnings}
 use Rattle.warnings.specs.Asking.{RuleOfApp}
@@ -37,10 +36,10 @@ app_rule app rule = record {
 -- the warnings on the rule, and the budget left for the rules of other apps
 pub record AsksRule (number room : ℕ) (app : GatheredApp) (asked : List Warning) (left : ℕ) : Type 0
   where
-    pub text : Vec ℕ Global
-    pub kept_is : app.kept ≡ Whole text
+    pub text : List ℕ
+    pub kept_is : whole_file app.kept ≡ Some text
     pub rule : List Statement
-    pub spelled : IsTextOf text.items app.shape rule
+    pub spelled : IsTextOf text app.shape rule
     pub asked_is : asked ≡ rule_warnings number room (app_rule app rule)
     pub left_is : left ≡ room_left room (app_rule app rule)
 

@@ -4,7 +4,7 @@ ghost use Rattle.std.specs.Prelude.{◌≡◌, ◌++◌, IfOk, OnOk};
 ghost use Rattle.diagnosis.specs.Asked.{AddsApp, AddsRule};
 ghost use Rattle.diagnosis.specs.Warned.{app_warnings};
 
-use load::{GatheredApp, KeptFile};
+use load::{GatheredApp, whole_file};
 use manifest::{AppEntry, ProgramSource};
 use rule_lang::parse;
 use std::alloc::{AllocError, Global};
@@ -55,10 +55,10 @@ fn tell_text(
 ) -> Result<u64, AllocError>
     ensures { IfOk result (AddsRule number room app.now warnings.old.items warnings.new.items) }
 {
-    let KeptFile::Whole(bytes) = &app.kept else {
+    let Some(bytes) = whole_file(&app.kept) else {
         return Err(AllocError);
     };
-    let Ok(spelled) = str::from_utf8(bytes.as_slice()) else {
+    let Ok(spelled) = str::from_utf8(bytes) else {
         return Err(AllocError);
     };
     let Ok(rule) = parse(alloc, spelled, &app.shape) else {

@@ -6,12 +6,12 @@ ghost use Rattle.diagnosis.specs.Shown.{IsRefusedInsnShown, IsShown, IsTextShown
 ghost use Rattle.diagnosis.specs.Shown as specs;
 ghost use Rattle.rule_diagnosis.specs.Told as told;
 
+use bounded_files::KeptBytes;
 use bpf_insn::decode_at;
 use bpf_text::line_of;
 use cells::Shape;
 use explain::refused_place;
 use flow_check::Flow;
-use load::KeptFile;
 use printing::PrintedLines;
 use rule_diagnosis::{line_text, rule_too_long, tell_rule_fault};
 use rule_lang::RuleFaultKind;
@@ -33,17 +33,24 @@ pub(crate) enum Place {
 
 /// The lines that show a place in an app's file, from what is kept of it; None if there is no such
 /// place or an allocation fails.
-pub(crate) fn show(alloc: Global, place: Place, shape: &Shape, kept: &KeptFile) -> Option<String>
+pub(crate) fn show(
+    alloc: Global,
+    place: Place,
+    shape: &Shape,
+    kept: &Option<KeptBytes>,
+) -> Option<String>
     ensures { IfSome result (λ text. IsKeptShown shape.now place kept.now (string_bytes text)) }
 {
     match kept {
-        KeptFile::Unread => None,
-        KeptFile::Whole(bytes) => show_whole(alloc, place, shape, bytes.as_slice()),
-        KeptFile::Longer {
-            beginning,
-            is_text,
-            ..
-        } => { show_longer(alloc, place, beginning.as_slice(), *is_text) }
+        None => None,
+        Some(KeptBytes::Whole(bytes)) => show_whole(alloc, place, shape, bytes.as_slice()),
+        Some(
+            KeptBytes::Longer {
+                beginning,
+                is_text,
+                ..
+            },
+        ) => show_longer(alloc, place, beginning.as_slice(), *is_text),
     }
 }
 

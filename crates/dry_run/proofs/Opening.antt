@@ -1,5 +1,5 @@
 -- Files give no ruleset or no body; and a manifest's files give the rules of its apps.
-use Rattle.std.proofs.Common.{◌≡◌, ◌∙◌, ℕ, List, [], Some, ap, sym, subst}
+use Rattle.std.proofs.Common.{◌≡◌, ◌∙◌, ℕ, List, [], Option, Some, None, ap, sym, subst}
 use Rattle.bounded_files.specs.Files.{KnownFiles, Gives, regular_files}
 use Rattle.bounded_files.specs.declared.fault.ResourceFault.TheVariants.{File}
 use Rattle.bounded_files.specs.declared.fault.ResourceFault.TheVariants as resource
@@ -15,9 +15,9 @@ use Rattle.load.specs.Loaded.{IsLoadedFrom}
 use Rattle.load.specs.Made.{GatheredIsMade, IsMadeFrom, IsMadeOf}
 use Rattle.load.specs.declared.gathering.Gathered.{Gathered}
 use Rattle.load.specs.declared.gathering.GatheredApp.{GatheredApp}
-use Rattle.load.specs.declared.kept.KeptFile.{KeptFile}
-use Rattle.load.specs.declared.kept.KeptFile.TheVariants.{Unread, Whole, Longer}
-use Rattle.load.specs.declared.made.MadeRuleset.{MadeRuleset}
+use Rattle.bounded_files.specs.declared.kept.KeptBytes.{KeptBytes}
+use Rattle.bounded_files.specs.declared.kept.KeptBytes.TheVariants.{Whole, Longer}
+use Rattle.ruleset.specs.declared.loaded.LoadedRuleset.{LoadedRuleset}
 use Rattle.manifest.specs.declared.app.ProgramSource.{ProgramSource}
 use Rattle.manifest.specs.declared.app.ProgramSource.TheVariants as source
 use Rattle.ruleset.specs.Rules.{AppRule, Rules}
@@ -50,7 +50,7 @@ no_body known manifest request rules arrays why is wanting =
 
 -- ---- with the rules of its apps
 
-load_of : (known : KnownFiles) (path : List ℕ) (made : MadeRuleset) → GatheredIsMade
+load_of : (known : KnownFiles) (path : List ℕ) (made : LoadedRuleset) → GatheredIsMade
     → IsMadeFrom known path [] made → IsLoadedFrom known path [] made.rules made.directory
 load_of known path made makes from = record {
   bytes = from.bytes;
@@ -59,7 +59,7 @@ load_of known path made makes from = record {
       from.made_of;
 }
 
-pub no_body_why : (known : KnownFiles) (manifest request : List ℕ) (made : MadeRuleset)
+pub no_body_why : (known : KnownFiles) (manifest request : List ℕ) (made : LoadedRuleset)
     (rules : List KnownRule) (why : DryRunFault) → GatheredIsMade
     → IsLoadedWhy known manifest made rules → IsBodyFault known request why
     → IsOpenFault known manifest request why
@@ -76,13 +76,14 @@ opens_the_same makes known manifest request o is = record {
 
 -- ---- the rule of an app
 
-rule_from : (from : ProgramSource) (kept : KeptFile) (shape : AppShape) (program : ShapedProgram)
-    (rule : KnownRule) → IsProgramKept from kept program → program.shape ≡ shape
+rule_from : (from : ProgramSource) (kept : Option KeptBytes) (shape : AppShape)
+    (program : ShapedProgram) (rule : KnownRule) → IsProgramKept from kept program
+    → program.shape ≡ shape
     → IsReadOf from kept shape rule → IsRuleKept from kept program rule
 rule_from (source.Program file) kept shape program rule is same read = read
-rule_from (source.Rule file) Unread shape program rule is same read = absurd is
-rule_from (source.Rule file) (Longer v count is_text) shape program rule is same read = absurd is
-rule_from (source.Rule file) (Whole v) shape program rule is same read = (
+rule_from (source.Rule file) None shape program rule is same read = absurd is
+rule_from (source.Rule file) (Some (Longer v n is_text)) shape program rule is same read = absurd is
+rule_from (source.Rule file) (Some (Whole v)) shape program rule is same read = (
   is,
   read is.rule (subst (λ (s : AppShape). IsTextOf v.items s is.rule) same is.text),
 )
@@ -96,12 +97,12 @@ rules_in (next_program {app} {program} judged others) (next_read {rule} read mor
 
 -- ---- what they mean
 
-has_meaning : (from : ProgramSource) (kept : KeptFile) (program : ShapedProgram)
+has_meaning : (from : ProgramSource) (kept : Option KeptBytes) (program : ShapedProgram)
     (rule : KnownRule) → IsRuleKept from kept program rule → HasMeaning program rule
 has_meaning (source.Program file) kept program rule is = subst (HasMeaning program) (sym is) tt
-has_meaning (source.Rule file) Unread program rule is = absurd is
-has_meaning (source.Rule file) (Longer v count is_text) program rule is = absurd is
-has_meaning (source.Rule file) (Whole v) program rule is =
+has_meaning (source.Rule file) None program rule is = absurd is
+has_meaning (source.Rule file) (Some (Longer v count is_text)) program rule is = absurd is
+has_meaning (source.Rule file) (Some (Whole v)) program rule is =
     subst (HasMeaning program) (sym is.1) is.0.means
 
 pub have_meanings : {apps : List GatheredApp} {programs : List ShapedProgram}
@@ -113,7 +114,7 @@ have_meanings (next_rule {app} {program} {rule} is more) =
 
 -- ---- a load
 
-pub loaded : (known : KnownFiles) (path bytes : List ℕ) (g : Gathered) (made : MadeRuleset)
+pub loaded : (known : KnownFiles) (path bytes : List ℕ) (g : Gathered) (made : LoadedRuleset)
     (rules : List KnownRule) → Gives (regular_files known) path (Some bytes)
     → IsGathered (known_beside known path) [] bytes g → IsMadeOf bytes g made
     → AreReadFrom g.apps.items rules → IsLoadedWhy known path made rules
@@ -129,7 +130,7 @@ loaded known path bytes g made rules given is of read = record {
 }
 
 -- the parts of what is opened
-pub opened_why : (known : KnownFiles) (manifest request : List ℕ) (made : MadeRuleset)
+pub opened_why : (known : KnownFiles) (manifest request : List ℕ) (made : LoadedRuleset)
     (o : OpenedWhy) → o.rules ≡ made.rules → o.directory ≡ made.directory
     → o.digest ≡ made.digest → IsLoadedWhy known manifest made o.known_rules.items
     → IsBodyIn known request o.body.items → AreOpenedWhy known manifest request o
@@ -154,7 +155,7 @@ opened_why known manifest request made o rules arrays digest is read = record {
   read = read;
 }
 
-pub loaded_meanings : (bytes : List ℕ) (g : Gathered) (made : MadeRuleset)
+pub loaded_meanings : (bytes : List ℕ) (g : Gathered) (made : LoadedRuleset)
     (rules : List KnownRule) → IsMadeOf bytes g made → AreReadFrom g.apps.items rules
     → HaveMeanings made.rules.apps rules
 loaded_meanings bytes g made rules of read =

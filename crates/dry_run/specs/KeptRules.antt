@@ -1,10 +1,10 @@
 -- The rule of an app, read from what is kept of its file.
-use Rattle.std.specs.Prelude.{◌≡◌, ℕ, List, [], ◌∷◌, Some, None}
+use Rattle.std.specs.Prelude.{◌≡◌, ℕ, List, [], ◌∷◌, Option, Some, None}
 use Rattle.acceptance.specs.Rule.{IsTextOf}
 use Rattle.cells.specs.Arrays.{AppShape}
 use Rattle.load.specs.declared.gathering.GatheredApp.{GatheredApp}
-use Rattle.load.specs.declared.kept.KeptFile.{KeptFile}
-use Rattle.load.specs.declared.kept.KeptFile.TheVariants.{Whole}
+use Rattle.bounded_files.specs.declared.kept.KeptBytes.{KeptBytes}
+use Rattle.bounded_files.specs.declared.kept.KeptBytes.TheVariants.{Whole}
 use Rattle.manifest.specs.declared.app.ProgramSource.{ProgramSource}
 use Rattle.manifest.specs.declared.app.ProgramSource.TheVariants as source
 use Rattle.rule_lang.specs.declared.rule.Statement.{Statement}
@@ -17,12 +17,12 @@ IsRuleOfText bytes shape rule =
 
 -- the rule that a whole kept file spells; nothing is claimed for any other file, because its app
 -- has no program
-abbrev pub IsReadOfKept : KeptFile → AppShape → KnownRule → Type 0
-IsReadOfKept (Whole v) shape rule = IsRuleOfText v.items shape rule
+abbrev pub IsReadOfKept : Option KeptBytes → AppShape → KnownRule → Type 0
+IsReadOfKept (Some (Whole v)) shape rule = IsRuleOfText v.items shape rule
 IsReadOfKept kept shape rule = Unit {0}
 
 -- and none for a program's file
-abbrev pub IsReadOf : ProgramSource → KeptFile → AppShape → KnownRule → Type 0
+abbrev pub IsReadOf : ProgramSource → Option KeptBytes → AppShape → KnownRule → Type 0
 IsReadOf (source.Program file) kept shape rule = rule ≡ None
 IsReadOf (source.Rule file) kept shape rule = IsReadOfKept kept shape rule
 

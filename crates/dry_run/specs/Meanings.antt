@@ -7,9 +7,9 @@ use Rattle.bounded_files.specs.Files.{KnownFiles}
 use Rattle.bpf_semantics.specs.Program.{ShapedProgram}
 use Rattle.load.specs.Made.{IsMadeFrom}
 use Rattle.load.specs.declared.gathering.GatheredApp.{GatheredApp}
-use Rattle.load.specs.declared.kept.KeptFile.{KeptFile}
-use Rattle.load.specs.declared.kept.KeptFile.TheVariants.{Whole}
-use Rattle.load.specs.declared.made.MadeRuleset.{MadeRuleset}
+use Rattle.bounded_files.specs.declared.kept.KeptBytes.{KeptBytes}
+use Rattle.bounded_files.specs.declared.kept.KeptBytes.TheVariants.{Whole}
+use Rattle.ruleset.specs.declared.loaded.LoadedRuleset.{LoadedRuleset}
 use Rattle.manifest.specs.declared.app.ProgramSource.{ProgramSource}
 use Rattle.manifest.specs.declared.app.ProgramSource.TheVariants as source
 use Rattle.rule_compile.specs.Means.{Means}
@@ -42,9 +42,9 @@ pub data HaveMeanings : List AppRule → List KnownRule → Type 0 where
 
 -- the rule that the kept bytes of an app's file spell and from which its program is compiled; none
 -- if the file is a program
-abbrev pub IsRuleKept : ProgramSource → KeptFile → ShapedProgram → KnownRule → Type 0
+abbrev pub IsRuleKept : ProgramSource → Option KeptBytes → ShapedProgram → KnownRule → Type 0
 IsRuleKept (source.Program file) kept program rule = rule ≡ None
-IsRuleKept (source.Rule file) (Whole v) program rule =
+IsRuleKept (source.Rule file) (Some (Whole v)) program rule =
     (is : IsProgramOfRule v.items program) × (rule ≡ Some is.rule)
 IsRuleKept (source.Rule file) kept program rule = ⊥
 
@@ -58,13 +58,13 @@ pub data AreRulesKept : List GatheredApp → List ShapedProgram → List KnownRu
 
 -- what a manifest gives: a ruleset with its arrays and the digest of everything, and the rule of
 -- each app. The rules are those of exactly the bytes that this digest covers
-pub record IsLoadedWhy (known : KnownFiles) (manifest : List ℕ) (made : MadeRuleset)
+pub record IsLoadedWhy (known : KnownFiles) (manifest : List ℕ) (made : LoadedRuleset)
     (known_rules : List KnownRule) : Type 0 where
   pub made_from : IsMadeFrom known manifest [] made
   pub rules_are : AreRulesKept made_from.gathered.apps.items made_from.made_of.programs known_rules
 
 -- the ruleset, the arrays and the digest of what was opened
-abbrev pub made_in : OpenedWhy → MadeRuleset
+abbrev pub made_in : OpenedWhy → LoadedRuleset
 made_in o = record { rules = o.rules; directory = o.directory; digest = o.digest }
 
 -- what the files give: that, and a body

@@ -4,8 +4,9 @@
 ghost use Rattle.std.specs.Prelude.{IfOk};
 ghost use Rattle.dry_run.specs.KeptRules as specs;
 
+use bounded_files::KeptBytes;
 use cells::Shape;
-use load::{GatheredApp, KeptFile};
+use load::GatheredApp;
 use manifest::ProgramSource;
 use rule_lang::{Rule, RuleFault, one_verdict, parse};
 use std::alloc::{AllocError, Global};
@@ -38,7 +39,7 @@ fn rule_of_app(alloc: Global, app: &GatheredApp) -> Result<Option<Rule>, AllocEr
 fn rule_from(
     alloc: Global,
     source: &ProgramSource,
-    kept: &KeptFile,
+    kept: &Option<KeptBytes>,
     shape: &Shape,
 ) -> Result<Option<Rule>, AllocError>
     ensures { IfOk result (specs.IsReadOf source.now kept.now shape.now) }
@@ -50,16 +51,20 @@ fn rule_from(
 }
 
 #[tactic(auto, using(crate::proofs::Spelled::same_text))]
-fn rule_kept(alloc: Global, kept: &KeptFile, shape: &Shape) -> Result<Option<Rule>, AllocError>
+fn rule_kept(
+    alloc: Global,
+    kept: &Option<KeptBytes>,
+    shape: &Shape,
+) -> Result<Option<Rule>, AllocError>
     ensures { IfOk result (specs.IsReadOfKept kept.now shape.now) }
 {
     match kept {
-        KeptFile::Unread => Ok(None),
-        KeptFile::Whole(bytes) => {
+        None => Ok(None),
+        Some(KeptBytes::Whole(bytes)) => {
             let rule = rule_in(alloc, bytes, shape)?;
             Ok(rule)
         }
-        KeptFile::Longer { .. } => Ok(None),
+        Some(KeptBytes::Longer { .. }) => Ok(None),
     }
 }
 

@@ -10,7 +10,7 @@
 // Why an app gets what it gets is explained app by app, on counters with the same values. If an app
 // has a rule, the rule is evaluated instead of running the program. The program was compiled from
 // exactly this rule, so it has its meaning, and on counters with given values a run has one course.
-// If a program isn't a rule's, it is run step by step, like `run --trace`, but on these counters.
+// If a program isn't a rule's, it is run step by step, like `trace`, but on these counters.
 // The manifest and its files are gathered once (`why_files.rt`), and the text of a rule, which has
 // one verdict, is parsed again for its meaning (`kept_rules.rt`).
 

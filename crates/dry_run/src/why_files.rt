@@ -11,11 +11,11 @@ use crate::kept_rules::read_rules;
 use bounded_files::{Disk, ResourceFault};
 use cells::Directory;
 use load::{
-    FolderFiles, MadeRuleset, PathFault, Ungathered, gather, gathered_is_loaded, gathered_is_made,
-    make_ruleset, manifest_bytes,
+    FolderFiles, PathFault, Ungathered, gather, gathered_is_loaded, gathered_is_made, make_ruleset,
+    manifest_bytes,
 };
 use rule_lang::Rule;
-use ruleset::Ruleset;
+use ruleset::{LoadedRuleset, Ruleset};
 use std::alloc::Global;
 
 /// A ruleset with the arrays of its manifest, the digest of the manifest and of its files, and a
@@ -32,7 +32,7 @@ pub struct OpenedWhy {
 /// A ruleset that was loaded, and the rule of each app.
 #[derive(Drop)]
 struct LoadedWhy {
-    made: MadeRuleset,
+    made: LoadedRuleset,
     known_rules: Vec<Option<Rule>>,
 }
 
@@ -56,7 +56,7 @@ pub fn open_why<D: Disk>(
         Ok(loaded) => loaded,
         Err(fault) => return Err(DryRunFault::Manifest(fault)),
     };
-    let MadeRuleset {
+    let LoadedRuleset {
         rules,
         directory,
         digest,

@@ -1,29 +1,32 @@
 -- How many files couldn't be read, counted app by app.
 use Rattle.std.proofs.Common.{◌≡◌, ◌≢◌, ◌<◌, ℕ, ◌+◌, List, [], ◌∷◌, ◌++◌, cond, refl, ap, ◌∙◌}
-use Rattle.std.proofs.Common.{arith}
+use Rattle.std.proofs.Common.{Option, Some, None, arith}
 use Rattle.std.proofs.lemmas.List.Sums.{sum_by-append}
+use Rattle.bounded_files.specs.Files.{KnownFiles}
 use Rattle.bpf_semantics.specs.Program.{ShapedProgram}
 use Rattle.cells.specs.Directory.{Declaration}
+use Rattle.cells.specs.declared.array.CellArray.{CellArray}
 use Rattle.manifest.specs.declared.app.ProgramSource.{ProgramSource}
 use Rattle.load.specs.declared.fault.AppFault.TheVariants as app
 use Rattle.load.specs.declared.fault.LoadFault.{LoadFault}
 use Rattle.load.specs.declared.fault.LoadFault.TheVariants as load
-use Rattle.load.specs.Gathered.{AreArraysBeside, failures_in}
+use Rattle.load.specs.Gathered.{AreArraysBeside, IsGathered, failures_in}
 use Rattle.load.specs.Judged.{AreJudged, next_program, IsFirstRefused, here, there, RefusesFirst}
+use Rattle.load.specs.Judged.{CountsFault}
 use Rattle.load.specs.Kept.{CountsFile, IsProgramKept, is_unread}
-use Rattle.load.specs.Load.{CountsFault}
+use Rattle.load.specs.declared.gathering.Gathered.{Gathered}
 use Rattle.load.specs.declared.gathering.GatheredApp.{GatheredApp}
-use Rattle.load.specs.declared.kept.KeptFile.{KeptFile}
-use Rattle.load.specs.declared.kept.KeptFile.TheVariants.{Unread, Whole, Longer}
+use Rattle.bounded_files.specs.declared.kept.KeptBytes.{KeptBytes}
+use Rattle.bounded_files.specs.declared.kept.KeptBytes.TheVariants.{Whole, Longer}
 use Rattle.load.proofs.LongBytes.{file_is_unread}
 
-abbrev failures_of : KeptFile → ℕ
+abbrev failures_of : Option KeptBytes → ℕ
 failures_of kept = cond (is_unread kept) 1 0
 
-counted : (old new : ℕ) (kept : KeptFile) → CountsFile old new kept → new ≡ old + failures_of kept
-counted old new Unread count = count
-counted old new (Whole v) count = omega (arith, count)
-counted old new (Longer v n is_text) count = omega (arith, count)
+counted : (old new : ℕ) (kept : Option KeptBytes) → CountsFile old new kept
+    → new ≡ old + failures_of kept
+counted old new None count = count
+counted old new (Some kept) count = omega (arith, count)
 
 pub none_failed : (start : ℕ) (apps : List GatheredApp) → apps ≡ []
     → start ≡ start + failures_in apps
@@ -54,7 +57,7 @@ pub first_failed : (apps : List GatheredApp) {number : ℕ} → IsFirstRefused a
 first_failed [] refused = elim refused [ ]
 first_failed (a ∷ apps) (here refused) =
     let one : failures_of a.kept ≡ 1 =
-    ap (λ (kept : KeptFile). failures_of kept)
+    ap (λ (kept : Option KeptBytes). failures_of kept)
     (file_is_unread a.entry.source a.kept a.shape refused) in
     omega (arith, one, parted a apps)
 first_failed (a ∷ apps) (there p judged behind) =
@@ -62,11 +65,11 @@ first_failed (a ∷ apps) (there p judged behind) =
 
 -- ---- and if all have programs, every file was read
 
-none_unread : (from : ProgramSource) (kept : KeptFile) (p : ShapedProgram)
+none_unread : (from : ProgramSource) (kept : Option KeptBytes) (p : ShapedProgram)
     → IsProgramKept from kept p → failures_of kept ≡ 0
-none_unread from Unread p h = absurd h
-none_unread from (Whole v) p h = refl
-none_unread from (Longer v n is_text) p h = refl
+none_unread from None p h = absurd h
+none_unread from (Some (Whole v)) p h = refl
+none_unread from (Some (Longer v n is_text)) p h = refl
 
 pub all_read : (apps : List GatheredApp) (programs : List ShapedProgram) → AreJudged apps programs
     → failures_in apps ≡ 0
@@ -78,22 +81,29 @@ all_read (a ∷ apps) (p ∷ programs) (next_program j rest) =
 
 -- ---- how the count changes with the fault
 
-pub judged_counts : (old new : ℕ) (apps : List GatheredApp) (fault : LoadFault)
-    → new ≡ old + failures_in apps → RefusesFirst apps fault → CountsFault old new fault
-judged_counts old new apps (load.File number) count refused =
-    let some = first_failed apps refused in omega (arith, count, some)
-judged_counts old new apps (load.Program number fault) count refused = omega (arith, count)
-judged_counts old new apps (load.Rule number fault) count refused = omega (arith, count)
-judged_counts old new apps load.Memory count refused = tt
-judged_counts old new apps (load.Manifest fault) count refused = absurd refused
-judged_counts old new apps (load.Cells number fault) count refused = absurd refused
+module _ (known : KnownFiles) (directory : List CellArray) (bytes : List ℕ) (old new : ℕ) where
+  pub judged_counts : (g : Gathered) (fault : LoadFault) → IsGathered known directory bytes g
+      → new ≡ old + failures_in g.apps.items → RefusesFirst g.apps.items fault
+      → CountsFault known directory bytes old new fault
+  judged_counts g (load.File number) is count refused =
+      let some = first_failed g.apps.items refused in (
+        record { gathered = g; is_gathered = is; refused = refused; count = count },
+        omega (arith, count, some),
+      )
+  judged_counts g (load.Program number fault) is count refused =
+      record { gathered = g; is_gathered = is; refused = refused; count = count }
+  judged_counts g (load.Rule number fault) is count refused =
+      record { gathered = g; is_gathered = is; refused = refused; count = count }
+  judged_counts g load.Memory is count refused = tt
+  judged_counts g (load.Manifest fault) is count refused = absurd refused
+  judged_counts g (load.Cells number fault) is count refused = absurd refused
 
-pub early_counts : (old new : ℕ) (bytes : List ℕ) (fault : LoadFault) (arrays : List Declaration)
-    → AreArraysBeside bytes fault arrays → (fault ≢ load.Memory → new ≡ old)
-    → CountsFault old new fault
-early_counts old new bytes (load.Manifest fault) arrays are count = count (λ e. absurd cc)
-early_counts old new bytes (load.Cells number fault) arrays are count = count (λ e. absurd cc)
-early_counts old new bytes load.Memory arrays are count = tt
-early_counts old new bytes (load.File number) arrays are count = absurd are
-early_counts old new bytes (load.Program number fault) arrays are count = absurd are
-early_counts old new bytes (load.Rule number fault) arrays are count = absurd are
+  pub early_counts : (fault : LoadFault) (arrays : List Declaration)
+      → AreArraysBeside bytes fault arrays → (fault ≢ load.Memory → new ≡ old)
+      → CountsFault known directory bytes old new fault
+  early_counts (load.Manifest fault) arrays are count = count (λ e. absurd cc)
+  early_counts (load.Cells number fault) arrays are count = count (λ e. absurd cc)
+  early_counts load.Memory arrays are count = tt
+  early_counts (load.File number) arrays are count = absurd are
+  early_counts (load.Program number fault) arrays are count = absurd are
+  early_counts (load.Rule number fault) arrays are count = absurd are

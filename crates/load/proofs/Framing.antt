@@ -1,5 +1,5 @@
 -- A digest piece by piece.
-use Rattle.std.proofs.Common.{◌≡◌, ◌≢◌, ℕ, List, [], ◌∷◌, ◌++◌, Option, Some, None}
+use Rattle.std.proofs.Common.{◌≡◌, ℕ, List, [], ◌∷◌, ◌++◌, Option, Some, None}
 use Rattle.std.proofs.Common.{refl, sym, ap, ◌∙◌, append_assoc, append-nil}
 use Rattle.std.specs.Prelude.{option_map, option_and_then}
 use Rattle.sha2.specs.Hashers.{Holds256}
@@ -7,8 +7,6 @@ use Rattle.sha2.specs.Sha256.{sha256}
 use Rattle.sha2.specs.declared.Sha256.{Sha256}
 use Rattle.load.specs.Digest.{framed, framed_file, framed_files}
 use Rattle.load.specs.declared.gathering.GatheredApp.{GatheredApp}
-use Rattle.load.specs.declared.kept.KeptFile.{KeptFile}
-use Rattle.load.specs.declared.kept.KeptFile.TheVariants.{Unread, Whole, Longer}
 
 -- the digest of a message followed by these files
 abbrev pub digest_behind : List ℕ → List GatheredApp → Option (List ℕ)
@@ -49,12 +47,6 @@ one_file {h} {new} {all} left apps app piece left_is is adds goes = record {
       sym (chosen goes.message apps app (framed piece) is)
       ∙ sym (ap (digest_behind goes.message) left_is) ∙ goes.is;
 }
-
--- a file whose bytes aren't all kept
-pub not_kept : (kept : KeptFile) → ((v : _) → kept ≢ Whole v) → framed_file kept ≡ None
-not_kept Unread isnt = refl
-not_kept (Whole v) isnt = absurd (isnt v refl)
-not_kept (Longer beginning count is_text) isnt = refl
 
 pub no_file : {h : Sha256} {all : Option (List ℕ)} (left apps : List GatheredApp)
     (app : GatheredApp) → left ≡ app ∷ apps → framed_file app.kept ≡ None → GoesOn h left all

@@ -1,6 +1,7 @@
 -- From what is kept of a file to the verdict on its bytes, and to the counts.
 use Rattle.std.proofs.Common.{◌≡◌, ℕ, ◌<◌, List, length, Vec, Bool, true, false}
-use Rattle.std.proofs.Common.{Some, None, Result, Ok, Err, IfOk, IfErr, refl, sym, ◌∙◌, subst}
+use Rattle.std.proofs.Common.{Option, Some, None, Result, Ok, Err, IfOk, IfErr}
+use Rattle.std.proofs.Common.{refl, sym, ◌∙◌, subst}
 use Rattle.std.specs.Prelude.{◌↔◌, IsTrue, IsUtf8}
 use Rattle.std.specs.declared.alloc.Global.{Global}
 use Rattle.acceptance.specs.Rule.{no_rule, no_text}
@@ -8,7 +9,6 @@ use Rattle.acceptance.specs.declared.fault.ProgramFault.TheVariants.{Flow}
 use Rattle.acceptance.specs.declared.fault.RuleTextFault.TheVariants.{Text}
 use Rattle.bounded_files.specs.Files.{KnownFiles, Gives}
 use Rattle.bounded_files.specs.Kept.{IsKeptOf, KeepsFile}
-use Rattle.bounded_files.specs.declared.kept.KeptBytes.{KeptBytes}
 use Rattle.bpf_semantics.specs.Program.{ShapedProgram}
 use Rattle.cells.specs.Arrays.{AppShape}
 use Rattle.flow_check.specs.declared.fault.FlowFault.TheVariants as flow
@@ -20,12 +20,11 @@ use Rattle.rule_lang.specs.declared.fault.RuleFault.TheVariants.{At}
 use Rattle.rule_lang.specs.declared.fault.RuleFaultKind.TheVariants as kind
 use Rattle.load.specs.declared.fault.AppFault.{AppFault}
 use Rattle.load.specs.declared.fault.AppFault.TheVariants as app
-use Rattle.load.specs.declared.kept.KeptFile.{KeptFile}
-use Rattle.load.specs.declared.kept.KeptFile.TheVariants.{Unread, Whole, Longer}
-use Rattle.load.specs.Kept.{CountsFile}
-use Rattle.load.specs.Kept.{IsKeptFrom, IsLonger, IsProgramKept, Retains, RefusesKept}
+use Rattle.bounded_files.specs.declared.kept.KeptBytes.{KeptBytes}
+use Rattle.bounded_files.specs.declared.kept.KeptBytes.TheVariants.{Whole, Longer}
+use Rattle.load.specs.Kept.{IsKeptFrom, IsLonger, IsProgramKept, RefusesKept}
 use Rattle.load.specs.Kept.{long_count, most_of}
-use Rattle.load.specs.Source.{Given, IsProgramFrom, IsProgramIn, RefusesBytes, RefusesFile}
+use Rattle.load.specs.Source.{IsProgramFrom, IsProgramIn, RefusesBytes, RefusesFile}
 use Rattle.load.specs.Source.{RefusesSource, RefusesText, file_of}
 use Rattle.load.proofs.Long.{long_verdict}
 
@@ -36,19 +35,19 @@ no_file (source.Rule file) bytes shape h = h
 
 -- ---- a file that couldn't be read
 
-pub unread_fault : (from : ProgramSource) (kept : KeptFile) (shape : AppShape) → kept ≡ Unread
+pub unread_fault : (from : ProgramSource) (kept : Option KeptBytes) (shape : AppShape) → kept ≡ None
     → RefusesKept from kept shape app.File
 unread_fault from kept shape is =
-    subst (λ (x : KeptFile). RefusesKept from x shape app.File) (sym is) tt
+    subst (λ (x : Option KeptBytes). RefusesKept from x shape app.File) (sym is) tt
 
 -- ---- a file that is kept whole
 
-module _ (from : ProgramSource) (kept : KeptFile) (v : Vec ℕ Global) (bytes : List ℕ)
-    (is : kept ≡ Whole v) (same : bytes ≡ v.items) where
+module _ (from : ProgramSource) (kept : Option KeptBytes) (v : Vec ℕ Global) (bytes : List ℕ)
+    (is : kept ≡ Some (Whole v)) (same : bytes ≡ v.items) where
   pub whole_program : (r : Result ShapedProgram AppFault) → IfOk r (IsProgramFrom from bytes)
       → IfOk r (IsProgramKept from kept)
   whole_program (Ok p) h =
-      subst (λ (x : KeptFile). IsProgramKept from x p) (sym is)
+      subst (λ (x : Option KeptBytes). IsProgramKept from x p) (sym is)
       (subst (λ (b : List ℕ). IsProgramFrom from b p) same h)
   whole_program (Err fault) h = tt
 
@@ -56,7 +55,7 @@ module _ (from : ProgramSource) (kept : KeptFile) (v : Vec ℕ Global) (bytes : 
       → IfErr r (RefusesFile from bytes shape) → IfErr r (RefusesKept from kept shape)
   whole_fault shape (Ok p) h = tt
   whole_fault shape (Err fault) h =
-      subst (λ (x : KeptFile). RefusesKept from x shape fault) (sym is)
+      subst (λ (x : Option KeptBytes). RefusesKept from x shape fault) (sym is)
       (subst (λ (b : List ℕ). RefusesFile from b shape fault) same h)
 
 -- ---- a file that is too long
@@ -75,57 +74,41 @@ pub no_text_at_all : (bytes : List ℕ) (shape : AppShape) (is_text : Bool) → 
 no_text_at_all bytes shape is_text fails utf8 =
     (no_text (λ h. let both = sym fails ∙ utf8.1 h in absurd cc), refl)
 
-module _ (from : ProgramSource) (kept : KeptFile) (beginning : Vec ℕ Global) (count : ℕ)
-    (is_text : Bool) (fault : AppFault) (is : kept ≡ Longer beginning count is_text) where
+module _ (from : ProgramSource) (kept : Option KeptBytes) (beginning : Vec ℕ Global) (count : ℕ)
+    (is_text : Bool) (fault : AppFault) (is : kept ≡ Some (Longer beginning count is_text)) where
   pub longer_fault : (shape : AppShape)
       → ((bytes : List ℕ) (s : AppShape) → IsLonger from is_text bytes
       → RefusesFile from bytes s fault) → RefusesKept from kept shape fault
   longer_fault shape refuses =
-      subst (λ (x : KeptFile). RefusesKept from x shape fault) (sym is)
+      subst (λ (x : Option KeptBytes). RefusesKept from x shape fault) (sym is)
       (λ bytes longer. refuses bytes shape longer)
 
 -- ---- a file that gives a program isn't too long
 
-pub none_long : (from : ProgramSource) (kept : KeptFile) (p : ShapedProgram)
+pub none_long : (from : ProgramSource) (kept : Option KeptBytes) (p : ShapedProgram)
     → IsProgramKept from kept p → long_count kept ≡ 0
-none_long from Unread p h = absurd h
-none_long from (Whole v) p h = refl
-none_long from (Longer v n is_text) p h = absurd h
+none_long from None p h = absurd h
+none_long from (Some (Whole v)) p h = refl
+none_long from (Some (Longer v n is_text)) p h = absurd h
 
 -- ---- the file of which this is kept
 
 pub kept_unread : (known : KnownFiles) (from : ProgramSource) (name : List ℕ)
-    → name ≡ file_of from → Gives known name None → IsKeptFrom known from Unread
-kept_unread known from name named gives =
-    (None, subst (λ (n : List ℕ). Gives known n None) named gives, tt)
+    → name ≡ file_of from → Gives known name None → IsKeptFrom known from None
+kept_unread known from name named gives = subst (λ (n : List ℕ). Gives known n None) named gives
 
 pub kept_from : (known : KnownFiles) (from : ProgramSource) (name : List ℕ) (most : ℕ)
-    (k : KeptBytes) (file : KeptFile) → name ≡ file_of from → most ≡ most_of from
-    → KeepsFile most known name (Ok k)
-    → ((m : ℕ) (bytes : List ℕ) → IsKeptOf m bytes k → Retains m (Some bytes) file)
-    → IsKeptFrom known from file
-kept_from known from name most k file named is h as_file = (
-  Some h.0,
+    (k : KeptBytes) → name ≡ file_of from → most ≡ most_of from → KeepsFile most known name (Ok k)
+    → IsKeptFrom known from (Some k)
+kept_from known from name most k named is h = (
+  h.0,
   subst (λ (n : List ℕ). Gives known n (Some h.0)) named h.1,
-  subst (λ (m : ℕ). Retains m (Some h.0) file) is (as_file most h.0 h.2),
+  subst (λ (m : ℕ). IsKeptOf m h.0 k) is h.2,
 )
-
-read_counts : (old new most : ℕ) (bytes : List ℕ) (file : KeptFile) → new ≡ old
-    → Retains most (Some bytes) file → CountsFile old new file
-read_counts old new most bytes Unread count h = absurd h
-read_counts old new most bytes (Whole v) count h = count
-read_counts old new most bytes (Longer v n is_text) count h = count
-
-pub kept_counts : (known : KnownFiles) (name : List ℕ) (old new most : ℕ) (k : KeptBytes)
-    (file : KeptFile) → KeepsFile most known name (Ok k)
-    → ((m : ℕ) (bytes : List ℕ) → IsKeptOf m bytes k → Retains m (Some bytes) file) → new ≡ old
-    → CountsFile old new file
-kept_counts known name old new most k file h as_file count =
-    read_counts old new most h.0 file count (as_file most h.0 h.2)
 
 -- ---- the program of the file
 
-whole_is : (most : ℕ) (v : Vec ℕ Global) (bytes : List ℕ) → Retains most (Some bytes) (Whole v)
+whole_is : (most : ℕ) (v : Vec ℕ Global) (bytes : List ℕ) → IsKeptOf most bytes (Whole v)
     → v.items ≡ bytes
 whole_is most v bytes k = k.0
 
@@ -138,7 +121,7 @@ file_refused known from shape (app.Program fault) bytes gives h = (bytes, gives,
 file_refused known from shape (app.Rule fault) bytes gives h = (bytes, gives, h)
 
 unread_refused : (known : KnownFiles) (from : ProgramSource) (shape : AppShape) (fault : AppFault)
-    → Gives known (file_of from) None → RefusesKept from Unread shape fault
+    → Gives known (file_of from) None → RefusesKept from None shape fault
     → RefusesSource known from shape fault
 unread_refused known from shape app.File gives h = gives
 unread_refused known from shape app.Memory gives h = tt
@@ -146,37 +129,32 @@ unread_refused known from shape (app.Program fault) gives h = absurd h
 unread_refused known from shape (app.Rule fault) gives h = absurd h
 
 module _ (known : KnownFiles) (from : ProgramSource) where
-  program_given : (kept : KeptFile) (p : ShapedProgram) (given : Given)
-      → Gives known (file_of from) given → Retains (most_of from) given kept
-      → IsProgramKept from kept p → IsProgramIn known from p
-  program_given Unread p given gives k h = absurd h
-  program_given (Longer v n is_text) p given gives k h = absurd h
-  program_given (Whole v) p None gives k h = absurd k
-  program_given (Whole v) p (Some bytes) gives k h = (
+  program_given : (k : KeptBytes) (p : ShapedProgram) (bytes : List ℕ)
+      → Gives known (file_of from) (Some bytes) → IsKeptOf (most_of from) bytes k
+      → IsProgramKept from (Some k) p → IsProgramIn known from p
+  program_given (Longer v n is_text) p bytes gives k h = absurd h
+  program_given (Whole v) p bytes gives k h = (
     bytes,
     gives,
     subst (λ (b : List ℕ). IsProgramFrom from b p) (whole_is (most_of from) v bytes k) h,
   )
 
-  fault_given : (kept : KeptFile) (shape : AppShape) (fault : AppFault) (given : Given)
-      → Gives known (file_of from) given → Retains (most_of from) given kept
-      → RefusesKept from kept shape fault → RefusesSource known from shape fault
-  fault_given Unread shape fault None gives k h = unread_refused known from shape fault gives h
-  fault_given Unread shape fault (Some bytes) gives k h = absurd k
-  fault_given (Whole v) shape fault None gives k h = absurd k
-  fault_given (Whole v) shape fault (Some bytes) gives k h =
+  fault_given : (k : KeptBytes) (shape : AppShape) (fault : AppFault) (bytes : List ℕ)
+      → Gives known (file_of from) (Some bytes) → IsKeptOf (most_of from) bytes k
+      → RefusesKept from (Some k) shape fault → RefusesSource known from shape fault
+  fault_given (Whole v) shape fault bytes gives k h =
       file_refused known from shape fault bytes gives
       (subst (λ (b : List ℕ). RefusesFile from b shape fault)
       (whole_is (most_of from) v bytes k) h)
-  fault_given (Longer v n is_text) shape fault None gives k h = absurd k
-  fault_given (Longer v n is_text) shape fault (Some bytes) gives k h =
+  fault_given (Longer v n is_text) shape fault bytes gives k h =
       file_refused known from shape fault bytes gives (h bytes (k.1, k.3))
 
-module _ (known : KnownFiles) (from : ProgramSource) (kept : KeptFile)
-    (is : IsKeptFrom known from kept) where
-  pub program_of : (p : ShapedProgram) → IsProgramKept from kept p → IsProgramIn known from p
-  program_of p h = program_given known from kept p is.0 is.1 is.2 h
+  pub program_of : (kept : Option KeptBytes) → IsKeptFrom known from kept → (p : ShapedProgram)
+      → IsProgramKept from kept p → IsProgramIn known from p
+  program_of None is p h = absurd h
+  program_of (Some k) is p h = program_given k p is.0 is.1 is.2 h
 
-  pub fault_of : (shape : AppShape) (fault : AppFault) → RefusesKept from kept shape fault
-      → RefusesSource known from shape fault
-  fault_of shape fault h = fault_given known from kept shape fault is.0 is.1 is.2 h
+  pub fault_of : (kept : Option KeptBytes) → IsKeptFrom known from kept → (shape : AppShape)
+      (fault : AppFault) → RefusesKept from kept shape fault → RefusesSource known from shape fault
+  fault_of None is shape fault h = unread_refused known from shape fault is h
+  fault_of (Some k) is shape fault h = fault_given k shape fault is.0 is.1 is.2 h

@@ -1,7 +1,7 @@
 -- Some bytes that are longer than a file may be are text, and some aren't. So there is a verdict on
 -- every file that is too long.
 use Rattle.std.proofs.Common.{◌≡◌, ℕ, zero, suc, ◌+◌, ◌/◌, ◌<◌, List, [], ◌∷◌, ◌++◌, length}
-use Rattle.std.proofs.Common.{Bool, true, false, cond, refl, ap, arith}
+use Rattle.std.proofs.Common.{Bool, true, false, cond, Option, Some, None, refl, ap, arith}
 use Rattle.std.specs.Prelude.{◌↔◌, IsTrue, IsUtf8, encode_utf8, nat_lt}
 use Rattle.std.specs.Str.{IsAscii, chars, encode_utf8_all}
 use Rattle.std.proofs.lemmas.Bool.{ltb-true}
@@ -10,8 +10,8 @@ use lib.Utf8.{encode}
 use Rattle.cells.specs.Arrays.{AppShape}
 use Rattle.manifest.specs.declared.app.ProgramSource.{ProgramSource}
 use Rattle.load.specs.declared.fault.AppFault.TheVariants as app
-use Rattle.load.specs.declared.kept.KeptFile.{KeptFile}
-use Rattle.load.specs.declared.kept.KeptFile.TheVariants.{Unread, Whole, Longer}
+use Rattle.bounded_files.specs.declared.kept.KeptBytes.{KeptBytes}
+use Rattle.bounded_files.specs.declared.kept.KeptBytes.TheVariants.{Whole, Longer}
 use Rattle.load.specs.Kept.{IsLonger, RefusesKept, most_of}
 use Rattle.load.proofs.Keeping.{no_file}
 
@@ -95,9 +95,9 @@ longer from false = none_of_text (most_of from)
 
 -- ---- so a file is the fault only if it couldn't be read
 
-pub file_is_unread : (from : ProgramSource) (kept : KeptFile) (shape : AppShape)
-    → RefusesKept from kept shape app.File → kept ≡ Unread
-file_is_unread from Unread shape h = refl
-file_is_unread from (Whole v) shape h = absurd (no_file from v.items shape h)
-file_is_unread from (Longer v count is_text) shape h =
+pub file_is_unread : (from : ProgramSource) (kept : Option KeptBytes) (shape : AppShape)
+    → RefusesKept from kept shape app.File → kept ≡ None
+file_is_unread from None shape h = refl
+file_is_unread from (Some (Whole v)) shape h = absurd (no_file from v.items shape h)
+file_is_unread from (Some (Longer v count is_text)) shape h =
     let long = longer from is_text in absurd (no_file from long.0 shape (h long.0 long.1))

@@ -15,7 +15,7 @@ use Rattle.load.specs.Load.{IsRulesetOf}
 use Rattle.load.specs.Loaded.{IsLoadedFrom}
 use Rattle.load.specs.Made.{GatheredIsMade, IsMadeFrom, IsMadeOf, IsMadeOver}
 use Rattle.load.specs.declared.gathering.Gathered.{Gathered}
-use Rattle.load.specs.declared.made.MadeRuleset.{MadeRuleset}
+use Rattle.ruleset.specs.declared.loaded.LoadedRuleset.{LoadedRuleset}
 use Rattle.load.proofs.Gathers.{gathered_is_loaded}
 use Rattle.load.proofs.Knowing.{apps_know}
 use Rattle.load.proofs.Names.{never_twice}
@@ -36,7 +36,7 @@ module _ (known : KnownFiles) (old : List CellArray) (bytes : List ℕ) (g : Gat
       never_twice known g.directory r.numbers r.manifest (apps_of g.apps.items programs) r.read.1
       r.apps_are
 
-  is_ruleset : (made : MadeRuleset) → IsMadeOf bytes g made
+  is_ruleset : (made : LoadedRuleset) → IsMadeOf bytes g made
       → IsRulesetOf known old bytes made.rules made.directory
   is_ruleset made m =
       let r = of_programs m.programs m.judged in
@@ -69,7 +69,7 @@ pub knows : NumberedArraysAreNamed → (known : KnownFiles) (old : List CellArra
 knows law known old bytes rules new directory r =
     apps_know law known new r.numbers directory.names r.manifest.apps rules.apps r.apps_are
 
-pub is_loaded : (known : KnownFiles) (path : List ℕ) (old : List CellArray) (made : MadeRuleset)
+pub is_loaded : (known : KnownFiles) (path : List ℕ) (old : List CellArray) (made : LoadedRuleset)
     → IsMadeFrom known path old made → IsLoadedFrom known path old made.rules made.directory
 is_loaded known path old made from = record {
   bytes = from.bytes;
@@ -79,7 +79,7 @@ is_loaded known path old made from = record {
 }
 
 pub from_path : (known : KnownFiles) (path : List ℕ) (old : List CellArray) (bytes file : List ℕ)
-    (made : MadeRuleset) → bytes ≡ file → Gives (regular_files known) path (Some file)
+    (made : LoadedRuleset) → bytes ≡ file → Gives (regular_files known) path (Some file)
     → IsMadeOver (known_beside known path) old bytes made → IsMadeFrom known path old made
 from_path known path old bytes file made same given over = record {
   bytes = bytes;

@@ -1,5 +1,6 @@
 -- What is gathered of apps has one verdict: one list of programs, or one first fault.
 use Rattle.std.proofs.Common.{◌≡◌, ◌≢◌, ℕ, suc, List, [], ◌∷◌, Vec, Bool, Result, Ok, Err}
+use Rattle.std.proofs.Common.{Option, Some, None}
 use Rattle.std.proofs.Common.{refl, sym, ◌∙◌, ap, subst}
 use Rattle.std.specs.declared.alloc.Global.{Global}
 use Rattle.bpf_insn.specs.Program.{Program}
@@ -13,8 +14,8 @@ use Rattle.load.specs.declared.fault.LoadFault.{LoadFault}
 use Rattle.load.specs.declared.fault.LoadFault.TheVariants.{Manifest as NoManifest, Cells, File}
 use Rattle.load.specs.declared.fault.LoadFault.TheVariants.{Program as NoProgram, Rule, Memory}
 use Rattle.load.specs.declared.gathering.GatheredApp.{GatheredApp}
-use Rattle.load.specs.declared.kept.KeptFile.{KeptFile}
-use Rattle.load.specs.declared.kept.KeptFile.TheVariants.{Unread, Whole, Longer}
+use Rattle.bounded_files.specs.declared.kept.KeptBytes.{KeptBytes}
+use Rattle.bounded_files.specs.declared.kept.KeptBytes.TheVariants.{Whole, Longer}
 use Rattle.manifest.specs.declared.app.ProgramSource.{ProgramSource}
 use Rattle.load.specs.Apps.{in_app}
 use Rattle.load.specs.Judged.{AreJudged, next_program, IsJudged, RefusesGathered}
@@ -26,7 +27,7 @@ use Rattle.load.proofs.LongBytes.{longer}
 use Rattle.load.proofs.OneProgram.{ComesTo, same_program}
 
 -- the verdict on what is kept of a file, for a shape
-abbrev Comes : ProgramSource → KeptFile → AppShape → Result ShapedProgram AppFault → Type 0
+abbrev Comes : ProgramSource → Option KeptBytes → AppShape → Result ShapedProgram AppFault → Type 0
 Comes from kept shape (Ok p) = (p.shape ≡ shape) × IsProgramKept from kept p
 Comes from kept shape (Err fault) = RefusesKept from kept shape fault
 
@@ -52,7 +53,7 @@ known (Err fault) other = λ e. other (ap (λ f. Err f) (ap fault_in e))
 
 -- for a file that couldn't be read
 unread : (from : ProgramSource) (shape : AppShape) (r : Result ShapedProgram AppFault)
-    → Comes from Unread shape r → r ≢ Err app.Memory → r ≡ Err app.File
+    → Comes from None shape r → r ≢ Err app.Memory → r ≡ Err app.File
 unread from shape (Ok p) h other = absurd h.1
 unread from shape (Err app.File) h other = refl
 unread from shape (Err app.Memory) h other = absurd (other refl)
@@ -61,7 +62,7 @@ unread from shape (Err (app.Rule fault)) h other = absurd h
 
 -- for its bytes, if all are kept; and for any bytes that a file that is too long may have
 whole_bytes : (from : ProgramSource) (v : Vec ℕ Global) (shape : AppShape)
-    (r : Result ShapedProgram AppFault) → Comes from (Whole v) shape r
+    (r : Result ShapedProgram AppFault) → Comes from (Some (Whole v)) shape r
     → ComesTo from v.items shape (code_of r)
 whole_bytes from v shape (Ok p) h =
     subst (λ (s : AppShape). IsProgramFrom from v.items (shaped p.code s)) h.0 h.1
@@ -69,13 +70,13 @@ whole_bytes from v shape (Err fault) h = h
 
 longer_bytes : (from : ProgramSource) (v : Vec ℕ Global) (count : ℕ) (is_text : Bool)
     (shape : AppShape) (r : Result ShapedProgram AppFault)
-    → Comes from (Longer v count is_text) shape r
+    → Comes from (Some (Longer v count is_text)) shape r
     → ComesTo from (longer from is_text).0 shape (code_of r)
 longer_bytes from v count is_text shape (Ok p) h = absurd h.1
 longer_bytes from v count is_text shape (Err fault) h =
     h (longer from is_text).0 (longer from is_text).1
 
-same_parts : (from : ProgramSource) (kept : KeptFile) (shape : AppShape)
+same_parts : (from : ProgramSource) (kept : Option KeptBytes) (shape : AppShape)
     (r s : Result ShapedProgram AppFault) → Comes from kept shape r → Comes from kept shape s
     → code_of r ≡ code_of s → r ≡ s
 same_parts from kept shape (Ok p) (Ok q) h k same =
@@ -89,18 +90,18 @@ same_parts from kept shape (Err e) (Err f) h k same = ap (λ x. Err x) (ap fault
 
 module _ (judged : (p : Program) (shape : AppShape) → verify.ProgramHasOneVerdict p shape)
     (told : (shape : AppShape) (text : List ℕ) → rules.RuleHasOneVerdict shape text) where
-  same_kept : (from : ProgramSource) (kept : KeptFile) (shape : AppShape)
+  same_kept : (from : ProgramSource) (kept : Option KeptBytes) (shape : AppShape)
       (r s : Result ShapedProgram AppFault) → Comes from kept shape r → Comes from kept shape s
       → r ≢ Err app.Memory → s ≢ Err app.Memory → r ≡ s
-  same_kept from Unread shape r s h k other also =
+  same_kept from None shape r s h k other also =
       unread from shape r h other ∙ sym (unread from shape s k also)
-  same_kept from (Whole v) shape r s h k other also =
-      same_parts from (Whole v) shape r s h k
+  same_kept from (Some (Whole v)) shape r s h k other also =
+      same_parts from (Some (Whole v)) shape r s h k
       (same_program judged told from v.items shape (code_of r) (code_of s)
       (whole_bytes from v shape r h) (whole_bytes from v shape s k) (known r other)
       (known s also))
-  same_kept from (Longer v count is_text) shape r s h k other also =
-      same_parts from (Longer v count is_text) shape r s h k
+  same_kept from (Some (Longer v count is_text)) shape r s h k other also =
+      same_parts from (Some (Longer v count is_text)) shape r s h k
       (same_program judged told from (longer from is_text).0 shape (code_of r) (code_of s)
       (longer_bytes from v count is_text shape r h)
       (longer_bytes from v count is_text shape s k) (known r other) (known s also))

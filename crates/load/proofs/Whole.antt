@@ -9,14 +9,14 @@ use Rattle.load.specs.Digest.{digest_of, framed, framed_file, framed_files}
 use Rattle.load.specs.Judged.{AreJudged, next_program}
 use Rattle.load.specs.Kept.{IsProgramKept}
 use Rattle.load.specs.declared.gathering.GatheredApp.{GatheredApp}
-use Rattle.load.specs.declared.kept.KeptFile.{KeptFile}
-use Rattle.load.specs.declared.kept.KeptFile.TheVariants.{Unread, Whole, Longer}
+use Rattle.bounded_files.specs.declared.kept.KeptBytes.{KeptBytes}
+use Rattle.bounded_files.specs.declared.kept.KeptBytes.TheVariants.{Whole, Longer}
 
-one_framed : (from : ProgramSource) (kept : KeptFile) (p : ShapedProgram)
+one_framed : (from : ProgramSource) (kept : Option KeptBytes) (p : ShapedProgram)
     → IsProgramKept from kept p → IsSome (framed_file kept)
-one_framed from Unread p h = absurd h
-one_framed from (Whole v) p h = refl
-one_framed from (Longer v count is_text) p h = absurd h
+one_framed from None p h = absurd h
+one_framed from (Some (Whole v)) p h = refl
+one_framed from (Some (Longer v count is_text)) p h = absurd h
 
 both : (file files : Option (List ℕ)) → IsSome file → IsSome files
     → IsSome (option_and_then (λ one. option_map (λ more. one ++ more) files) file)

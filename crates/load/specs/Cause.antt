@@ -22,7 +22,7 @@ use Rattle.load.specs.declared.fault.LoadFault.{LoadFault}
 use Rattle.load.specs.declared.fault.LoadFault.TheVariants as load
 use Rattle.load.specs.declared.fault.PathFault.{PathFault}
 use Rattle.load.specs.declared.fault.PathFault.TheVariants.{Resource, Load}
-use Rattle.load.specs.declared.made.MadeRuleset.{MadeRuleset}
+use Rattle.ruleset.specs.declared.loaded.LoadedRuleset.{LoadedRuleset}
 use Rattle.load.specs.declared.refusal.LoadRefusal.{LoadRefusal}
 
 -- the wrong member, and what is expected there; or the duplicate name
@@ -84,6 +84,6 @@ module _ (known : KnownFiles) (path : List ℕ) (old : List CellArray) where
       RefusesPath known path old (Resource fault) × (cause ≡ None)
 
   -- the ruleset with its digest; or the fault and its cause, if there is one
-  abbrev pub LoadsTelling : Result MadeRuleset LoadRefusal → Type 0
+  abbrev pub LoadsTelling : Result LoadedRuleset LoadRefusal → Type 0
   LoadsTelling (Ok made) = IsMadeFrom known path old made
   LoadsTelling (Err refused) = RefusesTelling refused.fault refused.cause

@@ -1,20 +1,19 @@
 -- The digest of a manifest and of its apps' files: SHA-256 (FIPS 180-4).
-use Rattle.std.specs.Prelude.{ℕ, List, [], ◌∷◌, ◌++◌, length, Option, Some, None}
+use Rattle.std.specs.Prelude.{ℕ, List, [], ◌∷◌, ◌++◌, length, Option, Some}
 use Rattle.std.specs.Prelude.{option_map, option_and_then}
 use Rattle.std.specs.Int.{w64, to_be_bytes}
+use Rattle.bounded_files.specs.declared.kept.KeptBytes.{KeptBytes}
 use Rattle.sha2.specs.Sha256.{sha256}
 use Rattle.load.specs.declared.gathering.GatheredApp.{GatheredApp}
-use Rattle.load.specs.declared.kept.KeptFile.{KeptFile}
-use Rattle.load.specs.declared.kept.KeptFile.TheVariants.{Whole}
+use Rattle.load.specs.Kept.{whole_file}
 
 -- a piece, after its length in eight bytes, high byte first
 abbrev pub framed : List ℕ → List ℕ
 framed piece = to_be_bytes w64 (length piece) ++ piece
 
 -- the framed bytes of a file, if all are kept
-abbrev pub framed_file : KeptFile → Option (List ℕ)
-framed_file (Whole bytes) = Some (framed bytes.items)
-framed_file kept = None
+abbrev pub framed_file : Option KeptBytes → Option (List ℕ)
+framed_file kept = option_map framed (whole_file kept)
 
 -- the files of apps, in their order
 unfoldable pub framed_files : List GatheredApp → Option (List ℕ)

@@ -1,5 +1,5 @@
 -- The verdict on gathered apps, only from what is kept of their files.
-use Rattle.std.specs.Prelude.{◌≡◌, ◌<◌, ℕ, suc, List, [], ◌∷◌, All}
+use Rattle.std.specs.Prelude.{◌≡◌, ◌<◌, ◌+◌, ℕ, suc, List, [], ◌∷◌, All, Result, Ok, Err}
 use Rattle.bounded_files.specs.Files.{KnownFiles}
 use Rattle.bpf_semantics.specs.Program.{ShapedProgram}
 use Rattle.cells.specs.declared.array.ArrayNo.{ArrayNo}
@@ -9,7 +9,8 @@ use Rattle.ruleset.specs.Rules.{AppRule}
 use Rattle.load.specs.declared.fault.AppFault.{AppFault}
 use Rattle.load.specs.declared.fault.AppFault.TheVariants as app
 use Rattle.load.specs.declared.fault.LoadFault.{LoadFault}
-use Rattle.load.specs.declared.fault.LoadFault.TheVariants.{File, Program, Rule, Memory}
+use Rattle.load.specs.declared.fault.LoadFault.TheVariants.{Manifest as NoManifest, Cells, Memory}
+use Rattle.load.specs.declared.fault.LoadFault.TheVariants.{File, Program, Rule}
 use Rattle.load.specs.declared.gathering.Gathered.{Gathered}
 use Rattle.load.specs.declared.gathering.GatheredApp.{GatheredApp}
 use Rattle.load.specs.App.{IsAppOf, RefusesApp}
@@ -49,6 +50,32 @@ RefusesFirst apps (Program number fault) = IsFirstRefused apps number (app.Progr
 RefusesFirst apps (Rule number fault) = IsFirstRefused apps number (app.Rule fault)
 RefusesFirst apps Memory = Unit {0}
 RefusesFirst apps fault = ⊥
+
+-- ---- how the count of unreadable files changes
+
+module _ (known : KnownFiles) (directory : List CellArray) (bytes : List ℕ) (old new : ℕ) where
+  -- this is gathered, this is the fault of its first app without a program, and the count grows by
+  -- the number of its files that couldn't be read
+  pub record CountsFailures (fault : LoadFault) : Type 0 where
+    pub gathered : Gathered
+    pub is_gathered : IsGathered known directory bytes gathered
+    pub refused : RefusesFirst gathered.apps.items fault
+    pub count : new ≡ old + failures_in gathered.apps.items
+
+  -- M1 to M3, M7: no file is read; M4 to M6: each unreadable file is counted, and M4 is returned
+  -- only if there is one; M8 is left open
+  abbrev pub CountsFault : LoadFault → Type 0
+  CountsFault (NoManifest fault) = new ≡ old
+  CountsFault (Cells number fault) = new ≡ old
+  CountsFault (File number) = CountsFailures (File number) × (old < new)
+  CountsFault (Program number fault) = CountsFailures (Program number fault)
+  CountsFault (Rule number fault) = CountsFailures (Rule number fault)
+  CountsFault Memory = Unit {0}
+
+  -- with a ruleset each file was read
+  abbrev pub CountsLoad : {X : Type 0} → Result X LoadFault → Type 0
+  CountsLoad (Ok loaded) = new ≡ old
+  CountsLoad (Err fault) = CountsFault fault
 
 -- ---- the verdict on what is gathered is that of the load
 

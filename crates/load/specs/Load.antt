@@ -1,6 +1,6 @@
 -- The load of a manifest and its files: a ruleset, and the directory in which the manifest's arrays
 -- are declared; or the first fault. The order is M1, M2, M3, M7, and then app by app M4, M5 or M6.
-use Rattle.std.specs.Prelude.{◌≡◌, ◌≢◌, ◌<◌, ◌≤◌, ℕ, List, Result, Ok, Err}
+use Rattle.std.specs.Prelude.{◌≡◌, ◌≢◌, ℕ, List, Result, Ok, Err}
 use Rattle.cells.specs.Directory.{Declaration}
 use Rattle.cells.specs.declared.array.ArrayNo.{ArrayNo}
 use Rattle.cells.specs.declared.array.CellArray.{CellArray}
@@ -11,7 +11,6 @@ use Rattle.manifest.specs.declared.fault.ManifestFault.TheVariants as manifest
 use Rattle.ruleset.specs.Rules.{Rules}
 use Rattle.load.specs.declared.fault.LoadFault.{LoadFault}
 use Rattle.load.specs.declared.fault.LoadFault.TheVariants.{Manifest as NoManifest, Cells, Memory}
-use Rattle.load.specs.declared.fault.LoadFault.TheVariants.{File, Program, Rule}
 use Rattle.bounded_files.specs.Files.{KnownFiles}
 use Rattle.load.specs.Apps.{AreAppsOf, RefusesApps}
 
@@ -58,17 +57,3 @@ module _ (known : KnownFiles) (old : List CellArray) (bytes : List ℕ) where
   abbrev pub Loads : Result Rules LoadFault → List CellArray → Type 0
   Loads (Ok rules) new = IsRulesetOf rules new
   Loads (Err fault) new = IsLoadFault fault × (new ≡ old)
-
--- how the count of unreadable files changes with a fault: M4 is returned only if it rose, M1 to M3
--- and M7 only if no file was read
-abbrev pub CountsFault : (old new : ℕ) → LoadFault → Type 0
-CountsFault old new (File number) = old < new
-CountsFault old new (Program number fault) = old ≤ new
-CountsFault old new (Rule number fault) = old ≤ new
-CountsFault old new Memory = Unit {0}
-CountsFault old new fault = new ≡ old
-
--- and with a ruleset: each file was read
-abbrev pub CountsLoad : {X : Type 0} → (old new : ℕ) → Result X LoadFault → Type 0
-CountsLoad old new (Ok loaded) = new ≡ old
-CountsLoad old new (Err fault) = CountsFault old new fault

@@ -10,12 +10,12 @@ use Rattle.load.specs.Gathered.{IsGathered}
 use Rattle.load.specs.Judged.{AreJudged, apps_of}
 use Rattle.load.specs.Load.{IsRulesetOf}
 use Rattle.load.specs.declared.gathering.Gathered.{Gathered}
-use Rattle.load.specs.declared.made.MadeRuleset.{MadeRuleset}
+use Rattle.ruleset.specs.declared.loaded.LoadedRuleset.{LoadedRuleset}
 use Rattle.ruleset.specs.Rules.{HasTwice, appids_of}
 
 -- Each app has the program that its file is judged to be; the digest is that of the manifest's
 -- bytes and of exactly the bytes that were judged.
-pub record IsMadeOf (bytes : List ℕ) (g : Gathered) (made : MadeRuleset) : Type 0 where
+pub record IsMadeOf (bytes : List ℕ) (g : Gathered) (made : LoadedRuleset) : Type 0 where
   pub programs : List ShapedProgram
   pub judged : AreJudged g.apps.items programs
   pub server_is : made.rules.server ≡ g.server
@@ -26,7 +26,7 @@ pub record IsMadeOf (bytes : List ℕ) (g : Gathered) (made : MadeRuleset) : Typ
 -- The ruleset is made of what is gathered from these bytes and from files, over the existing
 -- arrays.
 pub record IsMadeOver (known : KnownFiles) (old : List CellArray) (bytes : List ℕ)
-    (made : MadeRuleset) : Type 0 where
+    (made : LoadedRuleset) : Type 0 where
   pub gathered : Gathered
   pub is_gathered : IsGathered known old bytes gathered
   pub made_of : IsMadeOf bytes gathered made
@@ -34,7 +34,7 @@ pub record IsMadeOver (known : KnownFiles) (old : List CellArray) (bytes : List 
 -- The file at a path gives these bytes, and the ruleset is made of what is gathered from them and
 -- from the files of its folder, over the existing arrays.
 pub record IsMadeFrom (known : KnownFiles) (path : List ℕ) (old : List CellArray)
-    (made : MadeRuleset) : Type 0 where
+    (made : LoadedRuleset) : Type 0 where
   pub bytes : List ℕ
   pub given : Gives (regular_files known) path (Some bytes)
   pub gathered : Gathered
@@ -48,7 +48,7 @@ pub record IsMadeLoad (known : KnownFiles) (old : List CellArray) (bytes : List 
     : Type 0 where
   pub once : (programs : List ShapedProgram) → AreJudged g.apps.items programs
       → ¬ HasTwice (appids_of (apps_of g.apps.items programs))
-  pub made : (made : MadeRuleset) → IsMadeOf bytes g made
+  pub made : (made : LoadedRuleset) → IsMadeOf bytes g made
       → IsRulesetOf known old bytes made.rules made.directory
 
 abbrev pub GatheredIsMade : Type 0

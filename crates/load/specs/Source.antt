@@ -1,5 +1,5 @@
 -- The program that an app's file gives: a program's bytes, or the text of a rule.
-use Rattle.std.specs.Prelude.{◌≡◌, ℕ, List, Option, Some, None, false}
+use Rattle.std.specs.Prelude.{◌≡◌, ℕ, List, Some, None, false}
 use Rattle.acceptance.specs.Program as program
 use Rattle.acceptance.specs.Program.{IsProgramOf, RefusesProgram}
 use Rattle.acceptance.specs.Rule as rule
@@ -38,10 +38,6 @@ RefusesText bytes shape fault = ⊥
 abbrev pub RefusesFile : ProgramSource → List ℕ → AppShape → AppFault → Type 0
 RefusesFile (source.Program file) bytes shape fault = RefusesBytes bytes shape fault
 RefusesFile (source.Rule file) bytes shape fault = RefusesText bytes shape fault
-
--- what a file gave: its bytes, or nothing if it couldn't be read
-abbrev pub Given : Type 0
-Given = Option (List ℕ)
 
 -- the program of the file to which an app's name leads
 abbrev pub IsProgramIn : KnownFiles → ProgramSource → ShapedProgram → Type 0

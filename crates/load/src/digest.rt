@@ -9,7 +9,7 @@ ghost use Rattle.load.specs.Digest as specs;
 ghost use Rattle.load.specs.Judged.{AreJudged};
 
 use crate::gathering::GatheredApp;
-use crate::kept::KeptFile;
+use crate::kept::whole_file;
 use bpf_verify::Verified;
 use sha2::{Digest, Sha256};
 
@@ -26,10 +26,10 @@ pub fn digest_of(manifest: &[u8], apps: &[GatheredApp]) -> Option<[u8; 32]>
     add_piece(&mut hasher, manifest);
     let mut left = apps;
     while let [app, others @ ..] = left {
-        let KeptFile::Whole(bytes) = &app.kept else {
-            return None;
-        };
-        add_piece(&mut hasher, bytes.as_slice());
+        match whole_file(&app.kept) {
+            Some(bytes) => add_piece(&mut hasher, bytes),
+            None => return None,
+        }
         left = others;
     }
     Some(hasher.finalize())

@@ -14,8 +14,9 @@ ghost use Rattle.manifest.specs.Parsed.{IsNoManifest};
 use crate::arrays::declare_arrays;
 use crate::fault::LoadFault;
 use crate::files::Files;
-use crate::kept::{KeptFile, file_of, gather_file, long_count};
+use crate::kept::{file_of, gather_file, long_count};
 use attrs::Text;
+use bounded_files::KeptBytes;
 use cells::{ArrayNo, Directory, Shape};
 use declarations::ArrayDeclaration;
 use manifest::{
@@ -27,13 +28,13 @@ use std::alloc::{AllocError, Global};
 /// 64 MiB.
 const MOST_LONG: u128 = 0x400_0000;
 
-/// An app of a manifest, its shape, what is kept of its file, and whether the file's path had a
-/// symbolic link just before it was read.
+/// An app of a manifest, its shape, what is kept of its file (None if that can't be read), and
+/// whether the file's path had a symbolic link just before it was read.
 #[derive(Drop)]
 pub struct GatheredApp {
     pub entry: AppEntry,
     pub shape: Shape,
-    pub kept: KeptFile,
+    pub kept: Option<KeptBytes>,
     pub behind_link: bool,
 }
 

@@ -1,6 +1,6 @@
 //! Judging what is kept of an app's file: it gives a program of the app's shape, or has a fault.
 
-ghost use Rattle.std.specs.Prelude.{◌≡◌, ◌↔◌, ◌<◌, ℕ, List, length, IfOk, IfErr};
+ghost use Rattle.std.specs.Prelude.{◌≡◌, ◌↔◌, ◌<◌, ℕ, List, length, IfOk, IfErr, Some};
 ghost use Rattle.std.specs.Prelude.{IsTrue, IsUtf8};
 ghost use Rattle.acceptance.specs.Program.{IsProgramOf};
 ghost use Rattle.acceptance.specs.Rule.{IsProgramOfRule};
@@ -9,8 +9,8 @@ ghost use Rattle.load.specs.Kept.{IsLonger, IsProgramKept, RefusesKept};
 ghost use Rattle.load.specs.Source.{IsProgramFrom, RefusesBytes, RefusesFile, RefusesText};
 
 use crate::fault::AppFault;
-use crate::kept::KeptFile;
 use acceptance::{ProgramFault, RuleTextFault, accept, rule_program};
+use bounded_files::KeptBytes;
 use bpf_verify::Verified;
 use cells::Shape;
 use flow_check::{FlowFault, FlowRule};
@@ -24,7 +24,7 @@ use std::alloc::Global;
 pub(crate) fn judge_file(
     alloc: Global,
     source: &ProgramSource,
-    kept: &KeptFile,
+    kept: &Option<KeptBytes>,
     shape: &Shape,
 ) -> Result<Verified, AppFault>
     ensures shape { IfOk result (λ program. program.shape ≡ shape.now) }
@@ -32,9 +32,25 @@ pub(crate) fn judge_file(
     ensures fault { IfErr result (RefusesKept source.now kept.now shape.now) }
 {
     match kept {
-        KeptFile::Unread => Err(AppFault::File),
-        KeptFile::Whole(bytes) => judge_bytes(alloc, source, bytes.as_slice(), shape),
-        KeptFile::Longer { is_text, .. } => Err(too_long(source, *is_text)),
+        Some(kept) => judge_kept(alloc, source, kept, shape),
+        None => Err(AppFault::File),
+    }
+}
+
+// The same for a file that could be read.
+fn judge_kept(
+    alloc: Global,
+    source: &ProgramSource,
+    kept: &KeptBytes,
+    shape: &Shape,
+) -> Result<Verified, AppFault>
+    ensures shape { IfOk result (λ program. program.shape ≡ shape.now) }
+    ensures program { IfOk result (IsProgramKept source.now (Some kept.now)) }
+    ensures fault { IfErr result (RefusesKept source.now (Some kept.now) shape.now) }
+{
+    match kept {
+        KeptBytes::Whole(bytes) => judge_bytes(alloc, source, bytes.as_slice(), shape),
+        KeptBytes::Longer { is_text, .. } => Err(too_long(source, *is_text)),
     }
 }
 

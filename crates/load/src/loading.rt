@@ -5,7 +5,8 @@ ghost use mathlib.Core.List.{IsPrefix};
 ghost use Rattle.bounded_files.specs.Files.{KnownFiles};
 ghost use Rattle.load.specs.Cause.{IsFaultWithCause};
 ghost use Rattle.load.specs.Gathered.{IsUngathered};
-ghost use Rattle.load.specs.Load.{CountsFault, CountsLoad, IsRulesetOf, Loads, LoadsOver};
+ghost use Rattle.load.specs.Judged.{CountsFault, CountsLoad};
+ghost use Rattle.load.specs.Load.{IsRulesetOf, Loads, LoadsOver};
 ghost use Rattle.load.specs.Made.{IsMadeOver};
 ghost use Rattle.ruleset.specs.Rules.{KnowsOnly};
 
@@ -14,9 +15,9 @@ use crate::fault::LoadFault;
 use crate::files::Files;
 use crate::gathering::{Ungathered, gather};
 use crate::law::{gathered_is_loaded, gathered_is_made};
-use crate::made::{MadeRuleset, make_ruleset};
+use crate::made::make_ruleset;
 use cells::{Directory, arrays_stay};
-use ruleset::Ruleset;
+use ruleset::{LoadedRuleset, Ruleset};
 use std::alloc::Global;
 
 /// Does what `load_over` does, but changes the directory in place. After a refusal it is unchanged.
@@ -31,7 +32,8 @@ pub fn load_ruleset<F: Files>(
     ensures loads { Loads (F.known files.old) directory.old manifest.now result directory.new }
     ensures only { IfOk result (KnowsOnly directory.new) }
     ensures grown { IsPrefix directory.old directory.new }
-    ensures count { CountsLoad (F.failed files.old) (F.failed files.new) result }
+    ensures count { CountsLoad (F.known files.old) directory.old manifest.now (F.failed files.old)
+        (F.failed files.new) result }
 {
     match load_over(alloc, manifest, files, directory) {
         Ok((rules, grown)) => {
@@ -67,11 +69,12 @@ pub fn load_over<F: Files>(
     ensures loads { LoadsOver (F.known files.old) directory.now manifest.now result }
     ensures only { IfOk result (λ loaded. KnowsOnly loaded.1 loaded.0) }
     ensures grown { IfOk result (λ loaded. IsPrefix directory.now loaded.1) }
-    ensures count { CountsLoad (F.failed files.old) (F.failed files.new) result }
+    ensures count { CountsLoad (F.known files.old) directory.now manifest.now (F.failed files.old)
+        (F.failed files.new) result }
 {
     match load_bytes(alloc, manifest, files, directory) {
         Ok(
-            MadeRuleset {
+            LoadedRuleset {
                 rules,
                 directory,
                 digest: _,
@@ -99,7 +102,7 @@ pub(crate) fn load_bytes<F: Files>(
     manifest: &[u8],
     files: &mut F,
     directory: &Directory,
-) -> Result<MadeRuleset, BytesRefusal>
+) -> Result<LoadedRuleset, BytesRefusal>
     ensures known { F.known files.new ≡ F.known files.old }
     ensures made { IfOk result (IsMadeOver (F.known files.old) directory.now manifest.now) }
     ensures rules { IfOk result (λ made. IsRulesetOf (F.known files.old) directory.now
@@ -109,9 +112,8 @@ pub(crate) fn load_bytes<F: Files>(
     ensures only { IfOk result (λ made. KnowsOnly made.directory made.rules) }
     ensures grown { IfOk result (λ made. IsPrefix directory.now made.directory) }
     ensures count { IfOk result (λ made. F.failed files.new ≡ F.failed files.old) }
-    // M4 is returned only if the count rose.
-    ensures failed { IfErr result (λ refused.
-        CountsFault (F.failed files.old) (F.failed files.new) refused.fault) }
+    ensures failed { IfErr result (λ refused. CountsFault (F.known files.old) directory.now
+        manifest.now (F.failed files.old) (F.failed files.new) refused.fault) }
 {
     gathered_is_loaded();
     gathered_is_made();

@@ -11,27 +11,17 @@ use crate::digest::judged_digest;
 use crate::fault::LoadFault;
 use crate::gathering::Gathered;
 use crate::programs::{judge, supply};
-use cells::Directory;
-use ruleset::Ruleset;
+use ruleset::{LoadedRuleset, Ruleset};
 use std::alloc::Global;
 
-/// A ruleset, the directory with its arrays declared after the existing ones, and the digest of the
-/// manifest and the files of which it was made (`digest_of`).
-#[derive(Drop)]
-pub struct MadeRuleset {
-    pub rules: Ruleset,
-    pub directory: Directory,
-    pub digest: [u8; 32],
-}
-
-/// The ruleset of what was gathered from a manifest with these bytes, or the fault of the first app
-/// without a program.
+/// The ruleset of what was gathered from a manifest with these bytes, and the digest of both
+/// (`digest_of`); or the fault of the first app without a program.
 // open: whether an allocation fails (M8).
 pub fn make_ruleset(
     alloc: Global,
     manifest: &[u8],
     gathered: Gathered,
-) -> Result<MadeRuleset, LoadFault>
+) -> Result<LoadedRuleset, LoadFault>
     requires shaped { All HasItsReleases gathered.apps.items }
     requires once { (programs : List ShapedProgram) → AreJudged gathered.apps.items programs
         → ¬ HasTwice (appids_of (apps_of gathered.apps.items programs)) }
@@ -53,7 +43,7 @@ pub fn make_ruleset(
     let Ok(rules) = Ruleset::known(server.into_string(), apps) else {
         return Err(LoadFault::Memory);
     };
-    Ok(MadeRuleset {
+    Ok(LoadedRuleset {
         rules,
         directory,
         digest,

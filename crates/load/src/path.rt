@@ -11,12 +11,11 @@ ghost use Rattle.ruleset.specs.Rules.{KnowsOnly};
 use crate::fault::{LoadFault, PathFault};
 use crate::folder::FolderFiles;
 use crate::loading::{BytesRefusal, load_bytes};
-use crate::made::MadeRuleset;
 use crate::refusal::LoadRefusal;
 use bounded_files::Disk;
 use cells::Directory;
 use manifest::{ManifestFault, TomlFault};
-use ruleset::Ruleset;
+use ruleset::{LoadedRuleset, Ruleset};
 use std::alloc::Global;
 
 /// The most bytes of a manifest, 1 MiB, in the disk's type.
@@ -39,7 +38,7 @@ pub fn load_path<D: Disk>(
 {
     match load_told(alloc, disk, path, directory) {
         Ok(
-            MadeRuleset {
+            LoadedRuleset {
                 rules,
                 directory,
                 digest: _,
@@ -63,7 +62,7 @@ pub fn load_told<D: Disk>(
     disk: &D,
     path: &str,
     directory: &Directory,
-) -> Result<MadeRuleset, LoadRefusal>
+) -> Result<LoadedRuleset, LoadRefusal>
     ensures loads { LoadsTelling (D.known disk.now) path.now directory.now result }
     ensures rules { IfOk result (λ made. IsLoadedFrom (D.known disk.now) path.now directory.now
         made.rules made.directory) }

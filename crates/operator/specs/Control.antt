@@ -1,16 +1,17 @@
 -- The operator's state: which ruleset was installed last, and the server's arrays.
-use Rattle.std.specs.Prelude.{◌≡◌, ◌^◌, ◌-◌, ℕ, List, All, Option, Result, Ok, Err}
+use Rattle.std.specs.Prelude.{◌≡◌, ◌^◌, ◌-◌, ℕ, List, All, Option, Some, Result, Ok, Err}
 use mathlib.Core.List.{IsPrefix}
 use Rattle.cells.specs.declared.array.CellArray.{CellArray}
 use Rattle.hot_swap.specs.Latest.{Publishing, Installs}
 use Rattle.hot_swap.specs.declared.fault.SwapFault.{SwapFault}
 use Rattle.hot_swap.specs.declared.fault.SwapFault.TheVariants as swap
-use Rattle.operator.specs.declared.loader.Loaded.{Loaded}
 use Rattle.operator.specs.declared.reply.OperatorRefusal.{OperatorRefusal}
 use Rattle.operator.specs.declared.reply.OperatorRefusal.TheVariants as refusal
 use Rattle.ruleset.specs.Rules.{Rules, KnowsOnly}
+use Rattle.ruleset.specs.declared.loaded.LoadedRuleset.{LoadedRuleset}
 
--- the rulesets that were published, the server's arrays, and the digest of the last load
+-- the rulesets that were published, the server's arrays, and the digest of the last load, if there
+-- was one
 pub record Controlled : Type 0 where
   pub publishing : Publishing
   pub arrays : List CellArray
@@ -30,16 +31,18 @@ IsUninstallable publishing swap.Memory = Unit {0}
 -- relates the path of a load, the arrays before it, and its result: the ruleset with the arrays
 -- after it and its digest, or the fault
 abbrev pub Loading : Type 0 → Type 1
-Loading F = List ℕ → List CellArray → Result Loaded F → Type 0
+Loading F = List ℕ → List CellArray → Result LoadedRuleset F → Type 0
 
 module _ {F : Type 0} (loads : Loading F) where
-  -- The loaded ruleset is installed, and its arrays are declared, under this generation. Its
+  -- The loaded ruleset is installed under this generation, with its arrays and its digest. Its
   -- programs know only the arrays after the load, of which the arrays before it are a prefix.
   pub record IsInstalled (path : List ℕ) (old : Controlled) (generation : ℕ) (new : Controlled)
       : Type 0 where
     pub rules : Rules
+    pub digest : List ℕ
     pub loaded : loads path old.arrays
-        (Ok (record { rules = rules; directory = new.arrays; digest = new.digest }))
+        (Ok (record { rules = rules; directory = new.arrays; digest = digest }))
+    pub digest_is : new.digest ≡ Some digest
     pub installed : Installs old.publishing rules generation new.publishing
     pub only : KnowsOnly new.arrays rules
     pub grown : IsPrefix old.arrays new.arrays

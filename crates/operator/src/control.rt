@@ -4,11 +4,11 @@
 ghost use Rattle.std.specs.Prelude.{◌≡◌, All, IfOk, IfErr, OnErr, None};
 ghost use Rattle.operator.specs.Control.{IsInstalled, IsRefusedLoad};
 
-use crate::loader::{Loaded, Loader};
+use crate::loader::Loader;
 use crate::reply::OperatorRefusal;
 use cells::{CellArray, Directory};
 use hot_swap::{Generation, Notice, Publisher};
-use ruleset::Ruleset;
+use ruleset::{LoadedRuleset, Ruleset};
 use std::alloc::Global;
 use std::marker::Model;
 use std::sync::{Arc, Wait};
@@ -17,7 +17,7 @@ use std::sync::{Arc, Wait};
 pub struct Control {
     publisher: Publisher,
     directory: Directory,
-    /// The digest of the last load, if its loader returned one.
+    /// The digest of the last load, if there was one.
     digest: Option<[u8; 32]>,
 }
 
@@ -73,7 +73,7 @@ impl Control {
         self.publisher.ruleset()
     }
 
-    /// The digest of the last load, if there was one and its loader returned a digest.
+    /// The digest of the last load, if there was one.
     pub fn digest(&self) -> Option<[u8; 32]>
         ensures { result ≡ self.now.digest }
     {
@@ -110,7 +110,7 @@ impl Control {
         ensures fault { IfErr result (IsRefusedLoad (L.loads loader.now) path.now self.old) }
         ensures same { OnErr result (self.new ≡ self.old) }
     {
-        let Loaded {
+        let LoadedRuleset {
             rules,
             directory,
             digest,
@@ -124,7 +124,7 @@ impl Control {
         match self.publisher.install(rt, rules) {
             Ok(generation) => {
                 self.directory = directory;
-                self.digest = digest;
+                self.digest = Some(digest);
                 Ok(generation)
             }
             Err(fault) => Err(OperatorRefusal::Install(fault)),

@@ -2,19 +2,9 @@
 //! load from memory.
 
 use cells::Directory;
-use ruleset::Ruleset;
+use ruleset::LoadedRuleset;
 use std::alloc::Global;
 use std::fmt::Display;
-
-/// The result of a load.
-#[derive(Drop)]
-pub struct Loaded {
-    pub rules: Ruleset,
-    /// The directory before the load, followed by the ruleset's own arrays.
-    pub directory: Directory,
-    /// The digest of all that was loaded, if the loader returns one.
-    pub digest: Option<[u8; 32]>,
-}
 
 /// Makes a ruleset from the manifest at a path.
 pub trait Loader {
@@ -35,7 +25,12 @@ pub trait Loader {
 
     /// The ruleset of a manifest, and a directory of the arrays before the load and the ruleset's
     /// own. Its programs know only these.
-    fn load(&self, alloc: Global, path: &str, directory: &Directory) -> Result<Loaded, Self::Fault>
+    fn load(
+        &self,
+        alloc: Global,
+        path: &str,
+        directory: &Directory,
+    ) -> Result<LoadedRuleset, Self::Fault>
         ensures outcome { loads self.now path.now directory.now result }
         ensures only { IfOk result (λ loaded. KnowsOnly loaded.directory loaded.rules) }
         ensures grown { IfOk result (λ loaded. IsPrefix directory.now loaded.directory) };

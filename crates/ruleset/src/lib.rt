@@ -6,9 +6,11 @@
 
 mod app;
 mod appid_set;
+mod loaded;
 mod ruleset;
 mod telling;
 
 pub use app::App;
+pub use loaded::LoadedRuleset;
 pub use ruleset::Ruleset;
 pub use telling::tell_apps;

@@ -1,4 +1,3 @@
-mod Loading
 mod Staffing
 mod Ending
 mod Turns

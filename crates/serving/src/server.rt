@@ -11,8 +11,8 @@ ghost use Rattle.serving.specs.Staffed.{IsStaffFault};
 use crate::fault::ServingFault;
 use crate::staffed::{StaffedServer, staff};
 use cells::Directory;
-use load::{Disk, MadeRuleset, load_told};
-use ruleset::Ruleset;
+use load::{Disk, load_told};
+use ruleset::LoadedRuleset;
 use std::net::{Net, TcpListener, TcpStream};
 use std::sync::Wait;
 use workers::{Ports, bind};
@@ -21,11 +21,8 @@ use workers::{Ports, bind};
 #[derive(Drop)]
 pub struct Server {
     ports: Ports,
-    rules: Ruleset,
-    directory: Directory,
-    /// The digest of the manifest and of the files that it names.
-    digest: [u8; 32],
-    ghost only: { KnowsOnly directory rules },
+    loaded: LoadedRuleset,
+    ghost only: { KnowsOnly loaded.directory loaded.rules },
 }
 
 /// Loads the manifest at a path, and binds both ports on loopback; 0 is any free port. Returns the
@@ -43,30 +40,18 @@ where
     H: AllocGlobal + Net<Listener = TcpListener, Stream = TcpStream>,
     D: Disk,
     ensures loaded { IfOk result
-        (λ s. IsLoadedFrom (D.known disk.now) path.now [] s.rules s.directory) }
+        (λ s. IsLoadedFrom (D.known disk.now) path.now [] s.loaded.rules s.loaded.directory) }
     // The digest is that of the bytes that were judged.
-    ensures made { IfOk result (λ s. IsMadeFrom (D.known disk.now) path.now []
-        (record { rules = s.rules; directory = s.directory; digest = s.digest })) }
+    ensures made { IfOk result (λ s. IsMadeFrom (D.known disk.now) path.now [] s.loaded) }
     ensures refused { IfErr result (RefusesToServe (D.known disk.now) path.now) }
 {
     let alloc = rt.alloc();
-    let made = match load_told(alloc, disk, path, &Directory::new(alloc)) {
-        Ok(made) => made,
+    let loaded = match load_told(alloc, disk, path, &Directory::new(alloc)) {
+        Ok(loaded) => loaded,
         Err(refusal) => return Err(ServingFault::Manifest(refusal)),
     };
-    let digest = made.digest;
-    let MadeRuleset {
-        rules,
-        directory,
-        digest: _,
-    } = made;
     match bind(rt, service, operator) {
-        Ok(ports) => Ok(Server {
-            ports,
-            rules,
-            directory,
-            digest,
-        }),
+        Ok(ports) => Ok(Server { ports, loaded }),
         Err(_) => Err(ServingFault::Bind),
     }
 }
@@ -81,9 +66,9 @@ impl Server {
 
     /// The digest of the manifest and of the files that it names, as they were judged.
     pub fn digest(&self) -> [u8; 32]
-        ensures { result ≡ self.now.digest }
+        ensures { result ≡ self.now.loaded.digest }
     {
-        let digest = self.digest;
+        let digest = self.loaded.digest;
         digest
     }
 
@@ -97,19 +82,19 @@ impl Server {
         requires few { workers ≤ 64 }
         ensures ports { IfOk result (λ s. s.ports ≡ self.ports) }
         ensures first { IfOk result (λ s. s.control.publishing.latest.generation ≡ 1) }
-        ensures rules { IfOk result (λ s. s.control.publishing.latest.rules ≡ self.rules) }
+        ensures rules { IfOk result (λ s. s.control.publishing.latest.rules ≡ self.loaded.rules) }
         ensures known { IfOk result
-            (λ s. s.control.publishing.known.rulesets ≡ self.rules ∷ []) }
-        ensures arrays { IfOk result (λ s. s.control.arrays ≡ self.directory) }
+            (λ s. s.control.publishing.known.rulesets ≡ self.loaded.rules ∷ []) }
+        ensures arrays { IfOk result (λ s. s.control.arrays ≡ self.loaded.directory) }
         ensures workers { IfOk result (λ s. length s.workers.items ≡ workers) }
         ensures fault { IfErr result IsStaffFault }
     {
-        let Server {
-            ports,
+        let Server { ports, loaded } = self;
+        let LoadedRuleset {
             rules,
             directory,
             digest: _,
-        } = self;
+        } = loaded;
         staff(rt, ports, rules, directory, workers)
     }
 }

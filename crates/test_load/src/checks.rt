@@ -1,7 +1,6 @@
 //! Checks: a manifest of two apps with its files, and the messages about a manifest with files in
 //! other folders.
 
-mod lines;
 mod outside;
 
 use crate::files::MemFiles;

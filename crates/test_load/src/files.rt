@@ -1,4 +1,4 @@
-//! Files in memory, some of which are unreadable or not regular.
+//! Files in memory, some of which are unreadable.
 
 ghost use Rattle.std.specs.Prelude.{◌≡◌, List, ℕ, option_copied};
 ghost use Rattle.bounded_files.specs.Files.{Gives, KnownFiles, ReadsAtMost, bytes_of, if_regular};
@@ -72,25 +72,11 @@ impl MemFiles {
 
     /// Adds a regular file at the end.
     pub(crate) fn add(&mut self, name: &str, bytes: Option<Vec<u8>>) -> Result<(), AllocError> {
-        self.add_of_kind(name, bytes, true)
-    }
-
-    /// Adds a file that isn't regular.
-    pub(crate) fn add_fifo(&mut self, name: &str, bytes: Vec<u8>) -> Result<(), AllocError> {
-        self.add_of_kind(name, Some(bytes), false)
-    }
-
-    fn add_of_kind(
-        &mut self,
-        name: &str,
-        bytes: Option<Vec<u8>>,
-        is_regular: bool,
-    ) -> Result<(), AllocError> {
         let name = String::from_str(self.alloc, name)?;
         let file = MemFile {
             name,
             bytes,
-            is_regular,
+            is_regular: true,
         };
         let Ok(()) = self.files.push(file) else {
             return Err(AllocError);

@@ -1,6 +1,6 @@
-//! Tests of what no command prints about loads: the number of tables in a manifest, the results of
-//! good manifests, the state after refused loads, files in other folders, and files of each kind.
-//! The output of `check` and `replay` is in rows of the program `rows`.
+//! Tests of what no command prints about loads: the results of good manifests, the state after
+//! refused loads, files in other folders, and files of each kind. The output of `check` and
+//! `replay` is in rows of the program `rows`.
 #![tactic(auto)]
 
 #[cfg(test)]
@@ -12,8 +12,4 @@ mod files;
 #[cfg(test)]
 mod loads;
 #[cfg(test)]
-mod manifests;
-#[cfg(test)]
 mod sample;
-#[cfg(test)]
-mod scripts;

@@ -45,7 +45,7 @@ returns-in-Err-make_ruleset-clause-fault g c =
 
 pub returns-in-Err-make_ruleset-clause-failed : goal.returns-in-Err-make_ruleset-clause-failed
 returns-in-Err-make_ruleset-clause-failed g c =
-    judged_counts _ _ c.in-Ok.gathered.apps.items c.in-Err-make_ruleset.fault
+    judged_counts _ _ _ _ _ c.in-Ok.gathered c.in-Err-make_ruleset.fault c.in-Ok.ensures.gathered
     c.in-Ok.ensures.count c.in-Err-make_ruleset.ensures.fault
 
 pub returns-in-Err-clause-fault : goal.returns-in-Err-clause-fault
@@ -55,5 +55,5 @@ returns-in-Err-clause-fault g c =
 pub returns-in-Err-clause-failed : goal.returns-in-Err-clause-failed
 returns-in-Err-clause-failed g c =
     rw c.refused.ensures.fault
-    (early_counts _ _ c.args.manifest.now c.in-Err.ungathered.fault _
+    (early_counts _ c.args.directory.now c.args.manifest.now _ _ c.in-Err.ungathered.fault _
     c.in-Err.ensures.fault.arrays_are c.in-Err.ensures.uncounted)

@@ -7,5 +7,5 @@ pub returns-in-Ok-bind-clause-made : goal.returns-in-Ok-bind-clause-made
 returns-in-Ok-bind-clause-made g c =
     subst
     (λ (old : List CellArray). IsMadeFrom (g.D.Disk.known c.args.disk.now) c.args.path.now old
-    c.in-Ok.made)
+    c.in-Ok.loaded)
     c.new.ensures c.in-Ok.ensures.loads
