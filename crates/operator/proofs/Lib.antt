@@ -2,3 +2,4 @@ pub mod Counted
 pub mod Leading
 pub mod Lines
 pub mod Positions
+mod Replied

@@ -1,6 +1,7 @@
 pub mod Line
 pub mod Texts
 pub mod Replies
+pub mod Done
 pub mod Control
 pub mod Leading
 pub mod Counters

@@ -15,6 +15,7 @@ use Rattle.operator.specs.declared.reply.OperatorRefusal.{OperatorRefusal}
 use Rattle.operator.specs.declared.reply.OperatorRefusal.TheVariants as refusal
 use Rattle.operator.specs.declared.reply.OperatorReply.{OperatorReply}
 use Rattle.operator.specs.declared.reply.OperatorReply.TheVariants as reply
+use Rattle.printing.specs.Printed.{printed}
 use Rattle.ruleset.specs.Texts.{line, app_line}
 
 -- ---- the lines of a ruleset and of the counters
@@ -37,6 +38,8 @@ abbrev pub ask_text : AskFault → List ℕ
 ask_text ask.Word = codes "B1 Word"
 ask_text ask.Memory = resource_text resource.Memory
 ask_text ask.Connect = codes "B5 Connect"
+-- the words of a server, or of another program that listens at its port
+ask_text (ask.Refused words) = printed (string_bytes words)
 
 -- given the texts of the loader's faults
 module _ {F : Type 0} (fault_text : F → Option (List ℕ)) where

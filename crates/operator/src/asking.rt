@@ -1,4 +1,4 @@
-//! The operator's side: sends a line to a server, reads its reply and checks the reply's form,
+//! The bytes of a server's reply to a request. The line is sent, and the reply's form is checked,
 //! since another server may listen at the port.
 
 ghost use Rattle.std.specs.Prelude.{◌≡◌, ◌↔◌, ◌^◌, ◌≤◌, length, Some, Err, IfOk};
@@ -9,6 +9,7 @@ ghost use Rattle.operator_request.specs.Requests.{IsSendable};
 use crate::told::{are_cells, begins_with_generation, is_loaded};
 use bounded_files::ResourceFault;
 use operator_request::OperatorRequest;
+use printing::Printed;
 use std::alloc::Global;
 use std::fmt;
 use std::io::{self, ErrorKind, Read, Write};
@@ -22,8 +23,11 @@ const REPLY_LIMIT: usize = 0x10_0000;
 /// How long a server may send nothing: it may serve another connection, or load a manifest.
 const SILENCE_SECONDS: u64 = 600;
 
-/// Why there is no reply.
-#[derive(Clone, Copy, Debug, Drop, PartialEq, Eq)]
+/// B1, as it is printed.
+pub(crate) const WORD_NAME: &str = "B1 Word";
+
+/// Why a request isn't done.
+#[derive(Debug, Drop)]
 pub enum AskFault {
     /// B1: no line can request this.
     Word,
@@ -32,37 +36,32 @@ pub enum AskFault {
     /// B5: the connection fails, the reply has no whole line, nothing arrives for ten minutes, or
     /// what arrives isn't a reply.
     Connect,
-}
-
-impl AskFault {
-    /// The number and the name, as they are printed.
-    pub fn name(self) -> &'static str
-        ensures { result.now ≡ ask_text self }
-    {
-        match self {
-            AskFault::Word => "B1 Word",
-            AskFault::Memory => ResourceFault::Memory.name(),
-            AskFault::Connect => "B5 Connect",
-        }
-    }
+    /// The server's refusal, in its words.
+    Refused(String),
 }
 
 impl fmt::Display for AskFault {
     ghost output = { λ fault. Some (ask_text fault) };
 
     fn fmt<W: fmt::Write>(&self, f: &mut fmt::Formatter<W>) -> fmt::Result {
-        f.write_str(self.name())
+        match self {
+            AskFault::Word => f.write_str(WORD_NAME),
+            AskFault::Memory => f.write_str(ResourceFault::Memory.name()),
+            AskFault::Connect => f.write_str("B5 Connect"),
+            AskFault::Refused(words) => {
+                let words = Printed(words.as_str());
+                write!(f, "{words}")
+            }
+        }
     }
 }
 
 impl std::error::Error for AskFault {}
 
-/// Sends a request to the operator's port of a server on this machine, and returns the lines of its
-/// reply, at most 1 MiB; a refusal begins with `refused `. Returns B5 for anything else, but an
-/// empty reply to `cells` means that all counters are 0. It waits ten minutes for each piece of the
-/// reply; after B5 a load or a stop may still have been done.
-// open: which of B4 and B5 is returned; its ten minutes, which nothing tests.
-pub fn ask<H>(rt: &H, port: u16, request: OperatorRequest<'_>) -> Result<Vec<u8>, AskFault>
+// Sends a request to the operator's port of a server on this machine, and returns the lines of its
+// reply, at most 1 MiB; a refusal begins with `refused `. It returns B5 for anything else. It waits
+// ten minutes for each piece of the reply.
+pub(crate) fn ask<H>(rt: &H, port: u16, request: OperatorRequest<'_>) -> Result<Vec<u8>, AskFault>
 where
     H: Net<Stream = TcpStream> + AllocGlobal,
     ensures replied { IfOk result (λ reply. specs.IsReplyTo request.entry reply.items) }

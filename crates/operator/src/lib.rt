@@ -13,6 +13,7 @@
 
 mod answering;
 mod asking;
+mod client;
 mod control;
 mod law;
 mod line;
@@ -23,8 +24,9 @@ mod telling;
 mod told;
 
 pub use answering::{answer, write_reply};
-pub use asking::{AskFault, ask};
+pub use asking::AskFault;
+pub use client::{ask_server, stop_and_wait};
 pub use control::Control;
 pub use law::loads_go_on;
-pub use loader::{Loaded, Loader};
+pub use loader::Loader;
 pub use reply::{OperatorRefusal, OperatorReply};

@@ -3,7 +3,7 @@
 
 ghost use Rattle.operator.specs.Texts.{refusal_text, reply_text};
 
-use crate::asking::AskFault;
+use crate::asking::WORD_NAME;
 use bounded_files::ResourceFault;
 use hot_swap::{Generation, SwapFault};
 use std::fmt::{self, Display};
@@ -39,7 +39,7 @@ impl<F: Display> Display for OperatorRefusal<F> {
 
     fn fmt<W: fmt::Write>(&self, f: &mut fmt::Formatter<W>) -> fmt::Result {
         match self {
-            OperatorRefusal::Word => f.write_str(AskFault::Word.name()),
+            OperatorRefusal::Word => f.write_str(WORD_NAME),
             OperatorRefusal::Memory => f.write_str(ResourceFault::Memory.name()),
             OperatorRefusal::Load(fault) => write!(f, "{fault}"),
             OperatorRefusal::Install(fault) => f.write_str(fault.name()),
