@@ -15,7 +15,7 @@ use Rattle.clap.specs.Words.{Row, Text, rows_of}
 use Rattle.command_line.specs.AppOptions.{HasAttributes, count_attributes}
 use Rattle.command_line.specs.AppOptions.{value_in, value_of}
 use Rattle.command_line.specs.Values.{texts_of}
-use Rattle.command_line.specs.declared.told.ToldApp.{ToldApp}
+use Rattle.command_line.specs.declared.app_args.AppArgs.{AppArgs}
 
 abbrev pub texts : List (Bor Text) → List Text
 texts lent = map (λ text. text.now) lent
@@ -98,7 +98,7 @@ texts_none f id r is none =
     (texts_read f id r is)
 
 -- two apps with the same attributes have equally many
-pub same_count : (rows : List Row) (a b : ToldApp) → HasAttributes rows a → HasAttributes rows b
+pub same_count : (rows : List Row) (a b : AppArgs) → HasAttributes rows a → HasAttributes rows b
     → count_attributes a ≡ count_attributes b
 same_count rows a b has_a has_b =
     let appid : option_copied a.appid ≡ option_copied b.appid = has_a.appid ∙ sym has_b.appid in
@@ -113,7 +113,7 @@ same_count rows a b has_a has_b =
 
 -- stored texts equal those that were borrowed
 pub kept_texts : {V E : Type 0} (items : V → List (Bor Text)) (r : Result V E)
-    (lent : List (Bor Text)) (told : List Text) → IfOk r (λ v. items v ≡ lent)
-    → texts lent ≡ told → IfOk r (λ v. texts (items v) ≡ told)
-kept_texts items (Ok v) lent told is same = ap texts is ∙ same
-kept_texts items (Err e) lent told is same = tt
+    (lent : List (Bor Text)) (given : List Text) → IfOk r (λ v. items v ≡ lent)
+    → texts lent ≡ given → IfOk r (λ v. texts (items v) ≡ given)
+kept_texts items (Ok v) lent given is same = ap texts is ∙ same
+kept_texts items (Err e) lent given is same = tt

@@ -6,22 +6,22 @@ use Rattle.std.specs.Prelude.{cond, option_map}
 use Rattle.std.specs.List.{find}
 use Rattle.std.specs.Str.{bytes_eq}
 use Rattle.clap.specs.Words.{Text}
-use Rattle.command_line.specs.Grammar.{names_told, verb_in}
-use Rattle.command_line.specs.declared.verb_rows.VerbRow.{VerbRow}
+use Rattle.command_line.specs.Grammar.{names_of, verb_in}
+use Rattle.command_line.specs.declared.row.CommandRow.{CommandRow}
 
-passed_first : (name : Text) (row : VerbRow) (rest : List VerbRow)
+passed_first : {V : Type 0} (name : Text) (row : CommandRow V) (rest : List (CommandRow V))
     → bytes_eq name row.name.now ≡ false
-    → verb_in name (names_told (row ∷ rest)) ≡ verb_in name (names_told rest)
+    → verb_in name (names_of (row ∷ rest)) ≡ verb_in name (names_of rest)
 passed_first name row rest other =
     ap (λ (b : Bool). option_map (λ r. r.1) (cond b (Some (row.name.now, row.verb))
-    (find (λ r. bytes_eq name r.0) (names_told rest)))) other
+    (find (λ r. bytes_eq name r.0) (names_of rest)))) other
 
-pub passed : (name : Text) (left rows : List VerbRow) (d : VerbRow) → 0 < length left
-    → bytes_eq name (get_or left 0 d).name.now ≡ false
-    → verb_in name (names_told left) ≡ verb_in name (names_told rows)
-    → verb_in name (names_told (take (length left - 1) (drop 1 left)))
-    ≡ verb_in name (names_told rows)
+pub passed : {V : Type 0} (name : Text) (left rows : List (CommandRow V)) (d : CommandRow V)
+    → 0 < length left → bytes_eq name (get_or left 0 d).name.now ≡ false
+    → verb_in name (names_of left) ≡ verb_in name (names_of rows)
+    → verb_in name (names_of (take (length left - 1) (drop 1 left)))
+    ≡ verb_in name (names_of rows)
 passed name [] rows d some other so_far = absurd (omega (arith, some))
-passed name (first ∷ rest) rows d some other so_far =
-    ap (λ (l : List VerbRow). verb_in name (names_told l)) (take_rest (first ∷ rest) 1)
+passed {V} name (first ∷ rest) rows d some other so_far =
+    ap (λ (l : List (CommandRow V)). verb_in name (names_of l)) (take_rest (first ∷ rest) 1)
     ∙ sym (passed_first name first rest other) ∙ so_far

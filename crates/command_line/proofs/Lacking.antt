@@ -1,58 +1,40 @@
--- Malformed options describe no app.
-use Rattle.std.proofs.Common.{◌≡◌, ◌∙◌, refl, ap, sym, subst, ℕ, List, Option, Some, None, codes}
+-- Malformed options describe no app and no bucket.
+use Rattle.std.proofs.Common.{◌≡◌, ◌∙◌, sym, subst, ℕ, List, Option, Some, None}
 use Rattle.std.specs.Borrow.{Bor}
 use Rattle.std.specs.Option.{option_copied}
 use Rattle.std.specs.Prelude.{IsSomeAnd, OnErr, Result, Ok, Err}
-use Rattle.std.specs.Prelude.{◌+◌, ◌*◌, ℤ, pos, option_map}
-use Rattle.attrs.specs.Moment.{first_second}
-use Rattle.clap.specs.Words.{Row, Text, first_of}
-use Rattle.command_line.specs.AppOptions.{IsInstallDay, IsPlaceBeside, LacksInstalled}
-use Rattle.command_line.specs.declared.option_misfit.MomentMisfit.{MomentMisfit}
-use Rattle.command_line.specs.declared.option_misfit.MomentMisfit.TheVariants as misfit
-use Rattle.command_line.specs.Seconds.{HasMoment, IsMomentMisfit, LacksMoment, moment_told}
+use Rattle.clap.specs.Words.{Row, Text}
+use Rattle.command_line.specs.AppOptions.{HasApp, HasAppBucket, IsBucketBeside, LacksApp}
+use Rattle.command_line.specs.AppOptions.{LacksAppBucket}
+use Rattle.command_line.specs.Runs.{HasPlaced, LacksPlaced}
 use Rattle.command_line.specs.Values.{HasBucket, LacksBucket}
+use Rattle.command_line.specs.declared.app_args.AppArgs.{AppArgs}
 
 -- what holds anyway also holds for each error
 pub on_any_error : {T E : Type 0} (P : Type 0) (r : Result T E) → P → OnErr r P
 on_any_error P (Ok x) p = tt
 on_any_error P (Err e) p = p
 
-pub no_value : {A : Type 0} (o : Option A) (a : A) → o ≡ None → o ≡ Some a → ⊥
-no_value o a none some = let bad : Some a ≡ None = sym some ∙ none in cc
+pub no_value : {A : Type 0} (o : Option A) (a : A) → None ≡ o → o ≡ Some a → ⊥
+no_value o a none some = let bad : None ≡ Some a = none ∙ some in cc
 
-untold : (at today : Option Text) (m : MomentMisfit) → IsMomentMisfit at today m
-    → moment_told at today ≡ None
-untold None today misfit.Today lacks =
-    ap (λ (o : Option ℕ). option_map (λ day. pos (first_second + 86400 * day)) o) lacks
-untold None today misfit.At lacks = absurd lacks
-untold None today misfit.Both lacks = absurd lacks
-untold (Some text) None misfit.At lacks = lacks
-untold (Some text) None misfit.Today lacks = absurd lacks
-untold (Some text) None misfit.Both lacks = absurd lacks
-untold (Some text) (Some day) m lacks = refl
-
-pub no_moment : (rows : List Row) (m : MomentMisfit) (moment : ℤ) → LacksMoment rows m
-    → HasMoment rows moment → ⊥
-no_moment rows m moment lacks has =
-    no_value _ moment (untold (first_of (codes "at") rows) (first_of (codes "today") rows) m lacks)
-    has
-
-pub not_installed : (text : Option Text) (day : Option ℕ) → LacksInstalled text
-    → IsInstallDay text day → ⊥
-not_installed None day lacks is = lacks
-not_installed (Some text) None lacks is = is
-not_installed (Some text) (Some day) lacks is = let bad : Some day ≡ None = sym is ∙ lacks in cc
-
-no_bucket : (rows : List Row) (place : Option ℕ) → LacksBucket rows
-    → IsSomeAnd place (HasBucket rows) → ⊥
+no_bucket : (rows : List Row) (bucket : Option ℕ) → LacksBucket rows
+    → IsSomeAnd bucket (HasBucket rows) → ⊥
 no_bucket rows None lacks has = has
 no_bucket rows (Some bucket) lacks has = lacks bucket has
 
 -- a malformed `--bucket`, with a cohort that names no bucket
-pub no_place_told : (rows : List Row) (named : Option ℕ) (text : Option (Bor Text))
-    (told : Bor Text) (place : Option ℕ) → named ≡ None → text ≡ Some told → LacksBucket rows
-    → IsPlaceBeside rows named (option_copied text) place → ⊥
-no_place_told rows named text told place none some lacks has =
-    no_bucket rows place lacks (subst (λ (t : Option (Bor Text)).
-    IsPlaceBeside rows None (option_copied t) place) some (subst (λ (n : Option ℕ).
-    IsPlaceBeside rows n (option_copied text) place) none has))
+pub no_bucket_beside : (rows : List Row) (named : Option ℕ) (text : Option (Bor Text))
+    (given : Bor Text) (bucket : Option ℕ) → named ≡ None → text ≡ Some given → LacksBucket rows
+    → IsBucketBeside rows named (option_copied text) bucket → ⊥
+no_bucket_beside rows named text given bucket none some lacks has =
+    no_bucket rows bucket lacks (subst (λ (t : Option (Bor Text)).
+    IsBucketBeside rows None (option_copied t) bucket) some (subst (λ (n : Option ℕ).
+    IsBucketBeside rows n (option_copied text) bucket) none has))
+
+-- the cohort of the options allows no bucket
+pub not_placed : (rows : List Row) (app : AppArgs) → HasApp rows app
+    → LacksAppBucket rows (option_copied app.cohort) → LacksPlaced rows
+not_placed rows app has lacks other bucket placed =
+    lacks bucket (subst (λ (cohort : Option Text). HasAppBucket rows cohort bucket)
+    (placed.app_is.attributes.cohort ∙ sym has.attributes.cohort) placed.bucket_is)

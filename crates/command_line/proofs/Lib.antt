@@ -1,11 +1,6 @@
 mod Built
 mod Found
-mod Reading
-mod Asking
-mod Parsed
-mod Attributes
-mod Lacking
-mod SimulationMisfits
-mod ReportMisfits
-mod CheckMisfits
-mod ReplyMisfits
+pub mod Reading
+pub mod Parsed
+pub mod Attributes
+pub mod Lacking

@@ -16,9 +16,10 @@ use Rattle.clap.specs.declared.builder.command.Command.{Command}
 use Rattle.clap.specs.declared.builder.command.Command.TheViews.{out-Command}
 use Rattle.clap.specs.Matches.{ReadsOne}
 use Rattle.clap.specs.Simple.{app_of_fields}
-use Rattle.clap.specs.Words.{Text, App, Shape, AddsSubcommand, app_of, shape_of, new_app}
+use Rattle.clap.specs.Words.{Text, App, Row, AddsSubcommand, app_of, shape_of, new_app}
 use Rattle.clap.specs.Words.{with_subcommand, first_value, one_text, first_of, rows_of}
 use Rattle.clap.proofs.WalkLemmas.{first_value-rows, one_text-rows}
+use Rattle.command_line.specs.Grammar.{with_required, with_subcommands}
 use Rattle.command_line.specs.Values.{HasNumber, HasText}
 
 pub text_read : (f : Found) (id : Text) (r : Option (Bor Text))
@@ -48,15 +49,21 @@ number_read k f id r n none value is = of (one_text f id) refl
         subst (λ (x : Option ℕ). ReadsOne (Parses k) t x) is (value t e) in
         (t, sym (one_text-rows f id) ∙ e, (parsed.0.0.0, parsed.0.1))
 
+-- an option gives one number
+pub one_number : (id : Text) (rows : List Row) (m n : ℕ) → HasNumber id rows m
+    → HasNumber id rows n → m ≡ n
+one_number id rows m n has_m has_n =
+    let both : Some has_m.0 ≡ Some has_n.0 = sym has_m.1 ∙ has_n.1 in
+    let digits : has_m.0 ≡ has_n.0 = cc in
+    has_m.2.1 ∙ ap (λ (t : Text). digits_value 10 (without_leading_plus t)) digits
+    ∙ sym has_n.2.1
+
 pub number_same : (k : ℕ) (f : Found) (id : Text) (r : Option ℕ) (m n : ℕ)
     → (one_text f id ≡ None → r ≡ None)
     → ((t : Text) → one_text f id ≡ Some t → ReadsOne (Parses k) t r) → r ≡ Some m
     → HasNumber id (rows_of f) n → n ≡ m
 number_same k f id r m n none value is has =
-    let mine : HasNumber id (rows_of f) m = number_read k f id r m none value is in
-    let both : Some has.0 ≡ Some mine.0 = sym has.1 ∙ mine.1 in
-    let digits : has.0 ≡ mine.0 = cc in
-    has.2.1 ∙ ap (λ (t : Text). digits_value 10 (without_leading_plus t)) digits ∙ sym mine.2.1
+    one_number id (rows_of f) n m has (number_read k f id r m none value is)
 
 pub number_missing : (k : ℕ) (f : Found) (id : Text) (r : Option ℕ) (n : ℕ)
     → (one_text f id ≡ None → r ≡ None)
@@ -75,19 +82,12 @@ text_missing f id r t is none has =
     let bad : Some t ≡ None = sym has ∙ text_read f id r is ∙ ap (option_map (λ s. s.now)) none in
     cc
 
-abbrev with_required : App → App
-with_required a = record a { top = record a.top { subcommand_required = true } }
-
-pub required_top : (old mid new : Command) (name : Text) (about : Option (Bor Text))
-    → app_of old ≡ new_app name → out-Command mid ≡ record (out-Command old) { about = about }
+pub required_top : (old mid new : Command) (name : Text) (help : Option (Bor Text))
+    → app_of old ≡ new_app name → out-Command mid ≡ record (out-Command old) { help_str = help }
     → out-Command new ≡ record (out-Command mid) { subcommand_required = true }
     → app_of new ≡ with_required (new_app name)
-required_top old mid new name about is_old is_mid is_new =
+required_top old mid new name help is_old is_mid is_new =
     ap app_of_fields is_new ∙ ap (λ (x : App). with_required x) (ap app_of_fields is_mid ∙ is_old)
-
-abbrev pub with_subcommands : App → List Shape → App
-with_subcommands a [] = a
-with_subcommands a (s ∷ rest) = with_subcommands (with_subcommand a s) rest
 
 -- subcommands added one by one, none with a global argument
 pub with_more : (subs : List Command) (old new : Command) (a : App) → app_of old ≡ a

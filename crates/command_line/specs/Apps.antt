@@ -5,32 +5,32 @@ use Rattle.attrs.specs.Attributes.{Attributes}
 use Rattle.attrs.specs.Facts.{attributes_of}
 use Rattle.attrs.specs.declared.facts.AppFacts.{AppFacts}
 use Rattle.attrs.specs.declared.facts.RequestFacts.{RequestFacts}
-use Rattle.command_line.specs.declared.told.ToldApp.{ToldApp}
+use Rattle.command_line.specs.declared.app_args.AppArgs.{AppArgs}
 
 -- the app's part of its request; without an appid that text is empty
-abbrev pub app_facts : ToldApp → AppFacts
-app_facts told = record {
-  appid = unwrap_or (option_copied told.appid) [];
-  version = option_copied told.version;
-  brand = option_copied told.brand;
-  ap = option_copied told.ap;
-  lang = option_copied told.lang;
-  cohort = option_copied told.cohort;
-  installdate = told.installed;
+abbrev pub app_facts : AppArgs → AppFacts
+app_facts app = record {
+  appid = unwrap_or (option_copied app.appid) [];
+  version = option_copied app.version;
+  brand = option_copied app.brand;
+  ap = option_copied app.ap;
+  lang = option_copied app.lang;
+  cohort = option_copied app.cohort;
+  installdate = app.installed;
   updatecheck = true;
-  ping = told.ping;
-  event = told.event;
+  ping = app.ping;
+  event = app.event;
 }
 
-abbrev pub request_facts : ToldApp → RequestFacts
-request_facts told = record {
+abbrev pub request_facts : AppArgs → RequestFacts
+request_facts app = record {
   requestid = None;
   sessionid = None;
-  platform = option_copied told.platform;
+  platform = option_copied app.platform;
 }
 
-abbrev pub moment : ToldApp → ℤ
-moment told = told.moment
+abbrev pub moment : AppArgs → ℤ
+moment app = app.moment
 
 -- in a bucket of its own, or in that of its cohort
 abbrev pub placed : Option ℕ → Attributes → Attributes
@@ -38,6 +38,6 @@ placed None a = a
 placed (Some bucket) a = record a { context = record a.context { bucket = bucket } }
 
 -- the attributes of the app that the options describe, in its bucket, with an update check
-abbrev pub attributes_told : ToldApp → (bucket : Option ℕ) → Attributes
-attributes_told told bucket =
-    placed bucket (attributes_of (app_facts told) (request_facts told) (moment told))
+abbrev pub app_attributes : AppArgs → (bucket : Option ℕ) → Attributes
+app_attributes app bucket =
+    placed bucket (attributes_of (app_facts app) (request_facts app) (moment app))

@@ -1,19 +1,17 @@
--- The commands of the command line, with their arguments.
+-- Arguments and commands in the form of clap, and the grammar of a table of commands.
 use Rattle.std.specs.Prelude.{ℕ, ℤ, pos, Bool, List, [], ◌∷◌, map, Some, true, false, codes, Option}
-use Rattle.std.specs.Prelude.{option_map}
+use Rattle.std.specs.Prelude.{option_and_then, option_map}
 use Rattle.std.specs.List.{find}
 use Rattle.std.specs.Str.{bytes_eq}
 use Rattle.clap.specs.declared.builder.action.ArgAction.{ArgAction}
 use Rattle.clap.specs.declared.builder.action.ArgAction.TheVariants.{Append, Set, SetTrue}
 use Rattle.clap.specs.declared.builder.value_parser.ValueParser.TheVariants.{Signed}
 use Rattle.clap.specs.Simple.{Shape, new_shape}
-use Rattle.clap.specs.Words.{App, Rule, Text, new_rule}
+use Rattle.clap.specs.Words.{App, Row, Rule, Text, new_app, new_rule, with_subcommand}
 use Rattle.command_line.specs.declared.argument.CommandArgument.{CommandArgument}
 use Rattle.command_line.specs.declared.argument.CommandArgument.TheVariants as argument
 use Rattle.command_line.specs.declared.argument.NumberLimits.{NumberLimits}
-use Rattle.command_line.specs.declared.verb.Verb.{Verb}
-use Rattle.command_line.specs.declared.verb.Verb.TheVariants as verb
-use Rattle.command_line.specs.declared.verb_rows.VerbRow.{VerbRow}
+use Rattle.command_line.specs.declared.row.CommandRow.{CommandRow}
 
 -- ---- arguments and options
 
@@ -56,25 +54,25 @@ abbrev pub limited : Text → NumberLimits → (required : Bool) → (defaults :
 limited name limits required defaults = ranged name limits.0 limits.1 required defaults
 
 -- an argument in clap's form
-abbrev pub rule_told : CommandArgument → Rule
-rule_told (argument.Word id help) = file id.now
-rule_told (argument.Words id help) = files id.now
-rule_told (argument.Flag name help) = flag name.now
-rule_told (argument.Text name value help) = option name.now
-rule_told (argument.Texts name value help) = repeated name.now
-rule_told (argument.Number name value limits help) = limited name.now limits true []
-rule_told (argument.OptionalNumber name value limits help) = limited name.now limits false []
-rule_told (argument.NumberByDefault name value limits default help) =
+abbrev pub rule_of_argument : CommandArgument → Rule
+rule_of_argument (argument.Word id help) = file id.now
+rule_of_argument (argument.Words id help) = files id.now
+rule_of_argument (argument.Flag name help) = flag name.now
+rule_of_argument (argument.Text name value help) = option name.now
+rule_of_argument (argument.Texts name value help) = repeated name.now
+rule_of_argument (argument.Number name value limits help) = limited name.now limits true []
+rule_of_argument (argument.OptionalNumber name value limits help) = limited name.now limits false []
+rule_of_argument (argument.NumberByDefault name value limits default help) =
     limited name.now limits false (default.now ∷ [])
 
 abbrev pub command : Text → List Rule → Shape
 command name arguments = record (new_shape name) { rules = arguments }
 
 -- a command in clap's form
-abbrev pub shape_told : VerbRow → Shape
-shape_told row = command row.name.now (map rule_told row.arguments.now)
+abbrev pub shape_of_row : {V : Type 0} → CommandRow V → Shape
+shape_of_row row = command row.name.now (map rule_of_argument row.arguments.now)
 
--- ---- the commands
+-- ---- arguments that several commands share
 
 -- `--NAME N`, from the least to the most
 abbrev pub number : Text → ℕ → ℕ → Rule
@@ -103,79 +101,57 @@ arrays = option (codes "arrays")
 abbrev pub operator : Rule
 operator = required_number (codes "operator") 1 65535
 
--- `--timeout S`, 30 by default
-abbrev pub timeout : Rule
-timeout = ranged (codes "timeout") (pos 1) (pos 3600) false (codes "30" ∷ [])
-
 -- the options that describe an app
-abbrev pub told : List Rule
-told = option (codes "version") ∷ repeated (codes "attr") ∷ flag (codes "ping")
+abbrev pub app_options : List Rule
+app_options = option (codes "version") ∷ repeated (codes "attr") ∷ flag (codes "ping")
     ∷ flag (codes "event") ∷ option (codes "today") ∷ option (codes "at")
     ∷ option (codes "installed") ∷ []
 
--- a command of the grammar: its name, and its arguments
-pub record VerbRules : Type 0 where
+-- `--bucket N`
+abbrev pub bucket : Rule
+bucket = number (codes "bucket") 0 9999
+
+-- ---- tables of commands
+
+abbrev pub with_required : App → App
+with_required app = record app { top = record app.top { subcommand_required = true } }
+
+abbrev pub with_subcommands : App → List Shape → App
+with_subcommands app [] = app
+with_subcommands app (s ∷ rest) = with_subcommands (with_subcommand app s) rest
+
+-- a command line that requires one of these commands
+abbrev pub app_with : List Shape → App
+app_with shapes = with_subcommands (with_required (new_app (codes "rollout"))) shapes
+
+-- a command of a grammar: its name, and its arguments
+pub record VerbRules (V : Type 0) : Type 0 where
   pub name : Text
-  pub verb : Verb
+  pub verb : V
   pub rules : List Rule
 
-abbrev pub verb_rules : Text → Verb → List Rule → VerbRules
-verb_rules name verb rules = record { name = name; verb = verb; rules = rules }
+-- the command line of a grammar
+abbrev pub app_of_rules : {V : Type 0} → List (VerbRules V) → App
+app_of_rules verbs = app_with (map (λ r. command r.name r.rules) verbs)
 
--- all commands, in the order of their names
-abbrev pub verbs : List VerbRules
-verbs =
-    verb_rules (codes "ask") verb.Ask (manifest ∷ file (codes "REQUEST") ∷ option (codes "at")
-    ∷ repeated (codes "cells") ∷ number (codes "operator") 1 65535 ∷ flag (codes "why") ∷ [])
-    ∷ verb_rules (codes "asm") verb.Assemble (input ∷ file (codes "OUT") ∷ [])
-    ∷ verb_rules (codes "cells") verb.Cells (operator ∷ [])
-    ∷ verb_rules (codes "check") verb.Check
-    (files (codes "MANIFEST") ∷ flag (codes "strict") ∷ repeated (codes "allow")
-    ∷ flag (codes "json") ∷ [])
-    ∷ verb_rules (codes "compile") verb.Compile
-    (input ∷ file (codes "OUT") ∷ releases ∷ arrays ∷ [])
-    ∷ verb_rules (codes "explain") verb.Explain (input ∷ releases ∷ arrays ∷ [])
-    ∷ verb_rules (codes "list") verb.List (input ∷ [])
-    ∷ verb_rules (codes "load") verb.Load (file (codes "PATH") ∷ operator ∷ [])
-    ∷ verb_rules (codes "order") verb.Order (input ∷ file (codes "OUT") ∷ [])
-    ∷ verb_rules (codes "replay") verb.Replay (manifest ∷ file (codes "SCRIPT") ∷ [])
-    ∷ verb_rules (codes "report") verb.Report
-    (files (codes "LOG") ∷ option (codes "since") ∷ option (codes "until")
-    ∷ flag (codes "prometheus") ∷ option (codes "svg") ∷ [])
-    ∷ verb_rules (codes "run") verb.Run
-    (input ∷ releases ∷ arrays ∷ number (codes "bucket") 0 9999 ∷ flag (codes "trace") ∷ told)
-    ∷ verb_rules (codes "serve") verb.Serve
-    (manifest ∷ required_number (codes "port") 1 65535 ∷ operator
-    ∷ required_number (codes "workers") 1 64 ∷ timeout ∷ flag (codes "log") ∷ [])
-    ∷ verb_rules (codes "show") verb.Show (operator ∷ [])
-    ∷ verb_rules (codes "simulate") verb.Simulate
-    (manifest ∷ option (codes "against") ∷ option (codes "svg") ∷ option (codes "app")
-    ∷ flag (codes "fail-on-lost") ∷ flag (codes "json") ∷ told)
-    ∷ verb_rules (codes "stop") verb.Stop (operator ∷ flag (codes "wait") ∷ [])
-    ∷ verb_rules (codes "verify") verb.Verify (input ∷ releases ∷ arrays ∷ []) ∷ []
+-- the command line of a table in the code
+abbrev pub app_of_rows : {V : Type 0} → List (CommandRow V) → App
+app_of_rows rows = app_with (map shape_of_row rows)
 
 -- ---- by name
 
-abbrev pub names : List (Text × Verb)
-names = map (λ r. (r.name, r.verb)) verbs
+abbrev pub names_of_rules : {V : Type 0} → List (VerbRules V) → List (Text × V)
+names_of_rules verbs = map (λ r. (r.name, r.verb)) verbs
 
--- the names of a table of commands
-abbrev pub names_told : List VerbRow → List (Text × Verb)
-names_told rows = map (λ r. (r.name.now, r.verb)) rows
+abbrev pub names_of : {V : Type 0} → List (CommandRow V) → List (Text × V)
+names_of rows = map (λ r. (r.name.now, r.verb)) rows
 
 -- the command of the first row with a name
-abbrev pub verb_in : Text → List (Text × Verb) → Option Verb
+abbrev pub verb_in : {V : Type 0} → Text → List (Text × V) → Option V
 verb_in name rows = option_map (λ r. r.1) (find (λ r. bytes_eq name r.0) rows)
 
--- the command with a name
-abbrev pub verb_named : Text → Option Verb
-verb_named name = verb_in name names
-
-abbrev pub shapes : List Shape
-shapes = map (λ r. command r.name r.rules) verbs
-
-abbrev pub commands : App
-commands = record {
-  top = record (new_shape (codes "rollout")) { is_leaf = false; subcommand_required = true };
-  subs = shapes;
-}
+-- the command among these that the words have, with what its arguments were given
+abbrev pub verb_of : {V : Type 0} → List (Text × V) → Option (Text × List Row)
+    → Option (V × List Row)
+verb_of names named =
+    option_and_then (λ n. option_map (λ v. (v, n.1)) (verb_in n.0 names)) named

@@ -4,9 +4,6 @@ pub mod Day
 pub mod Seconds
 pub mod Apps
 pub mod AppOptions
-pub mod ReplyWords
-pub mod Misfits
-pub mod CheckWords
-pub mod ReportWords
-pub mod Words
-pub mod Requests
+pub mod Runs
+pub mod Faults
+pub mod Printed

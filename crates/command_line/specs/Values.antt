@@ -1,13 +1,15 @@
 -- The values of arguments and options.
 use Rattle.std.specs.Prelude.{◌≡◌, ℕ, ◌≤◌, ◌<◌, ◌^◌, List, [], Option, Some, None}
-use Rattle.std.specs.Prelude.{Bool, true, false}
+use Rattle.std.specs.Prelude.{Bool, true, false, Err, Result}
 use Rattle.std.specs.Prelude.{codes, unwrap_or}
 use Rattle.std.specs.Str.Parse.{IsNumeral, digits_value, without_leading_plus}
 use Rattle.clap.specs.Words.{Row, Text, all_of, first_of, one_of}
 use Rattle.cells.specs.Directory.{Declaration}
 use Rattle.declarations.specs.Spec.{declarations_in}
-use Rattle.command_line.specs.declared.request.DeclaredShape.{DeclaredShape}
-use Rattle.command_line.specs.declared.request.Plan.{Plan}
+use Rattle.command_line.specs.declared.argument_fault.ArgsError.{ArgsError}
+use Rattle.command_line.specs.declared.argument_fault.ArgsError.TheVariants.{Wrong}
+use Rattle.command_line.specs.declared.argument_fault.ArgumentFault.{ArgumentFault}
+use Rattle.command_line.specs.declared.declared_shape.DeclaredShape.{DeclaredShape}
 
 -- ---- the values of arguments
 
@@ -73,12 +75,8 @@ pub record HasFlag (id : Text) (rows : List Row) (flag : Bool) : Type 0 where
   pub unset : one_of id rows ≡ Some (codes "false") → flag ≡ false
   pub set : one_of id rows ≡ Some (codes "true") → flag ≡ true
 
-pub record HasPlan (rows : List Row) (plan : Plan) : Type 0 where
-  pub port : HasShort (codes "port") rows plan.port
-  pub operator : HasShort (codes "operator") rows plan.operator
-  pub workers : HasShort (codes "workers") rows plan.workers
-  pub timeout : HasShort (codes "timeout") rows plan.timeout
-  pub log : HasFlag (codes "log") rows plan.log
+-- ---- errors
 
-abbrev pub LacksPlan : List Row → Type 0
-LacksPlan rows = (plan : Plan) → ¬ HasPlan rows plan
+-- P holds if the arguments are wrong; nothing is claimed if an allocation fails
+abbrev pub OnWrong : {T : Type 0} → Result T ArgsError → (P : Type 0) → Type 0
+OnWrong result P = (fault : ArgumentFault) → result ≡ Err (Wrong fault) → P

@@ -1,69 +1,69 @@
 //! The app that the options describe: its attributes, its bucket, and the day of its installation.
 
-ghost use Rattle.std.specs.Prelude.{◌≡◌, ◌≤◌, Err, IfNone, IfOk, IfSome, None, OnErr, Some};
+ghost use Rattle.std.specs.Prelude.{◌≡◌, ◌≤◌, IfNone, IfOk, IfSome, OnErr, Some};
 ghost use Rattle.std.specs.Prelude.{codes, length, map};
 ghost use Rattle.std.specs.Option.{option_and_then, option_copied};
+ghost use Rattle.std.specs.Result.{result_ok};
 ghost use Rattle.attrs.specs.Bucket.{cohort_bucket};
 ghost use Rattle.clap.specs.Words.{first_of, found_of, rows_of};
 ghost use Rattle.command_line.specs.AppOptions as specs;
 ghost use Rattle.command_line.specs.Day.{day_in};
-ghost use Rattle.command_line.specs.Seconds.{HasMoment};
-ghost use Rattle.command_line.specs.Values.{HasFlag};
+ghost use Rattle.command_line.specs.Seconds.{moment_in};
+ghost use Rattle.command_line.specs.Values.{HasFlag, OnWrong};
 
+use crate::app_args::AppArgs;
+use crate::argument_fault::{ArgsError, ArgumentFault};
 use crate::day::day_in;
-use crate::options::{bucket_of, flag_of, optional_text};
-use crate::request::NoRequest;
 use crate::second::moment_of;
-use crate::told::ToldApp;
+use crate::values::{bucket_of, flag_of, optional_text};
 use attrs::{Bucket, Context, Moment, cohort_bucket};
 use clap::ArgMatches;
 
 /// The last day of an installation: the next number means that the day is unknown.
 const LAST_INSTALLED: u32 = Context::UNKNOWN_DAY - 1;
 
-/// The app that the options describe.
-pub fn told_of<'a>(found: &ArgMatches<'a>) -> Result<ToldApp<'a>, NoRequest>
-    ensures given { IfOk result (specs.HasTold (rows_of (found_of found.now))) }
-    ensures lacking { OnErr result (specs.LacksTold (rows_of (found_of found.now))) }
+/// The app that the options describe. An error unless its moment and its day of installation are
+/// well-formed, each text of `--attr` gives one of the attributes, and no two give the same.
+pub fn read_app<'a>(found: &ArgMatches<'a>) -> Result<AppArgs<'a>, ArgsError>
+    ensures given { IfOk result (specs.HasApp (rows_of (found_of found.now))) }
+    ensures lacking { OnErr result (specs.LacksApp (rows_of (found_of found.now))) }
 {
-    let Ok(moment) = moment_of(found) else {
-        return Err(NoRequest::Wrong);
-    };
+    let moment = moment_of(found)?;
     let installed = installed_of(found)?;
-    match told_at(found, &moment, installed) {
-        Some(told) => Ok(told),
-        None => Err(NoRequest::Wrong),
+    match app_at(found, &moment, installed) {
+        Some(app) => Ok(app),
+        None => Err(ArgsError::Wrong(ArgumentFault::Attributes)),
     }
 }
 
-/// The app at this moment, installed on this day. `None` unless each text gives one of the
-/// attributes, and no two give the same.
-pub fn told_at<'a>(
+// The app at this moment, installed on this day. `None` unless each text gives one of the
+// attributes, and no two give the same.
+fn app_at<'a>(
     found: &ArgMatches<'a>,
     moment: &Moment,
     installed: Option<u32>,
-) -> Option<ToldApp<'a>>
-    ensures given { IfSome result (λ told.
-        HasMoment (rows_of (found_of found.now)) moment.now
-        → specs.IsInstallDay (first_of (codes "installed") (rows_of (found_of found.now))) installed
-        → specs.HasTold (rows_of (found_of found.now)) told) }
+) -> Option<AppArgs<'a>>
+    ensures given { IfSome result (λ app.
+        moment_in (rows_of (found_of found.now)) ≡ Some moment.now
+        → specs.install_day (first_of (codes "installed") (rows_of (found_of found.now)))
+        ≡ Some installed → specs.HasApp (rows_of (found_of found.now)) app) }
     ensures lacking { IfNone result (specs.LacksAttributes (rows_of (found_of found.now))) }
 {
-    let told = described(found, moment, installed);
+    let app = described(found, moment, installed);
     let given = count_given(found);
-    let counted = count_attributes(&told);
-    if given == counted { Some(told) } else { None }
+    let counted = count_attributes(&app);
+    if given == counted { Some(app) } else { None }
 }
 
 // The app with this moment and day, and the first text of each attribute.
-fn described<'a>(found: &ArgMatches<'a>, moment: &Moment, installed: Option<u32>) -> ToldApp<'a>
+fn described<'a>(found: &ArgMatches<'a>, moment: &Moment, installed: Option<u32>) -> AppArgs<'a>
     ensures attributes { specs.HasAttributes (rows_of (found_of found.now)) result }
     ensures ping { HasFlag (codes "ping") (rows_of (found_of found.now)) result.ping }
     ensures event { HasFlag (codes "event") (rows_of (found_of found.now)) result.event }
     ensures moment { result.moment ≡ moment.now }
     ensures installed { result.installed ≡ installed }
 {
-    ToldApp {
+    AppArgs {
         appid: attribute_of(found, "appid="),
         version: optional_text(found, "version"),
         brand: attribute_of(found, "brand="),
@@ -81,15 +81,15 @@ fn described<'a>(found: &ArgMatches<'a>, moment: &Moment, installed: Option<u32>
 // ---- attributes
 
 // How many attributes the app has.
-fn count_attributes(told: &ToldApp<'_>) -> usize
-    ensures { result ≡ specs.count_attributes told.now }
+fn count_attributes(app: &AppArgs<'_>) -> usize
+    ensures { result ≡ specs.count_attributes app.now }
 {
-    count(told.appid)
-        + count(told.brand)
-        + count(told.ap)
-        + count(told.lang)
-        + count(told.cohort)
-        + count(told.platform)
+    count(app.appid)
+        + count(app.brand)
+        + count(app.ap)
+        + count(app.lang)
+        + count(app.cohort)
+        + count(app.platform)
 }
 
 fn count(text: Option<&str>) -> usize
@@ -140,34 +140,23 @@ fn value_of<'a>(text: &'a str, name: &str) -> Option<&'a str>
 
 // ---- the day of the installation
 
-/// The day of the installation, if an option gives it.
-pub fn installed_of(found: &ArgMatches<'_>) -> Result<Option<u32>, NoRequest>
-    ensures given { IfOk result
-        (specs.IsInstallDay (first_of (codes "installed") (rows_of (found_of found.now)))) }
-    ensures lacking { OnErr result
-        (specs.LacksInstalled (first_of (codes "installed") (rows_of (found_of found.now)))) }
+// The day of the installation, if an option gives it.
+fn installed_of(found: &ArgMatches<'_>) -> Result<Option<u32>, ArgsError>
+    ensures { result_ok result
+        ≡ specs.install_day (first_of (codes "installed") (rows_of (found_of found.now))) }
 {
-    installed_told(optional_text(found, "installed"))
+    install_day(optional_text(found, "installed"))
 }
 
-fn installed_told(text: Option<&str>) -> Result<Option<u32>, NoRequest>
-    ensures given { IfOk result (specs.IsInstallDay (option_copied text.entry)) }
-    ensures lacking { OnErr result (specs.LacksInstalled (option_copied text.entry)) }
+fn install_day(text: Option<&str>) -> Result<Option<u32>, ArgsError>
+    ensures { result_ok result ≡ specs.install_day (option_copied text.entry) }
 {
     match text {
-        Some(text) => Ok(Some(day_told(LAST_INSTALLED, text)?)),
+        Some(text) => match day_in(LAST_INSTALLED, text) {
+            Some(day) => Ok(Some(day)),
+            None => Err(ArgsError::Wrong(ArgumentFault::Installed)),
+        },
         None => Ok(None),
-    }
-}
-
-fn day_told(most: u32, text: &str) -> Result<u32, NoRequest>
-    ensures given { IfOk result (λ day. day_in most text.now ≡ Some day) }
-    ensures limit { IfOk result (λ day. day ≤ most) }
-    ensures lacking { OnErr result (day_in most text.now ≡ None) }
-{
-    match day_in(most, text) {
-        Some(day) => Ok(day),
-        None => Err(NoRequest::Wrong),
     }
 }
 
@@ -175,27 +164,30 @@ fn day_told(most: u32, text: &str) -> Result<u32, NoRequest>
 
 /// The bucket of `--bucket`, or 0 without it, if the cohort names none. If the cohort names one,
 /// `None`, and giving `--bucket` is an error.
-pub fn place_of(found: &ArgMatches<'_>, cohort: Option<&str>) -> Result<Option<Bucket>, NoRequest>
+pub fn read_bucket(
+    found: &ArgMatches<'_>,
+    cohort: Option<&str>,
+) -> Result<Option<Bucket>, ArgsError>
     ensures given { IfOk result
-        (specs.IsPlace (rows_of (found_of found.now)) (option_copied cohort.entry)) }
-    ensures lacking { result ≡ Err NoRequest.Wrong
-        → specs.LacksPlace (rows_of (found_of found.now)) (option_copied cohort.entry) }
+        (specs.HasAppBucket (rows_of (found_of found.now)) (option_copied cohort.entry)) }
+    ensures lacking { OnWrong result
+        (specs.LacksAppBucket (rows_of (found_of found.now)) (option_copied cohort.entry)) }
 {
-    place_beside(found, bucket_named(cohort), optional_text(found, "bucket"))
+    bucket_beside(found, bucket_named(cohort), optional_text(found, "bucket"))
 }
 
-fn place_beside(
+fn bucket_beside(
     found: &ArgMatches<'_>,
     named: Option<Bucket>,
     text: Option<&str>,
-) -> Result<Option<Bucket>, NoRequest>
+) -> Result<Option<Bucket>, ArgsError>
     ensures given { IfOk result
-        (specs.IsPlaceBeside (rows_of (found_of found.now)) named (option_copied text.entry)) }
-    ensures lacking { result ≡ Err NoRequest.Wrong
-        → specs.LacksPlaceBeside (rows_of (found_of found.now)) named (option_copied text.entry) }
+        (specs.IsBucketBeside (rows_of (found_of found.now)) named (option_copied text.entry)) }
+    ensures lacking { OnWrong result
+        (specs.LacksBucketBeside (rows_of (found_of found.now)) named (option_copied text.entry)) }
 {
     match (named, text) {
-        (Some(_), Some(_)) => Err(NoRequest::Wrong),
+        (Some(_), Some(_)) => Err(ArgsError::Wrong(ArgumentFault::Bucket)),
         (Some(_), None) => Ok(None),
         (None, Some(_)) => Ok(Some(bucket_of(found)?)),
         (None, None) => Ok(Some(Bucket::new(0))),

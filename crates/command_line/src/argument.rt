@@ -36,7 +36,7 @@ pub struct NumberLimits(pub i64, pub i64);
 
 /// The argument in clap's form.
 pub fn arg_of<'a>(alloc: Global, argument: &CommandArgument) -> Arg<'a>
-    ensures rule { rule_of result ≡ grammar.rule_told argument.now }
+    ensures rule { rule_of result ≡ grammar.rule_of_argument argument.now }
     ensures local { result.global ≡ false }
 {
     match *argument {

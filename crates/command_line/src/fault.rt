@@ -1,20 +1,19 @@
-//! Why the words of a command line make no request.
+//! Why the words of a command line make no command.
 
-use crate::option_misfit::OptionMisfit;
+use crate::argument_fault::ArgumentFault;
 use clap::Error as ClapError;
 use std::error::Error;
 use std::fmt;
 
-/// Why there is no request. `Display` writes the first three with their line feeds.
+/// Why there is no command. `Display` writes the first three with their line feeds.
 #[derive(Debug, Drop)]
 pub enum WordsFault {
     /// The words request help: its page.
     Help(ClapError),
     /// A usage error: the words don't fit the grammar. It has the cause and the usage.
     Usage(ClapError),
-    /// The words fit the grammar, but make no request: this option is malformed, or a value is
-    /// missing.
-    Nothing(OptionMisfit),
+    /// The words fit the grammar, but make no command: this argument is malformed or missing.
+    Nothing(ArgumentFault),
     /// Out of memory.
     Memory,
 }
@@ -24,7 +23,7 @@ impl fmt::Display for WordsFault {
         match self {
             WordsFault::Help(error) => write!(f, "{error}"),
             WordsFault::Usage(error) => write!(f, "{error}"),
-            WordsFault::Nothing(misfit) => writeln!(f, "error: {misfit}"),
+            WordsFault::Nothing(fault) => writeln!(f, "error: {fault}"),
             WordsFault::Memory => f.write_str("Memory"),
         }
     }

@@ -1,21 +1,21 @@
-//! The commands of the command line.
+//! The grammar of a command line, from a table of commands.
 
 ghost use Rattle.std.specs.Prelude.{◌≡◌, IfOk, false, map};
 ghost use Rattle.std.specs.List.{AllByRecursion};
 ghost use Rattle.clap.specs.Words.{app_of, rule_of, shape_of};
 ghost use Rattle.clap.specs.declared.builder.command.Command.TheViews.{out-Command as fields_of};
-ghost use Rattle.command_line.specs.Grammar as grammar;
+ghost use Rattle.command_line.specs.Grammar as specs;
 
 use crate::argument::{CommandArgument, arg_of};
-use crate::verb_help::{about, behind};
-use crate::verb_rows::{VerbRow, verb_rows};
+use crate::help::HELP;
+use crate::row::CommandRow;
 use clap::{Arg, Command};
 use std::alloc::{AllocError, Global};
 
 // The arguments in clap's form, in their order. None is global.
 fn args_of<'a>(alloc: Global, arguments: &[CommandArgument]) -> Result<Vec<Arg<'a>>, AllocError>
     ensures rules { IfOk result (λ args.
-        map rule_of args.items ≡ map grammar.rule_told arguments.now) }
+        map rule_of args.items ≡ map specs.rule_of_argument arguments.now) }
     ensures local { IfOk result (λ args. AllByRecursion (λ a. a.global ≡ false) args.items) }
 {
     let mut args = Vec::new(alloc);
@@ -34,19 +34,19 @@ fn command_with<'a>(
 ) -> Result<Command<'a>, AllocError>
     requires { AllByRecursion (λ a. a.global ≡ false) args.items }
     ensures shape { IfOk result (λ c.
-        shape_of c ≡ grammar.command name.now (map rule_of args.entry.items)) }
+        shape_of c ≡ specs.command name.now (map rule_of args.entry.items)) }
     ensures local { IfOk result (λ c. (fields_of c).has_globals ≡ false) }
 {
     Command::new(alloc, name).about(about).args(args)
 }
 
-fn command_of<'a>(alloc: Global, row: &VerbRow) -> Result<Command<'a>, AllocError>
-    ensures shape { IfOk result (λ c. shape_of c ≡ grammar.shape_told row.now) }
+fn command_of<'a, V>(alloc: Global, row: &CommandRow<V>) -> Result<Command<'a>, AllocError>
+    ensures shape { IfOk result (λ c. shape_of c ≡ specs.shape_of_row row.now) }
     ensures local { IfOk result (λ c. (fields_of c).has_globals ≡ false) }
 {
     let args = args_of(alloc, row.arguments)?;
-    let command = command_with(alloc, row.name, about(row.verb), args)?;
-    Ok(with_end(command, behind(row.verb)))
+    let command = command_with(alloc, row.name, row.about, args)?;
+    Ok(with_end(command, row.end))
 }
 
 // The command, with this text after its help.
@@ -61,9 +61,9 @@ fn with_end<'a>(command: Command<'a>, end: Option<&'a str>) -> Command<'a>
 }
 
 // The commands of these rows, in their order.
-fn commands<'a>(alloc: Global, rows: &[VerbRow]) -> Result<Vec<Command<'a>>, AllocError>
+fn commands<'a, V>(alloc: Global, rows: &[CommandRow<V>]) -> Result<Vec<Command<'a>>, AllocError>
     ensures shapes { IfOk result (λ cs.
-        map shape_of cs.items ≡ map grammar.shape_told rows.now) }
+        map shape_of cs.items ≡ map specs.shape_of_row rows.now) }
     ensures local { IfOk result (λ cs.
         AllByRecursion (λ c. (fields_of c).has_globals ≡ false) cs.items) }
 {
@@ -74,18 +74,13 @@ fn commands<'a>(alloc: Global, rows: &[VerbRow]) -> Result<Vec<Command<'a>>, All
     Ok(commands)
 }
 
-// The end of `rollout --help`.
-const PROGRAMS: &str = "\
-Programs are of RFC 9669's conformance groups base32, base64, divmul32, divmul64, atomic32 and
-atomic64.";
-
-/// The grammar of the command line.
-pub fn grammar<'a>(alloc: Global) -> Result<Command<'a>, AllocError>
-    ensures { IfOk result (λ c. app_of c ≡ grammar.commands) }
+/// The grammar of these commands. The page of help without a command is the same for each table:
+/// it names the commands of both programs.
+pub fn grammar_of<'a, V>(alloc: Global, rows: &[CommandRow<V>]) -> Result<Command<'a>, AllocError>
+    ensures { IfOk result (λ c. app_of c ≡ specs.app_of_rows rows.now) }
 {
     Command::new(alloc, "rollout")
-        .after_help(PROGRAMS)
-        .about("Decide by verified BPF programs which release an app is offered")
+        .override_help(HELP)
         .subcommand_required(true)
-        .subcommands(commands(alloc, verb_rows())?)
+        .subcommands(commands(alloc, rows)?)
 }

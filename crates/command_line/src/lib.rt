@@ -1,44 +1,49 @@
-//! The command line, and the request that its words make.
+//! What the two programs share: the grammar of a table of commands, the values of their arguments,
+//! and what a command prints if its words are wrong or its request is refused.
 //!
 //! See docs/PROGRAM.md, "Status".
 #![tactic(auto)]
 
-// How words are read. `grammar` describes the commands to `clap`, with the arguments and options of
-// each. By it `clap` parses the words, or finds their first fault. It returns texts by name.
-// `words` makes a request of them, command by command. It reads the texts of `--arrays`, `--attr`,
-// `--today`, `--installed`, `--at` and `--cells`, which the grammar doesn't check.
+// How words are read. A program has a table of commands, a row each. `read_matches` describes the
+// table to `clap`, which parses the words by it, or finds their first fault. The program finds the
+// command by its name, and reads its arguments. It reads the texts of `--arrays`, `--attr`,
+// `--today`, `--installed` and `--at`, which the grammar doesn't check.
 
+mod app_args;
 mod app_options;
 mod argument;
-mod ask_words;
-mod check_words;
+mod argument_fault;
 mod date;
 mod day;
+mod declared_shape;
 mod fault;
 mod grammar;
-mod manifest_rows;
-mod option_misfit;
-mod options;
-mod program_rows;
-mod program_words;
-mod report_words;
-mod request;
+mod help;
+mod matches;
+mod row;
+mod run_args;
 mod second;
-mod server_rows;
-mod server_words;
 mod shared_arguments;
-mod simulate_words;
-mod told;
-mod verb;
-mod verb_help;
-mod verb_rows;
-mod words;
+mod status;
+mod values;
 
+pub use app_args::AppArgs;
+pub use app_options::read_app;
+pub use argument::{CommandArgument, NumberLimits};
+pub use argument_fault::{ArgsError, ArgumentFault};
+pub use declared_shape::DeclaredShape;
 pub use fault::WordsFault;
-pub use option_misfit::{MomentMisfit, OptionMisfit};
-pub use request::{
-    AskedCheck, AskedReply, AskedReport, AskedRun, AskedSimulation, CommandRequest, DeclaredShape,
-    Plan,
+pub use matches::read_matches;
+pub use row::{CommandRow, command_found};
+pub use run_args::{RunArgs, read_run};
+pub use second::second_of;
+pub use shared_arguments::{
+    ARRAYS, AT, ATTR, BUCKET, BYTES, EVENT, INSTALLED, MANIFEST, OPERATOR, PING, PORTS, PROGRAM,
+    RELEASES, TODAY, VERSION,
 };
-pub use told::ToldApp;
-pub use words::read_words;
+pub use status::{
+    print_lines, print_output, print_refusal, refused, status_of, unreadable_words, usage,
+};
+pub use values::{
+    flag_of, is_text, number_of, optional_number, optional_text, shape_of, text_of, texts_of,
+};

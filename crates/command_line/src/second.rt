@@ -1,12 +1,13 @@
 //! The moment that the options name, as a Unix second.
 
-ghost use Rattle.std.specs.Prelude.{◌≡◌, ◌≤◌, IfErr, IfOk, IfSome, Some, codes, option_copied};
+ghost use Rattle.std.specs.Prelude.{◌≡◌, ◌≤◌, IfSome, codes, option_copied};
+ghost use Rattle.std.specs.Result.{result_ok};
 ghost use Rattle.clap.specs.Words.{first_of, found_of, rows_of};
 ghost use Rattle.command_line.specs.Seconds as specs;
 
+use crate::argument_fault::{ArgsError, ArgumentFault};
 use crate::day::day_in;
-use crate::option_misfit::MomentMisfit;
-use crate::options::optional_text;
+use crate::values::optional_text;
 use attrs::{Elapsed, Moment};
 use clap::ArgMatches;
 use jiff_fmt::temporal::parse_timestamp;
@@ -37,65 +38,62 @@ fn second_of_time(text: &str) -> Option<Moment>
     }
 }
 
-fn today_told(text: Option<&str>) -> Option<u32>
-    ensures day { result ≡ specs.today_told (option_copied text.entry) }
+// The day of `--today`; day 0 without it.
+fn day_by(today: Option<&str>) -> Option<u32>
+    ensures day { result ≡ specs.day_by (option_copied today.entry) }
     ensures limit { IfSome result (λ day. day ≤ 2919382) }
 {
-    match text {
+    match today {
         Some(text) => day_in(Elapsed::LAST_DAY, text),
         None => Some(0),
     }
 }
 
-// ---- `run` and `simulate`
+// ---- options
 
 /// The moment of an app: that of `--at`, or the first second of the day of `--today`, which is day
 /// 0 by default. Giving both is an error.
-pub fn moment_of(found: &ArgMatches<'_>) -> Result<Moment, MomentMisfit>
-    ensures given { IfOk result (specs.HasMoment (rows_of (found_of found.now))) }
-    ensures misfit { IfErr result (specs.LacksMoment (rows_of (found_of found.now))) }
+pub fn moment_of(found: &ArgMatches<'_>) -> Result<Moment, ArgsError>
+    ensures { result_ok result ≡ specs.moment_in (rows_of (found_of found.now)) }
 {
-    moment_told(optional_text(found, "at"), optional_text(found, "today"))
+    moment_by(optional_text(found, "at"), optional_text(found, "today"))
 }
 
-fn moment_told(at: Option<&str>, today: Option<&str>) -> Result<Moment, MomentMisfit>
-    ensures given { IfOk result (λ moment.
-        specs.moment_told (option_copied at.entry) (option_copied today.entry) ≡ Some moment) }
-    ensures misfit { IfErr result
-        (specs.IsMomentMisfit (option_copied at.entry) (option_copied today.entry)) }
+fn moment_by(at: Option<&str>, today: Option<&str>) -> Result<Moment, ArgsError>
+    ensures { result_ok result
+        ≡ specs.moment_by (option_copied at.entry) (option_copied today.entry) }
 {
     match (at, today) {
-        (Some(_), Some(_)) => Err(MomentMisfit::Both),
+        (Some(_), Some(_)) => Err(ArgsError::Wrong(ArgumentFault::AtAndToday)),
         (Some(text), None) => match second_in(text) {
             Some(second) => Ok(second),
-            None => Err(MomentMisfit::At),
+            None => Err(ArgsError::Wrong(ArgumentFault::At)),
         },
-        (None, today) => match today_told(today) {
+        (None, today) => match day_by(today) {
             Some(day) => {
                 Ok((Elapsed::FIRST_SECOND + Elapsed::SECONDS_OF_A_DAY * day as u64) as i64)
             }
-            None => Err(MomentMisfit::Today),
+            None => Err(ArgsError::Wrong(ArgumentFault::Today)),
         },
     }
 }
 
-// ---- `ask`
-
-/// The moment of `--at`, if given. `None` if it is malformed.
-pub fn second_of(found: &ArgMatches<'_>) -> Option<Option<Moment>>
-    ensures { result ≡ specs.second_told (first_of (codes "at") (rows_of (found_of found.now))) }
+/// The moment of `--at` alone, if given.
+pub fn second_of(found: &ArgMatches<'_>) -> Result<Option<Moment>, ArgsError>
+    ensures { result_ok result
+        ≡ specs.second_by (first_of (codes "at") (rows_of (found_of found.now))) }
 {
-    second_told(optional_text(found, "at"))
+    second_by(optional_text(found, "at"))
 }
 
-fn second_told(text: Option<&str>) -> Option<Option<Moment>>
-    ensures { result ≡ specs.second_told (option_copied text.entry) }
+fn second_by(text: Option<&str>) -> Result<Option<Moment>, ArgsError>
+    ensures { result_ok result ≡ specs.second_by (option_copied text.entry) }
 {
     match text {
         Some(text) => match second_in(text) {
-            Some(second) => Some(Some(second)),
-            None => None,
+            Some(second) => Ok(Some(second)),
+            None => Err(ArgsError::Wrong(ArgumentFault::At)),
         },
-        None => Some(None),
+        None => Ok(None),
     }
 }

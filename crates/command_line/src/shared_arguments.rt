@@ -44,6 +44,14 @@ pub const OPERATOR: CommandArgument = CommandArgument::Number(
     "Operator's port, on loopback, without a password: 1 to 65535",
 );
 
+/// The bucket of the app.
+pub const BUCKET: CommandArgument = CommandArgument::OptionalNumber(
+    "bucket",
+    "N",
+    NumberLimits(0, 9999),
+    "Bucket of the app, 0 to 9999; the one that its cohort names, or else 0 by default",
+);
+
 /// The version of the app.
 pub const VERSION: CommandArgument = CommandArgument::Text(
     "version",
@@ -57,6 +65,12 @@ pub const ATTR: CommandArgument = CommandArgument::Texts(
     "NAME=TEXT",
     "Attribute of the app: appid, brand, ap, lang, cohort or platform, each once at most",
 );
+
+/// Whether its request has a ping.
+pub const PING: CommandArgument = CommandArgument::Flag("ping", "The app sends a ping");
+
+/// Whether its request has an event.
+pub const EVENT: CommandArgument = CommandArgument::Flag("event", "The app sends an event");
 
 /// The day of its request.
 pub const TODAY: CommandArgument = CommandArgument::Text(

@@ -1,12 +1,12 @@
 use Rattle.clap.specs.Words.{rule_of}
 use Rattle.std.proofs.Common.{◌≡◌, false}
-use Rattle.command_line.specs.Grammar.{rule_told}
+use Rattle.command_line.specs.Grammar.{rule_of_argument}
 use Rattle.command_line.proofs.Reading.{one_more_alike, one_more_holds}
 use Rattle.command_line.proofs.grammar.args_of.Goals as goal
 
 pub loop-argument-preserved : goal.loop-argument-preserved
 loop-argument-preserved c = record {
-  rules = one_more_alike rule_of rule_told c.loop-argument.args.items _
+  rules = one_more_alike rule_of rule_of_argument c.loop-argument.args.items _
       c.arg_of.result c.args.arguments.now c.loop-argument.argument-index _
       c.loop-argument-test.true c.loop-argument.invariant.rules
       c.arg_of.ensures.rule c.in_ok-push.ensures.items;
