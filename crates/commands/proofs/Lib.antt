@@ -1,3 +1,3 @@
-pub mod Untold
+mod Making
+mod Reading
 mod Written
-mod Replied

@@ -1,7 +1,7 @@
+pub mod Grammar
+pub mod Words
+pub mod Requests
+pub mod Replays
 pub mod Texts
-pub mod Asked
-pub mod Clients
-pub mod DryRuns
-pub mod Whys
 pub mod Answers
 pub mod Commands

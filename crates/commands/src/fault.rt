@@ -1,47 +1,31 @@
-//! Why a request is refused.
+//! Why a command is refused.
 
 ghost use Rattle.std.specs.Prelude.{◌≡◌, Some, option_copied};
-ghost use Rattle.commands.specs.Texts.{fault_cause, fault_text, refusal_reason};
+ghost use Rattle.commands.specs.Texts.{fault_cause, fault_text};
 
 use bounded_files::ResourceFault;
-use dry_run::DryRunFault;
-use manifest_tools::ManifestToolFault;
 use operator::AskFault;
-use printing::Printed;
 use program_tools::ProgramToolFault;
+use replay::ReplayFault;
 use serving::ServingFault;
 use std::fmt;
 
 /// The reason, printed after `refused `.
-#[derive(Debug, Drop)]
+#[derive(Drop)]
 pub enum Fault {
-    /// B3: a file can't be read, or output can't be written. B4: out of memory.
+    /// B4: out of memory for the lines of `replay`.
     Resource(ResourceFault),
-    /// `asm`, `list`, `compile`, `order`, `verify`, `explain` or `run` is refused.
+    /// `asm`, `list`, `compile`, `verify` or `run` is refused.
     Program(ProgramToolFault),
-    /// `check`, `replay` or `simulate` is refused.
-    Manifest(ManifestToolFault),
-    /// B3, B4, B7, M1 to M8, O1 to O5, P5: there is no reply to a request.
-    DryRun(DryRunFault),
+    /// B2 to B4, M1 to M8: a script, or a manifest of it, is refused.
+    Replay(ReplayFault),
     /// A server can't be made, or can't serve.
     Serving(ServingFault),
-    /// B1, B4, B5: a request can't be sent to a server, or gets no reply.
+    /// B1, B4, B5: a request can't be sent to a server, or gets no reply; or the server's refusal.
     Ask(AskFault),
-    /// The server's refusal, in its words.
-    Told(String),
 }
 
 impl Fault {
-    /// The lines after the refusal: the place and the reason of a manifest's refusal.
-    pub fn reason(&self) -> &str
-        ensures { result.now ≡ refusal_reason self.now }
-    {
-        match self {
-            Fault::Manifest(ManifestToolFault::Diagnosed(refused)) => refused.reason.as_str(),
-            _ => "",
-        }
-    }
-
     /// The cause that a server's log has with the fault's text, if there is one.
     pub fn cause(&self) -> Option<&str>
         ensures { option_copied result ≡ fault_cause self.now }
@@ -58,16 +42,11 @@ impl fmt::Display for Fault {
 
     fn fmt<W: fmt::Write>(&self, f: &mut fmt::Formatter<W>) -> fmt::Result {
         match self {
-            Fault::Resource(fault) => f.write_str(fault.name()),
+            Fault::Resource(fault) => write!(f, "{fault}"),
             Fault::Program(fault) => write!(f, "{fault}"),
-            Fault::Manifest(fault) => write!(f, "{fault}"),
-            Fault::DryRun(fault) => write!(f, "{fault}"),
+            Fault::Replay(fault) => write!(f, "{fault}"),
             Fault::Serving(fault) => write!(f, "{fault}"),
-            Fault::Ask(fault) => f.write_str(fault.name()),
-            Fault::Told(text) => {
-                let text = Printed(text.as_str());
-                write!(f, "{text}")
-            }
+            Fault::Ask(fault) => write!(f, "{fault}"),
         }
     }
 }

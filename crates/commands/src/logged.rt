@@ -7,8 +7,8 @@ ghost use Rattle.serving.specs.Staffed.{IsStaffFault, IsEndFault};
 ghost use Rattle.workers.specs.Texts.{serving_line};
 
 use crate::fault::Fault;
+use crate::request::{Command, Plan};
 use crate::serve::serve_by;
-use command_line::{CommandRequest, Plan};
 use load::Disk;
 use server_log::{
     LogOutput, LogQueue, Starting, note_refused_start, note_start, start_log, write_refused_start,
@@ -79,12 +79,12 @@ where
 
 /// Logs that a server doesn't start, and why, if a log was requested. The line is lost if an
 /// allocation fails.
-// open: that the line is of this request and fault: tests.
-pub fn note_refusal<R>(rt: &R, request: &CommandRequest<'_>, fault: &Fault)
+// open: that the line is of this command and fault: tests.
+pub fn note_refusal<R>(rt: &R, command: &Command<'_>, fault: &Fault)
 where
     R: AllocGlobal + Clock + LogOutput,
 {
-    let CommandRequest::Serve { manifest, plan } = request else {
+    let Command::Serve { manifest, plan } = command else {
         return;
     };
     if plan.log {

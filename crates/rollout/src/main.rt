@@ -1,12 +1,10 @@
 //! The program `rollout`: it serves updates by a manifest's rules, and sends requests to a running
-//! server. It also checks manifests, replays scripts, and assembles, compiles, lists, verifies and
-//! runs single programs. `command` of the library `commands` does what the words request.
+//! server. It also replays scripts, and assembles, compiles, lists, verifies and runs single
+//! programs. `command` of the library `commands` does what the words request.
 #![tactic(auto)]
 
-#[cfg(test)]
-mod tests;
-
-use commands::{Device, command, unreadable_words};
+use command_line::unreadable_words;
+use commands::{Device, command};
 use std::process::ExitCode;
 use std::{env, io};
 

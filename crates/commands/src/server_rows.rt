@@ -1,0 +1,116 @@
+//! The commands that start a server or are sent to one, and `replay`.
+
+use crate::verb::Verb;
+use command_line::{CommandArgument, CommandRow, MANIFEST, NumberLimits, OPERATOR, PORTS};
+
+/// The command `cells`.
+pub const CELLS: CommandRow<Verb> = CommandRow {
+    verb: Verb::Cells,
+    name: "cells",
+    about: "Tell a server's counters that aren't 0; prints `NAME[I] V` for each",
+    end: None,
+    arguments: &[OPERATOR],
+};
+
+/// The command `load`.
+pub const LOAD: CommandRow<Verb> = CommandRow {
+    verb: Verb::Load,
+    name: "load",
+    about: "Have a server load a manifest; prints `generation G`, or its refusal",
+    end: None,
+    arguments: &[
+        CommandArgument::Word(
+            "PATH",
+            "Manifest, as the server sees it: write its path whole, from / on",
+        ),
+        OPERATOR,
+    ],
+};
+
+/// The command `replay`.
+pub const REPLAY: CommandRow<Verb> = CommandRow {
+    verb: Verb::Replay,
+    name: "replay",
+    about: "Play a script of runs and swaps, without a server; prints a line an event",
+    end: Some(SCRIPT),
+    arguments: &[
+        CommandArgument::Word("MANIFEST", "File of the first manifest"),
+        CommandArgument::Word("SCRIPT", "File of the script"),
+    ],
+};
+
+/// The command `serve`.
+pub const SERVE: CommandRow<Verb> = CommandRow {
+    verb: Verb::Serve,
+    name: "serve",
+    about: "Serve a manifest's ruleset until the operator stops it; prints `serving generation 1`",
+    end: None,
+    arguments: &[
+        MANIFEST,
+        CommandArgument::Number(
+            "port",
+            "P",
+            PORTS,
+            "Port of the service, on loopback: 1 to 65535",
+        ),
+        OPERATOR,
+        CommandArgument::Number(
+            "workers",
+            "N",
+            NumberLimits(1, 64),
+            "Worker threads: 1 to 64",
+        ),
+        CommandArgument::NumberByDefault(
+            "timeout",
+            "S",
+            NumberLimits(1, 3600),
+            "30",
+            "Seconds that a connection may last: 1 to 3600",
+        ),
+        CommandArgument::Flag(
+            "log",
+            "Write the log to standard error: a JSON object a line, for each connection, start, \
+             load, stop and counter",
+        ),
+    ],
+};
+
+/// The command `show`.
+pub const SHOW: CommandRow<Verb> = CommandRow {
+    verb: Verb::Show,
+    name: "show",
+    about: "Tell a server's generation and its apps",
+    end: None,
+    arguments: &[OPERATOR],
+};
+
+/// The command `stop`.
+pub const STOP: CommandRow<Verb> = CommandRow {
+    verb: Verb::Stop,
+    name: "stop",
+    about: "End a server; prints `stopping`",
+    end: None,
+    arguments: &[
+        OPERATOR,
+        CommandArgument::Flag("wait", "Wait until the server has ended"),
+    ],
+};
+
+// The end of `replay --help`.
+const SCRIPT: &str = "\
+A script has a line an event. Empty lines and those that begin with # are passed over.
+
+  # Worker 0 (of 0 to 63) starts a run for the app agent: bucket 4998, and no version.
+  start 0 agent 4998 -
+  # It does one instruction, then eight (1 to 4097 at once), and gives its choice.
+  step 0
+  step 0 8
+  finish 0
+  # The rest of the line is a manifest's path. A run that has started keeps its ruleset.
+  swap examples/staged/next.toml
+  start 0 agent 4999 1.2.0
+  step 0 11
+  finish 0
+
+Each event prints `started`, `stepped N`, `finished K after N under R`, `swapped R`, or
+`refused CODE Name`. All lines are read, and all manifests loaded, before the first event.";
