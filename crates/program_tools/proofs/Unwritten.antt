@@ -1,12 +1,11 @@
 -- If a rule gives no program, none is written.
 use Rattle.std.proofs.Common.{ℕ, List, inl}
 use Rattle.bounded_files.specs.Files.{KnownFiles}
-use Rattle.command_line.specs.declared.request.DeclaredShape.{DeclaredShape}
+use Rattle.command_line.specs.declared.declared_shape.DeclaredShape.{DeclaredShape}
 use Rattle.program_tools.specs.Rules.{IsRuleRefusal, IsCompileRefusal}
 use Rattle.program_tools.specs.declared.fault.ProgramToolFault.{ProgramToolFault}
 use Rattle.program_tools.specs.declared.fault.ProgramToolFault.TheVariants.{Resource, Arrays, Text}
 use Rattle.program_tools.specs.declared.fault.ProgramToolFault.TheVariants.{Rule, Bytes, Program}
-use Rattle.program_tools.specs.declared.fault.ProgramToolFault.TheVariants.{Explained}
 
 module _ (known : KnownFiles) (path : List ℕ) (asked : DeclaredShape) where
   pub no_program : (fault : ProgramToolFault) → IsRuleRefusal known path asked fault
@@ -17,4 +16,3 @@ module _ (known : KnownFiles) (path : List ℕ) (asked : DeclaredShape) where
   no_program (Rule fault) h = h
   no_program (Bytes fault) h = h
   no_program (Program fault) h = h
-  no_program (Explained text refused) h = h

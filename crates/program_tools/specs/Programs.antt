@@ -1,6 +1,6 @@
 -- Programs of files, with the shape that the command line declares: which are accepted, and what
 -- their runs are.
-use Rattle.std.specs.Prelude.{◌≡◌, ◌⊎◌, ℕ, ◌^◌, ◌<◌, List, [], length}
+use Rattle.std.specs.Prelude.{◌≡◌, ◌⊎◌, ℕ, ◌^◌, List, [], length}
 use Rattle.attrs.specs.Attributes.{Attributes}
 use Rattle.bpf_semantics.specs.Program.{ShapedProgram}
 use Rattle.bpf_semantics.specs.State.{opening}
@@ -17,17 +17,16 @@ use Rattle.declarations.specs.Order.{AreDeclared, IsRefusedArray}
 use Rattle.program_tools.specs.declared.fault.ProgramToolFault.{ProgramToolFault}
 use Rattle.program_tools.specs.declared.fault.ProgramToolFault.TheVariants.{Arrays, Program}
 use Rattle.program_tools.specs.declared.fault.ProgramToolFault.TheVariants.{Resource}
-use Rattle.command_line.specs.Apps.{attributes_told}
-use Rattle.command_line.specs.declared.request.AskedRun.{AskedRun}
-use Rattle.command_line.specs.declared.request.DeclaredShape.{DeclaredShape}
+use Rattle.command_line.specs.Apps.{app_attributes}
+use Rattle.command_line.specs.declared.run_args.RunArgs.{RunArgs}
+use Rattle.command_line.specs.declared.declared_shape.DeclaredShape.{DeclaredShape}
 use Rattle.acceptance.specs.Program.{IsProgramOf, RefusesProgram}
 use Rattle.acceptance.specs.declared.fault.ProgramFault.TheVariants.{Flow}
 use Rattle.flow_check.specs.declared.fault.FlowFault.TheVariants as flow
 use Rattle.flow_check.specs.declared.fault.FlowRule.TheVariants.{TooLong}
-use Rattle.bounded_files.specs.Files.{KnownFiles, OfFile}
+use Rattle.bounded_files.specs.Files.{HasMore, KnownFiles, OfFile}
 use Rattle.bounded_files.specs.declared.fault.ResourceFault.TheVariants.{Memory}
 use Rattle.program_tools.specs.Resources.{IsNoFile}
-use Rattle.trace.specs.Trace.{IsTrace}
 
 -- the most bytes of a program
 abbrev pub most_program : ℕ
@@ -64,28 +63,32 @@ pub record IsProgramFor (known : KnownFiles) (path : List ℕ) (asked : Declared
 abbrev pub too_long : ProgramToolFault
 too_long = Program (Flow (flow.Rule 0 TooLong))
 
--- why the bytes of a file aren't an accepted program; more than 32768 bytes aren't read, so they
--- may have other faults
+-- why a program's file isn't read: it can't be read, or has more bytes than a program can have
+abbrev pub IsUnreadProgram : KnownFiles → List ℕ → ProgramToolFault → Type 0
+IsUnreadProgram known path (Program fault) =
+    (Program fault ≡ too_long) × HasMore most_program known path
+IsUnreadProgram known path fault = IsNoFile known path fault
+
+-- why the bytes of a file aren't an accepted program
 abbrev pub IsProgramFault : AppShape → ProgramToolFault → List ℕ → Type 0
-IsProgramFault shape (Program fault) bytes =
-    RefusesProgram bytes shape fault
-    ⊎ ((Program fault ≡ too_long) × (most_program < length bytes))
+IsProgramFault shape (Program fault) bytes = RefusesProgram bytes shape fault
 IsProgramFault shape fault bytes = ⊥
 
 -- why a file is refused: the shape comes first, then the file, then its bytes, by the faults that
 -- they have with a shape
 pub data IsRefusedUnder (known : KnownFiles) (path : List ℕ) (asked : DeclaredShape)
-    (faults : AppShape → ProgramToolFault → List ℕ → Type 0)
+    (unread : ProgramToolFault → Type 0) (faults : AppShape → ProgramToolFault → List ℕ → Type 0)
     (fault : ProgramToolFault) : Type 0 where
-  of_shape : IsShapeRefusal asked fault → IsRefusedUnder known path asked faults fault
-  of_file : {s : AppShape} → IsShapeFor asked s → IsNoFile known path fault
-      → IsRefusedUnder known path asked faults fault
+  of_shape : IsShapeRefusal asked fault → IsRefusedUnder known path asked unread faults fault
+  of_file : {s : AppShape} → IsShapeFor asked s → unread fault
+      → IsRefusedUnder known path asked unread faults fault
   of_bytes : {s : AppShape} → IsShapeFor asked s → OfFile known path (faults s fault)
-      → IsRefusedUnder known path asked faults fault
+      → IsRefusedUnder known path asked unread faults fault
 
 -- why a file has no accepted program: the shape comes first, then the file, then its bytes
 abbrev pub IsProgramRefusal : KnownFiles → List ℕ → DeclaredShape → ProgramToolFault → Type 0
-IsProgramRefusal known path asked fault = IsRefusedUnder known path asked IsProgramFault fault
+IsProgramRefusal known path asked fault =
+    IsRefusedUnder known path asked (IsUnreadProgram known path) IsProgramFault fault
 
 -- an accepted program has `slots` slots
 abbrev pub HasSlots : KnownFiles → List ℕ → DeclaredShape → ℕ → Type 0
@@ -106,16 +109,10 @@ pub record RunsTo (p : ShapedProgram) (a : Attributes) (choice count : ℕ) : Ty
   pub lawful : AreLawful p.shape events
 
 -- the requested program is accepted, and makes this choice after `count` instructions
-abbrev pub HasChosen : KnownFiles → AskedRun → (choice count : ℕ) → Type 0
+abbrev pub HasChosen : KnownFiles → RunArgs → (choice count : ℕ) → Type 0
 HasChosen known asked choice count =
     (p : ShapedProgram) × IsProgramFor known asked.path.now asked.shape p
-    × RunsTo p (attributes_told asked.app asked.bucket) choice count
-
--- and this is the trace of its run
-abbrev pub HasTraced : KnownFiles → AskedRun → (choice count : ℕ) → (text : List ℕ) → Type 0
-HasTraced known asked choice count text =
-    (p : ShapedProgram) × IsProgramFor known asked.path.now asked.shape p
-    × IsTrace p (attributes_told asked.app asked.bucket) choice count text
+    × RunsTo p (app_attributes asked.app asked.bucket) choice count
 
 -- it isn't accepted, or an allocation for the run fails
 abbrev pub IsRunRefusal : KnownFiles → List ℕ → DeclaredShape → ProgramToolFault → Type 0

@@ -5,10 +5,11 @@ use Rattle.bpf_semantics.specs.Program.{ShapedProgram}
 use Rattle.cells.specs.Arrays.{AppShape}
 use Rattle.acceptance.specs.Rule.{IsProgramOfRule, RefusesRule}
 use Rattle.bounded_files.specs.Files.{KnownFiles, most_bytes, within, OfFileWithin}
-use Rattle.command_line.specs.declared.request.DeclaredShape.{DeclaredShape}
+use Rattle.command_line.specs.declared.declared_shape.DeclaredShape.{DeclaredShape}
 use Rattle.program_tools.specs.declared.fault.ProgramToolFault.{ProgramToolFault}
 use Rattle.program_tools.specs.declared.fault.ProgramToolFault.TheVariants.{Resource, Rule}
 use Rattle.program_tools.specs.Programs.{IsShapeFor, IsRefusedUnder}
+use Rattle.program_tools.specs.Resources.{IsNoFile}
 
 -- why the bytes give no program
 abbrev pub IsCompileFault : AppShape → ProgramToolFault → List ℕ → Type 0
@@ -23,7 +24,9 @@ module _ (known : KnownFiles) (path : List ℕ) (asked : DeclaredShape) where
     pub program : OfFileWithin most_bytes known path (λ bytes. IsProgramOfRule bytes p)
 
   abbrev pub IsRuleRefusal : ProgramToolFault → Type 0
-  IsRuleRefusal fault = IsRefusedUnder (within most_bytes known) path asked IsCompileFault fault
+  IsRuleRefusal fault =
+      IsRefusedUnder (within most_bytes known) path asked (IsNoFile (within most_bytes known) path)
+      IsCompileFault fault
 
   -- such a program has `slots` slots
   abbrev pub HasCompiled : ℕ → Type 0

@@ -2,7 +2,6 @@
 use Rattle.std.specs.Prelude.{ℕ, List}
 use Rattle.bounded_files.specs.Texts.{resource_text}
 use Rattle.cells.specs.Texts.{cells_fault_text}
-use Rattle.bpf_checks.specs.Texts.{verifier_refusal_text}
 use Rattle.bpf_text.specs.Faults.{asm_fault_text, list_fault_text}
 use Rattle.acceptance.specs.Texts.{program_fault_text, rule_refusal_text}
 use Rattle.program_tools.specs.declared.fault.ProgramToolFault.{ProgramToolFault}
@@ -15,4 +14,3 @@ fault_text (tool.Text fault) = asm_fault_text fault
 fault_text (tool.Rule fault) = rule_refusal_text fault
 fault_text (tool.Bytes fault) = list_fault_text fault
 fault_text (tool.Program fault) = program_fault_text fault
-fault_text (tool.Explained text refusal) = verifier_refusal_text refusal

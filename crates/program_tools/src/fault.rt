@@ -6,7 +6,6 @@ ghost use Rattle.program_tools.specs.Texts.{fault_text};
 use acceptance::{ProgramFault, RuleTextFault};
 use bounded_files::ResourceFault;
 use bpf_text::{AsmFault, ListFault};
-use bpf_verify::Refusal;
 use cells::CellsFault;
 use std::fmt;
 
@@ -25,8 +24,6 @@ pub enum ProgramToolFault {
     Bytes(ListFault),
     /// F1 to F9, V1 to V15: the bytes aren't a program, or the program isn't accepted.
     Program(ProgramFault),
-    /// V1 to V14, from `explain`: the program isn't accepted; the text has what is known about it.
-    Explained { text: String, refusal: Refusal },
 }
 
 impl fmt::Display for ProgramToolFault {
@@ -40,7 +37,6 @@ impl fmt::Display for ProgramToolFault {
             ProgramToolFault::Rule(fault) => write!(f, "{fault}"),
             ProgramToolFault::Bytes(fault) => write!(f, "{fault}"),
             ProgramToolFault::Program(fault) => write!(f, "{fault}"),
-            ProgramToolFault::Explained { refusal, .. } => write!(f, "{refusal}"),
         }
     }
 }

@@ -1,10 +1,9 @@
-//! `run`: the run of a file's program for one app, as its choice or step by step.
+//! `run`: the choice of a file's program for one app.
 
-ghost use Rattle.std.specs.Prelude.{◌≡◌, ◌≤◌, length, IfOk, IfErr, string_bytes};
+ghost use Rattle.std.specs.Prelude.{◌≡◌, ◌≤◌, length, IfOk, IfErr};
 ghost use Rattle.std.specs.Arc.{arc_value};
-ghost use Rattle.command_line.specs.Apps.{attributes_told};
-ghost use Rattle.program_tools.specs.Programs.{HasChosen, HasTraced, IsRunRefusal, RunsTo};
-ghost use Rattle.trace.specs.Trace.{IsTrace};
+ghost use Rattle.command_line.specs.Apps.{app_attributes};
+ghost use Rattle.program_tools.specs.Programs.{HasChosen, IsRunRefusal, RunsTo};
 
 use crate::fault::ProgramToolFault;
 use crate::program::program_of_file;
@@ -13,10 +12,9 @@ use bounded_files::{Disk, ResourceFault};
 use bpf_machine::Run;
 use bpf_verify::Verified;
 use cells::{PlainCells, events_fit};
-use command_line::{AskedRun, ToldApp};
+use command_line::{AppArgs, RunArgs};
 use std::alloc::{AllocError, Global};
 use std::sync::Arc;
-use trace::{TracedRun, trace};
 
 /// The choice of a file's program for an app, if the program is accepted, and the number of
 /// executed instructions.
@@ -24,7 +22,7 @@ use trace::{TracedRun, trace};
 pub fn run_file<D: Disk>(
     alloc: Global,
     disk: &D,
-    asked: &AskedRun<'_>,
+    asked: &RunArgs<'_>,
 ) -> Result<(u8, u32), ProgramToolFault>
     ensures run { IfOk result (λ c. HasChosen (D.known disk.now) asked.now c.0 c.1) }
     ensures fault { IfErr result
@@ -40,37 +38,15 @@ pub fn run_file<D: Disk>(
     }
 }
 
-/// Runs a file's program like `run_file`, and writes a line for each instruction of the run.
-// open: whether an allocation fails (N3, F9, V15); what a device's files contain.
-pub fn trace_file<D: Disk>(
-    alloc: Global,
-    disk: &D,
-    asked: &AskedRun<'_>,
-) -> Result<TracedRun, ProgramToolFault>
-    ensures run { IfOk result (λ t.
-        HasTraced (D.known disk.now) asked.now t.choice t.count (string_bytes t.text)) }
-    ensures fault { IfErr result
-        (IsRunRefusal (D.known disk.now) asked.now.path.now asked.now.shape) }
-{
-    let program = match program_of_file(alloc, disk, asked.path, &asked.shape) {
-        Ok(program) => program,
-        Err(fault) => return Err(fault),
-    };
-    match traced(alloc, &program, &asked.app, asked.bucket) {
-        Ok(run) => Ok(run),
-        Err(_) => Err(ProgramToolFault::Resource(ResourceFault::Memory)),
-    }
-}
-
 // The program's run for an app, on its own cells that start at 0: its choice and the number of
 // executed instructions.
 fn choose(
     alloc: Global,
     program: Verified,
-    app: &ToldApp<'_>,
+    app: &AppArgs<'_>,
     bucket: Option<Bucket>,
 ) -> Result<(u8, u32), AllocError>
-    ensures run { IfOk result (λ c. RunsTo program (attributes_told app.now bucket) c.0 c.1) }
+    ensures run { IfOk result (λ c. RunsTo program (app_attributes app.now bucket) c.0 c.1) }
     ensures release { IfOk result (λ c. c.0 ≤ program.shape.releases) }
     ensures ends { IfOk result (λ c. c.1 ≤ length program.code) }
 {
@@ -89,27 +65,14 @@ fn choose(
     Ok(Run::start(program, attrs).run(&cells, &mut pass))
 }
 
-// The trace of the program's run for an app.
-fn traced(
+/// The attributes of an app in a bucket.
+// open: whether an allocation fails.
+pub fn shared_attributes(
     alloc: Global,
-    program: &Verified,
-    app: &ToldApp<'_>,
-    bucket: Option<Bucket>,
-) -> Result<TracedRun, AllocError>
-    ensures { IfOk result (λ t. IsTrace program.now (attributes_told app.now bucket)
-        t.choice t.count (string_bytes t.text)) }
-{
-    let attrs = shared_attributes(alloc, app, bucket)?;
-    trace(alloc, program, attrs)
-}
-
-// The attributes of an app in a bucket.
-fn shared_attributes(
-    alloc: Global,
-    app: &ToldApp<'_>,
+    app: &AppArgs<'_>,
     bucket: Option<Bucket>,
 ) -> Result<Arc<Attrs>, AllocError>
-    ensures { IfOk result (λ attrs. arc_value attrs ≡ attributes_told app.now bucket) }
+    ensures { IfOk result (λ attrs. arc_value attrs ≡ app_attributes app.now bucket) }
 {
     let attrs = app.attributes(alloc, bucket)?;
     match Arc::new(alloc, attrs) {

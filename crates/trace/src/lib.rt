@@ -1,7 +1,7 @@
 //! The trace of a run: each step with its slot, its instruction and what it wrote; and the last
 //! jump that the run took.
 //!
-//! See docs/PROGRAM.md, "run --trace".
+//! See docs/PROGRAM.md, "trace".
 #![tactic(auto)]
 
 // The run is the definition's own: the interpreter that keeps track of what is set makes its steps,

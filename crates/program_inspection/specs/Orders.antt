@@ -1,15 +1,14 @@
 -- The results of the command `order` for the bytes of a file.
-use Rattle.std.specs.Prelude.{◌≡◌, ◌⊎◌, ℕ, ◌<◌, List, length}
+use Rattle.std.specs.Prelude.{◌≡◌, ◌⊎◌, ℕ, List}
+use Rattle.acceptance.specs.declared.fault.ProgramFault.TheVariants.{Flow}
 use Rattle.block_order.specs.Order.{IsOrdered}
 use Rattle.block_order.specs.Refusal.{IsOrderFault}
+use Rattle.bounded_files.specs.Files.{KnownFiles, OfFile}
+use Rattle.bpf_insn.specs.Program.{Program}
 use Rattle.flow_check.specs.Flow.{IsAcceptedAs}
 use Rattle.flow_check.specs.declared.fault.FlowFault.{FlowFault}
 use Rattle.flow_check.specs.declared.fault.FlowFault.TheVariants as flow
-use Rattle.bpf_insn.specs.Program.{Program}
-use Rattle.acceptance.specs.declared.fault.ProgramFault.TheVariants.{Flow}
-use Rattle.bounded_files.specs.Files.{KnownFiles, OfFile}
-use Rattle.program_tools.specs.Programs.{most_program, too_long}
-use Rattle.program_tools.specs.Resources.{IsNoFile}
+use Rattle.program_tools.specs.Programs.{IsUnreadProgram}
 use Rattle.program_tools.specs.declared.fault.ProgramToolFault.{ProgramToolFault}
 use Rattle.program_tools.specs.declared.fault.ProgramToolFault.TheVariants as fault
 
@@ -25,21 +24,16 @@ pub record HasNoOrder (bytes : List ℕ) (fault : FlowFault) : Type 0 where
   pub why : IsOrderFault bytes fault
   pub memory : (p : Program) → IsAcceptedAs bytes p → fault ≡ flow.Memory
 
--- more than 32768 bytes aren't read, so they may have other faults
-abbrev pub IsNoOrder : ProgramToolFault → List ℕ → Type 0
-IsNoOrder (fault.Program (Flow why)) bytes =
-    HasNoOrder bytes why
-    ⊎ ((fault.Program (Flow why) ≡ too_long) × (most_program < length bytes))
-IsNoOrder refused bytes = ⊥
-
 module _ (known : KnownFiles) (path : List ℕ) where
   abbrev pub IsOrderedFrom : List ℕ → Type 0
   IsOrderedFrom program = OfFile known path (λ bytes. IsOrderedAs bytes program)
 
-  -- the file can't be read, or its bytes can't be put in order
+  -- the file isn't read, or its bytes can't be put in order
   abbrev pub IsUnordered : ProgramToolFault → Type 0
-  IsUnordered (fault.Program why) = OfFile known path (IsNoOrder (fault.Program why))
-  IsUnordered refused = IsNoFile known path refused
+  IsUnordered (fault.Program (Flow why)) =
+      IsUnreadProgram known path (fault.Program (Flow why))
+      ⊎ OfFile known path (λ bytes. HasNoOrder bytes why)
+  IsUnordered refused = IsUnreadProgram known path refused
 
   -- or they can, and the program can't be written
   abbrev pub IsOrderRefusal : ProgramToolFault → Type 0

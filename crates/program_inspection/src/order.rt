@@ -1,15 +1,14 @@
 //! `order`: a program with its blocks in order.
 
 ghost use Rattle.std.specs.Prelude.{IfOk, IfErr};
-ghost use Rattle.program_tools.specs.Orders.{HasNoOrder, IsOrderedAs, IsOrderedFrom};
-ghost use Rattle.program_tools.specs.Orders.{IsOrderRefusal, IsUnordered};
+ghost use Rattle.program_inspection.specs.Orders.{HasNoOrder, IsOrderedAs, IsOrderedFrom};
+ghost use Rattle.program_inspection.specs.Orders.{IsOrderRefusal, IsUnordered};
 
-use crate::fault::ProgramToolFault;
-use crate::program::{MOST_PROGRAM, too_long};
 use acceptance::ProgramFault;
 use block_order::ordered;
 use bounded_files::{Disk, write_file};
 use flow_check::FlowFault;
+use program_tools::{ProgramToolFault, read_program};
 use std::alloc::Global;
 use std::rt::Files;
 
@@ -40,12 +39,11 @@ fn order_of_file<D: Disk>(alloc: Global, disk: &D, path: &str) -> Result<Vec<u8>
     ensures program { IfOk result (λ v. IsOrderedFrom (D.known disk.now) path.now v.items) }
     ensures fault { IfErr result (IsUnordered (D.known disk.now) path.now) }
 {
-    let bytes = match disk.read(path, MOST_PROGRAM) {
-        Ok(Some(bytes)) => bytes,
-        Ok(None) => return Err(too_long()),
-        Err(fault) => return Err(ProgramToolFault::Resource(fault)),
+    let bytes = match read_program(disk, path) {
+        Ok(bytes) => bytes,
+        Err(fault) => return Err(fault),
     };
-    match order_of(alloc, bytes.as_slice()) {
+    match order_of(alloc, &bytes) {
         Ok(program) => Ok(program),
         Err(fault) => Err(ProgramToolFault::Program(ProgramFault::Flow(fault))),
     }

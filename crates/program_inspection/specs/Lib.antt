@@ -1,0 +1,3 @@
+pub mod Explanations
+pub mod Orders
+pub mod Traces
