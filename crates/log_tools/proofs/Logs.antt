@@ -6,7 +6,7 @@ use Rattle.std.proofs.lemmas.Grind.{flat_map-append}
 use Rattle.std.proofs.lemmas.List.{length-append}
 use Rattle.std.proofs.lemmas.List.Concat.{flat_map-cons}
 use Rattle.log_tools.specs.Reports.{CountsLogs, HasReported, picture_told, text_told}
-use Rattle.log_tools.specs.declared.reporting.ToldReport.{ToldReport}
+use Rattle.log_tools.specs.declared.reporting.ReportOutput.{ReportOutput}
 use Rattle.moments.specs.declared.moment.NamedTime.{NamedTime}
 use Rattle.report.specs.Counts.{Counts}
 use Rattle.report.specs.Lines.{lines_in}
@@ -57,7 +57,7 @@ module _ (window : Window) where
   }
 
 pub has_reported : (n : ℕ) (since until : Option NamedTime) (prometheus drawn : Bool)
-    (told : ToldReport) (window : Window) (start last : Report)
+    (told : ReportOutput) (window : Window) (start last : Report)
     → is_some window.since ≡ is_some since → is_some window.until ≡ is_some until
     → Counts window [] drawn start → CountsLogs window n start last
     → string_bytes told.text ≡ text_told prometheus last

@@ -11,7 +11,7 @@ use Rattle.report.specs.Screen.{screen}
 use Rattle.report.specs.declared.counting.Report.{Report}
 use Rattle.report.specs.declared.window.Window.{Window}
 use Rattle.timeline.specs.Pictures.{course_picture}
-use Rattle.log_tools.specs.declared.reporting.ToldReport.{ToldReport}
+use Rattle.log_tools.specs.declared.reporting.ReportOutput.{ReportOutput}
 
 -- the window has a first time if one was requested, and a last time if one was
 pub record IsWindowOf (since until : Option NamedTime) (window : Window) : Type 0 where
@@ -34,7 +34,7 @@ picture_told drawn report = if drawn then Some (course_picture report) else None
 
 -- the report that counts the lines of `n` logs, each from its first byte to its last
 pub record HasReported (n : ℕ) (since until : Option NamedTime) (prometheus drawn : Bool)
-    (told : ToldReport) : Type 0 where
+    (told : ReportOutput) : Type 0 where
   pub window : Window
   pub asked_for : IsWindowOf since until window
   pub logs : List (List ℕ)

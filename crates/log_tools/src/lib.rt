@@ -5,4 +5,4 @@ mod picture_file;
 mod progress_lines;
 mod reporting;
 
-pub use reporting::{ToldReport, report_logs};
+pub use reporting::{ReportOutput, report_logs};

@@ -22,7 +22,7 @@ const STANDARD_INPUT: &str = "/dev/stdin";
 
 /// A report on logs: a text, and a picture as the text of an SVG file, if a file is named for it.
 #[derive(Drop)]
-pub struct ToldReport {
+pub struct ReportOutput {
     pub text: String,
     pub picture: Option<String>,
 }
@@ -43,7 +43,7 @@ pub fn report_logs<R>(
     until: Option<NamedTime>,
     prometheus: bool,
     file: Option<&str>,
-) -> Result<ToldReport, ResourceFault>
+) -> Result<ReportOutput, ResourceFault>
 where
     R: Files + AllocGlobal + Clock + Eprint,
     ensures { IfOk result
@@ -63,7 +63,7 @@ fn told_of_logs<R>(
     until: Option<NamedTime>,
     prometheus: bool,
     drawn: bool,
-) -> Result<ToldReport, ResourceFault>
+) -> Result<ReportOutput, ResourceFault>
 where
     R: Files + AllocGlobal + Clock + Eprint,
     ensures { IfOk result (HasReported (length logs.now) since until prometheus drawn) }
@@ -87,7 +87,7 @@ fn told_of(
     prometheus: bool,
     drawn: bool,
     report: &Report,
-) -> Result<ToldReport, AllocError>
+) -> Result<ReportOutput, AllocError>
     ensures text { IfOk result
         (λ told. string_bytes told.text ≡ text_told prometheus report.now) }
     ensures picture { IfOk result
@@ -99,7 +99,7 @@ fn told_of(
     } else {
         None
     };
-    Ok(ToldReport { text, picture })
+    Ok(ReportOutput { text, picture })
 }
 
 fn text_by(alloc: Global, prometheus: bool, report: &Report) -> Result<String, AllocError>

@@ -9,14 +9,14 @@ use Rattle.manifest_tools.specs.Checks.{AddsAccepted, AddsChecked, AddsRefused, 
 use Rattle.manifest_tools.specs.Checks.{IsCheckedAlone, refusal_text, titled, titled_if_any}
 use Rattle.manifest_tools.specs.Checks.IsCheckedAmong.{accepted, refused}
 use Rattle.manifest_tools.specs.Checks.AreCheckedEach.{none, next}
-use Rattle.manifest_tools.specs.declared.checks.ToldChecks.{ToldChecks}
+use Rattle.manifest_tools.specs.declared.checks.CheckOutput.{CheckOutput}
 use Rattle.manifest_tools.specs.Manifests.{IsCheckRefusal}
 use Rattle.manifest_tools.specs.declared.fault.ManifestToolFault.{ManifestToolFault}
 
 -- ---- one more
 
 pub accepted_more : (known : KnownFiles) (strict : Bool) (allowed : List (Bor (List ℕ)))
-    (path : List ℕ) (one old new : ToldChecks) → IsCheckedAlone known strict allowed path one
+    (path : List ℕ) (one old new : CheckOutput) → IsCheckedAlone known strict allowed path one
     → AddsAccepted path one old new → AddsChecked known strict allowed path old new
 accepted_more known strict allowed path one old new checked added = record {
   text = titled path (string_bytes one.text);
@@ -33,7 +33,7 @@ and_no true = refl
 and_no false = refl
 
 pub refused_more : (known : KnownFiles) (strict : Bool) (allowed : List (Bor (List ℕ)))
-    (path : List ℕ) (fault : ManifestToolFault) (old new : ToldChecks)
+    (path : List ℕ) (fault : ManifestToolFault) (old new : CheckOutput)
     → IsCheckRefusal known path fault → AddsRefused path fault old new
     → AddsChecked known strict allowed path old new
 refused_more known strict allowed path fault old new checked added = record {
@@ -51,7 +51,7 @@ refused_more known strict allowed path fault old new checked added = record {
 
 -- the first `n` manifests are reported
 abbrev pub AreToldSoFar : KnownFiles → (strict : Bool) → (allowed paths : List (Bor (List ℕ)))
-    → (n : ℕ) → ToldChecks → Type 0
+    → (n : ℕ) → CheckOutput → Type 0
 AreToldSoFar known strict allowed paths n told =
     AreCheckedEach known strict allowed (take n paths) (string_bytes told.text)
     (string_bytes told.beside) told.passes
@@ -62,7 +62,7 @@ pub none_told : (known : KnownFiles) (strict : Bool) (allowed paths : List (Bor 
 none_told known strict allowed paths text beside no_text nothing = rw (no_text, nothing) none
 
 pub one_told_more : (known : KnownFiles) (strict : Bool) (allowed paths : List (Bor (List ℕ)))
-    (n : ℕ) (d : Bor (List ℕ)) (old new : ToldChecks)
+    (n : ℕ) (d : Bor (List ℕ)) (old new : CheckOutput)
     → AreToldSoFar known strict allowed paths n old → n < length paths
     → AddsChecked known strict allowed (get_or paths n d).now old new
     → AreToldSoFar known strict allowed paths (n + 1) new

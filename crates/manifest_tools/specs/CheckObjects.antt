@@ -16,7 +16,7 @@ use Rattle.hex.specs.Hex.{encode_lower}
 use Rattle.load.specs.Texts.{load_fault_text}
 use Rattle.manifest_tools.specs.Checks.{AreCheckRefusal, AreChecked, passes}
 use Rattle.manifest_tools.specs.Manifests.{IsChecked, IsCheckRefusal, fault_text}
-use Rattle.manifest_tools.specs.declared.checks.ToldChecks.{ToldChecks}
+use Rattle.manifest_tools.specs.declared.checks.CheckOutput.{CheckOutput}
 use Rattle.manifest_tools.specs.declared.fault.ManifestToolFault.{ManifestToolFault}
 use Rattle.manifest_tools.specs.declared.fault.ManifestToolFault.TheVariants as fault
 use Rattle.ruleset.specs.Rules.{AppRule}
@@ -145,7 +145,7 @@ module _ (known : KnownFiles) (strict : Bool) (allowed : List (Bor (List ℕ))) 
         → AreToldAs (paths ++ path ∷ []) (values ++ value ∷ []) (all && one)
 
   -- a line of JSON, and nothing in `beside`
-  pub record AreCheckedAsJson (paths : List (Bor (List ℕ))) (told : ToldChecks) : Type 0 where
+  pub record AreCheckedAsJson (paths : List (Bor (List ℕ))) (told : CheckOutput) : Type 0 where
     pub values : List Data
     pub told_as : AreToldAs paths values told.passes
     pub text_is : string_bytes told.text ≡ json_line (checks_object values told.passes)
@@ -153,15 +153,15 @@ module _ (known : KnownFiles) (strict : Bool) (allowed : List (Bor (List ℕ))) 
 
 -- ---- as lines, or as JSON
 
-abbrev pub AreToldChecks : KnownFiles → (json strict : Bool) → (allowed paths : List (Bor (List ℕ)))
-    → ToldChecks → Type 0
-AreToldChecks known false strict allowed paths told = AreChecked known strict allowed paths told
-AreToldChecks known true strict allowed paths told =
+abbrev pub IsCheckOutput : KnownFiles → (json strict : Bool) → (allowed paths : List (Bor (List ℕ)))
+    → CheckOutput → Type 0
+IsCheckOutput known false strict allowed paths told = AreChecked known strict allowed paths told
+IsCheckOutput known true strict allowed paths told =
     AreCheckedAsJson known strict allowed paths told
 
 -- as JSON each manifest is reported, unless memory runs out
-abbrev pub AreToldRefusal : KnownFiles → (json : Bool) → List (Bor (List ℕ)) → ManifestToolFault
+abbrev pub RefusesChecks : KnownFiles → (json : Bool) → List (Bor (List ℕ)) → ManifestToolFault
     → Type 0
-AreToldRefusal known false paths why = AreCheckRefusal known paths why
-AreToldRefusal known true paths (fault.Resource resource.Memory) = Unit {0}
-AreToldRefusal known true paths why = ⊥
+RefusesChecks known false paths why = AreCheckRefusal known paths why
+RefusesChecks known true paths (fault.Resource resource.Memory) = Unit {0}
+RefusesChecks known true paths why = ⊥

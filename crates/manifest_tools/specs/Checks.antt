@@ -7,7 +7,7 @@ use Rattle.bounded_files.specs.declared.fault.ResourceFault.TheVariants as resou
 use Rattle.diagnosis.specs.declared.accepted.CheckedManifest.{CheckedManifest}
 use Rattle.hex.specs.Hex.{encode_lower}
 use Rattle.manifest_tools.specs.Manifests.{IsChecked, IsCheckRefusal, fault_text}
-use Rattle.manifest_tools.specs.declared.checks.ToldChecks.{ToldChecks}
+use Rattle.manifest_tools.specs.declared.checks.CheckOutput.{CheckOutput}
 use Rattle.manifest_tools.specs.declared.fault.ManifestToolFault.{ManifestToolFault}
 use Rattle.manifest_tools.specs.declared.fault.ManifestToolFault.TheVariants as fault
 use Rattle.printing.specs.Printed.{printed}
@@ -29,7 +29,7 @@ digest_line digest = line (codes "digest " ++ encode_lower digest)
 -- the report on an accepted manifest: its lines with the digest, those of its warnings, and whether
 -- it passes
 pub record TellsChecked (strict : Bool) (allowed : List (Bor (List ℕ))) (one : CheckedManifest)
-    (told : ToldChecks) : Type 0 where
+    (told : CheckOutput) : Type 0 where
   pub text_is : string_bytes told.text ≡ string_bytes one.text ++ digest_line one.digest
   pub beside_is : string_bytes told.beside ≡ warnings_text one.warnings.items
   pub passes_is : told.passes ≡ passes strict allowed one.warnings.items
@@ -55,14 +55,14 @@ titled_if_any path [] = []
 titled_if_any path (c ∷ cs) = titled path (c ∷ cs)
 
 -- adds an accepted manifest: its lines, and those of its warnings
-pub record AddsAccepted (path : List ℕ) (one old new : ToldChecks) : Type 0 where
+pub record AddsAccepted (path : List ℕ) (one old new : CheckOutput) : Type 0 where
   pub text_is : string_bytes new.text ≡ string_bytes old.text ++ titled path (string_bytes one.text)
   pub beside_is : string_bytes new.beside
       ≡ string_bytes old.beside ++ titled_if_any path (string_bytes one.beside)
   pub passes_is : new.passes ≡ (old.passes && one.passes)
 
 -- adds a refused manifest: why it is refused
-pub record AddsRefused (path : List ℕ) (why : ManifestToolFault) (old new : ToldChecks) : Type 0
+pub record AddsRefused (path : List ℕ) (why : ManifestToolFault) (old new : CheckOutput) : Type 0
   where
     pub text_is : new.text ≡ old.text
     pub beside_is : string_bytes new.beside
@@ -73,7 +73,7 @@ pub record AddsRefused (path : List ℕ) (why : ManifestToolFault) (old new : To
 
 module _ (known : KnownFiles) (strict : Bool) (allowed : List (Bor (List ℕ))) where
   -- the check of a single manifest
-  pub record IsCheckedAlone (path : List ℕ) (told : ToldChecks) : Type 0 where
+  pub record IsCheckedAlone (path : List ℕ) (told : CheckOutput) : Type 0 where
     pub one : CheckedManifest
     pub checked : IsChecked known path one
     pub tells : TellsChecked strict allowed one told
@@ -81,14 +81,14 @@ module _ (known : KnownFiles) (strict : Bool) (allowed : List (Bor (List ℕ))) 
   -- one of several: its lines, those in `beside`, and whether it passes
   pub data IsCheckedAmong (path : List ℕ) : (text beside : List ℕ) → (passes : Bool) → Type 0
     where
-      accepted : (told : ToldChecks) → IsCheckedAlone path told
+      accepted : (told : CheckOutput) → IsCheckedAlone path told
           → IsCheckedAmong path (titled path (string_bytes told.text))
           (titled_if_any path (string_bytes told.beside)) told.passes
       refused : (why : ManifestToolFault) → IsCheckRefusal known path why
           → IsCheckedAmong path [] (titled path (refusal_text why)) false
 
   -- adds one more manifest; all have to pass
-  pub record AddsChecked (path : List ℕ) (old new : ToldChecks) : Type 0 where
+  pub record AddsChecked (path : List ℕ) (old new : CheckOutput) : Type 0 where
     pub text : List ℕ
     pub beside : List ℕ
     pub one : Bool
@@ -106,7 +106,7 @@ module _ (known : KnownFiles) (strict : Bool) (allowed : List (Bor (List ℕ))) 
         → AreCheckedEach paths texts besides all → IsCheckedAmong path.now text beside one
         → AreCheckedEach (paths ++ path ∷ []) (texts ++ text) (besides ++ beside) (all && one)
 
-  abbrev pub AreChecked : List (Bor (List ℕ)) → ToldChecks → Type 0
+  abbrev pub AreChecked : List (Bor (List ℕ)) → CheckOutput → Type 0
   AreChecked (path ∷ []) told = IsCheckedAlone path.now told
   AreChecked paths told =
       AreCheckedEach paths (string_bytes told.text) (string_bytes told.beside) told.passes

@@ -1,6 +1,5 @@
--- Manifests that are checked, and scripts that are replayed.
-use Rattle.std.specs.Prelude.{◌≡◌, ℕ, List, ◌++◌, codes, None}
-use Rattle.std.specs.List.{flat_map}
+-- Manifests that are checked, and the texts of refusals.
+use Rattle.std.specs.Prelude.{ℕ, List, ◌++◌, codes, None}
 use Rattle.diagnosis.specs.Check.{PassesCheck, FailsCheck}
 use Rattle.diagnosis.specs.declared.accepted.CheckedManifest.{CheckedManifest}
 use Rattle.load.specs.Folder.{known_beside}
@@ -10,18 +9,8 @@ use Rattle.bounded_files.specs.Texts.{resource_text}
 use Rattle.bounded_files.specs.declared.fault.ResourceFault.TheVariants as resource
 use Rattle.manifest_tools.specs.declared.fault.ManifestToolFault.{ManifestToolFault}
 use Rattle.manifest_tools.specs.declared.fault.ManifestToolFault.TheVariants as fault
-use Rattle.replay.specs.Replays.{IsReplay, IsReplayFault}
-use Rattle.replay.specs.Replies.{reply_text}
-use Rattle.replay.specs.Texts.{replay_fault_text}
-use Rattle.replay.specs.declared.reply.Reply.{Reply}
-use Rattle.ruleset.specs.Texts.{line}
-
-abbrev pub reply_line : Reply → List ℕ
-reply_line reply = line (reply_text reply)
 
 module _ (known : KnownFiles) where
-  -- ---- check
-
   -- the manifest of the file loads as a ruleset, whose arrays and apps are reported, with its
   -- warnings
   abbrev pub IsChecked : (path : List ℕ) → CheckedManifest → Type 0
@@ -38,21 +27,6 @@ module _ (known : KnownFiles) where
       FailsCheck (known_beside known path) bytes refused)
   IsCheckRefusal path refused = ⊥
 
-  -- ---- replay
-
-  -- the script was played, and its events gave these lines
-  pub record HasReplayed (manifest script : List ℕ) (text : List ℕ) : Type 0 where
-    pub replies : List Reply
-    pub replied : IsReplay known manifest script replies
-    pub lines : text ≡ flat_map reply_line replies
-
-  -- the script wasn't played; running out of memory for the lines is always allowed
-  abbrev pub IsReplayRefusal : (manifest script : List ℕ) → ManifestToolFault → Type 0
-  IsReplayRefusal manifest script (fault.Replay refused) =
-      IsReplayFault known manifest script refused
-  IsReplayRefusal manifest script (fault.Resource resource.Memory) = Unit {0}
-  IsReplayRefusal manifest script refused = ⊥
-
 -- ---- texts; B8: a simulated manifest doesn't have the one app that is to be reported
 
 abbrev pub fault_text : ManifestToolFault → List ℕ
@@ -61,4 +35,3 @@ fault_text (fault.Diagnosed refused) = load_fault_text refused.fault
 fault_text (fault.Load refused) = path_fault_text refused
 fault_text fault.NoApp = codes "B8 App"
 fault_text (fault.Against refused) = path_fault_text refused ++ codes " in --against"
-fault_text (fault.Replay refused) = replay_fault_text refused

@@ -20,7 +20,7 @@ use Rattle.cells.specs.declared.array.CellArray.{CellArray}
 use Rattle.ruleset.specs.Rules.{Rules, app_in}
 use Rattle.manifest_tools.specs.declared.fault.ManifestToolFault.{ManifestToolFault}
 use Rattle.manifest_tools.specs.declared.fault.ManifestToolFault.TheVariants as fault
-use Rattle.manifest_tools.specs.declared.told_simulation.ToldSimulation.{ToldSimulation}
+use Rattle.manifest_tools.specs.declared.simulation_output.SimulationOutput.{SimulationOutput}
 
 -- ---- the report on rulesets
 
@@ -56,28 +56,28 @@ text_against true now next = json_line (comparison_object now next)
 
 -- the report on a simulation, and the picture of the same simulation
 pub record TellsAlone (json : Bool) (next : Simulation) (file : Option (List ℕ))
-    (told : ToldSimulation) : Type 0 where
+    (told : SimulationOutput) : Type 0 where
   pub text_is : string_bytes told.text ≡ text_alone json next
   pub picture_is : option_map string_bytes told.picture ≡ picture_if file next
   pub loses_is : told.loses ≡ false
 
 -- compared with another one
 pub record TellsAgainst (json : Bool) (next now : Simulation) (file : Option (List ℕ))
-    (told : ToldSimulation) : Type 0 where
+    (told : SimulationOutput) : Type 0 where
   pub text_is : string_bytes told.text ≡ text_against json now next
   pub picture_is : option_map string_bytes told.picture ≡ picture_if file next
   pub loses_is : told.loses ≡ is_lossy now next
 
 -- the report on a single ruleset
 pub record ShowsAlone (json : Bool) (client : Client) (rules : Rules)
-    (appid file : Option (List ℕ)) (told : ToldSimulation) : Type 0 where
+    (appid file : Option (List ℕ)) (told : SimulationOutput) : Type 0 where
   pub next : Simulation
   pub simulated : IsSimulationBy client rules appid next
   pub tells : TellsAlone json next file told
 
 -- the report on a ruleset compared with another one
 pub record ShowsAgainst (json : Bool) (client : Client) (rules serving : Rules)
-    (appid file : Option (List ℕ)) (told : ToldSimulation) : Type 0 where
+    (appid file : Option (List ℕ)) (told : SimulationOutput) : Type 0 where
   pub next : Simulation
   pub simulated : IsSimulationBy client rules appid next
   pub now : Simulation
@@ -97,7 +97,7 @@ module _ (known : KnownFiles) where
 
   -- the report on a simulation, and its picture
   abbrev pub HasSimulated : (json : Bool) → Client → (manifest : List ℕ)
-      → (against appid file : Option (List ℕ)) → ToldSimulation → Type 0
+      → (against appid file : Option (List ℕ)) → SimulationOutput → Type 0
   HasSimulated json client manifest None appid file told =
       (rules : Rules) × IsLoadedFor manifest appid rules
       × ShowsAlone json client rules appid file told
@@ -132,7 +132,7 @@ module _ (known : KnownFiles) where
   pub record IsPictureRefusal (json : Bool) (client : Client) (manifest : List ℕ)
       (against appid file : Option (List ℕ)) : Type 0 where
     pub named : IsSome file
-    pub told : ToldSimulation
+    pub told : SimulationOutput
     pub simulated : HasSimulated json client manifest against appid file told
 
   -- the manifests give no report, or the picture can't be written

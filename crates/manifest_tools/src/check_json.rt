@@ -7,7 +7,7 @@ ghost use Rattle.manifest_tools.specs.CheckedObjects.{AddsToldAs};
 
 use crate::check::check_file;
 use crate::check_objects::{accepted_object, checks_object, refused_object};
-use crate::checks::{ToldChecks, passes};
+use crate::checks::{CheckOutput, passes};
 use bounded_files::Disk;
 use serde_json::Value;
 use simulate::{json_line, push_value};
@@ -27,14 +27,14 @@ pub(crate) fn check_as_json<D: Disk>(
     paths: &[&str],
     strict: bool,
     allowed: &[&str],
-) -> Result<ToldChecks, AllocError>
+) -> Result<CheckOutput, AllocError>
     ensures { IfOk result (specs.AreCheckedAsJson (D.known disk.now) strict allowed.now paths.now) }
 {
     let told = objects_of(alloc, disk, paths, strict, allowed)?;
     let passes = told.passes;
     let value = checks_object(alloc, told.values, passes)?;
     let text = json_line(alloc, &value)?;
-    Ok(ToldChecks {
+    Ok(CheckOutput {
         text,
         beside: String::new(alloc),
         passes,

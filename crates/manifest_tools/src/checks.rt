@@ -2,7 +2,7 @@
 
 ghost use Rattle.std.specs.Prelude.{◌≡◌, IfOk, IfErr, OnOk, string_bytes};
 ghost use Rattle.printing.specs.Pushed.{Puts};
-ghost use Rattle.manifest_tools.specs.CheckObjects.{AreToldChecks, AreToldRefusal};
+ghost use Rattle.manifest_tools.specs.CheckObjects.{IsCheckOutput, RefusesChecks};
 ghost use Rattle.manifest_tools.specs.Checks as specs;
 ghost use Rattle.manifest_tools.specs.Manifests.{IsCheckRefusal};
 
@@ -18,7 +18,7 @@ use warnings::{Warning, push_warnings, some_counts};
 
 /// The report on the checked manifests.
 #[derive(Drop)]
-pub struct ToldChecks {
+pub struct CheckOutput {
     /// What they declare: lines, each ended by a line feed.
     pub text: String,
     /// What goes to standard error: the warnings, and why manifests are refused. These are lines,
@@ -44,10 +44,10 @@ pub fn check_files<D: Disk>(
     strict: bool,
     allowed: &[&str],
     json: bool,
-) -> Result<ToldChecks, ManifestToolFault>
+) -> Result<CheckOutput, ManifestToolFault>
     ensures told { IfOk result
-        (AreToldChecks (D.known disk.now) json strict allowed.now paths.now) }
-    ensures fault { IfErr result (AreToldRefusal (D.known disk.now) json paths.now) }
+        (IsCheckOutput (D.known disk.now) json strict allowed.now paths.now) }
+    ensures fault { IfErr result (RefusesChecks (D.known disk.now) json paths.now) }
 {
     if !json {
         return check_as_lines(alloc, disk, paths, strict, allowed);
@@ -64,7 +64,7 @@ fn check_as_lines<D: Disk>(
     paths: &[&str],
     strict: bool,
     allowed: &[&str],
-) -> Result<ToldChecks, ManifestToolFault>
+) -> Result<CheckOutput, ManifestToolFault>
     ensures told { IfOk result (specs.AreChecked (D.known disk.now) strict allowed.now paths.now) }
     ensures fault { IfErr result (specs.AreCheckRefusal (D.known disk.now) paths.now) }
 {
@@ -84,7 +84,7 @@ fn check_alone<D: Disk>(
     path: &str,
     strict: bool,
     allowed: &[&str],
-) -> Result<ToldChecks, ManifestToolFault>
+) -> Result<CheckOutput, ManifestToolFault>
     ensures told { IfOk result
         (specs.IsCheckedAlone (D.known disk.now) strict allowed.now path.now) }
     ensures fault { IfErr result (IsCheckRefusal (D.known disk.now) path.now) }
@@ -101,7 +101,7 @@ fn tell_alone(
     checked: CheckedManifest,
     strict: bool,
     allowed: &[&str],
-) -> Result<ToldChecks, AllocError>
+) -> Result<CheckOutput, AllocError>
     ensures { IfOk result (specs.TellsChecked strict allowed.now checked) }
 {
     let passes = passes(strict, allowed, checked.warnings.as_slice());
@@ -109,7 +109,7 @@ fn tell_alone(
     push_warnings(&mut beside, checked.warnings.as_slice())?;
     let mut text = checked.text;
     push_digest(&mut text, checked.digest)?;
-    Ok(ToldChecks {
+    Ok(CheckOutput {
         text,
         beside,
         passes,
@@ -131,11 +131,11 @@ fn check_each<D: Disk>(
     paths: &[&str],
     strict: bool,
     allowed: &[&str],
-) -> Result<ToldChecks, AllocError>
+) -> Result<CheckOutput, AllocError>
     ensures { IfOk result (λ told. specs.AreCheckedEach (D.known disk.now) strict allowed.now
         paths.now (string_bytes told.text) (string_bytes told.beside) told.passes) }
 {
-    let mut told = ToldChecks {
+    let mut told = CheckOutput {
         text: String::new(alloc),
         beside: String::new(alloc),
         passes: true,
@@ -154,8 +154,8 @@ fn add_checked<D: Disk>(
     path: &str,
     strict: bool,
     allowed: &[&str],
-    told: ToldChecks,
-) -> Result<ToldChecks, AllocError>
+    told: CheckOutput,
+) -> Result<CheckOutput, AllocError>
     ensures { IfOk result
         (specs.AddsChecked (D.known disk.now) strict allowed.now path.now told) }
 {
@@ -177,9 +177,9 @@ fn add_checked<D: Disk>(
 // Adds the report on an accepted manifest.
 fn add_accepted(
     path: &str,
-    one: &ToldChecks,
-    mut told: ToldChecks,
-) -> Result<ToldChecks, AllocError>
+    one: &CheckOutput,
+    mut told: CheckOutput,
+) -> Result<CheckOutput, AllocError>
     ensures { IfOk result (specs.AddsAccepted path.now one.now told) }
 {
     push_titled(&mut told.text, path, one.text.as_str())?;
@@ -192,8 +192,8 @@ fn add_accepted(
 fn add_refused(
     path: &str,
     fault: &ManifestToolFault,
-    mut told: ToldChecks,
-) -> Result<ToldChecks, AllocError>
+    mut told: CheckOutput,
+) -> Result<CheckOutput, AllocError>
     ensures { IfOk result (specs.AddsRefused path.now fault.now told) }
 {
     push_title(&mut told.beside, path)?;

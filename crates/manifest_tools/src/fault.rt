@@ -6,14 +6,13 @@ ghost use Rattle.manifest_tools.specs.Manifests.{fault_text};
 use bounded_files::ResourceFault;
 use diagnosis::Refused;
 use load::PathFault;
-use replay::ReplayFault;
 use std::fmt;
 
 /// What is wrong; it is displayed as it is printed, except for the lines of a diagnosis.
 #[derive(Debug, Drop)]
 pub enum ManifestToolFault {
-    /// B3 and B4: a manifest or a script can't be read, the picture of `simulate` can't be written,
-    /// or an allocation of the command failed.
+    /// B3 and B4: a manifest can't be read, the picture of `simulate` can't be written, or an
+    /// allocation of the command failed.
     Resource(ResourceFault),
     /// M1 to M8: a manifest gives no ruleset, and where and why.
     Diagnosed(Refused),
@@ -23,8 +22,6 @@ pub enum ManifestToolFault {
     NoApp,
     /// B3, B4, M1 to M8: the manifest to compare with gives no ruleset.
     Against(PathFault),
-    /// B2 to B4, M1 to M8: a script, or a manifest of it, is refused.
-    Replay(ReplayFault),
 }
 
 impl fmt::Display for ManifestToolFault {
@@ -37,7 +34,6 @@ impl fmt::Display for ManifestToolFault {
             ManifestToolFault::Load(fault) => write!(f, "{fault}"),
             ManifestToolFault::NoApp => f.write_str("B8 App"),
             ManifestToolFault::Against(fault) => write!(f, "{fault} in --against"),
-            ManifestToolFault::Replay(fault) => write!(f, "{fault}"),
         }
     }
 }

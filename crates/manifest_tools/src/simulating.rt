@@ -8,7 +8,7 @@ ghost use Rattle.simulate.specs.Clients.{IsSameButApp};
 
 use crate::fault::ManifestToolFault;
 use crate::progress_lines::ProgressLines;
-use crate::told_simulation::{ToldSimulation, tell_against, tell_alone};
+use crate::simulation_output::{SimulationOutput, tell_against, tell_alone};
 use bounded_files::{Disk, ResourceFault, may_write_over, write_file};
 use cells::Directory;
 use load::{PathFault, load_path};
@@ -43,7 +43,7 @@ pub fn simulate_files<R, D>(
     file: Option<&str>,
     json: bool,
     client: Client,
-) -> Result<ToldSimulation, ManifestToolFault>
+) -> Result<SimulationOutput, ManifestToolFault>
 where
     R: Files + AllocGlobal + Clock + Eprint,
     D: Disk,
@@ -63,7 +63,11 @@ where
 
 // Writes the picture of a simulation into the named file. An existing file must be a picture or
 // empty, so that no manifest and no rule is overwritten, by whatever path.
-fn write_picture<R>(rt: &R, file: Option<&str>, told: &ToldSimulation) -> Result<(), ResourceFault>
+fn write_picture<R>(
+    rt: &R,
+    file: Option<&str>,
+    told: &SimulationOutput,
+) -> Result<(), ResourceFault>
 where
     R: Files + AllocGlobal,
     ensures { OnErr result (IsSome (option_copied file.entry)) }
@@ -91,7 +95,7 @@ fn told_for<R, D>(
     file: Option<&str>,
     json: bool,
     mut client: Client,
-) -> Result<ToldSimulation, ManifestToolFault>
+) -> Result<SimulationOutput, ManifestToolFault>
 where
     R: AllocGlobal + Clock + Eprint,
     D: Disk,
@@ -115,7 +119,7 @@ fn told_of_files<R, D>(
     file: Option<&str>,
     json: bool,
     client: &mut Client,
-) -> Result<ToldSimulation, ManifestToolFault>
+) -> Result<SimulationOutput, ManifestToolFault>
 where
     R: AllocGlobal + Clock + Eprint,
     D: Disk,
@@ -179,7 +183,7 @@ fn told_alone<R>(
     file: Option<&str>,
     json: bool,
     client: &mut Client,
-) -> Result<ToldSimulation, AllocError>
+) -> Result<SimulationOutput, AllocError>
 where
     R: AllocGlobal + Clock + Eprint,
     ensures { IfOk result (specs.ShowsAlone json client.old rules (option_copied appid.entry)
@@ -226,7 +230,7 @@ fn told_against<R>(
     file: Option<&str>,
     json: bool,
     client: &mut Client,
-) -> Result<ToldSimulation, AllocError>
+) -> Result<SimulationOutput, AllocError>
 where
     R: AllocGlobal + Clock + Eprint,
     ensures { IfOk result (specs.ShowsAgainst json client.old rules serving

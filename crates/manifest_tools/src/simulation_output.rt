@@ -11,7 +11,7 @@ use std::alloc::{AllocError, Global};
 /// The report on a simulation: its lines, each ended by LF, or its line of JSON; and its picture as
 /// the text of an SVG file, if a file is named for it.
 #[derive(Drop)]
-pub struct ToldSimulation {
+pub struct SimulationOutput {
     pub text: String,
     pub picture: Option<String>,
     /// Whether some bucket loses the release that it has of a reported app, compared with another
@@ -25,12 +25,12 @@ pub(crate) fn tell_alone(
     next: &Simulated,
     file: Option<&str>,
     json: bool,
-) -> Result<ToldSimulation, AllocError>
+) -> Result<SimulationOutput, AllocError>
     ensures { IfOk result (specs.TellsAlone json next.now (option_copied file.entry)) }
 {
     let text = text_alone(alloc, next, json)?;
     let picture = picture_if(alloc, file, next)?;
-    Ok(ToldSimulation {
+    Ok(SimulationOutput {
         text,
         picture,
         loses: false,
@@ -56,13 +56,13 @@ pub(crate) fn tell_against(
     next: &Simulated,
     file: Option<&str>,
     json: bool,
-) -> Result<ToldSimulation, AllocError>
+) -> Result<SimulationOutput, AllocError>
     ensures { IfOk result (specs.TellsAgainst json next.now now.now (option_copied file.entry)) }
 {
     let text = text_against(alloc, now, next, json)?;
     let loses = is_lossy(alloc, now, next)?;
     let picture = picture_if(alloc, file, next)?;
-    Ok(ToldSimulation {
+    Ok(SimulationOutput {
         text,
         picture,
         loses,

@@ -1,4 +1,4 @@
-use Rattle.manifest_tools.proofs.told_simulation.tell_against.Goals as goal
+use Rattle.manifest_tools.proofs.simulation_output.tell_against.Goals as goal
 
 pub returns : goal.returns
 returns c = record {
