@@ -1,0 +1,24 @@
+//! The program `rollout-tools`: it checks, simulates and tries manifests, reports on a server's
+//! logs, and explains, traces and orders single programs. `command` of the library `tool_commands`
+//! does what the words request.
+#![tactic(auto)]
+
+use bounded_files::Device;
+use command_line::unreadable_words;
+use std::process::ExitCode;
+use std::{env, io};
+use tool_commands::command;
+
+fn words_of(rt: &HostRuntime) -> io::Result<Vec<String>> {
+    Ok(env::args(rt)?.collect(rt.alloc())?)
+}
+
+fn main(rt: HostRuntime) -> ExitCode {
+    let mut out = rt.stdout();
+    let mut err = rt.stderr();
+    let status = match words_of(&rt) {
+        Ok(words) => command(&rt, &Device::new(&rt), words.as_slice(), &mut out, &mut err),
+        Err(error) => unreadable_words(&error, &mut err),
+    };
+    ExitCode::from(status)
+}

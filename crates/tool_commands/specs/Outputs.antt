@@ -1,0 +1,76 @@
+-- The output of each command, and why it is refused, by the bytes of the files, as far as they are
+-- known. The bytes of a device's files aren't known, so an output is one for some bytes. No
+-- contract can say what a server replies, and nothing is claimed for out of memory.
+use Rattle.std.specs.Prelude.{◌≡◌, ◌⊎◌, ◌&&◌, List, ℕ, None, Some, Bool, true, false, not}
+use Rattle.std.specs.Prelude.{is_some, length, option_copied}
+use Rattle.std.specs.String.{string_bytes}
+use Rattle.bounded_files.specs.Files.{KnownFiles}
+use Rattle.command_line.specs.declared.declared_shape.DeclaredShape.{DeclaredShape}
+use Rattle.log_tools.specs.Reports.{HasReported}
+use Rattle.manifest_tools.specs.CheckObjects.{IsCheckOutput, RefusesChecks}
+use Rattle.manifest_tools.specs.Simulations.{HasSimulated, IsSimulationRefusal}
+use Rattle.program_inspection.specs.Explanations.{HasExplained, IsExplainRefusal}
+use Rattle.program_inspection.specs.Orders.{IsOrderedFrom, IsOrderRefusal}
+use Rattle.program_inspection.specs.Traces.{HasTraced}
+use Rattle.program_tools.specs.Programs.{IsRunRefusal}
+use Rattle.tool_commands.specs.Clients.{client_of}
+use Rattle.tool_commands.specs.DryRuns.{HasDryRun, IsDryRunRefusal}
+use Rattle.tool_commands.specs.Whys.{HasWhy, IsWhyRefusal}
+use Rattle.tool_commands.specs.declared.fault.Fault.{Fault}
+use Rattle.tool_commands.specs.declared.fault.Fault.TheVariants as fault
+use Rattle.tool_commands.specs.declared.output.ToolOutput.{ToolOutput}
+use Rattle.tool_commands.specs.declared.output.ToolOutput.TheVariants as output
+use Rattle.tool_words.specs.declared.args.ToolCommand.{ToolCommand}
+use Rattle.tool_words.specs.declared.args.ToolCommand.TheVariants as command
+
+module _ (known : KnownFiles) where
+  -- an accepted program with what is known about it
+  abbrev pub IsExplainedOutput : (path : List ℕ) → DeclaredShape → ToolOutput → Type 0
+  IsExplainedOutput path shape (output.Explained text) =
+      HasExplained known path shape None (string_bytes text)
+  IsExplainedOutput path shape other = ⊥
+
+  -- a refused program with what is known about it, or no program
+  abbrev pub IsExplainedRefusal : (path : List ℕ) → DeclaredShape → Fault → Type 0
+  IsExplainedRefusal path shape (fault.Explained text refusal) =
+      HasExplained known path shape (Some refusal) (string_bytes text)
+  IsExplainedRefusal path shape (fault.Program why) = IsExplainRefusal known path shape why
+  IsExplainedRefusal path shape other = ⊥
+
+  abbrev pub IsOutput : ToolCommand → ToolOutput → Type 0
+  IsOutput (command.Ask args) (output.Reply body) =
+      (args.why ≡ false) × HasDryRun known args body.items
+  IsOutput (command.Ask args) (output.Why text) =
+      (args.why ≡ true) × HasWhy known args (string_bytes text)
+  IsOutput (command.Check args) (output.Checked checked) =
+      IsCheckOutput known args.json args.strict args.allowed.items args.manifests.items checked
+  IsOutput (command.Explain path shape) explained = IsExplainedOutput path.now shape explained
+  IsOutput (command.Order path out) (output.Ordered program) =
+      IsOrderedFrom known path.now program.items
+  IsOutput (command.Report args) (output.Reported report) =
+      HasReported (length args.logs.items) args.since args.until args.prometheus
+      (is_some args.picture) report
+  IsOutput (command.Simulate args) (output.Simulated simulation passes) =
+      HasSimulated known args.json (client_of args.app) args.manifest.now
+      (option_copied args.against) (option_copied args.appid) (option_copied args.picture)
+      simulation × (passes ≡ not (args.fail_on_lost && simulation.loses))
+  IsOutput (command.Trace run) (output.Traced lines choice instructions) =
+      HasTraced known run choice instructions (string_bytes lines)
+  IsOutput command output = ⊥
+
+  abbrev pub IsRefused : ToolCommand → Fault → Type 0
+  IsRefused (command.Ask args) why =
+      ((args.why ≡ false) × IsDryRunRefusal known args why)
+      ⊎ ((args.why ≡ true) × IsWhyRefusal known args why)
+  IsRefused (command.Check args) (fault.Manifest why) =
+      RefusesChecks known args.json args.manifests.items why
+  IsRefused (command.Explain path shape) why = IsExplainedRefusal path.now shape why
+  IsRefused (command.Order path out) (fault.Program why) = IsOrderRefusal known path.now why
+  -- nothing is known about the logs of a device, nor about its clock
+  IsRefused (command.Report args) (fault.Resource why) = Unit {0}
+  IsRefused (command.Simulate args) (fault.Manifest why) =
+      IsSimulationRefusal known args.json (client_of args.app) args.manifest.now
+      (option_copied args.against) (option_copied args.appid) (option_copied args.picture) why
+  IsRefused (command.Trace run) (fault.Program why) =
+      IsRunRefusal known run.path.now run.shape why
+  IsRefused command why = ⊥

@@ -1,0 +1,56 @@
+//! Why a command is refused.
+
+ghost use Rattle.std.specs.Prelude.{◌≡◌, Some};
+ghost use Rattle.tool_commands.specs.Texts.{fault_text, refusal_reason};
+
+use bounded_files::ResourceFault;
+use bpf_verify::Refusal;
+use dry_run::DryRunFault;
+use manifest_tools::ManifestToolFault;
+use operator::AskFault;
+use program_tools::ProgramToolFault;
+use std::fmt;
+
+/// The reason, printed after `refused `.
+#[derive(Debug, Drop)]
+pub(crate) enum Fault {
+    /// B3: a log can't be read, or a picture can't be written. B4: out of memory.
+    Resource(ResourceFault),
+    /// `order` or `trace` is refused, or `explain`, except by a rule.
+    Program(ProgramToolFault),
+    /// V1 to V14, from `explain`: a rule refuses the program; the text has what is known about it.
+    Explained { text: String, refusal: Refusal },
+    /// `check` or `simulate` is refused.
+    Manifest(ManifestToolFault),
+    /// B3, B4, B7, M1 to M8, O1 to O5, P5: a request gets no reply.
+    DryRun(DryRunFault),
+    /// B4, B5, or a refusal in the server's words: a server's counters can't be had.
+    Ask(AskFault),
+}
+
+impl Fault {
+    /// The lines after the refusal: the place and the reason of a manifest's refusal.
+    pub(crate) fn reason(&self) -> &str
+        ensures { result.now ≡ refusal_reason self.now }
+    {
+        match self {
+            Fault::Manifest(ManifestToolFault::Diagnosed(refused)) => refused.reason.as_str(),
+            _ => "",
+        }
+    }
+}
+
+impl fmt::Display for Fault {
+    ghost output = { λ fault. Some (fault_text fault) };
+
+    fn fmt<W: fmt::Write>(&self, f: &mut fmt::Formatter<W>) -> fmt::Result {
+        match self {
+            Fault::Resource(fault) => write!(f, "{fault}"),
+            Fault::Program(fault) => write!(f, "{fault}"),
+            Fault::Explained { refusal, .. } => write!(f, "{refusal}"),
+            Fault::Manifest(fault) => write!(f, "{fault}"),
+            Fault::DryRun(fault) => write!(f, "{fault}"),
+            Fault::Ask(fault) => write!(f, "{fault}"),
+        }
+    }
+}

@@ -1,0 +1,44 @@
+//! From a command to its output.
+
+ghost use Rattle.std.specs.Prelude.{IfOk, IfErr};
+ghost use Rattle.tool_commands.specs.Outputs.{IsOutput, IsRefused};
+
+use crate::dry_runs::dry_run_of;
+use crate::fault::Fault;
+use crate::output::ToolOutput;
+use crate::programs::{explained, traced};
+use crate::reports::{checked, reported};
+use crate::simulations::simulated;
+use bounded_files::Disk;
+use program_inspection::order_file;
+use std::net::{Net, TcpStream};
+use std::rt::Files;
+use std::time::Clock;
+use tool_words::ToolCommand;
+
+/// Does what the command says, with files of the disk; output files are written by the runtime.
+// open: which bytes a device's file gives: no contract can say what a device does, so the tests run
+// each command on files.
+pub(crate) fn perform<R, D>(
+    rt: &R,
+    disk: &D,
+    command: &ToolCommand<'_>,
+) -> Result<ToolOutput, Fault>
+where
+    R: Files + AllocGlobal + Clock + Eprint + Net<Stream = TcpStream>,
+    D: Disk,
+    ensures output { IfOk result (IsOutput (D.known disk.now) command.now) }
+    ensures fault { IfErr result (IsRefused (D.known disk.now) command.now) }
+{
+    match command {
+        ToolCommand::Ask(args) => dry_run_of(rt, disk, args),
+        ToolCommand::Check(args) => checked(rt.alloc(), disk, args),
+        ToolCommand::Explain { path, shape } => explained(rt.alloc(), disk, path, shape),
+        ToolCommand::Order { path, out } => Ok(ToolOutput::Ordered {
+            program: order_file(rt, disk, path, out).map_err(Fault::Program)?,
+        }),
+        ToolCommand::Report(args) => reported(rt, args),
+        ToolCommand::Simulate(args) => simulated(rt, disk, args),
+        ToolCommand::Trace(run) => traced(rt.alloc(), disk, run),
+    }
+}

@@ -1,0 +1,48 @@
+//! `check` and `report`: the outputs of commands that report on manifests and on logs.
+
+ghost use Rattle.std.specs.Prelude.{IfOk, IfErr};
+ghost use Rattle.bounded_files.specs.Files.{KnownFiles};
+ghost use Rattle.tool_commands.specs.Outputs.{IsOutput, IsRefused};
+
+use crate::fault::Fault;
+use crate::output::ToolOutput;
+use bounded_files::Disk;
+use log_tools::report_logs;
+use manifest_tools::check_files;
+use std::alloc::Global;
+use std::rt::Files;
+use std::time::Clock;
+use tool_words::{CheckArgs, ReportArgs, ToolCommand};
+
+/// The messages about the manifests.
+pub(crate) fn checked<D: Disk>(
+    alloc: Global,
+    disk: &D,
+    args: &CheckArgs<'_>,
+) -> Result<ToolOutput, Fault>
+    ensures output { IfOk result (IsOutput (D.known disk.now) (ToolCommand.Check args.now)) }
+    ensures fault { IfErr result (IsRefused (D.known disk.now) (ToolCommand.Check args.now)) }
+{
+    let (manifests, allowed) = (args.manifests.as_slice(), args.allowed.as_slice());
+    match check_files(alloc, disk, manifests, args.strict, allowed, args.json) {
+        Ok(output) => Ok(ToolOutput::Checked(output)),
+        Err(fault) => Err(Fault::Manifest(fault)),
+    }
+}
+
+/// The report on the logs.
+pub(crate) fn reported<R>(rt: &R, args: &ReportArgs<'_>) -> Result<ToolOutput, Fault>
+where
+    R: Files + AllocGlobal + Clock + Eprint,
+    ensures output { (known : KnownFiles)
+        → IfOk result (IsOutput known (ToolCommand.Report args.now)) }
+    ensures fault { (known : KnownFiles)
+        → IfErr result (IsRefused known (ToolCommand.Report args.now)) }
+{
+    let logs = args.logs.as_slice();
+    let (since, until) = (args.since, args.until);
+    match report_logs(rt, logs, since, until, args.prometheus, args.picture) {
+        Ok(output) => Ok(ToolOutput::Reported(output)),
+        Err(fault) => Err(Fault::Resource(fault)),
+    }
+}

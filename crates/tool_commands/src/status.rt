@@ -1,0 +1,117 @@
+//! The status of a command, and what it prints: on standard output, or on standard error.
+
+ghost use Rattle.std.specs.Prelude.{◌≡◌, ◌≤◌, map, true, OnOk, if◌then◌else◌};
+ghost use Rattle.std.specs.Io.KnownBytes.{Appends};
+ghost use Rattle.command_line.specs.Printed.{IsGiven};
+ghost use Rattle.tool_commands.specs.Commands.{AreWrong, IsAnswered, IsDone, IsFaultPrinted};
+ghost use Rattle.tool_commands.specs.Texts.{output_text, passes, warnings_of};
+
+use crate::fault::Fault;
+use crate::output::ToolOutput;
+use crate::performing::perform;
+use bounded_files::{Disk, ResourceFault};
+use command_line::{print_lines, print_refusal, refused, status_of, usage};
+use std::convert::AsStr;
+use std::io::{self, Write};
+use std::net::{Net, TcpStream};
+use std::rt::Files;
+use std::time::Clock;
+use tool_words::{ToolCommand, read_tool_words};
+
+/// Does what the words request, the first of which is the program's name, with files of the disk.
+/// Results go to `out`; refusals, usage and the warnings of `check` go to `err`, and nothing else
+/// does. A simulation or a report that takes over a second prints its progress by the runtime
+/// itself. The status is 0 if the command was done; 1 if it was refused, a write failed, or a check
+/// or a simulation doesn't pass; and 2 for usage.
+// open: `clap`'s texts; that the status isn't 1, since a read or a write may fail at any time: the
+// tests compare each command's lines and status.
+pub fn command<R, D, S, O, E>(rt: &R, disk: &D, words: &[S], out: &mut O, err: &mut E) -> u8
+where
+    R: Files + AllocGlobal + Clock + Eprint + Net<Stream = TcpStream>,
+    D: Disk,
+    S: AsStr,
+    O: Write,
+    E: Write,
+    ensures within { result ≤ 2 }
+    ensures done { result ≡ 0 → IsDone (D.known disk.now) (map S.text words.now)
+        (O.contents out.old) (O.contents out.new) (IsGiven E.contents err.old err.new) }
+    ensures wrong { result ≡ 2 → AreWrong (map S.text words.now) }
+    ensures usage { result ≡ 2 → out.new ≡ out.old }
+{
+    match read_tool_words(rt.alloc(), words) {
+        Ok(command) => answer(rt, disk, &command, out, err),
+        Err(fault) => usage(&fault, out, err),
+    }
+}
+
+// Does what the command says, and prints its output or its refusal.
+fn answer<R, D, O, E>(rt: &R, disk: &D, command: &ToolCommand<'_>, out: &mut O, err: &mut E) -> u8
+where
+    R: Files + AllocGlobal + Clock + Eprint + Net<Stream = TcpStream>,
+    D: Disk,
+    O: Write,
+    E: Write,
+    ensures within { result ≤ 1 }
+    ensures done { result ≡ 0 → IsAnswered (D.known disk.now) command.now
+        (O.contents out.old) (O.contents out.new) (IsGiven E.contents err.old err.new) }
+{
+    match perform(rt, disk, command) {
+        Ok(output) => print_whole(&output, out, err),
+        Err(fault) => refused_for(&fault, out, err),
+    }
+}
+
+// Prints an output, and its warnings.
+fn print_whole<O: Write, E: Write>(output: &ToolOutput, out: &mut O, err: &mut E) -> u8
+    ensures within { result ≤ 1 }
+    ensures printed { result ≡ 0 → Appends (O.contents out.old) (O.contents out.new)
+        (output_text output.now) }
+    ensures warned { result ≡ 0 → IsGiven E.contents err.old err.new (warnings_of output.now) }
+    ensures passed { result ≡ 0 → passes output.now ≡ true }
+{
+    match write!(out, "{output}") {
+        Ok(()) => print_warnings(output.warnings(), output.passes(), err),
+        Err(_) => refused(err, &ResourceFault::File),
+    }
+}
+
+// Prints warnings, if there are any, and returns the status: whether the output passes.
+fn print_warnings<E: Write>(warnings: &str, passes: bool, err: &mut E) -> u8
+    ensures within { result ≤ 1 }
+    ensures given { result ≡ 0 → IsGiven E.contents err.old err.new warnings.now }
+    ensures passed { result ≡ 0 → passes ≡ true }
+{
+    if warnings.is_empty() {
+        return passed(passes);
+    }
+    match print_lines(err, warnings) {
+        Ok(()) => passed(passes),
+        Err(_) => 1,
+    }
+}
+
+// The status of an output that was printed.
+fn passed(passes: bool) -> u8
+    ensures { result ≡ (if passes then 0 else 1) }
+{
+    if passes { 0 } else { 1 }
+}
+
+// Prints a refusal. For a program that `explain` shows up to its fault, what is known is printed on
+// standard output first.
+fn refused_for<O: Write, E: Write>(fault: &Fault, out: &mut O, err: &mut E) -> u8
+    ensures { result ≡ 1 }
+{
+    if let Fault::Explained { text, .. } = fault {
+        let _printed = print_lines(out, text.as_str());
+    }
+    status_of(print_fault(fault, err).is_ok(), 1)
+}
+
+// Prints a refusal, followed by the place and the reason of a manifest's refusal.
+fn print_fault<E: Write>(fault: &Fault, err: &mut E) -> io::Result<()>
+    ensures { OnOk result (IsFaultPrinted fault.now (E.contents err.old) (E.contents err.new)) }
+{
+    print_refusal(err, fault)?;
+    print_lines(err, fault.reason())
+}

@@ -1,0 +1,80 @@
+//! `ask --why`: why each app of a request gets what it gets, and the digest of the files that give
+//! the reasons.
+
+ghost use Rattle.std.specs.Prelude.{◌≡◌, ◌++◌, IfOk, IfErr};
+ghost use Rattle.std.specs.String.{string_bytes};
+ghost use Rattle.tool_commands.specs.DryRuns.{IsReplyFault};
+ghost use Rattle.tool_commands.specs.Whys as specs;
+ghost use Rattle.dry_run.specs.Meanings.{HaveMeanings};
+ghost use Rattle.manifest_tools.specs.Checks.{digest_line};
+
+use crate::dry_runs::{moment_of, served_reply};
+use crate::fault::Fault;
+use bounded_files::{Disk, ResourceFault};
+use dry_run::{OpenedWhy, open_why, why_as_told};
+use manifest_tools::push_digest;
+use std::alloc::AllocError;
+use std::net::{Net, TcpStream};
+use std::time::Clock;
+use told_cells::told_lines;
+use tool_words::AskArgs;
+
+/// Why each app gets what it gets, and last the line `digest ..` that `check` prints for the
+/// manifest. The files are opened first; then a server's counters are requested, if a port is
+/// given.
+// open: which counters a server has, and which second the clock gives: tests.
+#[tactic(auto, using(crate::proofs::Unanswered::unanswered))]
+pub(crate) fn why_of<R, D>(rt: &R, disk: &D, args: &AskArgs<'_>) -> Result<String, Fault>
+where
+    R: AllocGlobal + Clock + Net<Stream = TcpStream>,
+    D: Disk,
+    ensures told { IfOk result (λ text.
+        specs.HasWhy (D.known disk.now) args.now (string_bytes text)) }
+    ensures fault { IfErr result (specs.IsWhyRefusal (D.known disk.now) args.now) }
+{
+    let opened = match open_why(rt.alloc(), disk, args.manifest, args.request) {
+        Ok(opened) => opened,
+        Err(fault) => return Err(Fault::DryRun(fault)),
+    };
+    match told_why(rt, &opened, args) {
+        Ok(text) => Ok(text),
+        Err(fault) => Err(fault),
+    }
+}
+
+// Why each app gets what it gets, from the opened files.
+fn told_why<R>(rt: &R, opened: &OpenedWhy, args: &AskArgs<'_>) -> Result<String, Fault>
+where
+    R: AllocGlobal + Clock + Net<Stream = TcpStream>,
+    requires { HaveMeanings opened.now.rules.apps opened.now.known_rules.items }
+    ensures told { IfOk result (λ text.
+        specs.IsWhyBy opened.now args.now (string_bytes text)) }
+    ensures fault { IfErr result
+        (IsReplyFault opened.now.directory opened.now.body.items args.now) }
+{
+    let reply = match served_reply(rt, args.operator) {
+        Ok(reply) => reply,
+        Err(fault) => return Err(Fault::Ask(fault)),
+    };
+    let Ok(served) = told_lines(rt.alloc(), reply.as_str()) else {
+        return Err(Fault::Resource(ResourceFault::Memory));
+    };
+    let moment = moment_of(rt, args.at);
+    let lines = match why_as_told(rt.alloc(), opened, &moment, &served, &args.cells) {
+        Ok(lines) => lines,
+        Err(fault) => return Err(Fault::DryRun(fault)),
+    };
+    match with_digest(lines, opened.digest) {
+        Ok(text) => Ok(text),
+        Err(_) => Err(Fault::Resource(ResourceFault::Memory)),
+    }
+}
+
+// The lines, followed by that of the digest.
+fn with_digest(lines: String, digest: [u8; 32]) -> Result<String, AllocError>
+    ensures { IfOk result (λ text. string_bytes text ≡ string_bytes lines ++ digest_line digest) }
+{
+    let mut text = lines;
+    push_digest(&mut text, digest)?;
+    Ok(text)
+}

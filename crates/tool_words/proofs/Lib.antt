@@ -1,0 +1,3 @@
+mod Lacking
+mod Making
+mod Reading

@@ -1,0 +1,31 @@
+-- A command with a malformed argument makes no command.
+use Rattle.std.proofs.Common.{List}
+use Rattle.clap.specs.Words.{Row}
+use Rattle.command_line.specs.Runs.{LacksRun}
+use Rattle.tool_words.specs.AskWords.{LacksAsk}
+use Rattle.tool_words.specs.CheckWords.{LacksCheck}
+use Rattle.tool_words.specs.ReportWords.{LacksReport}
+use Rattle.tool_words.specs.SimulateWords.{LacksSimulate}
+use Rattle.tool_words.specs.Words.{VerbMakesNone}
+use Rattle.tool_words.specs.declared.args.ToolCommand.TheVariants as command
+use Rattle.tool_words.specs.declared.rows.ToolVerb.TheVariants as verb
+
+pub asks_none : (rows : List Row) → LacksAsk rows → VerbMakesNone verb.Ask rows
+asks_none rows lacks (command.Ask args) makes = lacks args makes
+asks_none rows lacks command makes = makes
+
+pub checks_none : (rows : List Row) → LacksCheck rows → VerbMakesNone verb.Check rows
+checks_none rows lacks (command.Check args) makes = lacks args makes
+checks_none rows lacks command makes = makes
+
+pub reports_none : (rows : List Row) → LacksReport rows → VerbMakesNone verb.Report rows
+reports_none rows lacks (command.Report args) makes = lacks args makes
+reports_none rows lacks command makes = makes
+
+pub simulates_none : (rows : List Row) → LacksSimulate rows → VerbMakesNone verb.Simulate rows
+simulates_none rows lacks (command.Simulate args) makes = lacks args makes
+simulates_none rows lacks command makes = makes
+
+pub traces_none : (rows : List Row) → LacksRun rows → VerbMakesNone verb.Trace rows
+traces_none rows lacks (command.Trace run) makes = lacks run makes
+traces_none rows lacks command makes = makes

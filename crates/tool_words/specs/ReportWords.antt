@@ -1,0 +1,28 @@
+-- The arguments of `report`.
+use Rattle.std.specs.Prelude.{◌≡◌, List, Option, Some, None, codes, map, option_copied}
+use Rattle.clap.specs.Words.{Row, Text, first_of}
+use Rattle.command_line.specs.Values.{HasFlag, texts_of}
+use Rattle.moments.specs.Moments.{Names, NamesNone}
+use Rattle.moments.specs.declared.moment.NamedTime.{NamedTime}
+use Rattle.tool_words.specs.declared.args.ReportArgs.{ReportArgs}
+
+-- the moment that an option names, if given
+abbrev pub IsNamedTime : Option Text → Option NamedTime → Type 0
+IsNamedTime None moment = moment ≡ None
+IsNamedTime (Some text) (Some moment) = Names text moment
+IsNamedTime (Some text) None = ⊥
+
+abbrev pub LacksNamedTime : Option Text → Type 0
+LacksNamedTime None = ⊥
+LacksNamedTime (Some text) = NamesNone text
+
+-- a report on logs, from one moment on and before another
+pub record HasReport (rows : List Row) (args : ReportArgs) : Type 0 where
+  pub logs : map (λ log. log.now) args.logs.items ≡ texts_of (codes "LOG") rows
+  pub since : IsNamedTime (first_of (codes "since") rows) args.since
+  pub until : IsNamedTime (first_of (codes "until") rows) args.until
+  pub prometheus : HasFlag (codes "prometheus") rows args.prometheus
+  pub picture : option_copied args.picture ≡ first_of (codes "svg") rows
+
+abbrev pub LacksReport : List Row → Type 0
+LacksReport rows = (args : ReportArgs) → ¬ HasReport rows args

@@ -1,0 +1,36 @@
+-- The commands of `rollout-tools`, with their arguments.
+use Rattle.std.specs.Prelude.{List, [], ◌∷◌, codes}
+use Rattle.clap.specs.Words.{App, Rule, Text}
+use Rattle.command_line.specs.Grammar.{VerbRules, app_of_rules, names_of_rules}
+use Rattle.command_line.specs.Grammar.{app_options, arrays, bucket, file, files, flag, input}
+use Rattle.command_line.specs.Grammar.{manifest, number, option, releases, repeated}
+use Rattle.tool_words.specs.declared.rows.ToolVerb.{ToolVerb}
+use Rattle.tool_words.specs.declared.rows.ToolVerb.TheVariants as verb
+
+abbrev pub verb_rules : Text → ToolVerb → List Rule → VerbRules ToolVerb
+verb_rules name verb arguments = record { name = name; verb = verb; rules = arguments }
+
+-- all commands, in the order of their names
+abbrev pub verbs : List (VerbRules ToolVerb)
+verbs =
+    verb_rules (codes "ask") verb.Ask (manifest ∷ file (codes "REQUEST") ∷ option (codes "at")
+    ∷ repeated (codes "cells") ∷ number (codes "operator") 1 65535 ∷ flag (codes "why") ∷ [])
+    ∷ verb_rules (codes "check") verb.Check
+    (files (codes "MANIFEST") ∷ flag (codes "strict") ∷ repeated (codes "allow")
+    ∷ flag (codes "json") ∷ [])
+    ∷ verb_rules (codes "explain") verb.Explain (input ∷ releases ∷ arrays ∷ [])
+    ∷ verb_rules (codes "order") verb.Order (input ∷ file (codes "OUT") ∷ [])
+    ∷ verb_rules (codes "report") verb.Report
+    (files (codes "LOG") ∷ option (codes "since") ∷ option (codes "until")
+    ∷ flag (codes "prometheus") ∷ option (codes "svg") ∷ [])
+    ∷ verb_rules (codes "simulate") verb.Simulate
+    (manifest ∷ option (codes "against") ∷ option (codes "svg") ∷ option (codes "app")
+    ∷ flag (codes "fail-on-lost") ∷ flag (codes "json") ∷ app_options)
+    ∷ verb_rules (codes "trace") verb.Trace (input ∷ releases ∷ arrays ∷ bucket ∷ app_options) ∷ []
+
+-- their grammar
+abbrev pub tools : App
+tools = app_of_rules verbs
+
+abbrev pub names : List (Text × ToolVerb)
+names = names_of_rules verbs

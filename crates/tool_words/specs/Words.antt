@@ -1,0 +1,36 @@
+-- Which command the arguments of each command make.
+use Rattle.std.specs.Prelude.{List, Option, Some, None, codes}
+use Rattle.clap.specs.Words.{Row}
+use Rattle.command_line.specs.Runs.{HasRun}
+use Rattle.command_line.specs.Values.{HasShape, HasText}
+use Rattle.tool_words.specs.AskWords.{HasAsk}
+use Rattle.tool_words.specs.CheckWords.{HasCheck}
+use Rattle.tool_words.specs.ReportWords.{HasReport}
+use Rattle.tool_words.specs.SimulateWords.{HasSimulate}
+use Rattle.tool_words.specs.declared.args.ToolCommand.{ToolCommand}
+use Rattle.tool_words.specs.declared.args.ToolCommand.TheVariants as command
+use Rattle.tool_words.specs.declared.rows.ToolVerb.{ToolVerb}
+use Rattle.tool_words.specs.declared.rows.ToolVerb.TheVariants as verb
+
+abbrev pub VerbMakes : ToolVerb → List Row → ToolCommand → Type 0
+VerbMakes verb.Ask rows (command.Ask args) = HasAsk rows args
+VerbMakes verb.Check rows (command.Check args) = HasCheck rows args
+VerbMakes verb.Explain rows (command.Explain path shape) =
+    HasText (codes "IN") rows path.now × HasShape rows shape
+VerbMakes verb.Order rows (command.Order path out) =
+    HasText (codes "IN") rows path.now × HasText (codes "OUT") rows out.now
+VerbMakes verb.Report rows (command.Report args) = HasReport rows args
+VerbMakes verb.Simulate rows (command.Simulate args) = HasSimulate rows args
+VerbMakes verb.Trace rows (command.Trace run) = HasRun rows run
+VerbMakes verb rows command = ⊥
+
+abbrev pub VerbMakesNone : ToolVerb → List Row → Type 0
+VerbMakesNone verb rows = (command : ToolCommand) → ¬ VerbMakes verb rows command
+
+-- a command of the table, with what its arguments were given, makes this command
+abbrev pub IsMade : Option (ToolVerb × List Row) → ToolCommand → Type 0
+IsMade None command = ⊥
+IsMade (Some found) command = VerbMakes found.0 found.1 command
+
+abbrev pub IsNoneMade : Option (ToolVerb × List Row) → Type 0
+IsNoneMade found = (command : ToolCommand) → ¬ IsMade found command

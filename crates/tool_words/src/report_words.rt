@@ -1,0 +1,73 @@
+//! The arguments of `report`.
+
+ghost use Rattle.std.specs.Prelude.{IfOk, OnErr};
+ghost use Rattle.std.specs.Option.{option_copied};
+ghost use Rattle.clap.specs.Words.{first_of, found_of, rows_of};
+ghost use Rattle.command_line.specs.Values.{OnWrong};
+ghost use Rattle.tool_words.specs.ReportWords.{HasReport, IsNamedTime, LacksNamedTime, LacksReport};
+ghost use Rattle.tool_words.specs.Words.{VerbMakes, VerbMakesNone};
+
+use crate::args::{ReportArgs, ToolCommand};
+use crate::rows::ToolVerb;
+use clap::ArgMatches;
+use command_line::{ArgsError, ArgumentFault, flag_of, optional_text, texts_of};
+use moments::{NamedTime, moment_in};
+use std::alloc::Global;
+
+/// The command of `report`.
+pub(crate) fn read_report<'a>(
+    alloc: Global,
+    found: &ArgMatches<'a>,
+) -> Result<ToolCommand<'a>, ArgsError>
+    ensures made { IfOk result (VerbMakes ToolVerb.Report (rows_of (found_of found.now))) }
+    ensures none { OnWrong result (VerbMakesNone ToolVerb.Report (rows_of (found_of found.now))) }
+{
+    match report_args(alloc, found) {
+        Ok(args) => Ok(ToolCommand::Report(args)),
+        Err(error) => Err(error),
+    }
+}
+
+fn report_args<'a>(alloc: Global, found: &ArgMatches<'a>) -> Result<ReportArgs<'a>, ArgsError>
+    ensures given { IfOk result (HasReport (rows_of (found_of found.now))) }
+    ensures lacking { OnWrong result (LacksReport (rows_of (found_of found.now))) }
+{
+    let since = moment_of(found, "since", ArgumentFault::Since)?;
+    let until = moment_of(found, "until", ArgumentFault::Until)?;
+    let Ok(logs) = texts_of(alloc, found, "LOG") else {
+        return Err(ArgsError::Memory);
+    };
+    Ok(ReportArgs {
+        logs,
+        since,
+        until,
+        prometheus: flag_of(found, "prometheus"),
+        picture: optional_text(found, "svg"),
+    })
+}
+
+// The moment of an option, if given; or this fault.
+fn moment_of(
+    found: &ArgMatches<'_>,
+    id: &str,
+    fault: ArgumentFault,
+) -> Result<Option<NamedTime>, ArgsError>
+    ensures given { IfOk result (IsNamedTime (first_of id.now (rows_of (found_of found.now)))) }
+    ensures lacking { OnErr result
+        (LacksNamedTime (first_of id.now (rows_of (found_of found.now)))) }
+{
+    moment_by(optional_text(found, id), fault)
+}
+
+fn moment_by(text: Option<&str>, fault: ArgumentFault) -> Result<Option<NamedTime>, ArgsError>
+    ensures given { IfOk result (IsNamedTime (option_copied text.entry)) }
+    ensures lacking { OnErr result (LacksNamedTime (option_copied text.entry)) }
+{
+    match text {
+        Some(text) => match moment_in(text) {
+            Some(moment) => Ok(Some(moment)),
+            None => Err(ArgsError::Wrong(fault)),
+        },
+        None => Ok(None),
+    }
+}

@@ -1,0 +1,172 @@
+//! The table of the commands of `rollout-tools`.
+
+ghost use Rattle.std.specs.Prelude.{◌≡◌};
+ghost use Rattle.command_line.specs.Grammar.{app_of_rows, names_of};
+ghost use Rattle.tool_words.specs.Tools.{names, tools};
+
+use command_line::{
+    ARRAYS, AT, ATTR, BUCKET, CommandArgument, CommandRow, EVENT, INSTALLED, MANIFEST, PING, PORTS,
+    PROGRAM, RELEASES, TODAY, VERSION,
+};
+
+/// The name of a command.
+#[derive(Clone, Copy)]
+pub(crate) enum ToolVerb {
+    Ask,
+    Check,
+    Explain,
+    Order,
+    Report,
+    Simulate,
+    Trace,
+}
+
+const ASK: CommandRow<ToolVerb> = CommandRow {
+    verb: ToolVerb::Ask,
+    name: "ask",
+    about: "Print the reply that a server of a manifest would send to a request",
+    end: None,
+    arguments: &[
+        MANIFEST,
+        CommandArgument::Word("REQUEST", "File of the request's body; - is standard input"),
+        CommandArgument::Text(
+            "at",
+            "TIME",
+            "Moment, as 2026-12-01T03:00:00Z, or a Unix second; the clock's by default",
+        ),
+        CommandArgument::Texts(
+            "cells",
+            "NAME[I]=V",
+            "Value of a counter, as early[0]=283, any number of times; 0 by default",
+        ),
+        CommandArgument::OptionalNumber(
+            "operator",
+            "P",
+            PORTS,
+            "Operator's port of a server whose counters are taken: 1 to 65535",
+        ),
+        CommandArgument::Flag(
+            "why",
+            "Tell in place of the reply why each app gets what it gets",
+        ),
+    ],
+};
+
+const CHECK: CommandRow<ToolVerb> = CommandRow {
+    verb: ToolVerb::Check,
+    name: "check",
+    about: "Tell what manifests declare, or where and why they are refused",
+    end: None,
+    arguments: &[
+        CommandArgument::Words("MANIFEST", "Files of the manifests"),
+        CommandArgument::Flag("strict", "End with status 1 where a warning is told"),
+        CommandArgument::Texts(
+            "allow",
+            "NAME",
+            "Name of a warning that doesn't count for --strict, any number of times",
+        ),
+        CommandArgument::Flag("json", "Tell all of it as a line of JSON"),
+    ],
+};
+
+const EXPLAIN: CommandRow<ToolVerb> = CommandRow {
+    verb: ToolVerb::Explain,
+    name: "explain",
+    about: "List a program with what the verifier knows before each instruction, and why it \
+            refuses one",
+    end: None,
+    arguments: &[PROGRAM, RELEASES, ARRAYS],
+};
+
+const ORDER: CommandRow<ToolVerb> = CommandRow {
+    verb: ToolVerb::Order,
+    name: "order",
+    about: "Put a program's blocks in an order in which each jump leads forward; prints `N slots`",
+    end: None,
+    arguments: &[
+        PROGRAM,
+        CommandArgument::Word("OUT", "File that gets the program in order"),
+    ],
+};
+
+const REPORT: CommandRow<ToolVerb> = CommandRow {
+    verb: ToolVerb::Report,
+    name: "report",
+    about: "Tell what a server's log comes to: asks, offers, installs and refusals",
+    end: None,
+    arguments: &[
+        CommandArgument::Words(
+            "LOG",
+            "Files of a server's log, as `serve --log` writes it; - is standard input",
+        ),
+        CommandArgument::Text(
+            "since",
+            "MOMENT",
+            "Lines from this time on (RFC 3339), or since so long ago: 90s, 10m, 2h, 3d",
+        ),
+        CommandArgument::Text(
+            "until",
+            "MOMENT",
+            "Lines before this time, by the same forms",
+        ),
+        CommandArgument::Flag("prometheus", "Print the counts as Prometheus reads them"),
+        CommandArgument::Text(
+            "svg",
+            "FILE",
+            "File that gets a picture of the versions' shares over time, in SVG",
+        ),
+    ],
+};
+
+const SIMULATE: CommandRow<ToolVerb> = CommandRow {
+    verb: ToolVerb::Simulate,
+    name: "simulate",
+    about: "Tell how many of the 10000 buckets get which release by a manifest",
+    end: None,
+    arguments: &[
+        MANIFEST,
+        CommandArgument::Text(
+            "against",
+            "MANIFEST",
+            "File of the manifest that serves now",
+        ),
+        CommandArgument::Text("svg", "FILE", "File that gets a picture, in SVG"),
+        CommandArgument::Text(
+            "app",
+            "APPID",
+            "The one app that is told of; all by default",
+        ),
+        CommandArgument::Flag(
+            "fail-on-lost",
+            "End with status 1 where a bucket loses its release; wants --against",
+        ),
+        CommandArgument::Flag("json", "Tell it as a line of JSON"),
+        VERSION,
+        ATTR,
+        CommandArgument::Flag("ping", "The clients send a ping"),
+        CommandArgument::Flag("event", "The clients send an event"),
+        TODAY,
+        AT,
+        INSTALLED,
+    ],
+};
+
+const TRACE: CommandRow<ToolVerb> = CommandRow {
+    verb: ToolVerb::Trace,
+    name: "trace",
+    about: "Run a program like `run`, and print a line an instruction before its choice",
+    end: None,
+    arguments: &[
+        PROGRAM, RELEASES, ARRAYS, BUCKET, VERSION, ATTR, PING, EVENT, TODAY, AT, INSTALLED,
+    ],
+};
+
+static ROWS: [CommandRow<ToolVerb>; 7] = [ASK, CHECK, EXPLAIN, ORDER, REPORT, SIMULATE, TRACE];
+
+/// The row of each command, in the order of their names.
+pub(crate) fn tool_rows() -> &'static [CommandRow<ToolVerb>]
+    ensures grammar { app_of_rows result.now ≡ tools }
+    ensures names { names_of result.now ≡ names }
+{
+    &ROWS
+}
