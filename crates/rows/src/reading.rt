@@ -8,6 +8,7 @@
 //! * N TEXT       appends this text, with the same escapes, N times to the last file
 //! % WORDS        a command that prepares: it ends with status 0, whatever it prints
 //! $ WORDS        a row: a command, whose status and whole output are compared
+//! < NAME         a row: the text of the file NAME, as if a command printed it
 //! | LINE         a line of its standard output
 //! ! LINE         a line of its standard error
 //! = N            its status, if that isn't 0

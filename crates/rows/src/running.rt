@@ -5,7 +5,7 @@ use crate::printed::{Printed, Wanted};
 use crate::reading::read_steps;
 use crate::steps::Step;
 use anyhow::Result;
-use commands::{Device, LogOutput, command};
+use commands::{Device, LogOutput};
 use std::net::{Net, TcpListener, TcpStream};
 use std::rt::Files;
 use std::sync::Wait;
@@ -13,7 +13,18 @@ use std::thread::Threads;
 use std::time::Clock;
 use std::{fs, str};
 
-/// The output of a command.
+/// Whether `rollout-tools` has the command; `rollout` has any other word.
+fn is_tool(words: &[String]) -> bool {
+    match words {
+        [_, command, ..] => matches!(
+            command.as_str(),
+            "check" | "explain" | "trace" | "order" | "simulate" | "ask" | "report"
+        ),
+        _ => false,
+    }
+}
+
+/// The output of a command, by the program that has it.
 fn printed_of<R>(rt: &R, words: &[String]) -> Result<Printed>
 where
     R: Files + Threads + Wait + AllocGlobal + Clock + LogOutput,
@@ -24,11 +35,25 @@ where
 {
     let mut out = Vec::new(rt.alloc());
     let mut err = Vec::new(rt.alloc());
-    let status = command(rt, &Device::new(rt), words, &mut out, &mut err);
+    let disk = Device::new(rt);
+    let status = if is_tool(words) {
+        tool_commands::command(rt, &disk, words, &mut out, &mut err)
+    } else {
+        commands::command(rt, &disk, words, &mut out, &mut err)
+    };
     Ok(Printed {
         status,
         out: String::from_utf8(out)?,
         err: String::from_utf8(err)?,
+    })
+}
+
+/// The text of a file, as if a command printed it.
+fn file_of<R: Files + AllocGlobal>(rt: &R, name: &str) -> Result<Printed> {
+    Ok(Printed {
+        status: 0,
+        out: fs::read_to_string(rt, name)?,
+        err: String::new(rt.alloc()),
     })
 }
 
@@ -95,8 +120,10 @@ where
     R::File: Send,
     R::Dir: Send,
 {
-    let given = words_of(rt.alloc(), words)?;
-    let came = printed_of(rt, given.as_slice())?;
+    let came = match words.strip_prefix("< ") {
+        Some(name) => file_of(rt, name)?,
+        None => printed_of(rt, words_of(rt.alloc(), words)?.as_slice())?,
+    };
     if wanted.is_some() {
         count.rows = count.rows.saturating_add(1);
     }

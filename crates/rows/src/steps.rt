@@ -13,7 +13,8 @@ pub(crate) enum Step {
         name: String,
         bytes: Vec<u8>,
     },
-    /// Runs a command. If `wanted` is `None`, it prepares: only its status is checked.
+    /// Runs a command, or shows a file after `< `. If `wanted` is `None`, it prepares: only its
+    /// status is checked.
     Run {
         line: usize,
         words: String,
@@ -86,6 +87,7 @@ impl Steps {
             "*" => self.repeat(number, text),
             "%" => self.run(number, text, None),
             "$" => self.run(number, text, Some(Wanted::nothing(alloc))),
+            "<" => self.run(number, line, Some(Wanted::nothing(alloc))),
             _ => self.go_on(number, line),
         }
     }
