@@ -1,7 +1,7 @@
-//! Tests of a program's graph, the machine and the interpreter: programs with the fault, choice and
-//! count that were worked out by hand; and damaged programs, each prefix and each change of one
-//! byte of three programs. Those that are still accepted run alike on the machine and on the
-//! interpreter, whose steps are the semantics', whatever the counters reply.
+//! Tests of the machine and the interpreter: programs with the choice and the count that were
+//! worked out by hand; and damaged programs, each prefix and each change of one byte of three
+//! programs. Those that are still accepted run alike on the machine and on the interpreter, whose
+//! steps are the semantics', whatever the counters reply.
 #![tactic(auto)]
 
 #[cfg(test)]
@@ -12,8 +12,6 @@ mod bits;
 mod damage;
 #[cfg(test)]
 mod given;
-#[cfg(test)]
-mod graph;
 #[cfg(test)]
 mod interpreted;
 #[cfg(test)]

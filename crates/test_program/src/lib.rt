@@ -1,17 +1,10 @@
-//! Tests of programs that no command shows: how many slots an instruction takes, how a program is
-//! laid out, what is known about values, and how many entries are kept at once. The listing of
-//! twelve opcodes is tried with every offset. The rows of texts, verdicts and orders are data of
-//! the program `rows`.
+//! Tests of programs that no command shows: how a program is laid out, and how many entries are
+//! kept at once. The listing of twelve opcodes is tried with every offset. The rows of texts,
+//! verdicts and orders are data of the program `rows`.
 #![tactic(auto)]
 
 #[cfg(test)]
 mod counts;
-#[cfg(test)]
-mod encoding;
-#[cfg(test)]
-mod known;
-#[cfg(test)]
-mod memory;
 #[cfg(test)]
 mod offsets;
 #[cfg(test)]

@@ -23,11 +23,6 @@ pub(crate) fn report_of(alloc: Global, log: &str) -> io::Result<Report> {
     report_by(alloc, log, false)
 }
 
-/// The same, with the counts for a chart.
-pub(crate) fn drawn_report_of(alloc: Global, log: &str) -> io::Result<Report> {
-    report_by(alloc, log, true)
-}
-
 fn report_by(alloc: Global, log: &str, drawn: bool) -> io::Result<Report> {
     let mut report = Report::new(alloc, drawn);
     let mut bytes = log.as_bytes();

@@ -1,5 +1,5 @@
-//! Tests of reports that can't be rows: limits of a log, days and times, and charts. The texts of
-//! reports are tested by rows, which the program `rows` runs.
+//! Tests of reports that can't be rows: limits of a log, days and times. The texts of reports and
+//! their charts are rows of the program `rows`.
 #![tactic(auto)]
 
 #[cfg(test)]
@@ -8,7 +8,5 @@ mod calendars;
 mod given;
 #[cfg(test)]
 mod limits;
-#[cfg(test)]
-mod pictures;
 #[cfg(test)]
 mod times;

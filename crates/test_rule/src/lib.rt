@@ -1,6 +1,6 @@
 //! Tests of what no command prints about rules: reading the longest texts, the slots of each kind
-//! of test, the meaning of words in programs, and failed allocations. Other texts, and what their
-//! programs choose, are rows of the program `rows`.
+//! of test, and failed allocations. Other texts, and what their programs choose, are rows of the
+//! program `rows`.
 #![tactic(auto)]
 
 #[cfg(test)]
@@ -13,5 +13,3 @@ mod memory;
 mod sizes;
 #[cfg(test)]
 mod told;
-#[cfg(test)]
-mod words;

@@ -145,7 +145,7 @@ load m|generation 2;|generation 2;
 load m|generation 2;generation 3;|B5 Connect
 show|generation 1;app x releases 1 slots 2;|generation 1;app x releases 1 slots 2;
 show|generations;|B5 Connect
-show|refused no;|refused no;";
+show|refused no;|no";
 
 /// Whether the operator's side returns what the row has.
 fn is_row_taken<H>(rt: &H, row: &str) -> Result<bool, Fail>

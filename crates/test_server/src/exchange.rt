@@ -6,9 +6,8 @@ use hot_swap::{Publisher, Watcher};
 use http_front::{Counted, FailAt};
 use std::alloc::{AllocError, Global};
 use std::fmt::Display;
-use std::io::{self, Write};
 use std::sync::Wait;
-use workers::{AnswerFault, Sent, answer};
+use workers::{AnswerFault, answer};
 
 /// 2026-03-02 01:00:00 UTC, which is day 7000 and second 3600 of Omaha's count.
 pub(crate) const MOMENT: i64 = 1772413200;
@@ -58,73 +57,29 @@ impl Answering {
     }
 }
 
-/// How a device behaves: how many bytes it takes in a call; which call fails, if any (counted from
-/// 1); and how many bytes it takes in all, after which a call takes none.
-#[derive(Clone, Copy)]
-pub(crate) struct DeviceBehavior {
-    pub(crate) piece: usize,
-    pub(crate) fails: u64,
-    pub(crate) room: usize,
-}
-
-/// A device that takes what it is given.
-pub(crate) const WHOLE: DeviceBehavior = DeviceBehavior {
-    piece: 1_000_000,
-    fails: 0,
-    room: 1_000_000_000,
-};
-
-/// A writer that takes at most `room` bytes.
-#[derive(Drop)]
-struct Bounded {
-    taken: Vec<u8>,
-    room: usize,
-}
-
-impl Write for Bounded {
-    fn write(&mut self, buf: &[u8]) -> io::Result<usize> {
-        let left = self.room.saturating_sub(self.taken.len());
-        let count = buf.len().min(left);
-        self.taken.extend_from_slice(&buf[..count])?;
-        Ok(count)
-    }
-
-    fn flush(&mut self) -> io::Result<()> {
-        Ok(())
-    }
-}
-
-/// The outcome of a request, the failures of its reader and its writer, what is logged of it, and
-/// what was written.
+/// The outcome of a request, the failures of its reader, and what was written.
 #[derive(Drop)]
 pub(crate) struct Exchanged {
     pub(crate) outcome: Result<u16, AnswerFault>,
     pub(crate) read_failures: u64,
-    pub(crate) write_failures: u64,
-    pub(crate) told: Option<Sent>,
     pub(crate) written: Vec<u8>,
 }
 
-/// One request to the worker of this pass and this watcher.
+/// One request to the worker of this pass and this watcher. The reader's call of number `fails`
+/// fails, counted from 1; none if it is 0.
 pub(crate) fn exchange_over<C: CellSteps>(
     alloc: Global,
     cells: &C,
     pass: &mut C::Pass,
     watcher: &mut Watcher,
     input: &[u8],
-    reads: DeviceBehavior,
-    writes: DeviceBehavior,
+    fails: u64,
 ) -> Exchanged
     requires { C.belongs cells.now pass.old }
     ensures { C.belongs cells.now pass.new }
 {
-    let input = &input[..input.len().min(reads.room)];
-    let mut reader = Counted::new(FailAt::new(input, reads.piece, reads.fails));
-    let bounded = Bounded {
-        taken: Vec::new(alloc),
-        room: writes.room,
-    };
-    let mut writer = Counted::new(FailAt::new(bounded, writes.piece, writes.fails));
+    let mut reader = Counted::new(FailAt::new(input, 1_000_000, fails));
+    let mut writer = Counted::new(Vec::new(alloc));
     let outcome = answer(
         alloc,
         &mut reader,
@@ -134,16 +89,14 @@ pub(crate) fn exchange_over<C: CellSteps>(
         watcher,
         MOMENT,
     );
-    let (outcome, told) = match outcome {
-        Ok(sent) => (Ok(sent.status), Some(sent)),
-        Err(fault) => (Err(fault), None),
+    let outcome = match outcome {
+        Ok(sent) => Ok(sent.status),
+        Err(fault) => Err(fault),
     };
     Exchanged {
         outcome,
         read_failures: reader.failures(),
-        write_failures: writer.failures(),
-        told,
-        written: writer.into_inner().into_inner().taken,
+        written: writer.into_inner(),
     }
 }
 
@@ -152,8 +105,7 @@ pub(crate) fn exchange(
     alloc: Global,
     server: &mut Answering,
     input: &[u8],
-    reads: DeviceBehavior,
-    writes: DeviceBehavior,
+    fails: u64,
 ) -> Exchanged {
     exchange_over(
         alloc,
@@ -161,24 +113,8 @@ pub(crate) fn exchange(
         &mut server.pass,
         &mut server.watcher,
         input,
-        reads,
-        writes,
+        fails,
     )
-}
-
-/// One request to a new server, by a manifest of the shelf.
-pub(crate) fn answered<H: Wait>(
-    rt: &H,
-    alloc: Global,
-    path: &str,
-    input: &[u8],
-    reads: DeviceBehavior,
-    writes: DeviceBehavior,
-) -> Result<Exchanged, &'static str> {
-    let mut server = server_of(rt, alloc, path)?;
-    let heard = exchange(alloc, &mut server, input, reads, writes);
-    server.close(rt);
-    Ok(heard)
 }
 
 /// A POST of a body, with its head.

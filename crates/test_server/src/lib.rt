@@ -1,6 +1,5 @@
-//! Whole replies of a server: requests and an operator's lines over memory, byte for byte, and both
-//! ends of a server over loopback. They are in a crate of their own, since a crate with tests is
-//! proved twice.
+//! Both ends of a server over loopback: clients, an operator and the log; and requests over memory.
+//! They are in a crate of their own, since a crate with tests is proved twice.
 #![tactic(auto)]
 
 #[cfg(test)]
@@ -22,10 +21,6 @@ mod ends;
 #[cfg(test)]
 mod exchange;
 #[cfg(test)]
-mod folder;
-#[cfg(test)]
-mod lines;
-#[cfg(test)]
 mod logged;
 #[cfg(test)]
 mod loopback;
@@ -44,13 +39,9 @@ mod session;
 #[cfg(test)]
 mod shelf;
 #[cfg(test)]
-mod short;
-#[cfg(test)]
 mod staffed;
 #[cfg(test)]
 mod stops;
-#[cfg(test)]
-mod swaps;
 #[cfg(test)]
 mod swaps_under_load;
 #[cfg(test)]

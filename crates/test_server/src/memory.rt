@@ -3,7 +3,7 @@
 //! test passes with ample memory, and if any single allocation fails, which `bench/refused` tries
 //! for each in turn.
 
-use crate::exchange::{Answering, Exchanged, WHOLE, exchange, post, server_of, success};
+use crate::exchange::{Answering, Exchanged, exchange, post, server_of, success};
 use crate::refusals::refusal;
 use crate::replies::{NO_UPDATE, TWO_APPS};
 use cells::CellNo;
@@ -90,7 +90,7 @@ fn asked_of(alloc: Global, heard: &Exchanged, before: u64) -> Result<MemoryAnswe
 fn asked(alloc: Global, server: &mut Answering) -> Result<MemoryAnswer, AllocError> {
     let before = server.pass.value(CellNo::new(0));
     let input = again!(post(alloc, TWO_APPS))?;
-    let heard = exchange(alloc, server, &input, WHOLE, WHOLE);
+    let heard = exchange(alloc, server, &input, 0);
     let rise = server.pass.value(CellNo::new(0)).wrapping_sub(before);
     let asked = again!(asked_of(alloc, &heard, before))?;
     let is_right = rise == 1 || rise == 0 && asked != MemoryAnswer::Replied;

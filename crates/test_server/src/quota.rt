@@ -5,7 +5,7 @@ ghost use Rattle.shared_cells.specs.Passes.{IsPassOf};
 
 use crate::counters::{OFFER, asking};
 use crate::crew::{Crew, crew_of};
-use crate::exchange::{WHOLE, exchange_over, times};
+use crate::exchange::{exchange_over, times};
 use crate::shelf::publisher_of;
 use cells::{CellNo, CellOp, CellSteps};
 use hot_swap::Watcher;
@@ -29,7 +29,7 @@ fn offers(
     let (mut pass, mut watcher) = worker;
     let mut count = 0usize;
     for _ in 0..asks {
-        let heard = exchange_over(alloc, cells, &mut pass, &mut watcher, input, WHOLE, WHOLE);
+        let heard = exchange_over(alloc, cells, &mut pass, &mut watcher, input, 0);
         count = count.saturating_add(times(&heard.written, OFFER));
     }
     count

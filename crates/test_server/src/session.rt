@@ -3,7 +3,7 @@
 use crate::exchange::{post, times};
 use crate::loopback::told;
 use crate::whole_server::{PortTask, wrong};
-use operator::ask;
+use operator::ask_server;
 use operator_request::OperatorRequest;
 use std::io;
 use std::net::{Net, SocketAddr, TcpListener, TcpStream};
@@ -60,8 +60,8 @@ pub(crate) fn asked<H>(rt: &H, port: u16, line: &str) -> io::Result<Vec<u8>>
 where
     H: Net<Stream = TcpStream> + AllocGlobal,
 {
-    match ask(rt, port, request_of(line)) {
-        Ok(reply) => Ok(reply),
+    match ask_server(rt, request_of(line), port) {
+        Ok(reply) => Ok(reply.into_bytes()),
         Err(fault) => Ok(format!(in rt.alloc(); "{fault}")?.into_bytes()),
     }
 }
@@ -98,6 +98,17 @@ one|0
 cells;|q[0] 3;
 show;|generation 1;app x releases 1 slots 9;
 frob;|refused B1 Word;
+show;stop;|generation 1;app x releases 1 slots 9;
+;|refused B1 Word;
+;show;|refused B1 Word;
+Show;|refused B1 Word;
+show ;|refused B1 Word;
+ show;|refused B1 Word;
+shows;|refused B1 Word;
+load;|refused B1 Word;
+load ;|refused B1 Word;
+loadyes;|refused B1 Word;
+load no where;|refused no such manifest;
 stop;|stopping;";
 
 /// No line of the operator's side gets a reply at the clients' port.

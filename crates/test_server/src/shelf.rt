@@ -12,9 +12,9 @@ use bpf_verify::Verified;
 use cells::{Directory, Shape, arrays_stay};
 use declarations::{declare_all, read_spec};
 use hot_swap::Publisher;
-use operator::{Loaded, Loader};
+use operator::Loader;
 use releases::{Package, Release};
-use ruleset::{App, Ruleset};
+use ruleset::{App, LoadedRuleset, Ruleset};
 use std::alloc::{AllocError, Global};
 use std::sync::{Arc, Wait};
 
@@ -53,15 +53,15 @@ impl Loader for Shelf {
         alloc: Global,
         path: &str,
         directory: &Directory,
-    ) -> Result<Loaded, &'static str> {
+    ) -> Result<LoadedRuleset, &'static str> {
         let Ok(mut grown) = directory.copy(alloc) else {
             return Err("memory");
         };
         let rules = ruleset(alloc, path, &mut grown)?;
-        Ok(Loaded {
+        Ok(LoadedRuleset {
             rules,
             directory: grown,
-            digest: Some([0xf9; 32]),
+            digest: [0xf9; 32],
         })
     }
 
