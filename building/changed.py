@@ -2,7 +2,7 @@
 import subprocess
 import sys
 
-from building.crates import PROGRAM, ROOT, all_crates, crate_lines, seconds_recorded
+from building.crates import ROOT, all_crates, crate_lines, seconds_recorded
 from building.running import Runs
 
 # The folders of wrong bodies, whose edits don't change a crate.
@@ -54,12 +54,12 @@ class Changed:
         return [it for it in found if it.is_there()]
 
     def libraries(self):
-        """What is proved as a library or as the program: the selected crates except those that only
+        """What is proved as a library or as a program: the selected crates except those that only
         have tests, and all crates on which these and the runs depend."""
         stood_on = set().union(*(it.below for it in self.known.values()))
         tests = {it.crate for it in self.runs()}
         wanted = {it for it in self.selected if it in stood_on or it not in tests}
-        wanted |= {it for it in self.selected if it.name == PROGRAM}
+        wanted |= {it for it in self.selected if it.is_program}
         below = set().union(*(it.below for it in [*wanted, *tests]))
         return [it for it in self.known.values() if it in wanted | below]
 
@@ -71,12 +71,12 @@ class Changed:
         runs = {it: [] for it in self.selected}
         for it in self.runs():
             runs[it.crate].append("tests" if it.of_tests else "stored run")
-        if self.known[PROGRAM] in runs:
-            runs[self.known[PROGRAM]].append("stored run")
         for it in self.selected:
+            if it.is_program:
+                runs[it].append("stored run")
             seconds = f"{recorded[it.name]:4} s" if it.name in recorded else "     -"
             how = "changed" if it in self.crates else "above"
-            yield f"  {it.name:18}{how:9}{seconds}  {', '.join(runs[it])}".rstrip()
+            yield f"  {it.name:17} {how:9}{seconds}  {', '.join(runs[it])}".rstrip()
         whole = sum(recorded.get(it.name, 0) for it in self.selected)
         yield f"{whole // 60 + 1} min from nothing on one processor; what stands isn't proved again"
         if self.tried:

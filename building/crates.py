@@ -5,10 +5,11 @@ from pathlib import Path
 
 ROOT = Path(__file__).resolve().parent.parent
 CRATES = ROOT / "crates"
-PROGRAM = "rollout"
+# Each program's file; its crate has the same name, with `_`.
+PROGRAMS = ["rollout", "rollout-tools"]
 PARTS = ["src", "specs", "proofs"]
 # The output of `build`. `rt ci` restores a folder of this name to a crate, and nothing else there.
-BUILT = CRATES / PROGRAM / "out" / "rlib"
+BUILT = CRATES / "rollout" / "out" / "rlib"
 
 
 def say(text):
@@ -30,7 +31,8 @@ class Crate:
         name, named = head.split()[0], named.split()
         self.name, self.line = name, line
         self.folder = CRATES / name
-        self.is_program = name == PROGRAM
+        self.program = name.replace("_", "-")
+        self.is_program = self.program in PROGRAMS
         self.root = f"src/{'main' if (self.folder / 'src' / 'main.rt').exists() else 'lib'}.rt"
         # The repository's crates that its line names, and the kit's libraries.
         self.named = [known[it] for it in named if it in known]
@@ -57,10 +59,11 @@ def all_crates():
     return known
 
 
-def crates_of_program():
-    """The program and the crates on which it depends, lowest first."""
-    known = all_crates()
-    return [it for it in known.values() if it in known[PROGRAM].below or it.is_program]
+def crates_of(programs):
+    """The crates of these programs, and those on which they depend, lowest first."""
+    known = all_crates().values()
+    tops = {it for it in known if it.is_program and it.program in programs}
+    return [it for it in known if it in tops.union(*(top.below for top in tops))]
 
 
 def seconds_recorded():

@@ -1,4 +1,4 @@
-"""Copies the built program, with its pages and examples, to a folder from which it runs by itself.
+"""Copies the built programs, with pages and examples, to a folder that needs nothing else.
 
 Everything is first written next to its final place, under names that begin with a dot. Only then is
 it moved into place. If a step fails, the steps before it are undone.
@@ -9,22 +9,23 @@ import shutil
 import subprocess
 import sys
 
-from building.crates import BUILT, PROGRAM, ROOT, say
-from building.version import BUILT_FROM
+from building.crates import BUILT, ROOT, say
+from building.version import built_from
 
 SHARE = "share/rollout"
 DOCS = ROOT / "docs"
-# The program is last: it is replaced in one step, and no later step can fail. A running server
-# keeps its file.
+# The server's program is last: it is replaced in one step, and no later step can fail. A running
+# server keeps its file.
 PLACES = {
     f"{SHARE}/README.md": ROOT / "README.md",
     f"{SHARE}/CHANGELOG.md": ROOT / "CHANGELOG.md",
     f"{SHARE}/VERSION": ROOT / "VERSION",
-    f"{SHARE}/built-from": BUILT_FROM,
+    f"{SHARE}/built-from": built_from("rollout"),
     f"{SHARE}/docs": DOCS,
     f"{SHARE}/examples": ROOT / "examples",
     "bin/rollout": ROOT / "building" / "installed",
-    "libexec/rollout": BUILT / PROGRAM,
+    "libexec/rollout-tools": BUILT / "rollout-tools",
+    "libexec/rollout": BUILT / "rollout",
 }
 # The scripts that check the pages aren't installed, and neither is an existing reference, since it
 # may belong to other sources.
@@ -124,4 +125,4 @@ def install(folder):
         copy_all(folder)
     except OSError as error:
         sys.exit(f"rollout: nothing is installed: {cause(error)}")
-    say(f"installed {folder / 'bin' / PROGRAM}; its pages and examples lie in {folder / SHARE}")
+    say(f"installed {folder / 'bin' / 'rollout'}; its pages and examples lie in {folder / SHARE}")

@@ -3,7 +3,7 @@ import os
 import shutil
 from pathlib import Path
 
-from building.crates import BUILT, PROGRAM
+from building.crates import BUILT
 
 TARGET = "x86_64-unknown-linux-gnu"
 
@@ -42,7 +42,7 @@ class Kit:
         words = [*self.words(crate, way, jobs), *way.words(crate)]
         if not crate.is_program:
             return [[*words, "-o", way.library(crate)]]
-        return self.linked(words, BUILT / f"{PROGRAM}.o", BUILT / f"{PROGRAM}.new")
+        return self.linked(words, *(BUILT / f"{crate.program}{it}" for it in (".o", ".new")))
 
     def run_commands(self, runs, way, jobs):
         """The commands that prove and build a crate's tests, or a program for its stored run."""

@@ -60,7 +60,8 @@ def write_archive(folder):
 def unit(name):
     """A unit with the package's paths, and without what the package does at its install."""
     text = (DEPLOY / name).read_text()
-    lines = [it for it in text.splitlines() if not it.startswith(("#   install ", "#   cp rollout"))]
+    done = ("#   install ", "#   cp rollout")
+    lines = [it for it in text.splitlines() if not it.startswith(done)]
     text = "\n".join(lines) + "\n"
     text = text.replace("#   systemctl daemon-reload && ", "#   ")
     return text.replace("/opt/rollout/", "/usr/")

@@ -7,7 +7,7 @@ import sys
 import time
 from concurrent.futures import ThreadPoolExecutor
 
-from building.crates import BUILT, PROGRAM, say, seconds_recorded
+from building.crates import BUILT, say, seconds_recorded
 from building.running import Runs, stored_run
 from building.work import Guard, Work, count_jobs
 
@@ -18,10 +18,8 @@ MOST_SILENT = 50
 
 
 class Build:
-    what = "the program"
-
-    def __init__(self, kit, way, crates):
-        self.kit, self.way, self.crates = kit, way, crates
+    def __init__(self, kit, way, crates, what):
+        self.kit, self.way, self.crates, self.what = kit, way, crates, what
         recorded = seconds_recorded()
         # A crate without a recorded time counts as average, so that it isn't left for the end.
         average = sum(recorded.values()) // max(1, len(recorded))
@@ -93,8 +91,8 @@ class Build:
     def is_good(self, crate):
         """Moves the output of its commands into place."""
         if crate.is_program:
-            (BUILT / f"{PROGRAM}.new").replace(BUILT / PROGRAM)
-            (BUILT / f"{PROGRAM}.o").unlink(missing_ok=True)
+            (BUILT / f"{crate.program}.new").replace(BUILT / crate.program)
+            (BUILT / f"{crate.program}.o").unlink(missing_ok=True)
         return True
 
     def end(self, crate):
@@ -140,10 +138,9 @@ class Build:
 class Gate(Build):
     """A gate of what has changed: libraries, and then the tests and the stored runs of crates."""
 
-    what = "what has changed"
-
     def __init__(self, kit, way, changed):
-        super().__init__(kit, way, [*changed.libraries(), *changed.runs()])
+        crates = [*changed.libraries(), *changed.runs()]
+        super().__init__(kit, way, crates, "what has changed")
         self.programs = [it for it in changed.selected if it.is_program]
         self.bad = 0
 
@@ -167,4 +164,4 @@ class Gate(Build):
     def run(self):
         super().run()
         for it in self.programs:
-            self.passes(stored_run(it, BUILT / PROGRAM))
+            self.passes(stored_run(it, BUILT / it.program))

@@ -1,14 +1,10 @@
-"""The identity of the built program: its number, its sources, their commit, and the kit that proved
+"""The identity of a built program: its number, its sources, their commit, and the kit that proved
 them."""
 import os
 import subprocess
 
 from building.crates import BUILT, ROOT
 
-# The state at the start of the build of the existing program, as the script `stamp` prints it.
-STAMP = BUILT / "stamp"
-# Written by each build, for `./rollout --version` and for installs.
-BUILT_FROM = BUILT / "built-from"
 SOURCES = ["crates.txt", *(f":(glob)crates/*/{part}/**" for part in ("src", "specs", "proofs"))]
 
 
@@ -40,12 +36,22 @@ def version_now():
     return f"rollout {number()} {commit_now()}\n{told('rt', 'version') or 'of no known kit'}\n"
 
 
-def stamp_now():
-    return f"{told(ROOT / 'building' / 'stamp')}\n"
+def stamp(program):
+    """The file with the state at the start of the build of the existing program."""
+    return BUILT / f"{program}.sources"
 
 
-def is_current():
+def stamp_now(program):
+    return f"{told(ROOT / 'building' / 'stamp', program)}\n"
+
+
+def built_from(program):
+    """Written by each build, for `./rollout --version` and for installs."""
+    return BUILT / f"{program}.built-from"
+
+
+def is_current(program):
     """Whether the program exists, is built from the current sources, and has its version
     recorded."""
-    stands = subprocess.run([ROOT / "building" / "is_current"]).returncode == 0
-    return stands and BUILT_FROM.exists()
+    stands = subprocess.run([ROOT / "building" / "is_current", program]).returncode == 0
+    return stands and built_from(program).exists()

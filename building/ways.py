@@ -23,7 +23,7 @@ class Way:
         return self.folder / f"{crate.name}.rlib"
 
     def stamp(self, crate):
-        """The file with the sum of a built crate. There is only one program."""
+        """The file with the sum of a built crate. A program is in one place for both ways."""
         return (BUILT if crate.is_program else self.folder) / f"{crate.name}.stamp"
 
     def words(self, crate):
@@ -42,7 +42,7 @@ class Way:
 
     def stands(self, crate, kit):
         """Whether its stamp has the current sum, if all crates below it are built."""
-        is_there = (BUILT / crate.name).exists() if crate.is_program else True
+        is_there = (BUILT / crate.program).exists() if crate.is_program else True
         stamp = self.stamp(crate)
         return is_there and stamp.exists() and stamp.read_text() == self.sum(crate, kit)
 
