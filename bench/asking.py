@@ -10,9 +10,16 @@ from pathlib import Path
 
 ROOT = Path(__file__).resolve().parent.parent
 ROLLOUT = ROOT / "crates" / "rollout" / "out" / "rlib" / "rollout"
+TOOLS = {"check", "simulate", "ask", "report", "trace", "explain", "order"}
 HASH = "ba7816bf8f01cfea414140de5dae2223b00361a396177a9cb410ff61f20015ad"
 HEAD = "POST /service/update2/json HTTP/1.1\r\nHost: h\r\n"
 DAYSTART = re.compile(r'"elapsed_days":\d+,"elapsed_seconds":\d+')
+
+
+def program_of(command, rollout=ROLLOUT):
+    """The program that has a command: `rollout`, or `rollout-tools` next to it."""
+    return rollout.with_name("rollout-tools") if command in TOOLS else rollout
+
 
 # ---- manifests
 

@@ -14,7 +14,7 @@ import subprocess
 from hosts import PATIENCE, ROOT, awaited, needs, section
 from upgrading import UPGRADES
 
-# Not the launcher, which checks all sources in each call: the page has a loop of a hundred calls.
+# Not the launcher, which sums all sources in each call: the page has a loop of a hundred calls.
 BUILT = ROOT / "crates" / "rollout" / "out" / "rlib" / "rollout"
 PORTS = {"8080": "18097", "8081": "18098"}
 ASKED = "curl -s http://127.0.0.1:8080/service/update2/json --data-binary @-"
@@ -45,10 +45,11 @@ class Day:
 
     def __init__(self, folder, program):
         self.folder = folder
-        (folder / "bin").mkdir(parents=True)
-        launcher = folder / "bin" / "rollout"
-        launcher.write_text(f'#!/bin/sh\nexec {program} "$@"\n')
-        launcher.chmod(0o755)
+        for it in ("bin", "libexec"):
+            (folder / it).mkdir(parents=True)
+        shutil.copy(ROOT / "building" / "installed", folder / "bin" / "rollout")
+        for it in ("rollout", "rollout-tools"):
+            (folder / "libexec" / it).symlink_to(program.with_name(it))
         manifest, rule, *_ = section("OPERATING.md", "Writing a manifest")
         (folder / "editor-5.toml").write_text(manifest)
         (folder / "editor-5.rule").write_text(rule)

@@ -6,6 +6,7 @@ Each check returns nothing, or what was wrong. If a command isn't installed, the
 with that name.
 """
 import os
+import re
 import shutil
 import socket
 import subprocess
@@ -13,13 +14,18 @@ import sys
 import tarfile
 from pathlib import Path
 
+from asking import program_of
 from hosts import DEPLOY, Skipped, called, needs
-from launching import BARE, BUILT_FROM, ROOT, Repository
+from launching import BARE, BUILT_FROM, HELP, ROOT, Repository
 
 SHARED = ["README.md", "CHANGELOG.md", "VERSION", "built-from"]
 SHARED += ["docs/internals/COSTS.md", "docs/reference/README.md"]
 SHARED += ["examples/one.rule", *(f"examples/deploy/{it.name}" for it in DEPLOY.iterdir())]
-INSTALLED = {"bin/rollout", "libexec/rollout", *(f"share/rollout/{it}" for it in SHARED)}
+INSTALLED = {"bin/rollout", "libexec/rollout", "libexec/rollout-tools"}
+INSTALLED |= {f"share/rollout/{it}" for it in SHARED}
+# Words, and what an install prints.
+RUNS = [(["stop", ""], "<rollout><stop><>"), (["ask"], "<rollout-tools><ask>")]
+RUNS += [(["frob"], "<rollout><frob>"), ([], "<rollout>"), (["--version"], BUILT_FROM)]
 PORTS = [18098, 18099]
 
 
@@ -48,11 +54,16 @@ def installs(folder):
             return f"{status} {lines} {files(place)}"
         if any(it.is_symlink() for it in place.rglob("*")):
             return "a link into the repository"
-        (one.away / "short").unlink(missing_ok=True)
-        (one.away / "short").symlink_to("place/bin/rollout")
-        for words, printed in [(["stop", ""], "<stop><>"), (["--version"], BUILT_FROM)]:
-            if one.call(str(one.away / "short"), *words) != (0, printed, []):
+        short = str(one.away / "short")
+        Path(short).unlink(missing_ok=True)
+        Path(short).symlink_to("place/bin/rollout")
+        for words, printed in RUNS:
+            if one.call(short, *words) != (0, printed, []):
                 return f"{words}: another program"
+        for it in re.findall(r"^  (\w+) ", HELP, re.M):
+            wanted = (0, f"<{program_of(it).name}><{it}>", [])
+            if not one.call(str(one.away / "link"), it) == one.call(short, it) == wanted:
+                return f"{it}: another program"
         # An earlier install, with a page that no longer exists, and a file of the operator's.
         (place / "share" / "rollout" / "docs" / "gone.md").touch()
         (place / "share" / "rollout" / "own").touch()
@@ -115,10 +126,15 @@ def request(port):
 
 
 def served(manifest):
-    """What is wrong with the installed program, run as the package's user."""
-    words = ["setpriv", "--reuid=rollout", "--regid=rollout", "--clear-groups"]
-    words += ["rollout", "serve", manifest, "--port", str(PORTS[0]), "--operator", str(PORTS[1])]
-    server = subprocess.Popen([*words, "--workers", "2"], stdout=subprocess.PIPE, text=True)
+    """What is wrong with the installed programs, run as the package's user."""
+    user = ["setpriv", "--reuid=rollout", "--regid=rollout", "--clear-groups"]
+    checked = called(*user, "rollout", "check", manifest)
+    if checked[0] != 0 or "\ndigest " not in checked[1]:
+        return f"{checked}"
+    words = ["rollout", "serve", manifest, "--port", str(PORTS[0]), "--operator", str(PORTS[1])]
+    server = subprocess.Popen(
+        [*user, *words, "--workers", "2"], stdout=subprocess.PIPE, text=True
+    )
     try:
         if server.stdout.readline() != "serving generation 1\n":
             return "it doesn't serve"

@@ -4,7 +4,9 @@ import re
 import subprocess
 import time
 
-from asking import Server, app, array, manifest, post, request, whole, without_moment
+from asking import (
+    Server, app, array, manifest, post, program_of, request, whole, without_moment
+)
 from refusing import Wrong, told
 
 PATIENCE = 60
@@ -107,7 +109,8 @@ class Commands:
     def once(self, words):
         """Status, output, errors, and the bytes of OUT."""
         how = {"env": self.refusal.env(), "cwd": self.folder, "timeout": PATIENCE}
-        done = subprocess.run([self.program, *words], capture_output=True, text=True, **how)
+        words = [program_of(words[0], self.program), *words]
+        done = subprocess.run(words, capture_output=True, text=True, **how)
         errors = PROGRESS.sub("", done.stderr)
         return done.returncode, done.stdout, errors, (self.folder / "OUT").read_bytes()
 
