@@ -1,13 +1,14 @@
 #!/usr/bin/env python3
 """Checks that the pages describe what is there. ARCHITECTURE draws the layers of crates.txt, and
-has each crate in one part of the program and in one short row. OPEN has each comment of the sources
-on what is open. What a library exports has a comment. Each link leads to a file, and each clause
-that is cited after a call is in that call's contract. PROOF quotes its files to the letter; each
-name that it cites is in the sources, each definition is in the file of its link, and its figures
-are no more than a tenth off. README is short, and names the logic of the installed toolchain;
-VERSION, README and CHANGELOG name one version. The pages by hand have few long sentences. Each
-wrong body can be put in place: what it replaces is in its file once. `plain.txt` and `weight.txt`
-bound the words of this house in comments, and the words of each page. Each file of rows is run.
+has each crate in one short row and in one part, and in the parts of a program the crates below it.
+OPEN has each comment of the sources on what is open. What a library exports has a comment. Each
+link leads to a file, and each clause that is cited after a call is in that call's contract. PROOF
+quotes its files to the letter; each name that it cites is in the sources, each definition is in the
+file of its link, and its figures are no more than a tenth off. README is short, and names the logic
+of the installed toolchain; VERSION, README and CHANGELOG name one version. The pages by hand have
+few long sentences. Each wrong body can be put in place: what it replaces is in its file once.
+`plain.txt` and `weight.txt` bound the words of this house in comments, and the words of each page.
+Each file of rows is run. The page of help that the launcher prints is that of the programs.
 
 usage: docs/check.py [--write [FOLDER] | --long | --words CRATE]
 
@@ -24,14 +25,14 @@ from checking import crates_page, left_open, plain, quotes, reference, rows, wei
 from checking.exports import lost_comments
 from checking.names import contracts, false_clauses, lost_edits, strangers, unknown_names
 from checking.pages import (
-    dead_links, other_logic, other_versions, tell_long, too_long, too_many_long
+    dead_links, other_help, other_logic, other_versions, tell_long, too_long, too_many_long
 )
 from checking.places import CITING, CRATES_PAGE, OPEN, PROOF, README, pages
 
 DRAWN = {CRATES_PAGE: crates_page.anew, OPEN: left_open.anew}
 WRITTEN = {**DRAWN, PROOF: quotes.anew}
 CHECKS = {
-    CRATES_PAGE: (crates_page.other_crates,),
+    CRATES_PAGE: (crates_page.other_crates, crates_page.other_programs),
     README: (too_long, other_logic),
     PROOF: (quotes.false_quotes, unknown_names, strangers, quotes.false_sizes),
 }
@@ -60,6 +61,7 @@ def faults():
     yield from left_open.lost_open()
     reference.texts()  # each install writes these, so none may fail
     yield from other_versions()
+    yield from other_help()
     yield from too_many_long()
     yield from plain.too_many()
     yield from weight.too_heavy()

@@ -1,14 +1,17 @@
 """The pages that list all crates: ARCHITECTURE, and the index of the reference, with a link to each
-crate's page. ARCHITECTURE has the layers, which are drawn from crates.txt, the parts of the program
-with their crates, and a table with a line for each crate, sorted by name."""
+crate's page. ARCHITECTURE has the layers, which are drawn from crates.txt, the parts of both
+programs with their crates, and a table with a line for each crate, sorted by name."""
 import re
 import textwrap
 
-from checking.places import CRATES, crates, storeys
+from checking.places import CRATES, crates, storeys, with_all_below
 from checking.sources import first_lines
 
 PICTURE = re.compile(r"(?<=\n## Layers\n\n```\n).*?(?=```\n)", re.S)
-# A part of the program: its name, and its crates.
+# How many of the parts are the program `rollout`: they carry the promise. The next one has what
+# only `rollout-tools` uses.
+PROMISED = 5
+# A part of the programs: its name, and its crates.
 PART = re.compile(r"^\| ([^|`]+) \| ((?:`\w+`(?:, )?)+) \|", re.M)
 # The table of all crates; its texts are written by hand, after the crates' `lib.rt`.
 TABLE = re.compile(r"(?<=\n\| Crate \| What it is \|\n\|---\|---\|\n)(?:\|.*\n)+")
@@ -61,7 +64,7 @@ def anew(text):
 
 
 def parts(text):
-    """Each part of the program, with its crates."""
+    """Each part of the programs, with its crates."""
     return {name: re.findall(r"\w+", named) for name, named in PART.findall(text)}
 
 
@@ -78,6 +81,19 @@ def other_crates(text):
     for name, what in rows(text):
         if len(what.split()) > MOST_WORDS:
             yield f"the row of {name} has more than {MOST_WORDS} words"
+
+
+def other_programs(text):
+    """Crates that these parts lack, or have too many, by crates.txt."""
+    named = [*parts(text).values()]
+    rollout = with_all_below("rollout")
+    tools = with_all_below("rollout_tools") - rollout
+    for what, has, wanted in (
+        ("the parts of rollout", sum(named[:PROMISED], []), rollout),
+        ("the part of rollout-tools", sum(named[PROMISED:PROMISED + 1], []), tools),
+    ):
+        yield from (f"{what}: the crate {it} is missing" for it in sorted(wanted - {*has}))
+        yield from (f"{what}: the crate {it} isn't below it" for it in sorted({*has} - wanted))
 
 
 def first_sentence(crate):

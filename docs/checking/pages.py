@@ -1,26 +1,37 @@
 """Checks of single pages: links lead to files, README is short and names the toolchain's logic, and
-all name one version. Also prints long sentences for their writers."""
+all name one version; the page of help is that of the programs. Also prints long sentences for their
+writers."""
 import re
 import shutil
 import subprocess
 
-from checking.places import CHANGELOG, OPEN, README, VERSION, pages
+from checking.places import CHANGELOG, CRATES, HELP, OPEN, README, VERSION, pages
 
 # README is for visitors.
-MOST_LINES, MOST_WORDS = 150, 1200
+MOST_LINES, MOST_WORDS = 150, 1400
 LOGIC = re.compile(r"\blogic ([0-9a-f]+)")
 # Not a sentence: code, tables, headings, and the targets of links.
 NO_SENTENCE = re.compile(r"^```.*?^```|^\|.*?$|^#.*?$|^ {4}.*?$|(?<=\])\([^)]*\)", re.M | re.S)
 MOST_IN_SENTENCE = 35
 # The maximum number of longer sentences on all pages by hand together.
 MOST_LONG = 10
-LINK = re.compile(r"\]\(([^)#]+)(?:#[^)]*)?\)")
+LINK = re.compile(r"\]\((?!http)([^)#]*)(?:#([^)]+))?\)")
+HEADING = re.compile(r"^```.*?^```|^#+ ([^\n]+)$", re.M | re.S)
+
+
+def headings(page):
+    """What links to a page's headings have behind `#`."""
+    texts = [re.sub(r"[^\w -]", "", it.lower()) for it in HEADING.findall(page.read_text())]
+    return {it.replace(" ", "-") for it in texts if it}
 
 
 def dead_links(page):
-    for link in LINK.findall(page.read_text()):
-        if not link.startswith("http") and not (page.parent / link).exists():
+    for link, heading in LINK.findall(page.read_text()):
+        there = page.parent / link if link else page
+        if not there.exists():
             yield f"no file {link}"
+        elif heading and heading not in headings(there):
+            yield f"no heading {link}#{heading}"
 
 
 def too_long(text):
@@ -49,6 +60,14 @@ def other_versions():
         yield f"{CHANGELOG.name}: the first heading isn't of {number.strip()}"
     if number.strip() not in re.findall(r"\d+(?:\.\d+)+", README.read_text()):
         yield f"{README.name}: it doesn't name the version {number.strip()}"
+
+
+def other_help():
+    """The launcher prints a file if no program is built, and the programs a constant."""
+    source = CRATES / "command_line" / "src" / "help.rt"
+    constant = re.search(r'HELP: &str = "\\\n(.*?)";', source.read_text(), re.S)
+    if not constant or constant[1].strip() != HELP.read_text().strip():
+        yield f"building/{HELP.name}: not the constant of {source.relative_to(CRATES.parent)}"
 
 
 def long_sentences(text):

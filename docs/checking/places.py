@@ -7,6 +7,7 @@ CRATES = ROOT / "crates"
 DOCS = ROOT / "docs"
 # The folder for the pages of contracts and definitions in a checkout; git ignores it.
 REFERENCE = DOCS / "reference"
+HELP = ROOT / "building" / "help"
 README = ROOT / "README.md"
 CHANGELOG = ROOT / "CHANGELOG.md"
 VERSION = ROOT / "VERSION"
@@ -34,6 +35,15 @@ def names_in(lines):
 
 def crates():
     return names_in((ROOT / "crates.txt").read_text())
+
+
+def with_all_below(top):
+    """A crate and all crates below it."""
+    found = {top}
+    for line in reversed((ROOT / "crates.txt").read_text().splitlines()):
+        name, *named = re.split("[ :]+", line)
+        found |= {*named} if name in found else {*()}
+    return found & {*crates()}
 
 
 def storeys():

@@ -10,12 +10,12 @@ QUOTE = re.compile(r"<!-- quote (\S+) (\S+) -->\n```\n(.*?)```\n", re.S)
 QUOTABLE = re.compile(r"(?: *pub fn |(?:abbrev |unfoldable )?pub (?:record |data )?)(\w+)\b")
 # The rows of the table of sizes: a part's name, and its counts.
 SIZES = re.compile(r"^\| ([^|`]+) \|((?: +[\d,]+ \|)+)$", re.M)
-# How many of the parts carry the theorems. The next one is the tools, with which they are the
-# program.
-CARRYING = 4
+# How many of the parts carry the theorems. One has the commands of `rollout`, and the next one is
+# the tools.
+CARRYING, TOOLS = 4, 5
 # The figures that sentences have of the sizes.
 RATIO = re.compile(r"(?<=They have )\d+\.\d+(?= lines of proof for each line of source)")
-SHARE = re.compile(r"(?<=The tools are )\d+(?= percent of the program's source)")
+SHARE = re.compile(r"(?<=The tools are )\d+(?= percent of both programs' source)")
 LEMMA = re.compile(r"^(?:pub )?[^\s:({]+ :", re.M)
 
 
@@ -81,15 +81,15 @@ def is_near(told, counted, least=5):
 
 
 def all_sizes():
-    """The sizes of each part of the program."""
+    """The sizes of each part of the programs."""
     return {name: sizes(named) for name, named in parts(CRATES_PAGE.read_text()).items()}
 
 
 def figures(counted):
     """The figures of sentences: lines of proof by lines of source, and the tools' share."""
-    *carrying, tools = [*counted.values()][:CARRYING + 1]
-    source, proofs = (sum(it[k] for it in carrying) for k in (0, 2))
-    return {RATIO: f"{proofs / source:.1f}", SHARE: f"{100 * tools[0] / (source + tools[0]):.0f}"}
+    source, _, proofs, *_ = zip(*[*counted.values()][:TOOLS + 1])
+    ratio = sum(proofs[:CARRYING]) / sum(source[:CARRYING])
+    return {RATIO: f"{ratio:.1f}", SHARE: f"{100 * source[TOOLS] / sum(source):.0f}"}
 
 
 def false_sizes(text):
