@@ -78,6 +78,6 @@ class Changed:
             how = "changed" if it in self.crates else "above"
             yield f"  {it.name:17} {how:9}{seconds}  {', '.join(runs[it])}".rstrip()
         whole = sum(recorded.get(it.name, 0) for it in self.selected)
-        yield f"{whole // 60 + 1} min from nothing on one processor; what stands isn't proved again"
+        yield f"{whole // 60 + 1} min from nothing on one processor; what is proved already stays so"
         if self.tried:
             yield f"then: bench/wrong --all {' '.join(self.tried)}"

@@ -11,7 +11,7 @@ from pathlib import Path
 
 from building.crates import ROOT, say
 from building.install import copy_all, open_to_all
-from building.version import number, told
+from building.version import first_line, number
 
 DEBIAN = ROOT / "packaging"
 DEPLOY = ROOT / "examples" / "deploy"
@@ -20,7 +20,7 @@ UNITS = ["rollout.service", "rollout@.service", "rollout-nft.service"]
 
 def moment():
     """The time of all files in an archive: that of the commit, if there is one."""
-    given = os.environ.get("SOURCE_DATE_EPOCH") or told("git", "log", "-1", "--format=%ct")
+    given = os.environ.get("SOURCE_DATE_EPOCH") or first_line("git", "log", "-1", "--format=%ct")
     return int(given or 0)
 
 

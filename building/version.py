@@ -8,7 +8,7 @@ from building.crates import BUILT, ROOT
 SOURCES = ["crates.txt", *(f":(glob)crates/*/{part}/**" for part in ("src", "specs", "proofs"))]
 
 
-def told(*words):
+def first_line(*words):
     """The first line that a command prints; None if it fails or doesn't exist."""
     # A repository that contains this folder says nothing about these sources.
     within = {**os.environ, "GIT_CEILING_DIRECTORIES": str(ROOT.parent)}
@@ -25,15 +25,19 @@ def number():
 
 def commit_now():
     """The commit, and whether a source differs from it."""
-    commit = told("git", "rev-parse", "--short=12", "HEAD")
+    commit = first_line("git", "rev-parse", "--short=12", "HEAD")
     if not commit:
         return "of no known commit"
-    changed = told("git", "status", "--porcelain", "--", *SOURCES)
+    changed = first_line("git", "status", "--porcelain", "--", *SOURCES)
     return f"{commit}, with changes" if changed else commit
 
 
+def version_by(kit):
+    return f"rollout {number()} {commit_now()}\n{kit}\n"
+
+
 def version_now():
-    return f"rollout {number()} {commit_now()}\n{told('rt', 'version') or 'of no known kit'}\n"
+    return version_by(first_line("rt", "version") or "of no known kit")
 
 
 def stamp(program):
@@ -42,16 +46,21 @@ def stamp(program):
 
 
 def stamp_now(program):
-    return f"{told(ROOT / 'building' / 'stamp', program)}\n"
+    return f"{first_line(ROOT / 'building' / 'stamp', program)}\n"
 
 
 def built_from(program):
-    """Written by each build, for `./rollout --version` and for installs."""
+    """Written by each build and for each install: the version that `--version` prints."""
     return BUILT / f"{program}.built-from"
+
+
+def kit_of(program):
+    """The line of the kit that built the existing program."""
+    return built_from(program).read_text().splitlines()[-1]
 
 
 def is_current(program):
     """Whether the program exists, is built from the current sources, and has its version
     recorded."""
-    stands = subprocess.run([ROOT / "building" / "is_current", program]).returncode == 0
-    return stands and built_from(program).exists()
+    current = subprocess.run([ROOT / "building" / "is_current", program]).returncode == 0
+    return current and built_from(program).exists()
