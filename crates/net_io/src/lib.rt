@@ -2,9 +2,9 @@
 //! read.
 //!
 //! `Counted` counts the failures of any reader or writer, so that an error that blames the device
-//! can be checked against the count. `Timed` is a connection with a deadline: before each read and
-//! write the socket's time-out is set to the time that is left. So a client that sends a byte now
-//! and then is dropped like a silent one. `FailAt` is for tests.
+//! can be checked against the count. `Timed` is a connection with a deadline: a read or write that
+//! isn't ready waits for the time that is left. So a client that sends a byte now and then is
+//! dropped like a silent one. `FailAt` is for tests.
 //!
 //! See docs/DECISIONS.md, "The front".
 #![tactic(auto)]
