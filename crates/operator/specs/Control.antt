@@ -1,5 +1,6 @@
 -- The operator's state: which ruleset was installed last, and the server's arrays.
 use Rattle.std.specs.Prelude.{◌≡◌, ◌^◌, ◌-◌, ℕ, List, All, Option, Some, Result, Ok, Err}
+use Rattle.std.specs.Prelude.{Bool, true}
 use mathlib.Core.List.{IsPrefix}
 use Rattle.cells.specs.declared.array.CellArray.{CellArray}
 use Rattle.hot_swap.specs.Latest.{Publishing, Installs}
@@ -10,12 +11,17 @@ use Rattle.operator.specs.declared.reply.OperatorRefusal.TheVariants as refusal
 use Rattle.ruleset.specs.Rules.{Rules, KnowsOnly}
 use Rattle.ruleset.specs.declared.loaded.LoadedRuleset.{LoadedRuleset}
 
--- the rulesets that were published, the server's arrays, and the digest of the last load, if there
--- was one
+-- the rulesets that were published, the server's arrays, the digest of the last load, if there was
+-- one, and whether a stop was requested
 pub record Controlled : Type 0 where
   pub publishing : Publishing
   pub arrays : List CellArray
   pub digest : Option (List ℕ)
+  pub is_stopping : Bool
+
+-- the same, once a stop is requested
+abbrev pub stopping : Controlled → Controlled
+stopping control = record control { is_stopping = true }
 
 -- the programs of all published rulesets know only the server's arrays
 abbrev pub KnowOnlyItsArrays : Controlled → Type 0
@@ -46,10 +52,18 @@ module _ {F : Type 0} (loads : Loading F) where
     pub installed : Installs old.publishing rules generation new.publishing
     pub only : KnowsOnly new.arrays rules
     pub grown : IsPrefix old.arrays new.arrays
+    pub stopping_is : new.is_stopping ≡ old.is_stopping
 
-  -- why a load is refused
+  -- the loader gave a ruleset for this path
+  pub record HasLoaded (path : List ℕ) (arrays : List CellArray) : Type 0 where
+    pub given : LoadedRuleset
+    pub loaded : loads path arrays (Ok given)
+
+  -- why a load is refused: the loader's fault; or it gave a ruleset that couldn't be installed, or
+  -- for which memory ran out
   abbrev pub IsRefusedLoad : List ℕ → Controlled → OperatorRefusal F → Type 0
   IsRefusedLoad path old (refusal.Load fault) = loads path old.arrays (Err fault)
-  IsRefusedLoad path old (refusal.Install fault) = IsUninstallable old.publishing fault
-  IsRefusedLoad path old refusal.Memory = Unit {0}
+  IsRefusedLoad path old (refusal.Install fault) =
+      HasLoaded path old.arrays × IsUninstallable old.publishing fault
+  IsRefusedLoad path old refusal.Memory = HasLoaded path old.arrays
   IsRefusedLoad path old refusal.Word = ⊥

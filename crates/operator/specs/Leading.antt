@@ -1,21 +1,44 @@
--- Successive installed loads: how a server gets from one ruleset to the next.
-use Rattle.std.specs.Prelude.{ℕ, List}
+-- The lines that an operator's thread answered, one after the other: how a server gets from one
+-- ruleset to the next.
+use Rattle.std.specs.Prelude.{List, [], ◌∷◌, ◌++◌, All, Option}
+use Rattle.cells.specs.declared.event.CellEvent.{CellEvent}
 use Rattle.hot_swap.specs.Published.{GoesOnwards}
-use Rattle.operator.specs.Control.{Controlled, Loading, IsInstalled, KnowOnlyItsArrays}
+use Rattle.operator.specs.Control.{Controlled, Loading, KnowOnlyItsArrays}
+use Rattle.operator.specs.Counters.{IsLoad}
+use Rattle.operator.specs.Perform.{Performs}
+use Rattle.operator.specs.declared.reply.OperatorReply.{OperatorReply}
+use Rattle.operator_request.specs.declared.request.OperatorRequest.{OperatorRequest}
+
+-- an answered line: what it requested, if anything, and the reply
+pub record AnsweredLine (F : Type 0) : Type 0 where
+  pub request : Option OperatorRequest
+  pub reply : OperatorReply F
 
 module _ {F : Type 0} (loads : Loading F) where
-  -- loads, and nothing else, lead from one published list and its arrays to another
-  pub data LoadsLead : Controlled → Controlled → Type 0 where
-    stays : {c : Controlled} → LoadsLead c c
-    goes : {c d e : Controlled} {path : List ℕ} {generation : ℕ}
-        → LoadsLead c d → IsInstalled loads path d generation e → LoadsLead c e
+  -- Answered lines, and nothing else, lead from one state of the server to another. Each line
+  -- installs at most one load, that of the path that it names, and its reply has the generation.
+  -- Only a line that requests a stop makes the server stop. The events are those by which lines
+  -- read the counters. Nothing shows which bytes a socket carried.
+  pub data LinesLead
+      : Controlled → List (AnsweredLine F) → List CellEvent → Controlled → Type 0 where
+    stays : {c : Controlled} → LinesLead c [] [] c
+    goes : {c d e : Controlled} {lines : List (AnsweredLine F)} {before events : List CellEvent}
+        {request : Option OperatorRequest} {reply : OperatorReply F}
+        → LinesLead c lines before d → Performs loads request d events reply e
+        → LinesLead c (lines ++ record { request = request; reply = reply } ∷ [])
+        (before ++ events) e
 
-  -- then the former list is a prefix of the latter
-  abbrev pub LoadsGoOnwards : Type 0
-  LoadsGoOnwards = (c d : Controlled) → LoadsLead c d
-      → GoesOnwards c.publishing.known d.publishing.known
+  -- then the former list of rulesets is a prefix of the latter
+  abbrev pub LinesGoOnwards : Type 0
+  LinesGoOnwards = (c d : Controlled) (lines : List (AnsweredLine F)) (reads : List CellEvent)
+      → LinesLead c lines reads d → GoesOnwards c.publishing.known d.publishing.known
 
-  -- and if the programs knew only the server's arrays, they still do
-  abbrev pub LoadsKeepToArrays : Type 0
-  LoadsKeepToArrays =
-      (c d : Controlled) → LoadsLead c d → KnowOnlyItsArrays c → KnowOnlyItsArrays d
+  -- if the programs knew only the server's arrays, they still do
+  abbrev pub LinesKeepToArrays : Type 0
+  LinesKeepToArrays = (c d : Controlled) (lines : List (AnsweredLine F)) (reads : List CellEvent)
+      → LinesLead c lines reads d → KnowOnlyItsArrays c → KnowOnlyItsArrays d
+
+  -- and the counters were only read
+  abbrev pub LinesOnlyRead : Type 0
+  LinesOnlyRead = (c d : Controlled) (lines : List (AnsweredLine F)) (reads : List CellEvent)
+      → LinesLead c lines reads d → All IsLoad reads

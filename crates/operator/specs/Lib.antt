@@ -3,6 +3,6 @@ pub mod Texts
 pub mod Replies
 pub mod Done
 pub mod Control
-pub mod Leading
 pub mod Counters
 pub mod Perform
+pub mod Leading

@@ -6,7 +6,7 @@ use Rattle.std.specs.String.{string_bytes}
 use Rattle.std.specs.declared.alloc.Global.{Global}
 use Rattle.std.specs.declared.string.String.{String}
 use Rattle.cells.specs.declared.event.CellEvent.{CellEvent}
-use Rattle.operator.specs.Control.{Controlled, Loading, IsInstalled, IsRefusedLoad}
+use Rattle.operator.specs.Control.{Controlled, Loading, IsInstalled, IsRefusedLoad, stopping}
 use Rattle.operator.specs.Counters.{IsLoad, ReadsArrays}
 use Rattle.operator.specs.Line.{IsFirstRequest}
 use Rattle.operator.specs.Texts.{ruleset_text}
@@ -37,7 +37,8 @@ module _ {F : Type 0} (loads : Loading F) where
     counted : {old : Controlled} {events : List CellEvent} (lines : String Global)
         → ReadsArrays old.arrays events (string_bytes lines)
         → Performs (Some sent.Cells) old events (reply.Told lines) old
-    stopped : {old : Controlled} → Performs (Some sent.Stop) old [] reply.Stopping old
+    stopped : {old : Controlled}
+        → Performs (Some sent.Stop) old [] reply.Stopping (stopping old)
     -- out of memory for the lines; some cells were read
     unshown : {old : Controlled}
         → Performs (Some sent.Show) old [] (reply.Refused refusal.Memory) old

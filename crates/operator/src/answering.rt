@@ -25,8 +25,8 @@ const LINE_ROOM: usize = LINE_LIMIT + 1;
 
 /// Reads a line, does what it requests, and returns the reply. Returns `None` if the reader failed;
 /// then nothing was done.
-// open: whether an allocation fails (B4); which line a socket gave. The value of each counter is
-// that at the moment of its load.
+// open: whether an allocation fails (B4, H1); which line a socket gave. The value of each counter
+// is that at the moment of its load.
 pub fn answer<H: Wait, R: Read, L: Loader, C: CellSteps>(
     rt: &H,
     alloc: Global,

@@ -1,8 +1,8 @@
-//! The ruleset and the arrays of a server. Only its operator changes them, and a load changes both
-//! or neither.
+//! The ruleset and the arrays of a server, and whether it has to stop. Only its operator changes
+//! them, and a load changes ruleset and arrays, or neither.
 
-ghost use Rattle.std.specs.Prelude.{◌≡◌, All, IfOk, IfErr, OnErr, None};
-ghost use Rattle.operator.specs.Control.{IsInstalled, IsRefusedLoad};
+ghost use Rattle.std.specs.Prelude.{◌≡◌, All, IfOk, IfErr, OnErr, None, false};
+ghost use Rattle.operator.specs.Control.{IsInstalled, IsRefusedLoad, stopping};
 
 use crate::loader::Loader;
 use crate::reply::OperatorRefusal;
@@ -19,6 +19,8 @@ pub struct Control {
     directory: Directory,
     /// The digest of the last load, if there was one.
     digest: Option<[u8; 32]>,
+    /// Whether a stop was requested.
+    is_stopping: bool,
 }
 
 impl Model for Control {
@@ -26,8 +28,12 @@ impl Model for Control {
 
     ghost Value = { Controlled };
 
-    ghost view = { λ c.
-        record { publishing = c.publisher; arrays = c.directory; digest = c.digest } };
+    ghost view = { λ c. record {
+      publishing = c.publisher;
+      arrays = c.directory;
+      digest = c.digest;
+      is_stopping = c.is_stopping;
+    } };
 }
 
 impl Control {
@@ -40,11 +46,13 @@ impl Control {
         ensures publishing { result.publishing ≡ publisher }
         ensures arrays { result.arrays ≡ directory }
         ensures digest { result.digest ≡ None }
+        ensures goes_on { result.is_stopping ≡ false }
     {
         Control {
             publisher,
             directory,
             digest: None,
+            is_stopping: false,
         }
     }
 
@@ -80,6 +88,20 @@ impl Control {
         self.digest
     }
 
+    /// Whether a stop was requested.
+    pub fn is_stopping(&self) -> bool
+        ensures { result ≡ self.now.is_stopping }
+    {
+        self.is_stopping
+    }
+
+    /// Keeps that a stop was requested.
+    pub(crate) fn stop(&mut self)
+        ensures { self.new ≡ stopping self.old }
+    {
+        self.is_stopping = true;
+    }
+
     /// A notice of all that was installed, for the publisher's watchers to learn.
     pub fn tell(&self) -> Notice
         ensures { result ≡ self.now.publishing.known }
@@ -96,9 +118,9 @@ impl Control {
     }
 
     /// Loads the manifest at a path, and installs its ruleset as the next generation. If the load
-    /// is refused nothing changes. It may wait for readers of the ruleset before the last.
-    // open: whether an allocation fails (B4, H1).
-    pub fn load<R: Wait, L: Loader>(
+    /// is refused nothing changes. It may wait for readers of the ruleset before the last. Only
+    /// `perform` calls it, for a line that requests it.
+    pub(crate) fn load<R: Wait, L: Loader>(
         &mut self,
         rt: &R,
         alloc: Global,
@@ -138,6 +160,7 @@ impl Control {
             publisher,
             directory: _directory,
             digest: _digest,
+            is_stopping: _is_stopping,
         } = self;
         publisher.close(rt);
     }

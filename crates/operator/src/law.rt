@@ -1,15 +1,16 @@
-//! Laws of successive installed loads, by the definitions only.
+//! Laws of answered lines, by the definitions only.
 
-ghost use Rattle.operator.specs.Leading.{LoadsGoOnwards, LoadsKeepToArrays};
+ghost use Rattle.operator.specs.Leading.{LinesGoOnwards, LinesKeepToArrays, LinesOnlyRead};
 
 use crate::loader::Loader;
 use cells::arrays_stay;
 
-/// Law. Loads only append to what is published, and programs that know only a server's arrays still
-/// do so afterwards.
+/// Law. Answered lines only append to what is published. Programs that know only a server's arrays
+/// still do so afterwards, and the counters were only read.
 pub fn loads_go_on<L: Loader>(loader: &L)
-    ensures onwards { LoadsGoOnwards (L.loads loader.now) }
-    ensures only { LoadsKeepToArrays (L.loads loader.now) }
+    ensures onwards { LinesGoOnwards (L.loads loader.now) }
+    ensures only { LinesKeepToArrays (L.loads loader.now) }
+    ensures reads { LinesOnlyRead (L.loads loader.now) }
 {
     let _loader = loader;
     arrays_stay();

@@ -1,5 +1,5 @@
-//! Performs a request: a load, which is the only request that changes anything, or a read of the
-//! ruleset or of the counters.
+//! Performs a request: a load or a stop, which change the control, or a read of the ruleset or of
+//! the counters.
 
 ghost use Rattle.operator.specs.Perform.{Performs};
 ghost use Rattle.cells.specs.Grown.{Grows};
@@ -13,8 +13,8 @@ use operator_request::OperatorRequest;
 use std::alloc::Global;
 use std::sync::Wait;
 
-/// Does what is requested, and returns the reply; `None` is a line without a request. On `Stop` the
-/// caller has to end the server.
+/// Does what is requested, and returns the reply; `None` is a line without a request. Once a stop
+/// was requested the caller has to end the server.
 pub(crate) fn perform<R: Wait, L: Loader, C: CellSteps>(
     rt: &R,
     alloc: Global,
@@ -47,6 +47,9 @@ pub(crate) fn perform<R: Wait, L: Loader, C: CellSteps>(
             Ok(lines) => OperatorReply::Told(lines),
             Err(_) => OperatorReply::Refused(OperatorRefusal::Memory),
         },
-        OperatorRequest::Stop => OperatorReply::Stopping,
+        OperatorRequest::Stop => {
+            control.stop();
+            OperatorReply::Stopping
+        }
     }
 }

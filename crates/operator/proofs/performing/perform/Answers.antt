@@ -57,4 +57,4 @@ returns-in-Err-tell_counters-clause-performs g c =
 
 pub returns-in-Stop-clause-performs : goal.returns-in-Stop-clause-performs
 returns-in-Stop-clause-performs g c =
-    grows_none (g.C.CellSteps.grew) _ _ (rw (c.in-Some.is, c.in-Stop.is) stopped)
+    grows_none (g.C.CellSteps.grew) _ _ (rw (c.in-Some.is, c.in-Stop.is, c.stop.ensures) stopped)
