@@ -1,12 +1,17 @@
 -- The log's event of a start, and its line.
-use Rattle.std.specs.Prelude.{◌≡◌, ℕ, List, Option, Some, None, option_copied}
+use Rattle.std.specs.Prelude.{◌≡◌, ℕ, List, Option, Some, None, option_copied, option_map}
 use Rattle.access_log.specs.Excerpt.{IsExcerpt}
 use Rattle.access_log.specs.Line.{event_line}
 use Rattle.access_log.specs.declared.event.LogEvent.TheVariants as log
 use Rattle.access_log.specs.declared.event.Start.{Start}
 use Rattle.access_log.specs.declared.utc.Utc.{Utc}
+use Rattle.ruleset.specs.declared.loaded.LoadedRuleset.{LoadedRuleset}
 use Rattle.server_log.specs.Loads.{IsExcerptOf}
 use Rattle.server_log.specs.declared.start_line.Starting.{Starting}
+
+-- the digest of a loaded ruleset, if there is one
+abbrev pub digest_in : Option LoadedRuleset → Option (List ℕ)
+digest_in = option_map (λ loaded. loaded.digest)
 
 -- the event of a server that starts: its manifest, its ports, and the digest of what it serves
 pub record TellsStart (server : Starting) (digest : Option (List ℕ)) (start : Start)

@@ -1,6 +1,6 @@
 //! The log lines about what is served: that the server is ready, and each load.
 
-ghost use Rattle.std.specs.Prelude.{◌≡◌, IfOk, option_copied, option_map, string_bytes};
+ghost use Rattle.std.specs.Prelude.{◌≡◌, IfOk, IfSome, option_copied, option_map, string_bytes};
 ghost use Rattle.hex.specs.Hex.{encode_lower};
 ghost use Rattle.server_log.specs.Loads.{IsExcerptOf, IsLineOfReply, IsLoadLine, IsToldBeside};
 ghost use Rattle.server_log.specs.Loads.{TellsInstalledLoad, TellsReplyRefusal, TellsRefusedLoad};
@@ -11,7 +11,7 @@ use crate::log_queue::{LogPiece, LogQueue};
 use access_log::{Excerpt, Load, LogEvent, Utc, log_line};
 use hex::encode;
 use hot_swap::Generation;
-use operator::{Loader, OperatorRefusal, OperatorReply};
+use operator::{Control, Loader, OperatorRefusal, OperatorReply};
 use std::alloc::{AllocError, Global};
 use std::sync::Wait;
 use std::time::Clock;
@@ -34,14 +34,14 @@ where
 /// Puts the line of a load into the queue, if there is a queue and a load was requested. The line
 /// has the digest of an installed load, or the refusal and the loader's cause. It is lost if an
 /// allocation fails, or if no place becomes free in time.
-// open: that what is queued is the line of `load_line` with this digest and reply, that its path is
-// the requested one, and that it comes out: no contract knows the contents of a queue. Tests.
+// open: that what is queued is the piece of `load_line`, that its path is the requested one, and
+// that it comes out: no contract knows the contents of a queue. Tests.
 pub fn note_load<H, R, L>(
     rt: &H,
     log: Option<&LogQueue>,
     heard: Heard<R>,
     loader: &L,
-    digest: Option<[u8; 32]>,
+    control: &Control,
     reply: &OperatorReply<L::Fault>,
 )
 where
@@ -58,10 +58,10 @@ where
         }
         return;
     };
-    match load_line(rt.alloc(), &utc_now(rt), path, loader, digest, reply) {
-        Ok(Some(text)) => {
+    match load_line(rt.alloc(), &utc_now(rt), path, loader, control, reply) {
+        Ok(Some(piece)) => {
             let until = seconds_from_now(rt, LOAD_SECONDS);
-            let _put = queue.put_until(rt, LogPiece { text, lines: 1 }, until);
+            let _put = queue.put_until(rt, piece, until);
         }
         Ok(None) => (),
         Err(_) => queue.lose(1),
@@ -76,20 +76,21 @@ fn load_line<L: Loader>(
     time: &Utc,
     path: &str,
     loader: &L,
-    digest: Option<[u8; 32]>,
+    control: &Control,
     reply: &OperatorReply<L::Fault>,
-) -> Result<Option<Vec<u8>>, AllocError>
-    ensures { IfOk result (λ line. IsLineOfReply L.has_cause L.Fault.output time.now path.now
-        digest reply.now (option_map (λ text. text.items) line)) }
+) -> Result<Option<LogPiece>, AllocError>
+    ensures line { IfOk result (λ piece. IsLineOfReply L.has_cause L.Fault.output time.now path.now
+        control.now.digest reply.now (option_map (λ p. p.text.items) piece)) }
+    ensures one { IfOk result (λ piece. IfSome piece (λ p. p.lines ≡ 1)) }
 {
     match reply {
         OperatorReply::Loaded(generation) => {
-            let line = installed_line(alloc, time, path, *generation, digest)?;
-            Ok(Some(line))
+            let text = installed_line(alloc, time, path, *generation, control.digest())?;
+            Ok(Some(LogPiece { text, lines: 1 }))
         }
         OperatorReply::Refused(refusal) => {
-            let line = refused_line(alloc, time, path, loader, refusal)?;
-            Ok(Some(line))
+            let text = refused_line(alloc, time, path, loader, refusal)?;
+            Ok(Some(LogPiece { text, lines: 1 }))
         }
         _ => Ok(None),
     }

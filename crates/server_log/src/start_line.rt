@@ -1,15 +1,16 @@
 //! The log line of a server's start: that it is about to serve what has this digest, or why it
 //! doesn't start.
 
-ghost use Rattle.std.specs.Prelude.{IfOk, IfSome, option_copied, option_map};
+ghost use Rattle.std.specs.Prelude.{◌≡◌, IfOk, IfSome, option_copied, option_map};
 ghost use Rattle.hex.specs.Hex.{encode_lower};
-ghost use Rattle.server_log.specs.Starts.{IsStartLine, TellsRefusedStart, TellsStart};
+ghost use Rattle.server_log.specs.Starts.{IsStartLine, TellsRefusedStart, TellsStart, digest_in};
 
 use crate::clock::utc_now;
 use crate::load_line::{digest_text, excerpt_of};
 use crate::log_output::LogOutput;
 use crate::log_queue::{LogPiece, LogQueue};
 use access_log::{Excerpt, LogEvent, Start, Utc, log_line};
+use ruleset::LoadedRuleset;
 use std::alloc::{AllocError, Global};
 use std::fmt::Display;
 use std::sync::Wait;
@@ -27,19 +28,19 @@ pub struct Starting<'a> {
 
 /// Puts the line of a server that starts into the queue, with the digest of what it serves. If an
 /// allocation fails the digest is left out, or else the line is lost.
-// open: that what is queued is the line of `start_line` with this digest, and that it comes out: no
-// contract knows the contents of a queue. Tests.
-pub fn note_start<H>(rt: &H, queue: &LogQueue, server: Starting<'_>, digest: [u8; 32])
+// open: that what is queued is the line of `start_line`, and that it comes out: no contract knows
+// the contents of a queue. Tests.
+pub fn note_start<H>(rt: &H, queue: &LogQueue, server: Starting<'_>, serves: &LoadedRuleset)
 where
     H: Wait + AllocGlobal + Clock,
 {
     let time = utc_now(rt);
-    let line = match start_line(rt.alloc(), &time, server, Some(digest)) {
-        Ok(line) => Ok(line),
+    let piece = match start_line(rt.alloc(), &time, server, Some(serves)) {
+        Ok(piece) => Ok(piece),
         Err(_) => start_line(rt.alloc(), &time, server, None),
     };
-    match line {
-        Ok(text) => queue.put(rt, LogPiece { text, lines: 1 }),
+    match piece {
+        Ok(piece) => queue.put(rt, piece),
         Err(_) => queue.lose(1),
     }
 }
@@ -79,23 +80,35 @@ where
     }
 }
 
-/// The line of a server that starts.
+/// The line of a server that starts, with the digest of what it serves, if that is passed.
 // open: whether an allocation fails.
 fn start_line(
     alloc: Global,
     time: &Utc,
     server: Starting<'_>,
-    digest: Option<[u8; 32]>,
-) -> Result<Vec<u8>, AllocError>
-    ensures { IfOk result (λ line. IsStartLine time.now
-        (TellsStart server.entry (option_map encode_lower digest)) line.items) }
+    serves: Option<&LoadedRuleset>,
+) -> Result<LogPiece, AllocError>
+    ensures line { IfOk result (λ piece. IsStartLine time.now (TellsStart server.entry
+        (option_map encode_lower (digest_in (option_copied serves.entry)))) piece.text.items) }
+    ensures one { IfOk result (λ piece. piece.lines ≡ 1) }
 {
-    let digest = digest_text(alloc, digest)?;
-    log_line(
-        alloc,
-        time,
-        &LogEvent::Start(started(server, digest.as_deref())),
-    )
+    let digest = digest_text(alloc, digest_of(serves))?;
+    let event = LogEvent::Start(started(server, digest.as_deref()));
+    let text = log_line(alloc, time, &event)?;
+    Ok(LogPiece { text, lines: 1 })
+}
+
+// The digest of a loaded ruleset, if there is one.
+fn digest_of(serves: Option<&LoadedRuleset>) -> Option<[u8; 32]>
+    ensures { result ≡ digest_in (option_copied serves.entry) }
+{
+    match serves {
+        Some(loaded) => {
+            let digest = loaded.digest;
+            Some(digest)
+        }
+        None => None,
+    }
 }
 
 /// The line of a refused start.
