@@ -14,7 +14,7 @@ use Rattle.hot_swap.specs.Published.{Beginning, GoesOnwards, IsLatest, ShorterBe
 use Rattle.hot_swap.specs.declared.publisher_id.PublisherId.{PublisherId}
 use Rattle.ruleset.specs.Rules.{Rules}
 use Rattle.workers.specs.Answers.{AnswersGoOnwards}
-use Rattle.workers.specs.Back.{OperatorBack, WorkerBack}
+use Rattle.workers.specs.Back.{WorkerBack}
 use Rattle.serving.specs.Ended.{IsOfServer}
 use Rattle.serving.specs.Staff.{IsNewWorker}
 
@@ -38,12 +38,12 @@ all_made gain table old made new is grown =
     ap (λ (pass : PassView). pass.events) (gain old made new grown)
     ∙ ap (λ (es : List CellEvent). es ++ made) is.none
 
-pub has_looked : PassesGainLists → (cells : CellsView) (old new : PassView)
-    → IsNewPass cells.table old → OperatorBack (IsPassOf cells) Gained old new
+-- so a new pass that grew by Loads has only read
+pub has_looked : PassesGainLists → (table : TableId) (old : PassView) (reads : List CellEvent)
+    (new : PassView) → IsNewPass table old → GrewBy Gained old reads new → AreLoads reads
     → AreLoads new.events
-has_looked gain cells old new is back =
-    let looked = back.looked in
-    subst AreLoads (sym (all_made gain cells.table old looked.events new is looked.grown)) looked.of
+has_looked gain table old reads new is grown =
+    subst AreLoads (sym (all_made gain table old reads new is grown))
 
 -- new workers belong to the cells
 pub new_belong : (cells : CellsView) (known : Beginning) (workers : List (PassView × Beginning))

@@ -4,9 +4,10 @@ use Rattle.std.proofs.lemmas.List.Elements.{All-cons, All-nil, All-same}
 use Rattle.cells.specs.Directory.{IsDirectory}
 use Rattle.cells.specs.declared.array.CellArray.{CellArray}
 use Rattle.thread_laws.specs.Quotas.{ThreadsGrantQuotas}
+use Rattle.cells.specs.declared.event.CellEvent.{CellEvent}
 use Rattle.shared_cells.specs.Passes.{CellsView, ClosedView, AreClosed}
 use Rattle.operator.specs.Control.{Controlled, Loading, KnowOnlyItsArrays}
-use Rattle.operator.specs.Leading.{LoadsLead, LoadsKeepToArrays}
+use Rattle.operator.specs.Leading.{AnsweredLine, LinesLead, LinesKeepToArrays}
 use Rattle.hot_swap.specs.Published.{Beginning}
 use Rattle.ruleset.specs.Rules.{Rules, IsRuleset, KnowsOnly}
 use Rattle.serving.specs.Ended.{LeavesOneWorld, runs_by_pass}
@@ -23,21 +24,25 @@ knows_first control arrays rules same listed only =
     (All-nil P))
 
 -- and all published rulesets know only the server's arrays at its end
-pub leaves : {F : Type 0} (loads : Loading F) → LoadsKeepToArrays loads → ThreadsGrantQuotas
-    → (cells : CellsView) (control end : Controlled) (published : Beginning) (closed : ClosedView)
-    → AreClosed cells closed → LoadsLead loads control end → IsDirectory end.arrays
+pub leaves : {F : Type 0} (loads : Loading F) → LinesKeepToArrays loads → ThreadsGrantQuotas
+    → (cells : CellsView) (control end : Controlled) (lines : List (AnsweredLine F))
+    (reads : List CellEvent) (published : Beginning) (closed : ClosedView)
+    → AreClosed cells closed → LinesLead loads control lines reads end → IsDirectory end.arrays
     → KnowOnlyItsArrays control → published ≡ end.publishing.known
     → All IsRuleset published.rulesets → DidInTurn control.publishing.known published closed
     → LeavesOneWorld loads cells control closed
-leaves loads keep grant cells control end published closed own led directory knows same sound did =
+leaves loads keep grant cells control end lines reads published closed own led directory knows
+    same sound did =
     let sound_now = subst (λ (b : Beginning). All IsRuleset b.rulesets) same sound in
     let now =
     subst (λ (b : Beginning). DidInTurn control.publishing.known b closed) same did in
     let world = now.did in
-    let only = keep control end led knows in
+    let only = keep control end lines reads led knows in
     record {
       own = own;
       end = end;
+      lines = lines;
+      reads = reads;
       led = led;
       by_worker = now.answers;
       in_turn = now.in_turn;

@@ -7,8 +7,9 @@ use Rattle.shared_cells.specs.Quotas.{QuotasAreExact}
 use Rattle.thread_laws.specs.Passes.{DidOneWorld, all_runs}
 use Rattle.thread_laws.specs.Runs.{AppRun, IsWholeRun}
 use Rattle.cells.specs.Directory.{IsDirectory}
+use Rattle.cells.specs.declared.event.CellEvent.{CellEvent}
 use Rattle.operator.specs.Control.{Controlled, Loading, KnowOnlyItsArrays}
-use Rattle.operator.specs.Leading.{LoadsLead}
+use Rattle.operator.specs.Leading.{AnsweredLine, LinesLead}
 use Rattle.hot_swap.specs.Published.{Beginning}
 use Rattle.hot_swap.specs.declared.publisher_id.PublisherId.{PublisherId}
 use Rattle.ruleset.specs.Rules.{Rules, IsRuleset}
@@ -34,17 +35,19 @@ abbrev pub runs_by_pass : List (List WorkerAnswer) → List (List AppRun)
 runs_by_pass by_worker = [] ∷ map runs_in_turn by_worker
 
 -- What a server leaves that began to serve with these cells and this control. The counters are its
--- own, closed with all passes to them. Loads, and nothing else, led from that control to the one at
--- its end. Each worker has answers, one after the other, none under an older ruleset than the one
--- before. Each is under a published ruleset, or a refusal. What the worker did to the counters is
--- what the runs of these answers did, and the operator only read counters. The published rulesets
--- are sound and know only the arrays that the server has at its end. Each quota of these arrays is
--- granted.
+-- own, closed with all passes to them. Answered lines of the operator, and nothing else, led from
+-- that control to the one at its end. Each worker has answers, one after the other, none under an
+-- older ruleset than the one before. Each is under a published ruleset, or a refusal. What the
+-- worker did to the counters is what the runs of these answers did, and the operator only read
+-- counters. The published rulesets are sound and know only the arrays that the server has at its
+-- end. Each quota of these arrays is granted.
 pub record LeavesOneWorld {F : Type 0} (loads : Loading F) (cells : CellsView)
     (control : Controlled) (closed : ClosedView) : Type 0 where
   pub own : AreClosed cells closed
   pub end : Controlled
-  pub led : LoadsLead loads control end
+  pub lines : List (AnsweredLine F)
+  pub reads : List CellEvent
+  pub led : LinesLead loads control lines reads end
   pub by_worker : List (List WorkerAnswer)
   pub in_turn :
       All (λ answers. AreInTurn control.publishing.known answers end.publishing.known) by_worker

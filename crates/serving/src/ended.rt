@@ -33,6 +33,7 @@ pub(crate) fn close_cells(
 {
     let Returned {
         operator,
+        end: _end,
         mut workers,
         published,
         generation,

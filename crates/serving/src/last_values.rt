@@ -1,6 +1,8 @@
 //! The log lines of a server's end: that it has ended, and a line for each counter that isn't 0.
 //! They wait for places in the log's queue, so that none is lost if the log is read in time.
 
+ghost use Rattle.std.specs.Prelude.{◌≡◌, ◌+◌, ◌<◌, slice_index};
+
 use access_log::{Counter, LogEvent};
 use cells::{CellArray, CellNo};
 use server_log::{LogQueue, seconds_from_now};
@@ -67,7 +69,10 @@ fn counter_event<'x>(array: &'x CellArray, index: u16, value: u64) -> LogEvent<'
 }
 
 // The last value of an array's cell; 0 past the last cell, which no array reaches.
-fn value_of(array: &CellArray, index: u16, closed: &Closed) -> u64 {
+fn value_of(array: &CellArray, index: u16, closed: &Closed) -> u64
+    ensures { array.now.base + index < 8192
+        → result ≡ slice_index closed.now.values (array.now.base + index) }
+{
     match array.base.checked_add(index) {
         Some(number) if number < CellNo::COUNT => closed.value(CellNo::new(number)),
         _ => 0,

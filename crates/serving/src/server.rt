@@ -64,12 +64,12 @@ impl Server {
         &self.ports
     }
 
-    /// The digest of the manifest and of the files that it names, as they were judged.
-    pub fn digest(&self) -> [u8; 32]
-        ensures { result ≡ self.now.loaded.digest }
+    /// The ruleset, with the digest of the manifest and of the files that it names, as they were
+    /// judged.
+    pub fn loaded(&self) -> &LoadedRuleset
+        ensures { result.now ≡ self.now.loaded }
     {
-        let digest = self.loaded.digest;
-        digest
+        &self.loaded
     }
 
     /// The server with `workers` workers, to serve the ruleset as generation 1. Returns S1 if the

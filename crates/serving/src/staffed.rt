@@ -135,9 +135,10 @@ impl StaffedServer {
         requires some { 1 ≤ length self.workers.items }
         requires few { length self.workers.items ≤ 64 }
         // The counters are this server's. What all threads did to them is one legal history, that
-        // of one world, under rulesets that loads installed one after the other. Its runs are those
-        // of answers, one list for each worker, in turn, under rulesets that never went back. Each
-        // run came to its end in time, with 0 or a release, and each quota is granted.
+        // of one world, under rulesets that the operator's lines loaded one after the other. Its
+        // runs are those of answers, one list for each worker, in turn, under rulesets that never
+        // went back. Each run came to its end in time, with 0 or a release, and each quota is
+        // granted.
         ensures world { IfOk result
             (LeavesOneWorld (L.loads loader.now) self.cells self.control) }
         ensures said { OnOk result (Appends (O.contents out.old) (O.contents out.new)

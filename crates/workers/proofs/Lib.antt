@@ -1,6 +1,7 @@
+mod Counts
 mod Onwards
 mod Turns
 mod OfRuns
 mod Served
 mod InPlace
-mod Looked
+mod Lines

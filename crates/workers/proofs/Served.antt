@@ -1,6 +1,8 @@
 -- What one connection did, and one more after others; and a worker whose thread promised to return
 -- it.
-use Rattle.std.proofs.Common.{◌≡◌, ℕ, List, [], ◌∷◌, ◌++◌, refl, sym, subst, append-nil, arith}
+use Rattle.std.proofs.Common.{◌≡◌, ℕ, ◌+◌, ◌-◌, ◌^◌, min, List, [], ◌∷◌, ◌++◌}
+use Rattle.std.proofs.Common.{length, refl, sym, subst, append-nil, arith, length-append}
+use Rattle.std.proofs.lemmas.List.Elements.{All-cons, All-nil}
 use Rattle.std.specs.List.{AllZip}
 use Rattle.std.specs.Prelude.{ℤ, Option, None, Result, Ok, Err, IfOk, IfErr, Vec}
 use Rattle.std.specs.declared.alloc.Global.{Global}
@@ -13,11 +15,13 @@ use Rattle.answering.specs.declared.answering.AnswerFault.TheVariants.{Ended, Re
 use Rattle.cells.specs.Grown.{GrewBy, GrowsByAppend}
 use Rattle.cells.specs.declared.event.CellEvent.{CellEvent}
 use Rattle.hot_swap.specs.Published.{Beginning, GoesOnwards}
+use Rattle.workers.proofs.Counts.{counts_on}
 use Rattle.workers.proofs.InPlace.{zip_through}
 use Rattle.workers.proofs.Onwards.{goes_nowhere}
 use Rattle.workers.proofs.Turns.{turns_join}
 use Rattle.workers.specs.Answers.{WorkerAnswer, made_in_turn}
-use Rattle.workers.specs.Back.{WorkerBack, ConnectionBack, WorkersBack}
+use Rattle.workers.specs.Back.{WorkerBack, ConnectionBack, ConnectionsBack, MomentBack}
+use Rattle.workers.specs.Back.{WorkersBack}
 use Rattle.workers.specs.Promised.{IsPromiseOf, ArePromised}
 use Rattle.workers.specs.declared.promise.OfWorker.{OfWorker}
 use Rattle.workers.specs.declared.promise.OfWorkers.{OfWorkers}
@@ -31,11 +35,14 @@ untold : (told : Option (List ℕ)) (w : Beginning) (moment : ℤ) (events : Lis
 untold told w moment events reply (taken body is replies) = taken body tt replies
 untold told w moment events reply (rejected fault status is code) = rejected fault status tt code
 
+abbrev IsAt : ℤ → WorkerAnswer → Type 0
+IsAt moment answer = answer.moment ≡ moment
+
 module _ {P : Type 0} (belongs : P → Type 0) (grew : P → CellEvent → P → Type 0)
     (told : Option (List ℕ)) (v w : Beginning) (moment : ℤ) (p q : P) (here : belongs q)
     (goes : GoesOnwards v w) where
   by_reply : (reply : HttpReply) → RepliesByRuns grew told w moment p q reply
-      → ConnectionBack belongs grew (p, v) (q, w)
+      → MomentBack belongs grew moment (p, v) (q, w)
   by_reply reply is =
       let answer : WorkerAnswer = record {
         known = w;
@@ -44,22 +51,26 @@ module _ {P : Type 0} (belongs : P → Type 0) (grew : P → CellEvent → P →
         reply = reply;
         replies = untold told w moment is.events reply is.of;
       } in
+      let back : WorkerBack belongs grew (p, v) (q, w) = record {
+        belongs_yet = here;
+        answers = answer ∷ [];
+        in_turn = (goes, goes_nowhere w);
+        grown = subst (λ (es : List CellEvent). GrewBy grew p es q) (sym (append-nil is.events))
+            is.grown;
+      } in
       record {
-        back = record {
-          belongs_yet = here;
-          answers = answer ∷ [];
-          in_turn = (goes, goes_nowhere w);
-          grown = subst (λ (es : List CellEvent). GrewBy grew p es q) (sym (append-nil is.events))
-              is.grown;
-        };
-        once = omega arith;
+        connection = record { back = back; once = omega arith };
+        moments_are = All-cons (IsAt moment) answer [] refl (All-nil (IsAt moment));
       }
 
-  did_nothing : q ≡ p → ConnectionBack belongs grew (p, v) (q, w)
-  did_nothing same = record {
-    back = record { belongs_yet = here; answers = []; in_turn = goes; grown = same };
-    once = omega arith;
-  }
+  did_nothing : q ≡ p → MomentBack belongs grew moment (p, v) (q, w)
+  did_nothing same =
+      let back : WorkerBack belongs grew (p, v) (q, w) =
+      record { belongs_yet = here; answers = []; in_turn = goes; grown = same } in
+      record {
+        connection = record { back = back; once = omega arith };
+        moments_are = All-nil (IsAt moment);
+      }
 
   -- for each outcome of `answer`
   pub by_answer : {S : Type 0} (outcome : Result S AnswerFault) (X Y Z : S → HttpReply → Type 0)
@@ -69,7 +80,7 @@ module _ {P : Type 0} (belongs : P → Type 0) (grew : P → CellEvent → P →
       → ((n : ℕ) → outcome ≡ Err (Writing n)
       → (reply : HttpReply) × U n reply × RepliesByRuns grew told w moment p q reply × V n reply)
       → IfErr outcome (λ e. WritesNothing e → (q ≡ p) × T)
-      → ConnectionBack belongs grew (p, v) (q, w)
+      → MomentBack belongs grew moment (p, v) (q, w)
   by_answer (Ok sent) X Y Z U V T replied begun unread = by_reply replied.0 replied.3
   by_answer (Err (Writing n)) X Y Z U V T replied begun unread =
       let some = begun n refl in by_reply some.0 some.2
@@ -87,9 +98,13 @@ module _ {P : Type 0} (belongs : P → Type 0) (grew : P → CellEvent → P →
     grown = refl;
   }
 
-  pub unread : (p : P) (w : Beginning) → belongs p → ConnectionBack belongs grew (p, w) (p, w)
+  pub unread : (moment : ℤ) (p : P) (w : Beginning) → belongs p
+      → MomentBack belongs grew moment (p, w) (p, w)
   unfolding back_at_once
-  unread p w here = record { back = back_at_once p w here; once = omega arith }
+  unread moment p w here = record {
+    connection = record { back = back_at_once p w here; once = omega arith };
+    moments_are = All-nil (IsAt moment);
+  }
 
   pub back_later : GrowsByAppend grew → (a b c : P × Beginning) → WorkerBack belongs grew a b
       → WorkerBack belongs grew b c → WorkerBack belongs grew a c
@@ -105,14 +120,40 @@ module _ {P : Type 0} (belongs : P → Type 0) (grew : P → CellEvent → P →
             (join a.0 (made_in_turn early) b.0 (made_in_turn late) c.0 first.grown last.grown);
       }
 
+  -- before any connection is taken
+  pub none_taken : (calls : ℕ) (p : P) (w : Beginning) → belongs p
+      → ConnectionsBack belongs grew calls (p, w) (p, w)
+  unfolding back_at_once
+  none_taken calls p w here = record {
+    back = back_at_once p w here;
+    at_most_one = λ few. omega arith;
+  }
+
+  -- one connection more
+  pub one_taken : GrowsByAppend grew → (calls more : ℕ) → more ≡ min (calls + 1) (2 ^ 64 - 1)
+      → (a b c : P × Beginning) → ConnectionsBack belongs grew calls a b
+      → ConnectionBack belongs grew b c → ConnectionsBack belongs grew more a c
+  unfolding back_later
+  one_taken join calls more counts a b c old one =
+      let early = old.back.answers in
+      let late = one.back.answers in
+      let size = length-append early late in
+      let once = one.once in
+      record {
+        back = back_later join a b c old.back one.back;
+        at_most_one = counts_on calls more (length early) (length (early ++ late)) counts
+            old.at_most_one (omega (arith, size, once));
+      }
+
 -- the same, if the cells are equal
-pub back_on : {X P : Type 0} (belongs : X → P → Type 0) (grew : P → CellEvent → P → Type 0)
-    → GrowsByAppend grew → (first later : X) → later ≡ first → (a b c : P × Beginning)
-    → WorkerBack (belongs first) grew a b → WorkerBack (belongs later) grew b c
-    → WorkerBack (belongs first) grew a c
-back_on belongs grew join first later same a b c so_far last =
-    back_later (belongs first) grew join a b c so_far
-    (subst (λ x. WorkerBack (belongs x) grew b c) same last)
+pub one_on : {X P : Type 0} (belongs : X → P → Type 0) (grew : P → CellEvent → P → Type 0)
+    → GrowsByAppend grew → (first later : X) → later ≡ first → (calls more : ℕ)
+    → more ≡ min (calls + 1) (2 ^ 64 - 1) → (a b c : P × Beginning)
+    → ConnectionsBack (belongs first) grew calls a b → ConnectionBack (belongs later) grew b c
+    → ConnectionsBack (belongs first) grew more a c
+one_on belongs grew join first later same calls more counts a b c old one =
+    one_taken (belongs first) grew join calls more counts a b c old
+    (subst (λ x. ConnectionBack (belongs x) grew b c) same one)
 
 -- ---- workers whose threads promised to return them
 

@@ -1,16 +1,16 @@
 -- What the threads of a server return once they have ended. Their passes, which are ghost tokens,
 -- have what was done by them, and their watchers have what they know.
-use Rattle.std.specs.Prelude.{◌≡◌, ◌≤◌, ℕ, List, All, length}
+use Rattle.std.specs.Prelude.{◌≡◌, ◌≤◌, ◌<◌, ◌^◌, ◌-◌, ℕ, ℤ, List, All, length}
 use Rattle.std.specs.List.{AllZip}
-use Rattle.thread_laws.specs.Passes.{AreLoads}
 use Rattle.cells.specs.Directory.{IsDirectory}
-use Rattle.cells.specs.Grown.{GrewBy, Grows}
+use Rattle.cells.specs.Grown.{GrewBy}
 use Rattle.cells.specs.declared.event.CellEvent.{CellEvent}
 use Rattle.operator.specs.Control.{Controlled, Loading}
-use Rattle.operator.specs.Leading.{LoadsLead}
+use Rattle.operator.specs.Leading.{AnsweredLine, LinesLead}
 use Rattle.hot_swap.specs.Published.{Beginning, IsLatest}
 use Rattle.ruleset.specs.Rules.{Rules, IsRuleset}
 use Rattle.workers.specs.Answers.{WorkerAnswer, AreInTurn, made_in_turn}
+use Rattle.workers.specs.declared.accept.OperatorEnd.{OperatorEnd}
 use Rattle.workers.specs.declared.returned.Returned.{Returned}
 
 -- each published ruleset is sound, and the last one is of this generation
@@ -33,24 +33,43 @@ module _ {P : Type 0} (belongs : P → Type 0) (grew : P → CellEvent → P →
     pub back : WorkerBack old new
     pub once : length back.answers ≤ 1
 
+  -- the same at a moment
+  pub record MomentBack (moment : ℤ) (old new : P × Beginning) : Type 0 where
+    pub connection : ConnectionBack old new
+    pub moments_are : All (λ answer. answer.moment ≡ moment) connection.back.answers
+
+  -- the same for as many connections as were taken: there are no more answers, unless there were
+  -- more connections than the number can count
+  pub record ConnectionsBack (taken : ℕ) (old new : P × Beginning) : Type 0 where
+    pub back : WorkerBack old new
+    pub at_most_one : taken < 2 ^ 64 - 1 → length back.answers ≤ taken
+
   -- all workers, in their order
   abbrev pub WorkersBack : (old new : List (P × Beginning)) → Type 0
   WorkersBack old new = AllZip WorkerBack old new
 
-  -- the operator's pass: it belongs to the cells, and grew only by Loads
-  pub record OperatorBack (old new : P) : Type 0 where
-    pub belongs_yet : belongs new
-    pub looked : Grows grew old new AreLoads
+  module _ {F : Type 0} (loads : Loading F) where
+    -- The operator's thread, with its pass and its control, which ended so. It answered lines, one
+    -- after the other, at most one for each connection that it accepted, unless there were more of
+    -- these than the number can count. Its pass belongs to the cells, and grew only by what the
+    -- lines read. Its end says whether a stop was requested.
+    pub record OperatorBack (end : OperatorEnd) (old new : P × Controlled) : Type 0 where
+      pub belongs_yet : belongs new.0
+      pub lines : List (AnsweredLine F)
+      pub reads : List CellEvent
+      pub led : LinesLead loads old.1 lines reads new.1
+      pub grown : GrewBy grew old.0 reads new.0
+      pub at_most_one : end.accepted < 2 ^ 64 - 1 → length lines ≤ end.accepted
+      pub stop_is : end.is_requested ≡ new.1.is_stopping
 
-  -- All that a server returns which began with this pass of its operator, these workers and this
-  -- control. Loads, and nothing else, led from that control to the one at its end. What was
-  -- published then is also returned.
-  pub record ServerBack {F : Type 0} (loads : Loading F) (pass : P) (staff : List (P × Beginning))
-      (control : Controlled) (back : Returned P) : Type 0 where
-    pub operator : OperatorBack pass back.operator
-    pub workers : WorkersBack staff back.workers.items
-    pub end : Controlled
-    pub led : LoadsLead loads control end
-    pub directory : IsDirectory end.arrays
-    pub published_are : back.published ≡ end.publishing.known
-    pub published : IsPublished back.published back.generation
+    -- All that a server returns which began with this pass of its operator, these workers and this
+    -- control. The operator's lines, and nothing else, led from that control to the one at its end.
+    -- What was published then is also returned.
+    pub record ServerBack (pass : P) (staff : List (P × Beginning)) (control : Controlled)
+        (back : Returned P) : Type 0 where
+      pub last : Controlled
+      pub operator : OperatorBack back.end (pass, control) (back.operator, last)
+      pub workers : WorkersBack staff back.workers.items
+      pub directory : IsDirectory last.arrays
+      pub published_are : back.published ≡ last.publishing.known
+      pub published : IsPublished back.published back.generation

@@ -1,5 +1,7 @@
 //! The accept loop of a port, until the server has to stop.
 
+ghost use Rattle.std.specs.Prelude.{◌≡◌, ◌+◌, ◌-◌, ◌^◌, min, IfNone, OnSome};
+
 use crate::clock::pause;
 use server_log::{LogQueue, note_unaccepted};
 use std::io;
@@ -18,6 +20,23 @@ pub(crate) struct Call {
     pub(crate) accepted: Option<Instant>,
 }
 
+/// How an operator's thread ended. Only `Port::ended` makes this.
+#[derive(Clone, Copy, Drop)]
+pub struct OperatorEnd {
+    /// How many connections were accepted.
+    accepted: u64,
+    is_requested: bool,
+}
+
+impl OperatorEnd {
+    /// Whether a stop was requested.
+    pub fn is_requested(&self) -> bool
+        ensures { result ≡ self.now.is_requested }
+    {
+        self.is_requested
+    }
+}
+
 /// A listening port, until its flag is set and one more connection is accepted.
 #[derive(Drop)]
 pub(crate) struct Port<'a> {
@@ -25,6 +44,7 @@ pub(crate) struct Port<'a> {
     stop: &'a AtomicBool,
     /// The log, for connections that can't be accepted.
     log: Option<&'a LogQueue>,
+    /// How many connections it has accepted. The number stays at 2^64 - 1.
     accepted: u64,
 }
 
@@ -34,7 +54,9 @@ impl<'a> Port<'a> {
         listener: &'a TcpListener,
         stop: &'a AtomicBool,
         log: Option<&'a LogQueue>,
-    ) -> Port<'a> {
+    ) -> Port<'a>
+        ensures { result.accepted ≡ 0 }
+    {
         Port {
             listener,
             stop,
@@ -48,6 +70,9 @@ impl<'a> Port<'a> {
     pub(crate) fn accept<H>(&mut self, rt: &H) -> Option<Call>
     where
         H: Wait + AllocGlobal + Clock,
+        ensures one { OnSome result
+            (self.new.accepted ≡ min (self.old.accepted + 1) (2 ^ 64 - 1)) }
+        ensures none { IfNone result (self.new.accepted ≡ self.old.accepted) }
     {
         for _ in rt.forever() {
             let accepted = self.listener.accept();
@@ -59,10 +84,23 @@ impl<'a> Port<'a> {
                 Err(error) => self.pass_over(rt, &error),
             }
         }
-        None
+        unreachable!()
     }
 
-    fn numbered<H: Clock>(&mut self, rt: &H, stream: TcpStream, peer: SocketAddr) -> Call {
+    /// The end of the thread that answered what the port accepted.
+    pub(crate) fn ended(&self, is_requested: bool) -> OperatorEnd
+        ensures accepted { result.accepted ≡ self.now.accepted }
+        ensures requested { result.is_requested ≡ is_requested }
+    {
+        OperatorEnd {
+            accepted: self.accepted,
+            is_requested,
+        }
+    }
+
+    fn numbered<H: Clock>(&mut self, rt: &H, stream: TcpStream, peer: SocketAddr) -> Call
+        ensures { self.new.accepted ≡ min (self.old.accepted + 1) (2 ^ 64 - 1) }
+    {
         self.accepted = self.accepted.saturating_add(1);
         Call {
             number: self.accepted,

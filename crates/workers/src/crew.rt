@@ -11,12 +11,17 @@ use crate::gate::Gate;
 use crate::promise::OfWorker;
 use crate::worker::{Service, work};
 use cells::CellSteps;
+use core::thread::Stack;
 use crossbeam_channel::Receiver;
 use hot_swap::Watcher;
 use std::snapshot::Snapshot;
 use std::sync::Wait;
 use std::thread::{Promise, PromisedHandle, Scope, Threads};
 use std::time::Clock;
+
+/// How large the stack of a worker's thread is, whatever limit the process has. The deepest body
+/// takes less than 72 KiB of it, so that no body ends the server.
+const STACK_BYTES: usize = 2097152;
 
 /// Starts a thread for each worker, in their order. Returns B4 if a thread can't be started; the
 /// others end once the queue is closed.
@@ -76,7 +81,8 @@ where
         given: Snapshot::of(&worker),
     };
     let job = move || work(rt, gate, queue, cells, worker, service);
-    match scope.spawn_with(promise, job) {
+    let stack = Stack::new().stack_size(STACK_BYTES);
+    match stack.spawn_scoped_with(scope, promise, job) {
         Ok(thread) => Ok(thread),
         Err(_) => Err(ServeFault::Memory),
     }

@@ -9,11 +9,12 @@
 //!
 //! The answer to a connection is proved for `answer` here and for `answer` in `operator`. All
 //! threads return what they were given once the server ends. A worker gave its answers one after
-//! the other, under rulesets that never went back. Its pass, a ghost token, made only the events of
-//! their runs; the operator's pass made only Loads. A server prints that it serves once its threads
-//! exist. Nothing says which bytes a socket carried, and nothing is proved about clocks. Nor is
-//! anything proved about a server that gives up, since memory or a thread failed or its line
-//! couldn't be written.
+//! the other, at most one a connection, under rulesets that never went back. Its pass, a ghost
+//! token, made only the events of their runs. The operator's thread answered its lines one after
+//! the other, at most one a connection. Only these lines loaded rulesets, and its pass only read
+//! counters by them. A server prints that it serves once its threads exist. Nothing says
+//! which bytes a socket carried, and nothing is proved about clocks. Nor is anything proved about a
+//! server that gives up, since memory or a thread failed or its line couldn't be written.
 //!
 //! See docs/DECISIONS.md, "The server".
 #![tactic(auto)]
@@ -36,6 +37,7 @@ mod running;
 mod stopping;
 mod worker;
 
+pub use accept::OperatorEnd;
 pub use clients::{serve, serve_returning};
 pub use fault::ServeFault;
 pub use gate::{Gate, Open};

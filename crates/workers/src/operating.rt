@@ -1,11 +1,12 @@
 //! The operator's port: one connection after another, each with a time limit. It ends with the
-//! connection that requests a stop, or once its caller sets the flag.
+//! connection that requests a stop, or at the next one once the flag is set.
 
-ghost use Rattle.std.specs.Prelude.{◌≡◌};
-ghost use Rattle.operator.specs.Leading.{LoadsLead};
+ghost use Rattle.std.specs.Prelude.{◌≡◌, None, IfNone, IfSome};
+ghost use Rattle.cells.specs.Grown.{Grows};
+ghost use Rattle.operator.specs.Perform.{AnswersLine};
 ghost use Rattle.workers.specs.Back.{OperatorBack};
 
-use crate::accept::Port;
+use crate::accept::{OperatorEnd, Port};
 use crate::clock::Limits;
 use crate::worker::Service;
 use cells::{CellSteps, growth};
@@ -40,7 +41,8 @@ where
 /// line of a connection has to arrive within 5 seconds. Its reply has to be read within 5 more,
 /// since a load may last. If the time limit of `service` is shorter, it holds instead. A connection
 /// that fails, or can't be accepted, is skipped.
-// open: which bytes a socket carries, and that requests are answered one after another: tests.
+// open: which bytes a socket carries; that requests are answered one after another, and that the
+// flag was set if no stop was requested: tests.
 pub fn operate<'x, H, L, C>(
     rt: &H,
     listener: &'x TcpListener,
@@ -48,15 +50,15 @@ pub fn operate<'x, H, L, C>(
     control: &mut Control,
     stop: &'x AtomicBool,
     service: Service<'_>,
-)
+) -> OperatorEnd
 where
     H: Wait + AllocGlobal + Clock,
     L: Loader,
     C: CellSteps,
     C::Pass: Drop,
     requires { C.belongs seat.old.cells.now seat.old.pass }
-    ensures back { OperatorBack (C.belongs seat.old.cells.now) C.grew seat.old.pass seat.new.pass }
-    ensures led { LoadsLead (L.loads seat.old.loader.now) control.old control.new }
+    ensures { OperatorBack (C.belongs seat.old.cells.now) C.grew (L.loads seat.old.loader.now)
+        result (seat.old.pass, control.old) (seat.new.pass, control.new) }
 {
     growth::<C>();
     let limit = service.timeout.min(Duration::from_secs(OPERATOR_SECONDS));
@@ -64,62 +66,63 @@ where
         timeout: limit,
         log: service.log,
     };
+    let loader = seat.loader;
+    let cells = seat.cells;
     let mut port = Port::new(listener, stop, None);
     for _ in rt.forever() {
         let Some(call) = port.accept(rt) else {
-            return;
+            return port.ended(control.is_stopping());
         };
-        if attend(rt, &call.stream, seat, control, service) {
-            return;
+        let pass = &mut seat.pass;
+        let _reply = attend(rt, &call.stream, loader, control, cells, pass, service);
+        let is_stopping = control.is_stopping();
+        if is_stopping {
+            return port.ended(is_stopping);
         }
     }
+    unreachable!()
 }
 
-// Answers one connection, and returns whether it requested a stop.
+// Answers one connection, and returns the reply; `None` if no line could be read.
 fn attend<'x, H, L, C>(
     rt: &'x H,
     stream: &'x TcpStream,
-    seat: &mut OperatorSeat<'_, L, C>,
+    loader: &L,
     control: &mut Control,
+    cells: &C,
+    pass: &mut C::Pass,
     service: Service<'_>,
-) -> bool
+) -> Option<OperatorReply<L::Fault>>
 where
     H: Wait + AllocGlobal + Clock,
     L: Loader,
     C: CellSteps,
-    C::Pass: Drop,
-    requires { C.belongs seat.old.cells.now seat.old.pass }
-    ensures loader { seat.new.loader ≡ seat.old.loader }
-    ensures cells { seat.new.cells ≡ seat.old.cells }
-    ensures back { OperatorBack (C.belongs seat.old.cells.now) C.grew seat.old.pass seat.new.pass }
-    ensures led { LoadsLead (L.loads seat.old.loader.now) control.old control.new }
+    requires { C.belongs cells.now pass.old }
+    ensures belongs { C.belongs cells.now pass.new }
+    // The reply is that to a line,
+    ensures answers { IfSome result (λ reply. Grows C.grew pass.old pass.new (λ events.
+        AnswersLine (L.loads loader.now) None control.old events reply control.new)) }
+    // and without one nothing happens.
+    ensures unread { IfNone result ((control.new ≡ control.old) × (pass.new ≡ pass.old)) }
 {
     let Some(limits) = Limits::begin(rt, service.timeout) else {
-        return false;
+        return None;
     };
     let timed = Timed::new(stream, rt, limits.until());
     let mut reader = Counted::new(Heard::new(rt.alloc(), timed, service.log.is_some()));
-    let Some(reply) = answer(
-        rt,
-        rt.alloc(),
-        &mut reader,
-        seat.loader,
-        control,
-        seat.cells,
-        &mut seat.pass,
-    ) else {
-        return false;
+    let Some(reply) = answer(rt, rt.alloc(), &mut reader, loader, control, cells, pass) else {
+        return None;
     };
     let _sent = send(rt, stream, &reply, service.timeout);
     note_load(
         rt,
         service.log,
         reader.into_inner(),
-        seat.loader,
-        control.digest(),
+        loader,
+        control,
         &reply,
     );
-    matches!(reply, OperatorReply::Stopping)
+    Some(reply)
 }
 
 /// Sends a reply, and reads what the client sends after its line.

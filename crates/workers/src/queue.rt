@@ -1,6 +1,8 @@
 //! The queue between the accept loop and the worker threads. It has 64 places, and nothing is
 //! promised about which worker gets which connection.
 
+ghost use Rattle.std.specs.Prelude.{◌≡◌, ◌+◌, ◌-◌, ◌^◌, min, IfNone, OnSome};
+
 use crate::accept::{Call, Port};
 use crossbeam_channel::{Receiver, Sender};
 use server_log::{Log, LogQueue};
@@ -34,9 +36,41 @@ where
     }
 }
 
-/// The next connection, or `None` if the queue is closed. If none arrives for a moment the worker
-/// flushes its log before it waits, so that no line is left at the end.
-pub(crate) fn next<H>(rt: &H, queue: &Receiver<Call>, log: &mut Log<'_>) -> Option<Call>
+/// A worker's end of the queue, with the number of connections that it has taken. The number stays
+/// at 2^64 - 1.
+#[derive(Drop)]
+pub(crate) struct Calls {
+    queue: Receiver<Call>,
+    taken: u64,
+}
+
+impl Calls {
+    /// An end from which nothing is taken yet.
+    pub(crate) fn of(queue: Receiver<Call>) -> Calls
+        ensures { result.taken ≡ 0 }
+    {
+        Calls { queue, taken: 0 }
+    }
+
+    /// The next connection, or `None` if the queue is closed.
+    pub(crate) fn take<H>(&mut self, rt: &H, log: &mut Log<'_>) -> Option<Call>
+    where
+        H: Wait + AllocGlobal + Clock,
+        ensures one { OnSome result
+            (self.new.taken ≡ min (self.old.taken + 1) (2 ^ 64 - 1)) }
+        ensures none { IfNone result (self.new.taken ≡ self.old.taken) }
+    {
+        let Some(call) = next_of(rt, &self.queue, log) else {
+            return None;
+        };
+        self.taken = self.taken.saturating_add(1);
+        Some(call)
+    }
+}
+
+// The next connection of a queue. If none arrives for a moment the worker flushes its log before it
+// waits, so that no line is left at the end.
+fn next_of<H>(rt: &H, queue: &Receiver<Call>, log: &mut Log<'_>) -> Option<Call>
 where
     H: Wait + AllocGlobal + Clock,
 {

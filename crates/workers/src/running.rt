@@ -8,10 +8,10 @@
 ghost use Rattle.std.specs.Io.KnownBytes.{Appends};
 ghost use Rattle.std.specs.Prelude.{◌≡◌, ◌≤◌, All, IfOk, OnOk, length};
 ghost use Rattle.cells.specs.Directory.{IsDirectory};
-ghost use Rattle.operator.specs.Leading.{LoadsLead};
 ghost use Rattle.workers.specs.Back.{IsPublished, OperatorBack, ServerBack};
 ghost use Rattle.workers.specs.Texts.{serving_line};
 
+use crate::accept::OperatorEnd;
 use crate::beside::{Ends, start_serving};
 use crate::gate::Gate;
 use crate::operating::{OperatorSeat, operate};
@@ -32,7 +32,8 @@ use std::thread::{self, Threads};
 use std::time::Clock;
 
 // Answers the operator until a stop is requested, and then ends the clients' side. Until that has
-// ended it replies to each connection that the server stops. Returns the operator's pass.
+// ended it replies to each connection that the server stops. Returns the operator's pass, and how
+// its thread ended.
 fn operate_beside<H, L, C>(
     rt: &H,
     listener: &TcpListener,
@@ -41,7 +42,7 @@ fn operate_beside<H, L, C>(
     clients: PortEnd,
     ends: &Ends,
     service: Service<'_>,
-) -> C::Pass
+) -> (C::Pass, OperatorEnd)
 where
     H: Wait + AllocGlobal + Clock,
     H: Net<Stream = TcpStream>,
@@ -49,10 +50,10 @@ where
     C: CellSteps,
     C::Pass: Drop,
     requires { C.belongs seat.cells.now seat.pass }
-    ensures back { OperatorBack (C.belongs seat.entry.cells.now) C.grew seat.entry.pass result }
-    ensures led { LoadsLead (L.loads seat.entry.loader.now) control.old control.new }
+    ensures { OperatorBack (C.belongs seat.entry.cells.now) C.grew (L.loads seat.entry.loader.now)
+        result.1 (seat.entry.pass, control.old) (result.0, control.new) }
 {
-    operate(rt, listener, &mut seat, control, &ends.operator, service);
+    let end = operate(rt, listener, &mut seat, control, &ends.operator, service);
     clients.end(rt, &ends.clients);
     tell_stopping(rt, listener, &ends.operator);
     let OperatorSeat {
@@ -60,20 +61,27 @@ where
         cells: _cells,
         pass,
     } = seat;
-    pass
+    (pass, end)
 }
 
 // What is returned once all threads have ended.
-fn returned<P: Drop>(operator: P, workers: Vec<(P, Watcher)>, control: &Control) -> Returned<P>
-    ensures operator { result.operator ≡ operator }
+fn returned<P: Drop>(
+    operator: (P, OperatorEnd),
+    workers: Vec<(P, Watcher)>,
+    control: &Control,
+) -> Returned<P>
+    ensures operator { result.operator ≡ operator.0 }
+    ensures end { result.end ≡ operator.1 }
     ensures workers { result.workers ≡ workers }
     ensures known { result.published ≡ control.now.publishing.known }
     ensures published { IsPublished result.published result.generation }
     ensures directory { IsDirectory control.now.arrays }
 {
     control.keeps();
+    let (operator, end) = operator;
     Returned {
         operator,
+        end,
         workers,
         published: control.tell(),
         generation: control.generation(),
@@ -143,11 +151,11 @@ where
                 cells,
                 pass,
             };
-            let pass = operate_beside(rt, &operator, seat, control, clients, &ends, service);
+            let ended = operate_beside(rt, &operator, seat, control, clients, &ends, service);
             let Ok(workers) = serving.join(rt) else {
                 return Err(ResourceFault::Memory);
             };
-            let back = returned(pass, workers, control);
+            let back = returned(ended, workers, control);
             Ok((back, said))
         },
     )
@@ -158,10 +166,12 @@ where
 /// generation that is served is written to `out`, by one write of the whole line. If nothing fails,
 /// all passes and watchers are returned. Returns B4 if an allocation or a thread fails, before any
 /// client is answered and before anything is written; B3 if `out` can't be written.
-// open: which bytes a socket carries, and which moment a clock gives: nothing shows that. That
-// connections are answered in parallel, or the operator's one after another; their time limits, the
-// log; that all threads end after a stop, even if the server can't connect to its own port; and
-// that the line takes one write, of whose number std says nothing: tests.
+// open: when B4 and when B3 is returned: `bench/refused`, and a test. B4 would also be returned if
+// the clients' side failed after its start, which it doesn't: by reading. Which bytes a socket
+// carries, and which moment a clock gives: nothing shows that. That connections are answered in
+// parallel, or the operator's one after another; their time limits, the log; that all threads end
+// after a stop, even if the server can't connect to its own port; and that the line takes one
+// write, of whose number std says nothing: tests.
 pub fn run<H, G, L, C, O>(
     rt: &H,
     gate: &G,

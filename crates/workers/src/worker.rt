@@ -1,12 +1,12 @@
 //! A worker thread: it takes connections from the queue and answers them, one after another.
 
 ghost use Rattle.std.specs.Prelude.{◌≡◌};
-ghost use Rattle.workers.specs.Back.{ConnectionBack, WorkerBack};
+ghost use Rattle.workers.specs.Back.{ConnectionBack, ConnectionsBack, MomentBack, WorkerBack};
 
 use crate::accept::Call;
 use crate::clock::{Limits, begun, micros_between, unix_second};
 use crate::gate::Gate;
-use crate::queue::next;
+use crate::queue::Calls;
 use answering::{AnswerFault, AnswerRoom, Sent, Turn, answer_in};
 use cells::{CellSteps, growth};
 use crossbeam_channel::Receiver;
@@ -58,7 +58,6 @@ where
     requires { C.belongs cells.now worker.0 }
     ensures { WorkerBack (C.belongs cells.now) C.grew worker result }
 {
-    growth::<C>();
     let (pass, watcher) = worker;
     let mut seat = WorkerSeat {
         cells,
@@ -66,16 +65,8 @@ where
         watcher,
         room: AnswerRoom::new(rt.alloc()),
     };
-    let mut log = Log::new(rt.alloc(), service.log);
-    let mut seen = Seen::new(rt.alloc(), log.is_kept());
-    for _ in rt.forever() {
-        let Some(call) = next(rt, &queue, &mut log) else {
-            break;
-        };
-        gate.before(call.number);
-        let _attended = attend(rt, &call, &mut seat, service, &mut log, &mut seen);
-        gate.after(call.number);
-    }
+    let mut calls = Calls::of(queue);
+    attend_all(rt, gate, &mut calls, &mut seat, service);
     let WorkerSeat {
         cells: _cells,
         pass,
@@ -83,6 +74,38 @@ where
         room: _room,
     } = seat;
     (pass, watcher)
+}
+
+// Answers connections, one after another, until the queue is closed.
+fn attend_all<H, G, C>(
+    rt: &H,
+    gate: &G,
+    calls: &mut Calls,
+    seat: &mut WorkerSeat<'_, C>,
+    service: Service<'_>,
+)
+where
+    H: Wait + AllocGlobal + Clock,
+    G: Gate,
+    C: CellSteps,
+    C::Pass: Drop,
+    requires first { calls.old.taken ≡ 0 }
+    requires belongs { C.belongs seat.old.cells.now seat.old.pass }
+    // No connection that was taken has two answers.
+    ensures { ConnectionsBack (C.belongs seat.old.cells.now) C.grew calls.new.taken
+        (seat.old.pass, seat.old.watcher) (seat.new.pass, seat.new.watcher) }
+{
+    growth::<C>();
+    let mut log = Log::new(rt.alloc(), service.log);
+    let mut seen = Seen::new(rt.alloc(), log.is_kept());
+    for _ in rt.forever() {
+        let Some(call) = calls.take(rt, &mut log) else {
+            return;
+        };
+        gate.before(call.number);
+        let _attended = attend(rt, &call, seat, service, &mut log, &mut seen);
+        gate.after(call.number);
+    }
 }
 
 // Answers one connection.
@@ -132,7 +155,7 @@ where
     C::Pass: Drop,
     requires { C.belongs seat.old.cells.now seat.old.pass }
     ensures cells { seat.new.cells ≡ seat.old.cells }
-    ensures back { ConnectionBack (C.belongs seat.old.cells.now) C.grew
+    ensures back { MomentBack (C.belongs seat.old.cells.now) C.grew moment
         (seat.old.pass, seat.old.watcher) (seat.new.pass, seat.new.watcher) }
 {
     let Some(limits) = limits else {
@@ -141,7 +164,7 @@ where
     };
     let alloc = rt.alloc();
     let from = Timed::new(stream, rt, limits.until());
-    let into = Timed::new(stream, rt, limits.until());
+    let into = from.opposite();
     let mut reader = Counted::new(seen.heard(from));
     let mut writer = Counted::new(Heard::new(alloc, into, false));
     let turn = Turn {

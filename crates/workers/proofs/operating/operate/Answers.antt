@@ -1,35 +1,26 @@
-use Rattle.std.proofs.Common.{Bor, refl, ap, ◌∙◌}
-use Rattle.operator.specs.Leading.{stays}
-use Rattle.workers.proofs.Looked.{back_on, led_on, looked_at_nothing}
+use Rattle.std.proofs.Common.{◌∙◌}
+use Rattle.workers.proofs.Lines.{at_end, no_line, one_more}
 use Rattle.workers.proofs.operating.operate.Goals as goal
 
 pub loop-init : goal.loop-init
-loop-init g c = record {
-  loader = refl;
-  cells = refl;
-  back = record {
-    belongs_yet = c.requires;
-    looked = looked_at_nothing (g.C.CellSteps.grew) _;
-  };
-  led = stays;
-}
+loop-init g c = no_line _ (g.C.CellSteps.grew) _ _ _ _ c.requires
 
-pub returns-then-attend-clause-back : goal.returns-then-attend-clause-back
-returns-then-attend-clause-back g c = let inv = c.loop.invariant in
-    back_on (g.C.CellSteps.belongs) (g.C.CellSteps.grew) c.growth.ensures.append _ _
-    (ap (λ (b : Bor g.row.C.Denot). b.now) inv.cells) _ _ _ inv.back c.attend.ensures.back
+pub returns-in_default : goal.returns-in_default
+returns-in_default g c =
+    at_end _ (g.C.CellSteps.grew) _ c.ended.result _ _ _ _
+    (c.ended.ensures.accepted ∙ c.in_default.ensures.none)
+    (c.ended.ensures.requested ∙ c.is_stopping.ensures) c.loop.invariant
 
-pub returns-then-attend-clause-led : goal.returns-then-attend-clause-led
-returns-then-attend-clause-led g c = let inv = c.loop.invariant in
-    led_on (g.L.Loader.loads) _ _ (ap (λ (b : Bor g.row.L.Denot). b.now) inv.loader) _ _ _ inv.led
-    c.attend.ensures.led
+pub returns-then-is_stopping : goal.returns-then-is_stopping
+returns-then-is_stopping g c =
+    let did = c.attend-reply.ensures in
+    at_end _ (g.C.CellSteps.grew) _ c.ended-then-is_stopping.result _ _ _ _ c.ended-then-is_stopping.ensures.accepted
+    (c.ended-then-is_stopping.ensures.requested ∙ c.is_stopping-is_stopping.ensures)
+    (one_more _ (g.C.CellSteps.grew) _ c.growth.ensures.append _ _ c.in-Some-accept.ensures.one
+    _ _ _ _ _ _ c.loop.invariant did.belongs c.attend-reply.result did.answers did.unread)
 
 pub loop-preserved : goal.loop-preserved
-loop-preserved g c = let inv = c.loop.invariant in record {
-  loader = c.attend.ensures.loader ∙ inv.loader;
-  cells = c.attend.ensures.cells ∙ inv.cells;
-  back = back_on (g.C.CellSteps.belongs) (g.C.CellSteps.grew) c.growth.ensures.append _ _
-      (ap (λ (b : Bor g.row.C.Denot). b.now) inv.cells) _ _ _ inv.back c.attend.ensures.back;
-  led = led_on (g.L.Loader.loads) _ _ (ap (λ (b : Bor g.row.L.Denot). b.now) inv.loader) _ _ _
-      inv.led c.attend.ensures.led;
-}
+loop-preserved g c =
+    let did = c.attend-reply.ensures in
+    one_more _ (g.C.CellSteps.grew) _ c.growth.ensures.append _ _ c.in-Some-accept.ensures.one _ _ _ _ _ _
+    c.loop.invariant did.belongs c.attend-reply.result did.answers did.unread

@@ -1,14 +1,11 @@
-use Rattle.std.specs.Prelude.{◌≡◌}
-use Rattle.operator.specs.Leading.{LoadsLead}
 use Rattle.workers.specs.Back.{OperatorBack}
+use Rattle.workers.proofs.Lines.{end_now}
 use Rattle.workers.proofs.operating.operate.Given as goal
 
--- the operator's pass has only read counters, and only loads have led to what is installed
+-- the lines so far have led here, at most one a connection, and the operator's pass did only what
+-- they read
 abbrev pub invariant-loop : goal.invariant-loop
-invariant-loop g l = record {
-  loader : l.seat.loader ≡ l.initial.seat.loader;
-  cells : l.seat.cells ≡ l.initial.seat.cells;
-  back : OperatorBack (g.C.CellSteps.belongs l.initial.seat.cells.now) (g.C.CellSteps.grew)
-      l.initial.seat.pass l.seat.pass;
-  led : LoadsLead (g.L.Loader.loads l.initial.seat.loader.now) l.initial.control l.control;
-}
+invariant-loop g l =
+    OperatorBack (g.C.CellSteps.belongs l.initial.seat.cells.now) (g.C.CellSteps.grew)
+    (g.L.Loader.loads l.initial.seat.loader.now) (end_now l.port.accepted l.control)
+    (l.initial.seat.pass, l.initial.control) (l.seat.pass, l.control)

@@ -22,7 +22,9 @@ close_cells-closed-requires-clause-operator g c = c.in-Ok.ensures.back.operator.
 pub close_cells-closed-requires-clause-workers : goal.close_cells-closed-requires-clause-workers
 close_cells-closed-requires-clause-workers g c =
     let back = c.in-Ok.ensures.back in
-    let onwards = c.loads_go_on.ensures.onwards c.args.self.control back.end back.led in
+    let operator = back.operator in
+    let onwards = c.loads_go_on.ensures.onwards c.args.self.control back.last operator.lines
+    operator.reads operator.led in
     are_of_server c.answers_are_runs.ensures.onwards c.args.self.cells
     c.args.self.control.publishing.known c.in-Ok.back.published.publisher
     c.args.self.workers.items c.in-Ok.back.workers.items
@@ -47,15 +49,19 @@ returns-then-is_known-clause-world g c =
     let server = c.args.self in
     let known = server.control.publishing.known in
     let back = c.in-Ok.ensures.back in
+    let operator = back.operator in
     let published = back.published in
-    let onwards = c.loads_go_on.ensures.onwards server.control back.end back.led in
+    let laws = c.loads_go_on.ensures in
+    let onwards =
+    laws.onwards server.control back.last operator.lines operator.reads operator.led in
     let answers = c.answers_are_runs.ensures in
     let done = c.close_cells-closed.ensures in
-    let looked = has_looked c.passes_gain_lists.ensures server.cells server.pass
-    c.in-Ok.back.operator server.staff.own back.operator in
-    leaves _ c.loads_go_on.ensures.only c.threads_grant_quotas.ensures server.cells server.control
-    back.end c.in-Ok.back.published c.close_cells-closed.result.0 done.own back.led back.directory
-    server.only back.published_are published.sound
+    let looked = has_looked c.passes_gain_lists.ensures server.cells.table server.pass
+    operator.reads c.in-Ok.back.operator server.staff.own operator.grown
+    (laws.reads server.control back.last operator.lines operator.reads operator.led) in
+    leaves _ laws.only c.threads_grant_quotas.ensures server.cells server.control back.last
+    operator.lines operator.reads c.in-Ok.back.published c.close_cells-closed.result.0 done.own
+    operator.led back.directory server.only back.published_are published.sound
     (did_in_turn (record {
       gain = c.passes_gain_lists.ensures;
       onwards = answers.onwards;

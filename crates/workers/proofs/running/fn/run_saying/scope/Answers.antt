@@ -2,7 +2,8 @@ use Rattle.std.proofs.Common.{ℕ, sym, ap, subst}
 use Rattle.std.specs.Prelude.{Vec}
 use Rattle.std.specs.declared.alloc.Global.{Global}
 use Rattle.hot_swap.specs.Published.{Beginning}
-use Rattle.workers.specs.Back.{OperatorBack, WorkersBack}
+use Rattle.workers.specs.Back.{WorkersBack}
+use Rattle.workers.proofs.Lines.{returned_by}
 use Rattle.workers.proofs.Served.{are_back}
 use Rattle.workers.proofs.running.fn.run_saying.scope.Goals as goal
 
@@ -13,19 +14,19 @@ returns g c =
     let grew = g.C.CellSteps.grew in
     let cells = c.captures.cells.now in
     let old = c.captures.workers.items in
+    let back = c.returned-back.ensures in
     record {
       back = record {
-        operator = subst (λ (pass : P). OperatorBack (belongs cells) grew c.captures.pass pass)
-            (sym c.returned-back.ensures.operator) c.operate_beside-pass.ensures.back;
+        last = c.operate_beside-ended.new.control;
+        operator = returned_by _ grew (belongs cells) _ _ _ _ _ _ back.operator back.end
+            c.operate_beside-ended.ensures;
         workers = subst (WorkersBack (belongs cells) grew old)
-            (sym (ap (λ (v : Vec (P × Beginning) Global). v.items) c.returned-back.ensures.workers))
+            (sym (ap (λ (v : Vec (P × Beginning) Global). v.items) back.workers))
             (are_back belongs grew cells c.captures.workers c.in-Ok.serving.promise
             c.in-Ok-join.workers.items c.in-Ok.ensures c.in-Ok-join.ensures);
-        end = c.operate_beside-pass.new.control;
-        led = c.operate_beside-pass.ensures.led;
-        directory = c.returned-back.ensures.directory;
-        published_are = c.returned-back.ensures.known;
-        published = c.returned-back.ensures.published;
+        directory = back.directory;
+        published_are = back.known;
+        published = back.published;
       };
       said = subst (λ (n : ℕ). g.S.Ready.says c.captures.ready n c.in-Ok-say.said)
           c.generation.ensures c.in-Ok-say.ensures;
