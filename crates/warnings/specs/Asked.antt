@@ -146,11 +146,12 @@ asked_from app number r spots (release ∷ later) =
 
 -- ---- the budget of evaluation
 
+-- a `count` is one step, and a `when` has those of its condition
 abbrev pub step_count : Statement → ℕ
-step_count (Count name index) = 0
+step_count (Count name index) = 1
 step_count (When steps release) = length steps
 
--- a rule costs one unit for each step of its conditions, at each spot and for each release
+-- a rule costs one unit for each step of its statements, at each spot and for each release
 abbrev pub room_taken : (versions : ℕ) → List Statement → ℕ
 room_taken versions rule = versions * sum_by step_count rule
 

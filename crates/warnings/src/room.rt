@@ -5,11 +5,12 @@ ghost use Rattle.warnings.specs.Asked as specs;
 
 use rule_lang::Statement;
 
+// How many steps a statement has. A `count` is one, since it is walked through like any other.
 fn step_count(statement: &Statement) -> u64
     ensures { result ≡ specs.step_count statement.now }
 {
     match statement {
-        Statement::Count { .. } => 0,
+        Statement::Count { .. } => 1,
         Statement::When { condition, .. } => condition.steps().len() as u64,
     }
 }

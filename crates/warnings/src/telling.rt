@@ -72,10 +72,10 @@ fn tell_asked(
 /// - a release if a client at its version may, in some bucket, be offered that version again or a
 ///   lower one: if the client sends only its version and bucket, and each counter replies 0.
 ///
-/// A rule costs one unit of the budget for each step of its conditions and each evaluation. It is
-/// evaluated at the lowest version, at each version that it names, just above each, and for each
-/// release. A rule that would exceed the budget isn't evaluated and costs nothing, and the warning
-/// says so. Its tests are still read.
+/// A rule costs one unit of the budget for each `count`, each step of its conditions, and each
+/// evaluation. It is evaluated at the lowest version, at each version that it names, just above
+/// each, and for each release. A rule that would exceed the budget isn't evaluated and costs
+/// nothing, and the warning says so. Its tests are still read.
 // open: whether an allocation fails; that a rule with such a `when` or release has its warning: one
 // may be missing.
 pub fn tell_rule(
