@@ -1,2 +1,3 @@
 mod Walk
 mod OneRun
+mod Sharing

@@ -1,14 +1,15 @@
 //! The events that the lines of a script request, in order: that of a swap line has the ruleset of
 //! its manifest.
 
-ghost use Rattle.std.specs.Prelude.{◌≡◌, IfOk, IfErr};
+ghost use Rattle.std.specs.Prelude.{◌≡◌, IfOk, IfErr, OnOk};
 ghost use Rattle.std.specs.Arc.{arc_value};
 ghost use Rattle.attrs.specs.Attributes.{plain};
 ghost use Rattle.replay.specs.Asked.{AreEventsOf, IsEventOf, RefusesLine, RefusesLines};
+ghost use Rattle.replay.specs.Loaded.{AreShared};
 
 use crate::fault::ReplayFault;
 use crate::line::EventLine;
-use crate::loaded::load_rules;
+use crate::shared::SharedLoads;
 use attrs::{Attrs, Bucket, Text};
 use bounded_files::ResourceFault;
 use cells::Directory;
@@ -29,8 +30,9 @@ pub(crate) fn events_of<D: Disk>(
     ensures fault { IfErr result (RefusesLines (D.known disk.now) lines.now directory.old) }
 {
     let mut events = Vec::new(alloc);
+    let mut shared = SharedLoads::new(alloc);
     for line in lines {
-        let event = event_of(alloc, disk, line, directory)?;
+        let event = event_of(alloc, disk, line, &mut shared, directory)?;
         let Ok(()) = events.push(event) else {
             return Err(ReplayFault::Resource(ResourceFault::Memory));
         };
@@ -44,11 +46,15 @@ fn event_of<D: Disk>(
     alloc: Global,
     disk: &D,
     line: &EventLine,
+    shared: &mut SharedLoads,
     directory: &mut Directory,
 ) -> Result<Event, ReplayFault>
+    requires { AreShared (D.known disk.now) directory.old shared.old.loads.items }
     ensures event { IfOk result (λ event.
         IsEventOf (D.known disk.now) line.now directory.old event directory.new) }
     ensures fault { IfErr result (RefusesLine (D.known disk.now) line.now directory.old) }
+    ensures shared { OnOk result
+        (AreShared (D.known disk.now) directory.new shared.new.loads.items) }
 {
     match line {
         EventLine::Start {
@@ -70,7 +76,7 @@ fn event_of<D: Disk>(
             worker: *worker as usize,
         }),
         EventLine::Swap { manifest } => {
-            let rules = load_rules(alloc, disk, manifest.as_str(), directory)?;
+            let rules = shared.rules_of(alloc, disk, manifest.as_str(), directory)?;
             Ok(Event::Swap { rules })
         }
     }

@@ -22,6 +22,8 @@
 // How a script is played from its files. All lines of the script are read first. Then the manifests
 // are loaded: the first one, whose ruleset has number 1, and then those of the swap lines, in
 // order. All are loaded into one directory, so arrays with the same name have the same counters.
+// Lines that name one manifest share its ruleset, unless an array was declared between them
+// (`shared.rt`).
 // The first refused script or manifest ends the replay, and nothing is played. So each line has its
 // event before any of them is played.
 //
@@ -42,6 +44,7 @@ mod loaded;
 mod number;
 mod played;
 mod reply;
+mod shared;
 
 pub use fault::{ReplayFault, ScriptFault};
 pub use files::replay_files;

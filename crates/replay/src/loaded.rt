@@ -1,6 +1,7 @@
 //! A manifest by its path.
 
-ghost use Rattle.std.specs.Prelude.{IfOk, IfErr};
+ghost use Rattle.std.specs.Prelude.{IfOk, IfErr, OnOk};
+ghost use mathlib.Core.List.{IsPrefix};
 ghost use Rattle.std.specs.Arc.{arc_value};
 ghost use Rattle.load.specs.Loaded.{IsLoadedFrom};
 ghost use Rattle.replay.specs.Loaded.{GivesNoRuleset};
@@ -23,6 +24,7 @@ pub(crate) fn load_rules<D: Disk>(
     ensures rules { IfOk result (λ rules.
         IsLoadedFrom (D.known disk.now) path.now directory.old (arc_value rules) directory.new) }
     ensures fault { IfErr result (GivesNoRuleset (D.known disk.now) path.now directory.old) }
+    ensures grown { OnOk result (IsPrefix directory.old directory.new) }
 {
     let (rules, grown) = match load_path(alloc, disk, path, directory) {
         Ok(loaded) => loaded,
