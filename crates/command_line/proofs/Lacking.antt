@@ -4,9 +4,8 @@ use Rattle.std.specs.Borrow.{Bor}
 use Rattle.std.specs.Option.{option_copied}
 use Rattle.std.specs.Prelude.{IsSomeAnd, OnErr, Result, Ok, Err}
 use Rattle.clap.specs.Words.{Row, Text}
-use Rattle.command_line.specs.AppOptions.{HasApp, HasAppBucket, IsBucketBeside, LacksApp}
-use Rattle.command_line.specs.AppOptions.{LacksAppBucket}
-use Rattle.command_line.specs.Runs.{HasPlaced, LacksPlaced}
+use Rattle.command_line.specs.AppOptions.{HasApp, HasAppBucket, IsBucketBeside, LacksAppBucket}
+use Rattle.command_line.specs.Runs.{LacksPlaced}
 use Rattle.command_line.specs.Values.{HasBucket, LacksBucket}
 use Rattle.command_line.specs.declared.app_args.AppArgs.{AppArgs}
 

@@ -1,5 +1,5 @@
 -- What the words of a command line are by a grammar, and why they make no command.
-use Rattle.std.specs.Prelude.{◌≡◌, ◌≢◌, List}
+use Rattle.std.specs.Prelude.{◌≡◌, ◌≢◌, List, []}
 use Rattle.clap.specs.declared.error.Error.{Error}
 use Rattle.clap.specs.declared.error.kind.ErrorKind.{ErrorKind}
 use Rattle.clap.specs.declared.error.kind.ErrorKind.TheVariants.{DisplayHelp, OutOfMemory}
@@ -7,7 +7,11 @@ use Rattle.clap.specs.Kinds.{IsAmong}
 use Rattle.clap.specs.Values.{kind_of}
 use Rattle.clap.specs.Words.{App, Text, fault_of}
 use Rattle.command_line.specs.declared.fault.WordsFault.{WordsFault}
-use Rattle.command_line.specs.declared.fault.WordsFault.TheVariants.{Help, Usage, Nothing, Memory}
+use Rattle.command_line.specs.declared.fault.WordsFault.TheVariants.{Argument, Help, Memory, Usage}
+
+-- clap finds no fault in the words, and no request for help
+abbrev pub FitGrammar : App → List Text → Type 0
+FitGrammar app words = fault_of app words ≡ []
 
 -- clap finds that they request help
 pub record AskForHelp (app : App) (words : List Text) : Type 0 where
@@ -30,7 +34,7 @@ pub record IsFaultOf (app : App) (words : List Text) (error : Error) : Type 0 wh
 abbrev pub IsWordsFault : App → (MakeNone : Type 0) → List Text → WordsFault → Type 0
 IsWordsFault app MakeNone words (Help page) = AskForHelp app words × (kind_of page ≡ DisplayHelp)
 IsWordsFault app MakeNone words (Usage error) = IsFaultOf app words error
-IsWordsFault app MakeNone words (Nothing fault) = MakeNone
+IsWordsFault app MakeNone words (Argument fault) = MakeNone
 IsWordsFault app MakeNone words Memory = Unit {0}
 
 -- ---- by its variant
@@ -43,5 +47,5 @@ IsHelp fault = ⊥
 -- a fault of the words
 abbrev pub IsWrong : WordsFault → Type 0
 IsWrong (Usage error) = Unit {0}
-IsWrong (Nothing fault) = Unit {0}
+IsWrong (Argument fault) = Unit {0}
 IsWrong fault = ⊥

@@ -6,4 +6,5 @@ pub mod Apps
 pub mod AppOptions
 pub mod Runs
 pub mod Faults
+pub mod Requests
 pub mod Printed

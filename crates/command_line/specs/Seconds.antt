@@ -1,28 +1,20 @@
 -- The moment that the options name, as a Unix second.
 use Rattle.std.specs.Prelude.{ℕ, ◌+◌, ◌*◌, ℤ, pos, List, Option, Some, None}
 use Rattle.std.specs.Prelude.{option_map, codes}
-use Rattle.std.specs.Int.{int_div_euclid}
 use Rattle.std.specs.Option.{option_or}
-use Rattle.std.specs.Result.{result_ok}
 use Rattle.attrs.specs.Moment.{first_second, last_second}
 use Rattle.clap.specs.Words.{Row, Text, first_of}
-use Rattle.jiff_fmt.specs.Temporal.{parse_timestamp}
 use Rattle.lexing.specs.Decimal.{decimal_within}
+use Rattle.moments.specs.Rfc3339.{second_of_time}
 use Rattle.command_line.specs.Day.{day_in}
 
 -- ---- texts
-
--- the second of a time in the form of RFC 3339
-abbrev pub second_of_time : Text → Option ℤ
-second_of_time text =
-    option_map (λ nanosecond. int_div_euclid nanosecond (pos 1000000000))
-    (result_ok (parse_timestamp text))
 
 -- a second as a decimal number, up to the last of the year 9999
 abbrev pub second_of_digits : Text → Option ℤ
 second_of_digits text = option_map (λ second. pos second) (decimal_within 0 last_second text)
 
--- the second that a text names
+-- the second that a text names: a number, or a time by RFC 3339
 abbrev pub second_in : Text → Option ℤ
 second_in text = option_or (second_of_digits text) (second_of_time text)
 

@@ -9,7 +9,7 @@ ghost use Rattle.clap.specs.Words.{first_of, found_of, rows_of};
 ghost use Rattle.command_line.specs.AppOptions as specs;
 ghost use Rattle.command_line.specs.Day.{day_in};
 ghost use Rattle.command_line.specs.Seconds.{moment_in};
-ghost use Rattle.command_line.specs.Values.{HasFlag, OnWrong};
+ghost use Rattle.command_line.specs.Values.{HasFlag};
 
 use crate::app_args::AppArgs;
 use crate::argument_fault::{ArgsError, ArgumentFault};
@@ -170,7 +170,7 @@ pub fn read_bucket(
 ) -> Result<Option<Bucket>, ArgsError>
     ensures given { IfOk result
         (specs.HasAppBucket (rows_of (found_of found.now)) (option_copied cohort.entry)) }
-    ensures lacking { OnWrong result
+    ensures lacking { OnErr result
         (specs.LacksAppBucket (rows_of (found_of found.now)) (option_copied cohort.entry)) }
 {
     bucket_beside(found, bucket_named(cohort), optional_text(found, "bucket"))
@@ -183,7 +183,7 @@ fn bucket_beside(
 ) -> Result<Option<Bucket>, ArgsError>
     ensures given { IfOk result
         (specs.IsBucketBeside (rows_of (found_of found.now)) named (option_copied text.entry)) }
-    ensures lacking { OnWrong result
+    ensures lacking { OnErr result
         (specs.LacksBucketBeside (rows_of (found_of found.now)) named (option_copied text.entry)) }
 {
     match (named, text) {

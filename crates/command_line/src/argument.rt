@@ -10,7 +10,6 @@ use std::alloc::Global;
 
 /// A positional argument or an option. The fields are its name; the name of its value, if an option
 /// takes one; a number's limits, and its default; and its text in `--help`.
-#[derive(Clone, Copy)]
 pub enum CommandArgument {
     /// A required positional argument.
     Word(&'static str, &'static str),

@@ -1,11 +1,10 @@
 //! Why words that fit the grammar make no command: which argument is wrong.
 
-use std::error::Error;
 use std::fmt;
 
 /// An argument for which words that fit the grammar make no command. `Display` writes the line
 /// without `error: `.
-#[derive(Clone, Copy, Debug)]
+#[derive(Clone, Copy)]
 pub enum ArgumentFault {
     Arrays,
     Today,
@@ -16,7 +15,7 @@ pub enum ArgumentFault {
     Attributes,
     /// The attributes name a client, and a simulation is for all of them.
     OneClient,
-    /// The picture would be written over a manifest.
+    /// The picture would overwrite a manifest.
     Overwritten,
     /// `--fail-on-lost` is given without `--against`.
     Against,
@@ -43,7 +42,7 @@ impl ArgumentFault {
             ArgumentFault::At => {
                 "'--at' wants a time by RFC 3339, as 2026-12-01T03:00:00Z, or a Unix second"
             }
-            ArgumentFault::AtAndToday => "'--at' and '--today' can't stand beside each other",
+            ArgumentFault::AtAndToday => "'--at' and '--today' can't be given together",
             ArgumentFault::Installed => {
                 "'--installed' wants a day from 0 to 4294967294, or a date from 2007-01-01 on"
             }
@@ -51,12 +50,11 @@ impl ArgumentFault {
                 "'--attr' wants NAME=TEXT: appid, brand, ap, lang, cohort or platform, each once"
             }
             ArgumentFault::OneClient => {
-                "'--attr' of a simulation is no appid and no cohort: each app is asked in each \
-                 bucket"
+                "'--attr' of a simulation takes no appid and no cohort: each app is simulated in \
+                 each bucket"
             }
             ArgumentFault::Overwritten => {
-                "'--svg' names a manifest of the simulation, which the picture would be written \
-                 over"
+                "'--svg' names a manifest of the simulation, which the picture would overwrite"
             }
             ArgumentFault::Against => "'--fail-on-lost' wants '--against'",
             ArgumentFault::Allow => {
@@ -70,7 +68,7 @@ impl ArgumentFault {
             }
             ArgumentFault::Cells => "'--cells' wants NAME[INDEX]=VALUE, as early[0]=283",
             ArgumentFault::Bucket => {
-                "'--bucket' can't stand beside a cohort that names a bucket"
+                "'--bucket' can't be given with a cohort that names a bucket"
             }
             ArgumentFault::Trace => "'--trace' is a command of its own now: rollout trace IN ..",
             ArgumentFault::Missing => {
@@ -85,8 +83,6 @@ impl fmt::Display for ArgumentFault {
         f.write_str(self.text())
     }
 }
-
-impl Error for ArgumentFault {}
 
 /// Why arguments give no value.
 #[derive(Clone, Copy)]

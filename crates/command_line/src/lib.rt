@@ -41,9 +41,7 @@ pub use shared_arguments::{
     ARRAYS, AT, ATTR, BUCKET, BYTES, EVENT, INSTALLED, MANIFEST, OPERATOR, PING, PORTS, PROGRAM,
     RELEASES, TODAY, VERSION,
 };
-pub use status::{
-    print_lines, print_output, print_refusal, refused, status_of, unreadable_words, usage,
-};
+pub use status::{print_lines, print_output, print_refusal, refused, unreadable_words, usage};
 pub use values::{
     flag_of, is_text, number_of, optional_number, optional_text, shape_of, text_of, texts_of,
 };

@@ -1,11 +1,11 @@
 //! What the words of a command line give to the arguments of its command, by a table of commands.
 
-ghost use Rattle.std.specs.Prelude.{◌≡◌, ◌↔◌, List, map, IfOk, IfErr, IsTrue, true};
+ghost use Rattle.std.specs.Prelude.{◌≡◌, ◌↔◌, List, map, IfOk, IfErr, IsTrue, OnOk, true};
 ghost use Rattle.clap.specs.Kinds.{HasKind};
 ghost use Rattle.clap.specs.Values.{kind_of};
 ghost use Rattle.clap.specs.Words.{App, Text, fault_of, is_simple_and_free, subcommand_of};
 ghost use Rattle.clap.specs.Words.{subcommand_rows_of};
-ghost use Rattle.command_line.specs.Faults.{IsWordsFault};
+ghost use Rattle.command_line.specs.Faults.{FitGrammar, IsWordsFault};
 ghost use Rattle.command_line.specs.Grammar.{app_of_rows};
 
 use crate::fault::WordsFault;
@@ -18,7 +18,7 @@ use std::alloc::{AllocError, Global};
 use std::convert::AsStr;
 
 /// What clap finds in the words, the first of which is the program's name. An error quotes the
-/// words as they are printed, escaped. It is never `Nothing`.
+/// words as they are printed, escaped. It is never `Argument`.
 // open: whether an allocation fails; the texts of errors and of help.
 pub fn read_matches<'a, V, S: AsStr>(
     alloc: Global,
@@ -28,6 +28,7 @@ pub fn read_matches<'a, V, S: AsStr>(
     requires { is_simple_and_free (app_of_rows rows.now) ≡ true }
     ensures rows { IfOk result (λ m.
         subcommand_rows_of m ≡ subcommand_of (app_of_rows rows.now) (map S.text words.now)) }
+    ensures fits { OnOk result (FitGrammar (app_of_rows rows.now) (map S.text words.now)) }
     ensures fault { IfErr result (IsWordsFault (app_of_rows rows.now) ⊥ (map S.text words.now)) }
 {
     let Ok(grammar) = grammar_of(alloc, rows) else {

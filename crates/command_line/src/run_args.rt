@@ -1,6 +1,6 @@
 //! A run of a file's program for one app, as the arguments of `run` and of `trace` describe it.
 
-ghost use Rattle.std.specs.Prelude.{IfOk};
+ghost use Rattle.std.specs.Prelude.{IfOk, OnErr};
 ghost use Rattle.clap.specs.Words.{found_of, rows_of};
 ghost use Rattle.command_line.specs.Runs as specs;
 ghost use Rattle.command_line.specs.Values.{OnWrong};
@@ -45,7 +45,7 @@ pub fn read_run<'a>(alloc: Global, found: &ArgMatches<'a>) -> Result<RunArgs<'a>
 fn read_placed<'a>(found: &ArgMatches<'a>) -> Result<(AppArgs<'a>, Option<Bucket>), ArgsError>
     ensures given { IfOk result (λ placed.
         specs.HasPlaced (rows_of (found_of found.now)) placed.0 placed.1) }
-    ensures lacking { OnWrong result (specs.LacksPlaced (rows_of (found_of found.now))) }
+    ensures lacking { OnErr result (specs.LacksPlaced (rows_of (found_of found.now))) }
 {
     let app = read_app(found)?;
     let bucket = read_bucket(found, app.cohort)?;

@@ -10,15 +10,15 @@ use crate::day::day_in;
 use crate::values::optional_text;
 use attrs::{Elapsed, Moment};
 use clap::ArgMatches;
-use jiff_fmt::temporal::parse_timestamp;
 use lexing::decimal_within;
+use moments::second_of_time;
 
 /// The last second of the year 9999.
 const LAST_SECOND: u64 = 253402300799;
 
 // ---- texts
 
-// The second that a text names: a decimal number, or a time in the form of RFC 3339, such as
+// The second that a text names: a decimal number, or a time by RFC 3339, such as
 // `2026-12-01T03:00:00Z`.
 fn second_in(text: &str) -> Option<Moment>
     ensures { result ≡ specs.second_in text.now }
@@ -26,15 +26,6 @@ fn second_in(text: &str) -> Option<Moment>
     match decimal_within(text, 0, LAST_SECOND) {
         Some(second) => Some(second as i64),
         None => second_of_time(text),
-    }
-}
-
-fn second_of_time(text: &str) -> Option<Moment>
-    ensures { result ≡ specs.second_of_time text.now }
-{
-    match parse_timestamp(text.as_bytes()) {
-        Ok(time) => Some(time.floor_second()),
-        Err(_) => None,
     }
 }
 

@@ -17,7 +17,7 @@ pub const PROGRAM: CommandArgument = CommandArgument::Word(
 /// The output file for a program's bytes.
 pub const BYTES: CommandArgument = CommandArgument::Word(
     "OUT",
-    "File that gets the program's bytes",
+    "Output file for the program's bytes",
 );
 
 /// The number of the app's releases.
@@ -83,7 +83,7 @@ pub const TODAY: CommandArgument = CommandArgument::Text(
 pub const AT: CommandArgument = CommandArgument::Text(
     "at",
     "TIME",
-    "Moment in place of --today, as 2026-12-01T03:00:00Z, or a Unix second",
+    "Moment instead of --today, as 2026-12-01T03:00:00Z, or a Unix second",
 );
 
 /// The day of its installation.

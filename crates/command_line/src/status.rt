@@ -26,7 +26,7 @@ pub fn unreadable_words<E: Write>(error: &io::Error, err: &mut E) -> u8
 {
     match error.kind() {
         ErrorKind::OutOfMemory => refused(err, &ResourceFault::Memory),
-        _ => status_of(writeln!(err, "error: a word isn't UTF-8").is_ok(), USAGE),
+        _ => usage_status(writeln!(err, "error: a word isn't UTF-8").is_ok()),
     }
 }
 
@@ -43,7 +43,7 @@ pub fn usage<O: Write, E: Write>(fault: &WordsFault, out: &mut O, err: &mut E) -
     match fault {
         WordsFault::Help(_) => printed(err, write!(out, "{fault}").is_ok()),
         WordsFault::Memory => refused(err, &ResourceFault::Memory),
-        _ => status_of(write!(err, "{fault}").is_ok(), USAGE),
+        _ => usage_status(write!(err, "{fault}").is_ok()),
     }
 }
 
@@ -76,7 +76,8 @@ fn printed<E: Write>(err: &mut E, written: bool) -> u8
 pub fn refused<F: Display, E: Write>(err: &mut E, fault: &F) -> u8
     ensures { result ≡ 1 }
 {
-    status_of(print_refusal(err, fault).is_ok(), REFUSED)
+    let _printed = print_refusal(err, fault);
+    REFUSED
 }
 
 /// Prints the line of a refusal.
@@ -95,10 +96,9 @@ pub fn print_lines<W: Write>(to: &mut W, lines: &str) -> io::Result<()>
     to.flush()
 }
 
-/// The status, or 1 if the write failed.
-pub fn status_of(written: bool, status: u8) -> u8
-    requires { status ≤ 2 }
-    ensures { result ≡ (if written then status else 1) }
+// The status of wrong words, whose fault was printed or couldn't be.
+fn usage_status(written: bool) -> u8
+    ensures { result ≡ (if written then 2 else 1) }
 {
-    if written { status } else { REFUSED }
+    if written { USAGE } else { REFUSED }
 }

@@ -1,7 +1,7 @@
 //! The values of arguments and options.
 
 ghost use Rattle.std.specs.Prelude.{◌≡◌, ◌↔◌, IfNone, IfOk, IfSome};
-ghost use Rattle.std.specs.Prelude.{IsTrue, map, option_copied};
+ghost use Rattle.std.specs.Prelude.{IsTrue, OnErr, map, option_copied};
 ghost use Rattle.clap.specs.Words.{first_of, found_of, rows_of};
 ghost use Rattle.command_line.specs.Values.{HasArrays, HasBucket, HasFlag, HasReleases};
 ghost use Rattle.command_line.specs.Values.{HasShape, HasShort, HasText, LacksArrays, LacksBucket};
@@ -20,7 +20,7 @@ use std::alloc::{AllocError, Global};
 /// The 16-bit number of a required option.
 pub fn number_of(found: &ArgMatches<'_>, id: &str) -> Result<u16, ArgsError>
     ensures given { IfOk result (HasShort id.now (rows_of (found_of found.now))) }
-    ensures lacking { OnWrong result (LacksShort id.now (rows_of (found_of found.now))) }
+    ensures lacking { OnErr result (LacksShort id.now (rows_of (found_of found.now))) }
 {
     match optional_number(found, id) {
         Some(number) => Ok(number),
@@ -42,7 +42,7 @@ pub fn optional_number(found: &ArgMatches<'_>, id: &str) -> Option<u16>
 /// The text of an argument.
 pub fn text_of<'a>(found: &ArgMatches<'a>, id: &str) -> Result<&'a str, ArgsError>
     ensures given { IfOk result (λ t. HasText id.now (rows_of (found_of found.now)) t.now) }
-    ensures lacking { OnWrong result (LacksText id.now (rows_of (found_of found.now))) }
+    ensures lacking { OnErr result (LacksText id.now (rows_of (found_of found.now))) }
 {
     match found.get_str(id) {
         Some(text) => Ok(text),
@@ -129,7 +129,7 @@ fn arrays_of(alloc: Global, found: &ArgMatches<'_>) -> Result<Vec<ArrayDeclarati
 /// The bucket of an option.
 pub fn bucket_of(found: &ArgMatches<'_>) -> Result<Bucket, ArgsError>
     ensures given { IfOk result (HasBucket (rows_of (found_of found.now))) }
-    ensures lacking { OnWrong result (LacksBucket (rows_of (found_of found.now))) }
+    ensures lacking { OnErr result (LacksBucket (rows_of (found_of found.now))) }
 {
     match found.get_one::<u16>("bucket") {
         Some(number) if number < Bucket::COUNT => Ok(Bucket::new(number)),

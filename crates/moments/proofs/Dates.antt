@@ -1,6 +1,6 @@
 -- The date of a day is that of the calendar: the only date with the day's number.
 use Rattle.std.proofs.Common.{◌≡◌, ◌∙◌, refl, sym, ℕ, zero, suc, ◌+◌, ◌<◌, ◌≤◌, inl, inr, arith}
-use Rattle.std.proofs.Common.{Bool, true, false, if◌then◌else◌, ℤ, pos, ◌-ℤ◌}
+use Rattle.std.proofs.Common.{Bool, true, false, if◌then◌else◌, pos, ◌-ℤ◌}
 use Rattle.std.proofs.Common.{nat_lt, subst}
 use Rattle.std.proofs.lemmas.Bool.{cases_order}
 use Rattle.std.proofs.lemmas.Int.{ints}
@@ -13,7 +13,7 @@ use Rattle.jiff_core.specs.Calendar.{IsCivilDate, IsYear, day_count, days_from_c
 use Rattle.jiff_core.specs.Calendar.{days_in_month}
 use Rattle.jiff_core.specs.Date.{epoch_day}
 use Rattle.jiff_core.specs.declared.civil.date.Date.{Date}
-use Rattle.moments.specs.Calendar.{date_of, next_day, next_month}
+use Rattle.moments.specs.Calendar.{date_of, next_day}
 use Rattle.moments.specs.declared.calendar.CivilDate.{CivilDate}
 
 -- a date of the calendar with this number

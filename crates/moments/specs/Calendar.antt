@@ -1,10 +1,8 @@
 -- Days of the Gregorian calendar in UTC, and minutes, both counted from the beginning of 1970.
 use Rattle.std.specs.Prelude.{ℕ, zero, suc, ◌+◌, ◌/◌, List, ℤ, pos, negsuc, nat_lt}
-use Rattle.std.specs.Prelude.{Option, Some, None, Result, Ok, Err, if◌then◌else◌}
-use Rattle.std.specs.Int.{int_div_euclid}
+use Rattle.std.specs.Prelude.{Option, Some, None, option_and_then, if◌then◌else◌}
 use Rattle.jiff_core.specs.Calendar.{days_in_month}
-use Rattle.jiff_core.specs.declared.error.Error.{Error}
-use Rattle.jiff_fmt.specs.Temporal.{parse_timestamp}
+use Rattle.moments.specs.Rfc3339.{second_of_time}
 use Rattle.moments.specs.declared.calendar.CivilDate.{CivilDate}
 
 -- ---- dates
@@ -34,10 +32,6 @@ abbrev pub minute_of_second : ℤ → Option ℕ
 minute_of_second (pos second) = Some (second / 60)
 minute_of_second (negsuc n) = None
 
-abbrev pub minute_of : Result ℤ Error → Option ℕ
-minute_of (Ok nanosecond) = minute_of_second (int_div_euclid nanosecond (pos 1_000_000_000))
-minute_of (Err fault) = None
-
--- the minute of a time in the form of RFC 3339
+-- the minute of a time by RFC 3339
 abbrev pub minute_in : List ℕ → Option ℕ
-minute_in text = minute_of (parse_timestamp text)
+minute_in text = option_and_then minute_of_second (second_of_time text)

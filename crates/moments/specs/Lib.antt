@@ -1,2 +1,3 @@
+pub mod Rfc3339
 pub mod Calendar
 pub mod Moments

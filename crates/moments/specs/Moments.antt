@@ -1,12 +1,11 @@
--- How an operator names moments: by how long ago, such as `10m`, or by a time in the form of RFC
--- 3339.
+-- How an operator names moments: by how long ago, such as `10m`, or by a time by RFC 3339.
 use Rattle.std.specs.Prelude.{◌≡◌, ℕ, ◌*◌, List, length, ◌&&◌, ◌==◌, nat_lt}
-use Rattle.std.specs.Prelude.{Option, Some, None, Ok, IsErr, option_map, if◌then◌else◌, Bool}
+use Rattle.std.specs.Prelude.{Option, Some, None, option_map, if◌then◌else◌, Bool}
 use Rattle.std.specs.List.{after_first, before_first, position_or_len}
 use Rattle.std.specs.Option.{option_or}
 use Rattle.std.specs.Str.{byte}
-use Rattle.jiff_fmt.specs.Temporal.{parse_timestamp}
 use Rattle.lexing.specs.Decimal.{decimal_within}
+use Rattle.moments.specs.Rfc3339.{time_in}
 use Rattle.moments.specs.declared.moment.NamedTime.{NamedTime}
 use Rattle.moments.specs.declared.moment.NamedTime.TheVariants.{Ago, At}
 
@@ -35,7 +34,7 @@ seconds_ago text =
 -- the text names this moment
 abbrev pub Names : List ℕ → NamedTime → Type 0
 Names text (Ago seconds) = seconds_ago text ≡ Some seconds
-Names text (At time) = (seconds_ago text ≡ None) × (parse_timestamp text ≡ Ok time.nanosecond)
+Names text (At time) = (seconds_ago text ≡ None) × (time_in text ≡ Some time.nanosecond)
 
 abbrev pub NamesNone : List ℕ → Type 0
-NamesNone text = (seconds_ago text ≡ None) × IsErr (parse_timestamp text)
+NamesNone text = (seconds_ago text ≡ None) × (time_in text ≡ None)

@@ -3,8 +3,8 @@
 ghost use Rattle.std.specs.Prelude.{◌≡◌, ◌≤◌};
 ghost use Rattle.moments.specs.Calendar as specs;
 
+use crate::rfc3339::second_of_time;
 use jiff_core::civil::Date;
-use jiff_fmt::temporal::parse_timestamp;
 
 /// A date of the Gregorian calendar, made by `of_day`.
 #[derive(Clone, Copy)]
@@ -33,14 +33,14 @@ impl CivilDate {
     }
 }
 
-/// The minute since 1970 of a time in the form of RFC 3339, such as `2026-11-25T08:00:00.012Z` in a
-/// server's log. `None` before 1970.
+/// The minute since 1970 of a time by RFC 3339, such as `2026-11-25T08:00:00.012Z` in a server's
+/// log, up to 9999-12-30T22:00:00Z. `None` before 1970.
 pub fn minute_in(text: &str) -> Option<u64>
     ensures { result ≡ specs.minute_in text.now }
 {
-    match parse_timestamp(text.as_bytes()) {
-        Ok(time) => minute_of_second(time.floor_second()),
-        Err(_) => None,
+    match second_of_time(text) {
+        Some(second) => minute_of_second(second),
+        None => None,
     }
 }
 

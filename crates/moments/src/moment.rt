@@ -3,9 +3,10 @@
 ghost use Rattle.std.specs.Prelude.{◌≡◌, ◌<◌, ◌≤◌, IfNone, IfSome};
 ghost use Rattle.moments.specs.Moments as specs;
 
+use crate::rfc3339::time_in;
 use jiff_core::Timestamp;
 use jiff_core::constants::SECS_PER_CIVIL_DAY;
-use jiff_fmt::temporal::{DateTimePrinter, parse_timestamp};
+use jiff_fmt::temporal::DateTimePrinter;
 use lexing::decimal_within;
 use std::alloc::{AllocError, Global};
 
@@ -22,8 +23,9 @@ pub enum NamedTime {
     At(Timestamp),
 }
 
-/// The moment that a text names: a number followed by `s`, `m`, `h` or `d` is how long ago; any
-/// other text must be a time in the form of RFC 3339.
+/// The moment that a text names: a number up to 99999 followed by `s`, `m`, `h` or `d` is how long
+/// ago; any other text must be a time by RFC 3339, up to 9999-12-30T22:00:00Z, with at most nine
+/// digits of a second's fraction.
 pub fn moment_in(text: &str) -> Option<NamedTime>
     ensures moment { IfSome result (specs.Names text.now) }
     ensures none { IfNone result (specs.NamesNone text.now) }
@@ -31,9 +33,9 @@ pub fn moment_in(text: &str) -> Option<NamedTime>
     if let Some(seconds) = seconds_ago(text) {
         return Some(NamedTime::Ago(seconds));
     }
-    match parse_timestamp(text.as_bytes()) {
-        Ok(time) => Some(NamedTime::At(time)),
-        Err(_) => None,
+    match time_in(text) {
+        Some(time) => Some(NamedTime::At(time)),
+        None => None,
     }
 }
 

@@ -1,5 +1,5 @@
 use Rattle.std.proofs.Common.{ℕ, Option, codes, subst}
-use Rattle.std.specs.Prelude.{IfOk}
+use Rattle.std.specs.Prelude.{IfOk, OnErr}
 use Rattle.clap.specs.Words.{Text, first_of, found_of, rows_of}
 use Rattle.command_line.specs.AppOptions.{IsBucketBeside, LacksBucketBeside}
 use Rattle.command_line.proofs.app_options.read_bucket.Goals as goal
@@ -14,8 +14,10 @@ returns-clause-given c =
     c.bucket_beside.ensures.given)
 
 pub returns-clause-lacking : goal.returns-clause-lacking
-returns-clause-lacking c = λ fault wrong.
+returns-clause-lacking c =
     let rows = rows_of (found_of c.args.found.now) in
-    subst (λ (named : Option ℕ). LacksBucketBeside rows named (first_of (codes "bucket") rows))
-    c.bucket_named.ensures (subst (LacksBucketBeside rows c.bucket_named.result)
-    c.optional_text.ensures (c.bucket_beside.ensures.lacking fault wrong))
+    subst (λ (named : Option ℕ). OnErr c.bucket_beside.result
+    (LacksBucketBeside rows named (first_of (codes "bucket") rows))) c.bucket_named.ensures
+    (subst (λ (text : Option Text). OnErr c.bucket_beside.result
+    (LacksBucketBeside rows c.bucket_named.result text)) c.optional_text.ensures
+    c.bucket_beside.ensures.lacking)

@@ -15,7 +15,7 @@ returns-in-Some-clause-given c =
     )
 
 pub returns-in_default-clause-lacking : goal.returns-in_default-clause-lacking
-returns-in_default-clause-lacking c = λ fault wrong bucket has. elim c.in_default.branch [
+returns-in_default-clause-lacking c = λ bucket has. elim c.in_default.branch [
   | in_default-via-in-Some+else-number-lt-COUNT w ↦
       let same : bucket ≡ w.in-Some.number =
       number_same 16 (found_of c.args.found.now) (codes "bucket") c.get_one.result _ _

@@ -7,6 +7,6 @@ returns-in-Some-clause-given c =
     text_is (found_of c.args.found.now) c.args.id.now _ _ c.get_str.ensures c.in-Some.is
 
 pub returns-in-None-clause-lacking : goal.returns-in-None-clause-lacking
-returns-in-None-clause-lacking c fault wrong text has =
+returns-in-None-clause-lacking c = λ text has.
     text_missing (found_of c.args.found.now) c.args.id.now c.get_str.result _
     c.get_str.ensures c.in-None.is has
