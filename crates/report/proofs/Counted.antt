@@ -1,6 +1,6 @@
 -- What counting one more line changes.
 use Rattle.std.proofs.Common.{◌≡◌, ℕ, ◌+◌, ◌^◌, ◌-◌, List, [], ◌∷◌, ◌++◌, refl, sym, ap, ◌∙◌, arith}
-use Rattle.std.proofs.Common.{Bool, min, append-nil, subst, flat_map}
+use Rattle.std.proofs.Common.{Bool, min, append-nil, subst}
 use Rattle.std.proofs.Common.{sum_by, is_some, is_none}
 use Rattle.std.proofs.lemmas.List.Sums.{sum_by_push}
 use Rattle.std.proofs.lemmas.List.Concat.{flat_map-cons}

@@ -1,8 +1,14 @@
 -- Counting the names of a list, element by element.
-use Rattle.std.proofs.Common.{◌≡◌, ◌∙◌, refl, sym, ap, subst, ℕ, ◌+◌, ◌-◌, ◌<◌, arith}
+use Rattle.std.proofs.Common.{◌≡◌, ◌∙◌, refl, sym, ap, subst, ℕ, ◌-◌, ◌<◌, arith}
 use Rattle.std.proofs.Common.{List, [], ◌∷◌, ◌++◌, length, get_or, take, drop}
+use Rattle.std.proofs.Common.{Bool, if◌then◌else◌}
 use Rattle.std.proofs.Math.Seq.{take-length}
+use Rattle.serde_json.specs.Data.{Data}
+use Rattle.report.specs.Events.{NotesByte, closed_names, names_after, object_name}
+use Rattle.report.specs.Names.{listed}
+use Rattle.report.specs.Objects.{JsonPlace, after_byte, closes_object}
 use Rattle.report.specs.Tallies.{RowName, Notes}
+use Rattle.report.specs.declared.question.EventQuestion.{EventQuestion}
 use Rattle.report.specs.declared.tally.Tally.{Tally}
 use Rattle.report.proofs.Tallied.{notes_none, notes_both}
 
@@ -12,11 +18,6 @@ first_rest [] x some is = absurd (omega (arith, some))
 first_rest (y ∷ ys) x some is =
     let n : length (y ∷ ys) - 1 ≡ length ys = omega arith in
     ap (λ z. z ∷ ys) (sym is) ∙ ap (λ t. x ∷ t) (sym (ap (λ m. take m ys) n ∙ take-length ys))
-
-pub split_first : (xs : List ℕ) → 0 < length xs
-    → xs ≡ get_or xs 0 0 ∷ take (length xs - 1) (drop 1 xs)
-split_first [] some = absurd (omega (arith, some))
-split_first (y ∷ ys) some = first_rest (y ∷ ys) y some refl
 
 pub none_left : {X : Type 0} (xs : List X) → length xs < 1 → xs ≡ []
 none_left [] few = refl
@@ -37,3 +38,35 @@ module _ {X : Type 0} (names : List X → List RowName) (all : List RowName) (st
   all_noted is none =
       so_far old (subst (λ (ns : List RowName). Notes old old ns) (sym (ap names is ∙ none))
       (notes_none old))
+
+-- the objects of a text, byte by byte
+module _ (question : EventQuestion) (app : Data) (appid : List ℕ) where
+  abbrev names_if : Bool → List ℕ → List RowName
+  names_if closes object =
+      if closes then listed (object_name question app appid object) else []
+
+  pub byte_noted : (b : ℕ) (closes : Bool) (object : List ℕ) (before after : JsonPlace)
+      (old new : Tally) → after ≡ after_byte before b → closes ≡ closes_object before after
+      → object ≡ after.object → Notes old new (names_if closes object)
+      → NotesByte question app appid b before old after new
+  unfolding names_after
+  byte_noted b closes object before after old new is ends all first =
+      let noted : Notes old new (closed_names question app appid before after) =
+      subst (λ (k : Bool). Notes old new (names_if k after.object)) ends
+      (subst (λ (o : List ℕ). Notes old new (names_if closes o)) all first) in
+      record {
+        behind = λ text last rest.
+            notes_both old new last _ _
+            (subst (λ (p : JsonPlace). Notes old new (closed_names question app appid before p))
+            is noted)
+            (subst (λ (p : JsonPlace). Notes new last (names_after question app appid p text)) is
+            rest);
+      }
+
+  pub text_noted : (place : JsonPlace) (left : List ℕ) (all : List RowName) (begun old : Tally)
+      → ((last : Tally) → Notes old last (names_after question app appid place left)
+      → Notes begun last all)
+      → length left < 1 → Notes begun old all
+  unfolding names_after
+  text_noted place [] all begun old so_far none = so_far old (notes_none old)
+  text_noted place (b ∷ left) all begun old so_far none = absurd (omega (arith, none))

@@ -5,9 +5,9 @@ use Rattle.std.specs.Prelude.{if◌then◌else◌}
 use Rattle.serde_json.specs.Data.{Data}
 use Rattle.report.specs.Courses.{AddsCourse, if_drawn, hour_names, minute_names, version_names}
 use Rattle.report.specs.Events.{event_names}
-use Rattle.report.specs.Names.{app_names, line_names, is_kind, names_if}
+use Rattle.report.specs.Names.{app_names, line_names, names_if}
 use Rattle.report.specs.Tallies.{RowName, capped, IsTally, Notes}
-use Rattle.report.specs.Told.{event_in, number_in, told}
+use Rattle.report.specs.Told.{event_in, is_kind, number_in, told}
 use Rattle.report.specs.declared.question.AppQuestion.TheVariants as of_app
 use Rattle.report.specs.declared.question.EventQuestion.TheVariants as of_event
 use Rattle.report.specs.declared.question.LineQuestion.TheVariants as of_line
@@ -20,13 +20,20 @@ abbrev pub number_if : (Data → ℕ) → Option Data → ℕ
 number_if number (Some line) = number line
 number_if number None = 0
 
--- a number of a line, or 0 without it
-abbrev pub number_or_none : List ℕ → Data → ℕ
-number_or_none name line = unwrap_or (number_in name line) 0
+-- a number of the lines of a kind, or 0
+abbrev pub number_in_kind : (kind name : List ℕ) → Data → ℕ
+number_in_kind kind name line = if is_kind kind line then unwrap_or (number_in name line) 0 else 0
 
 -- how many lines were lost before it
 abbrev pub lost_in : Data → ℕ
-lost_in line = if is_kind (codes "lost") line then number_or_none (codes "lines") line else 0
+lost_in line = number_in_kind (codes "lost") (codes "lines") line
+
+-- how many apps it leaves out, and how many of these were offered a release
+abbrev pub left_out_in : Data → ℕ
+left_out_in line = number_in_kind (codes "connection") (codes "left_out") line
+
+abbrev pub offers_left_out_in : Data → ℕ
+offers_left_out_in line = number_in_kind (codes "connection") (codes "offers_left_out") line
 
 -- ---- in all lines
 
@@ -45,8 +52,8 @@ module _ (window : Window) (lines : List (List ℕ)) where
     pub lines_told : r.lines ≡ capped (count_by (λ line. is_some (told window line)) lines)
     pub foreign : r.foreign ≡ capped (count_by (λ line. is_none (event_in line)) lines)
     pub lost : r.lost ≡ total lost_in
-    pub left_out : r.left_out ≡ total (number_or_none (codes "left_out"))
-    pub offers_left_out : r.offers_left_out ≡ total (number_or_none (codes "offers_left_out"))
+    pub left_out : r.left_out ≡ total left_out_in
+    pub offers_left_out : r.offers_left_out ≡ total offers_left_out_in
     pub kinds : IsTally 256 (all_names (line_names of_line.Kind)) r.kinds
     pub refusals : IsTally 256 (all_names (line_names of_line.Refusal)) r.refusals
     pub loads : IsTally 256 (all_names (line_names of_line.Load)) r.loads
@@ -80,11 +87,9 @@ pub record AddsLine (event line : Option Data) (old new : Report) : Type 0 where
   pub lines_told : GoesUp old.lines new.lines (one_if (is_some line))
   pub foreign : GoesUp old.foreign new.foreign (one_if (is_none event))
   pub lost : GoesUp old.lost new.lost (number_if lost_in line)
-  pub left_out :
-      GoesUp old.left_out new.left_out (number_if (number_or_none (codes "left_out")) line)
+  pub left_out : GoesUp old.left_out new.left_out (number_if left_out_in line)
   pub offers_left_out :
-      GoesUp old.offers_left_out new.offers_left_out
-      (number_if (number_or_none (codes "offers_left_out")) line)
+      GoesUp old.offers_left_out new.offers_left_out (number_if offers_left_out_in line)
   pub kinds : Notes old.kinds new.kinds (names_if (line_names of_line.Kind) line)
   pub refusals : Notes old.refusals new.refusals (names_if (line_names of_line.Refusal) line)
   pub loads : Notes old.loads new.loads (names_if (line_names of_line.Load) line)

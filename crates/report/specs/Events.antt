@@ -1,36 +1,18 @@
--- How installs ended, by the events of a line's apps. The member `event` of an app is the text that
--- the client wrote, or a prefix of it, so each whole object in it counts.
-use Rattle.std.specs.Prelude.{ℕ, List, [], ◌∷◌, ◌++◌, codes, decimal, take}
-use Rattle.std.specs.Prelude.{Bool, ◌&&◌, ◌||◌, ◌==◌, ◌+◌, if◌then◌else◌}
+-- How installs ended, by the events of a line's apps. The member `event` of an app is JSON, or a
+-- prefix of it, so each outermost object that ends in it counts.
+use Rattle.std.specs.Prelude.{ℕ, List, [], ◌∷◌, ◌++◌, codes, decimal}
+use Rattle.std.specs.Prelude.{Bool, ◌&&◌, ◌||◌, if◌then◌else◌}
 use Rattle.std.specs.Prelude.{Option, Some, None, option_and_then, unwrap_or}
-use Rattle.std.specs.List.{position, slice_index}
-use Rattle.std.specs.Str.{byte}
 use Rattle.serde_json.specs.Data.{Data, Items, no_items, item}
-use Rattle.report.specs.Tallies.{RowName}
 use Rattle.json_value.specs.Bytes.{json_of}
-use Rattle.report.specs.Told.{text_in, number_in, list_in, is_number}
+use Rattle.report.specs.Tallies.{RowName, Notes}
+use Rattle.report.specs.Told.{text_in, number_in, apps_in, is_number}
 use Rattle.report.specs.Names.{two, three, course_name, if_holds, listed, text_or_mark}
+use Rattle.report.specs.Objects.{JsonPlace, after_byte, closes_object, json_start}
 use Rattle.report.specs.declared.question.EventQuestion.{EventQuestion}
 use Rattle.report.specs.declared.question.EventQuestion.TheVariants.{Ended, Result, FailedTo}
 use Rattle.report.specs.declared.question.EventQuestion.TheVariants.{FailedAt}
-
--- ---- the objects of a text
-
-abbrev pub is_brace : ℕ → Bool
-is_brace b = (b == byte "{") || (b == byte "}")
-
--- the object at the beginning of a text, if its first brace after the opening one closes it; that
--- brace is at n in the rest
-abbrev pub closed_at : List ℕ → List ℕ → ℕ → Option (List ℕ)
-closed_at text rest n =
-    if slice_index rest n == byte "}" then Some (take (n + 2) text) else None
-
-abbrev pub closed : List ℕ → List ℕ → Option (List ℕ)
-closed text rest = option_and_then (closed_at text rest) (position is_brace rest)
-
-abbrev pub object_at : List ℕ → Option (List ℕ)
-object_at [] = None
-object_at (b ∷ rest) = if b == byte "{" then closed (b ∷ rest) rest else None
+use Rattle.report.specs.declared.tally.Tally.{Tally}
 
 -- ---- an event
 
@@ -89,19 +71,32 @@ event_name question app appid event =
 
 -- ---- the events of an app, and of all apps of a line
 
-abbrev pub event_name_at : EventQuestion → Data → List ℕ → List ℕ → Option RowName
-event_name_at question app appid text =
-    option_and_then (λ object. option_and_then (event_name question app appid) (json_of object))
-    (object_at text)
+-- the name of an object's bytes, if they are an event of the question
+abbrev pub object_name : EventQuestion → Data → List ℕ → List ℕ → Option RowName
+object_name question app appid object =
+    option_and_then (event_name question app appid) (json_of object)
 
-abbrev pub event_names_at : EventQuestion → Data → List ℕ → List ℕ → List RowName
-event_names_at question app appid text = listed (event_name_at question app appid text)
+-- the names of the object that the last byte ends, if it ends one
+abbrev pub closed_names : EventQuestion → Data → List ℕ → JsonPlace → JsonPlace → List RowName
+closed_names question app appid before after =
+    if closes_object before after then listed (object_name question app appid after.object) else []
 
--- at each position of the text
+-- the names of the objects that end in the rest of a text
+unfoldable pub names_after : EventQuestion → Data → List ℕ → JsonPlace → List ℕ → List RowName
+names_after question app appid place [] = []
+names_after question app appid place (b ∷ text) =
+    closed_names question app appid place (after_byte place b)
+    ++ names_after question app appid (after_byte place b) text
+
 abbrev pub names_in_text : EventQuestion → Data → List ℕ → List ℕ → List RowName
-names_in_text question app appid [] = []
-names_in_text question app appid (b ∷ text) =
-    event_names_at question app appid (b ∷ text) ++ names_in_text question app appid text
+names_in_text question app appid text = names_after question app appid json_start text
+
+-- adds the names of the object that this byte ends, whatever follows
+pub record NotesByte (question : EventQuestion) (app : Data) (appid : List ℕ) (b : ℕ)
+    (before : JsonPlace) (old : Tally) (after : JsonPlace) (new : Tally) : Type 0 where
+  pub behind : (text : List ℕ) (last : Tally)
+      → Notes new last (names_after question app appid after text)
+      → Notes old last (names_after question app appid before (b ∷ text))
 
 abbrev pub names_in : EventQuestion → Data → Option (List ℕ) → Option (List ℕ) → List RowName
 names_in question app (Some appid) (Some text) = names_in_text question app appid text
@@ -122,4 +117,4 @@ event_names_in question (Some apps) = names_of_events question apps
 event_names_in question None = []
 
 abbrev pub event_names : EventQuestion → Data → List RowName
-event_names question line = event_names_in question (list_in (codes "apps") line)
+event_names question line = event_names_in question (apps_in line)

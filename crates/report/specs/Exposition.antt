@@ -46,13 +46,6 @@ labels_text Install name =
 labels_text Rule name = two_labels (codes "status") (codes "rule") name
 labels_text Kind name = label (codes "kind") name
 
-abbrev pub first_label : SampleLabels → List ℕ
-first_label App = codes "app"
-first_label Release = codes "app"
-first_label Install = codes "result"
-first_label Rule = codes "status"
-first_label Kind = codes "kind"
-
 -- ---- metrics
 
 abbrev pub head : List ℕ → List ℕ → List ℕ
@@ -73,14 +66,14 @@ samples metric labels (entry ∷ rows) =
     sample metric (labels_text labels (string_bytes entry.0)) entry.1
     ++ samples metric labels rows
 
--- the names without a row
-abbrev pub other_sample : List ℕ → SampleLabels → ℕ → List ℕ
-other_sample metric labels n =
-    if n == 0 then [] else sample metric (label (first_label labels) (codes "others")) n
+-- the names without a row, by a label that no name has
+abbrev pub other_sample : List ℕ → ℕ → List ℕ
+other_sample metric n =
+    if n == 0 then [] else sample metric (label (codes "others") (codes "true")) n
 
 unfoldable pub metric : List ℕ → List ℕ → SampleLabels → Tally → List ℕ
 metric name help labels t =
-    head name help ++ samples name labels t.rows.entries ++ other_sample name labels t.others
+    head name help ++ samples name labels t.rows.entries ++ other_sample name t.others
 
 -- ---- the report
 

@@ -2,6 +2,7 @@ pub mod Tallies
 pub mod Lines
 pub mod Told
 pub mod Names
+pub mod Objects
 pub mod Events
 pub mod Counts
 pub mod Courses

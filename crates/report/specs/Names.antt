@@ -8,7 +8,7 @@ use Rattle.std.specs.Str.{byte}
 use Rattle.printing.specs.Printed.{printed}
 use Rattle.serde_json.specs.Data.{Data, Items, no_items, item}
 use Rattle.report.specs.Tallies.{RowName}
-use Rattle.report.specs.Told.{text_in, number_in, flag_in, list_in, is_number, is_flag, is_text}
+use Rattle.report.specs.Told.{text_in, number_in, flag_in, apps_in, is_kind, is_number, is_flag}
 use Rattle.report.specs.declared.question.AppQuestion.{AppQuestion}
 use Rattle.report.specs.declared.question.AppQuestion.TheVariants.{Asked, Offered, Unoffered}
 use Rattle.report.specs.declared.question.AppQuestion.TheVariants.{Hour, Bucket, Unknown}
@@ -145,12 +145,9 @@ app_names_in question line (Some apps) = names_of_apps question line apps
 app_names_in question line None = []
 
 abbrev pub app_names : AppQuestion → Data → List RowName
-app_names question line = app_names_in question line (list_in (codes "apps") line)
+app_names question line = app_names_in question line (apps_in line)
 
 -- ---- in a line
-
-abbrev pub is_kind : List ℕ → Data → Bool
-is_kind kind line = is_text kind (text_in (codes "kind") line)
 
 -- such as `400`, or `none` if no whole reply was sent
 abbrev pub status_text : Option ℕ → List ℕ

@@ -22,8 +22,9 @@ abbrev pub rows_text : Rows → List ℕ
 rows_text [] = []
 rows_text (entry ∷ rows) = row entry.1 (string_bytes entry.0) ++ rows_text rows
 
+-- the names without a row; no appid has a tab
 abbrev pub others_text : ℕ → List ℕ
-others_text n = if n == 0 then [] else row n (codes "others")
+others_text n = if n == 0 then [] else row n (codes "\tothers")
 
 -- a table with its title, unless it is empty
 abbrev pub table_text : List ℕ → Tally → List ℕ

@@ -37,6 +37,13 @@ abbrev pub is_text : List ℕ → Option (List ℕ) → Bool
 is_text text (Some other) = bytes_eq other text
 is_text text None = false
 
+abbrev pub is_kind : List ℕ → Data → Bool
+is_kind kind line = is_text kind (text_in (codes "kind") line)
+
+-- only a connection has apps; a kind of line that isn't known has none
+abbrev pub apps_in : Data → Option Items
+apps_in line = if is_kind (codes "connection") line then list_in (codes "apps") line else None
+
 -- ---- a line
 
 -- it has a time and a kind

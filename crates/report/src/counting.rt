@@ -8,11 +8,10 @@ ghost use Rattle.report.specs.Reading.{CountsLines};
 ghost use Rattle.report.specs.Told.{event_in, if_within, told};
 
 use crate::course::Course;
-use crate::line_names::is_kind;
 use crate::note::{note_apps, note_ends, note_line};
 use crate::question::{AppQuestion, EventQuestion, LineQuestion};
 use crate::tally::Tally;
-use crate::told::{event_in, is_within, number_in};
+use crate::told::{event_in, is_kind, is_within, number_in};
 use crate::window::Window;
 use serde_json::Value;
 use std::alloc::{AllocError, Global};
@@ -159,10 +158,11 @@ impl Report {
         ensures { OnOk result
             (specs.AddsLine (Some (view event.now)) (Some (view event.now)) self.old self.new) }
     {
-        let left_out = number_or_none(event, "left_out");
-        let offers = number_or_none(event, "offers_left_out");
+        let lost = number_in_kind("lost", "lines", event);
+        let left_out = number_in_kind("connection", "left_out", event);
+        let offers = number_in_kind("connection", "offers_left_out", event);
         self.lines = raised(self.lines, 1);
-        self.lost = raised(self.lost, lost_in(event));
+        self.lost = raised(self.lost, lost);
         self.left_out = raised(self.left_out, left_out);
         self.offers_left_out = raised(self.offers_left_out, offers);
         note_line(alloc, &mut self.kinds, LineQuestion::Kind, event)?;
@@ -197,19 +197,12 @@ fn raised(n: u64, by: u64) -> u64
     n.saturating_add(by)
 }
 
-// A number of a line, or 0 without it.
-fn number_or_none(event: &Value, name: &str) -> u64
-    ensures { result ≡ specs.number_or_none name.now (view event.now) }
+// A number of the lines of a kind, or 0.
+fn number_in_kind(kind: &str, name: &str, event: &Value) -> u64
+    ensures { result ≡ specs.number_in_kind kind.now name.now (view event.now) }
 {
-    number_in(event, name).unwrap_or(0)
-}
-
-// The number of lines lost before this line.
-fn lost_in(event: &Value) -> u64
-    ensures { result ≡ specs.lost_in (view event.now) }
-{
-    if is_kind("lost", event) {
-        number_or_none(event, "lines")
+    if is_kind(kind, event) {
+        number_in(event, name).unwrap_or(0)
     } else {
         0
     }

@@ -1,14 +1,15 @@
 //! How installs ended, by the events in a line's apps.
 
-ghost use Rattle.std.specs.Prelude.{◌≡◌, ◌+◌, ◌<◌, IfOk, IfSome, OnOk, length, option_map};
-ghost use Rattle.std.specs.List.{position};
-ghost use Rattle.std.specs.Option.{option_copied};
+ghost use Rattle.std.specs.Prelude.{◌≡◌, [], IfOk, OnOk, option_map, if◌then◌else◌};
 ghost use Rattle.std.specs.String.{string_bytes};
 ghost use Rattle.serde_json.specs.View.{view, items_view};
 ghost use Rattle.report.specs.Events as specs;
+ghost use Rattle.report.specs.Names.{listed};
+ghost use Rattle.report.specs.Objects.{json_place};
 ghost use Rattle.report.specs.Tallies.{Notes};
 
 use crate::name_text::{course_name, decimal, text_or_mark, three, two};
+use crate::objects::ObjectReader;
 use crate::question::EventQuestion;
 use crate::tally::{Tally, note_if, note_nothing};
 use crate::told::{is_number, number_in, text_in};
@@ -49,7 +50,7 @@ fn note_app_events(
     }
 }
 
-// Counts the events in a text: each whole object without an inner object.
+// Counts the events in a text: each whole object that isn't in another.
 fn note_text(
     alloc: Global,
     tally: &mut Tally,
@@ -61,92 +62,68 @@ fn note_text(
     ensures { OnOk result (Notes tally.old tally.new
         (specs.names_in_text question (view app.now) appid.now text.now)) }
 {
+    let mut reader = ObjectReader::new(alloc);
     let mut left = text;
-    while let [_, rest @ ..] = left {
-        note_object(alloc, tally, question, app, appid, left)?;
+    while let [byte, rest @ ..] = left {
+        note_byte(alloc, tally, question, app, appid, &mut reader, *byte)?;
         left = rest;
     }
     Ok(())
 }
 
-// Counts the event at the beginning of a text, if there is one.
-fn note_object(
+// Reads a byte, and counts the object that it ends.
+fn note_byte(
     alloc: Global,
     tally: &mut Tally,
     question: EventQuestion,
     app: &Value,
     appid: &str,
-    text: &[u8],
+    reader: &mut ObjectReader,
+    byte: u8,
 ) -> Result<(), AllocError>
-    ensures { OnOk result (Notes tally.old tally.new
-        (specs.event_names_at question (view app.now) appid.now text.now)) }
+    ensures { OnOk result (specs.NotesByte question (view app.now) appid.now byte
+        (json_place reader.old) tally.old (json_place reader.new) tally.new) }
 {
-    let name = event_name_at(alloc, question, app, appid, text)?;
+    let closes = reader.read(byte)?;
+    note_closed(alloc, tally, question, app, appid, closes, reader.object())?;
+    Ok(())
+}
+
+// Counts an object, if it is closed.
+fn note_closed(
+    alloc: Global,
+    tally: &mut Tally,
+    question: EventQuestion,
+    app: &Value,
+    appid: &str,
+    closes: bool,
+    object: &[u8],
+) -> Result<(), AllocError>
+    ensures { OnOk result (Notes tally.old tally.new (if closes
+        then listed (specs.object_name question (view app.now) appid.now object.now)
+        else [])) }
+{
+    if !closes {
+        return note_nothing(tally);
+    }
+    let name = object_name(alloc, question, app, appid, object)?;
     note_if(tally, name)
 }
 
-fn event_name_at(
+fn object_name(
     alloc: Global,
     question: EventQuestion,
     app: &Value,
     appid: &str,
-    text: &[u8],
+    object: &[u8],
 ) -> Result<Option<String>, AllocError>
     ensures { IfOk result (λ name. option_map string_bytes name
-        ≡ specs.event_name_at question (view app.now) appid.now text.now) }
+        ≡ specs.object_name question (view app.now) appid.now object.now) }
 {
-    let Some(object) = object_at(text) else {
-        return Ok(None);
-    };
     match read_json(alloc, object)? {
         Some(event) => event_name(alloc, question, app, appid, &event),
         None => Ok(None),
     }
-}
-
-// The object at the beginning of a text, if it has no brace inside.
-fn object_at<'a>(text: &'a [u8]) -> Option<&'a [u8]>
-    ensures { option_copied result ≡ specs.object_at text.now }
-{
-    let [first, rest @ ..] = text else {
-        return None;
-    };
-    if *first == b'{' {
-        closed(text, rest)
-    } else {
-        None
-    }
-}
-
-// The same for a text that begins with an opening brace, given the rest after it.
-fn closed<'a>(text: &'a [u8], rest: &[u8]) -> Option<&'a [u8]>
-    requires { length text.now ≡ length rest.now + 1 }
-    ensures { option_copied result ≡ specs.closed text.now rest.now }
-{
-    match brace_in(rest) {
-        Some(at) => closed_at(text, rest, at),
-        None => None,
-    }
-}
-
-fn closed_at<'a>(text: &'a [u8], rest: &[u8], at: usize) -> Option<&'a [u8]>
-    requires within { at < length rest.now }
-    requires long { length text.now ≡ length rest.now + 1 }
-    ensures { option_copied result ≡ specs.closed_at text.now rest.now at }
-{
-    if rest[at] == b'}' {
-        Some(&text[..at + 2])
-    } else {
-        None
-    }
-}
-
-// The position of the first brace.
-fn brace_in(text: &[u8]) -> Option<usize>
-    ensures place { result ≡ position specs.is_brace text.now }
-    ensures within { IfSome result (λ at. at < length text.now) }
-{
-    text.iter().position(|b| *b == b'{' || *b == b'}')
 }
 
 fn event_name(

@@ -6,7 +6,7 @@ ghost use Rattle.report.specs.Exposition as specs;
 ghost use Rattle.printing.specs.Pushed.{Puts};
 
 use crate::counting::Report;
-use crate::labels::{SampleLabels, first_label, push_label, push_labels};
+use crate::labels::{SampleLabels, push_label, push_labels};
 use crate::tally::Tally;
 use std::alloc::{AllocError, Global};
 use std::collections::BTreeMap;
@@ -158,7 +158,7 @@ fn push_metric(
 {
     push_head(text, metric, help)?;
     push_samples(text, metric, labels, &tally.rows)?;
-    push_other_sample(text, metric, labels, tally.others)?;
+    push_other_sample(text, metric, tally.others)?;
     Ok(())
 }
 
@@ -216,20 +216,14 @@ fn push_sample(
 }
 
 // The sample of the names without a row, if there are any.
-fn push_other_sample(
-    text: &mut String,
-    metric: &str,
-    labels: SampleLabels,
-    others: u64,
-) -> Result<(), AllocError>
-    ensures { OnOk result (Puts text.old text.new
-        (specs.other_sample metric.now labels others)) }
+fn push_other_sample(text: &mut String, metric: &str, others: u64) -> Result<(), AllocError>
+    ensures { OnOk result (Puts text.old text.new (specs.other_sample metric.now others)) }
 {
     if others == 0 {
         return Ok(());
     }
     text.push_str(metric)?;
     text.push_str("{")?;
-    push_label(text, first_label(labels), "others")?;
+    push_label(text, "others", "true")?;
     write!(text, "}} {others}\n")
 }

@@ -57,18 +57,6 @@ fn push_install(text: &mut String, name: &str) -> Result<(), AllocError>
     push_two(text, "from", "to", rest(name))
 }
 
-/// The first label.
-pub(crate) fn first_label(labels: SampleLabels) -> &'static str
-    ensures { result.now ≡ specs.first_label labels }
-{
-    match labels {
-        SampleLabels::App | SampleLabels::Release => "app",
-        SampleLabels::Install => "result",
-        SampleLabels::Rule => "status",
-        SampleLabels::Kind => "kind",
-    }
-}
-
 /// Appends a label with its value.
 pub(crate) fn push_label(text: &mut String, name: &str, value: &str) -> Result<(), AllocError>
     ensures { OnOk result (Puts text.old text.new (specs.label name.now value.now)) }

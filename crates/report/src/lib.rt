@@ -16,6 +16,7 @@ mod line_names;
 mod lines;
 mod name_text;
 mod note;
+mod objects;
 mod question;
 mod rows;
 mod screen;

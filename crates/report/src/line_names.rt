@@ -7,7 +7,7 @@ ghost use Rattle.report.specs.Names as specs;
 
 use crate::name_text::{decimal, one, text_or_mark, three, two};
 use crate::question::LineQuestion;
-use crate::told::{is_text, number_in, text_in};
+use crate::told::{is_kind, number_in, text_in};
 use serde_json::Value;
 use std::alloc::{AllocError, Global};
 
@@ -80,11 +80,4 @@ fn loaded(alloc: Global, line: &Value, generation: u64) -> Result<String, AllocE
     let time = text_or_mark(text_in(line, "time"));
     let path = text_or_mark(text_in(line, "path"));
     three(alloc, time, decimal(alloc, generation)?.as_str(), path)
-}
-
-/// Whether a line is of this kind.
-pub(crate) fn is_kind(kind: &str, line: &Value) -> bool
-    ensures { result ≡ specs.is_kind kind.now (view line.now) }
-{
-    is_text(kind, text_in(line, "kind"))
 }

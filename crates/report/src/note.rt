@@ -11,7 +11,7 @@ use crate::events::note_events;
 use crate::line_names::line_name;
 use crate::question::{AppQuestion, EventQuestion, LineQuestion};
 use crate::tally::{Tally, note_if, note_nothing};
-use crate::told::list_in;
+use crate::told::apps_in;
 use serde_json::Value;
 use std::alloc::{AllocError, Global};
 
@@ -38,7 +38,7 @@ pub(crate) fn note_apps(
 ) -> Result<(), AllocError>
     ensures { OnOk result (Notes tally.old tally.new (specs.app_names question (view line.now))) }
 {
-    match list_in(line, "apps") {
+    match apps_in(line) {
         Some(apps) => note_each(alloc, tally, question, line, apps),
         None => note_nothing(tally),
     }
@@ -53,7 +53,7 @@ pub(crate) fn note_ends(
 ) -> Result<(), AllocError>
     ensures { OnOk result (Notes tally.old tally.new (event_names question (view line.now))) }
 {
-    match list_in(line, "apps") {
+    match apps_in(line) {
         Some(apps) => note_events(alloc, tally, question, apps),
         None => note_nothing(tally),
     }

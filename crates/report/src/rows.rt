@@ -38,12 +38,13 @@ fn push_rows(text: &mut String, rows: &BTreeMap<String, u64>) -> Result<(), Allo
     Ok(())
 }
 
-/// Appends the row of the names without one, if there are any.
+/// Appends the row of the names without one, if there are any. Because of its second tab no app
+/// called `others` has the same row.
 pub(crate) fn push_others(text: &mut String, others: u64) -> Result<(), AllocError>
     ensures { OnOk result (Puts text.old text.new (specs.others_text others)) }
 {
     if others == 0 {
         return Ok(());
     }
-    push_row(text, others, "others")
+    push_row(text, others, "\tothers")
 }

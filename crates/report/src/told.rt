@@ -43,8 +43,8 @@ pub(crate) fn flag_in(value: &Value, name: &str) -> Option<bool>
     }
 }
 
-/// The member of this name, if it is a list.
-pub(crate) fn list_in<'a>(value: &'a Value, name: &str) -> Option<&'a [Value]>
+// The member of this name, if it is a list.
+fn list_in<'a>(value: &'a Value, name: &str) -> Option<&'a [Value]>
     ensures { option_map (λ list. items_view list.now) result
         ≡ specs.list_in name.now (view value.now) }
 {
@@ -67,14 +67,32 @@ pub(crate) fn is_number(n: u64, found: Option<u64>) -> bool
     }
 }
 
-/// Whether the text is there, and is `text`.
-pub(crate) fn is_text(text: &str, found: Option<&str>) -> bool
+// Whether the text is there, and is `text`.
+fn is_text(text: &str, found: Option<&str>) -> bool
     ensures { result ≡ specs.is_text text.now (option_copied found.entry) }
 {
     match found {
         Some(other) => other == text,
         None => false,
     }
+}
+
+/// Whether a line is of this kind.
+pub(crate) fn is_kind(kind: &str, line: &Value) -> bool
+    ensures { result ≡ specs.is_kind kind.now (view line.now) }
+{
+    is_text(kind, text_in(line, "kind"))
+}
+
+/// The apps of a line, if it is a connection's.
+pub(crate) fn apps_in<'a>(line: &'a Value) -> Option<&'a [Value]>
+    ensures { option_map (λ list. items_view list.now) result
+        ≡ specs.apps_in (view line.now) }
+{
+    if !is_kind("connection", line) {
+        return None;
+    }
+    list_in(line, "apps")
 }
 
 /// The event of a line, if the line is the server's.

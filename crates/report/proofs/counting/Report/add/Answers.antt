@@ -8,12 +8,12 @@ returns c = record {
   lines_told = c.raised-self.ensures;
   foreign = stays c.args.self.now.foreign;
   lost = subst (λ (k : ℕ). GoesUp c.args.self.now.lost c.raised-self-2.result k)
-      c.lost_in.ensures c.raised-self-2.ensures;
+      c.number_in_kind-lost.ensures c.raised-self-2.ensures;
   left_out = subst (λ (k : ℕ). GoesUp c.args.self.now.left_out c.raised-self-3.result k)
-      c.number_or_none-left_out.ensures c.raised-self-3.ensures;
+      c.number_in_kind-left_out.ensures c.raised-self-3.ensures;
   offers_left_out =
       subst (λ (k : ℕ). GoesUp c.args.self.now.offers_left_out c.raised-self-4.result k)
-      c.number_or_none-offers.ensures c.raised-self-4.ensures;
+      c.number_in_kind-offers.ensures c.raised-self-4.ensures;
   kinds = c.in_ok-note_line.ensures;
   refusals = c.in_ok-note_line-2.ensures;
   loads = c.in_ok-note_line-3.ensures;
