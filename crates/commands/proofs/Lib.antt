@@ -1,3 +1,1 @@
 mod Making
-mod Reading
-mod Written

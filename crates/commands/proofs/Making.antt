@@ -1,5 +1,5 @@
 -- A command with a missing argument makes no command.
-use Rattle.std.proofs.Common.{List, codes, true}
+use Rattle.std.proofs.Common.{List, codes}
 use Rattle.clap.specs.Words.{Row}
 use Rattle.command_line.specs.Runs.{LacksRun}
 use Rattle.command_line.specs.Values.{HasText, LacksShort}
@@ -14,7 +14,7 @@ runs_none rows lacks command makes = makes
 
 pub traces_none : (rows : List Row) → HasText (codes "trace") rows (codes "true")
     → VerbMakesNone verb.Run rows
-traces_none rows traces (command.Run run) makes = makes.once traces
+traces_none rows traces (command.Run run) makes = makes.untraced traces
 traces_none rows traces command makes = makes
 
 pub serves_none : (rows : List Row) → LacksPlan rows → VerbMakesNone verb.Serve rows

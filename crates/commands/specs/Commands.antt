@@ -2,11 +2,11 @@
 use Rattle.std.specs.Prelude.{◌⊎◌, ℕ, List, [], Option}
 use Rattle.std.specs.Io.KnownBytes.{Appends}
 use Rattle.bounded_files.specs.Files.{KnownFiles}
-use Rattle.commands.specs.Answers.{IsAnswer}
+use Rattle.commands.specs.Outputs.{IsOutput}
 use Rattle.command_line.specs.Faults.{AreFaulty}
 use Rattle.commands.specs.Grammar.{commands}
 use Rattle.commands.specs.Requests.{AskFor, AskForHelp, AskForNothing}
-use Rattle.commands.specs.Texts.{answer_text}
+use Rattle.commands.specs.Texts.{output_text}
 use Rattle.commands.specs.declared.request.Command.{Command}
 use Rattle.commands.specs.declared.output.CommandOutput.{CommandOutput}
 
@@ -14,9 +14,9 @@ use Rattle.commands.specs.declared.output.CommandOutput.{CommandOutput}
 -- nothing
 pub record IsAnswered (known : KnownFiles) (command : Command)
     (before after : Option (List ℕ)) (GetsLines : List ℕ → Type 0) : Type 0 where
-  pub answer : CommandOutput
-  pub answers : IsAnswer known command answer
-  pub printed : Appends before after (answer_text answer)
+  pub output : CommandOutput
+  pub is_output : IsOutput known command output
+  pub printed : Appends before after (output_text output)
   pub silent : GetsLines []
 
 -- the words request help, and standard error got nothing; or they make a command, and it was done

@@ -3,5 +3,5 @@ pub mod Words
 pub mod Requests
 pub mod Replays
 pub mod Texts
-pub mod Answers
+pub mod Outputs
 pub mod Commands

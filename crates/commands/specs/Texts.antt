@@ -15,18 +15,18 @@ use Rattle.serving.specs.Texts.{cause_of, serving_text}
 use Rattle.workers.specs.Texts.{serving_line}
 
 -- the text that is printed for an output
-abbrev pub answer_text : CommandOutput → List ℕ
-answer_text (output.Assembled program) = line (decimal (length program.items / 8) ++ codes " slots")
-answer_text (output.Compiled slots) = line (decimal slots ++ codes " slots")
-answer_text (output.Listed text) = string_bytes text
-answer_text (output.Accepted slots) = line (codes "accepted " ++ decimal slots ++ codes " slots")
-answer_text (output.Chosen choice instructions) =
+abbrev pub output_text : CommandOutput → List ℕ
+output_text (output.Assembled program) = line (decimal (length program.items / 8) ++ codes " slots")
+output_text (output.Compiled slots) = line (decimal slots ++ codes " slots")
+output_text (output.Listed text) = string_bytes text
+output_text (output.Accepted slots) = line (codes "accepted " ++ decimal slots ++ codes " slots")
+output_text (output.Chosen choice instructions) =
     line (codes "choice " ++ decimal choice
     ++ codes " after " ++ decimal instructions ++ codes " instructions")
-answer_text (output.Replayed text) = string_bytes text
-answer_text (output.Replied text) = string_bytes text
+output_text (output.Replayed text) = string_bytes text
+output_text (output.Replied text) = string_bytes text
 -- the first generation
-answer_text (output.Ready server plan) = serving_line 1
+output_text (output.Ready server plan) = serving_line 1
 
 -- the cause that a server's log has with the fault's text, if there is one
 abbrev pub fault_cause : Fault → Option (List ℕ)

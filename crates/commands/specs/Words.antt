@@ -1,5 +1,5 @@
 -- Which command the arguments of each command make.
-use Rattle.std.specs.Prelude.{List, Option, Some, None, true, false, codes}
+use Rattle.std.specs.Prelude.{List, true, false, codes}
 use Rattle.clap.specs.Words.{Row}
 use Rattle.command_line.specs.Runs.{HasRun}
 use Rattle.command_line.specs.Values.{HasFlag, HasShape, HasShort, HasText}
@@ -23,9 +23,9 @@ abbrev pub LacksPlan : List Row → Type 0
 LacksPlan rows = (plan : Plan) → ¬ HasPlan rows plan
 
 -- `run`; with `--trace` it makes no command
-pub record HasRunOnce (rows : List Row) (run : RunArgs) : Type 0 where
+pub record HasUntracedRun (rows : List Row) (run : RunArgs) : Type 0 where
   pub run_is : HasRun rows run
-  pub once : ¬ HasText (codes "trace") rows (codes "true")
+  pub untraced : ¬ HasText (codes "trace") rows (codes "true")
 
 abbrev pub VerbMakes : Verb → List Row → Command → Type 0
 VerbMakes verb.Assemble rows (command.Assemble text out) =
@@ -38,7 +38,7 @@ VerbMakes verb.Load rows (command.Send (sent.Load path) port) =
     HasText (codes "PATH") rows path.now × HasShort (codes "operator") rows port
 VerbMakes verb.Replay rows (command.Replay manifest script) =
     HasText (codes "MANIFEST") rows manifest.now × HasText (codes "SCRIPT") rows script.now
-VerbMakes verb.Run rows (command.Run run) = HasRunOnce rows run
+VerbMakes verb.Run rows (command.Run run) = HasUntracedRun rows run
 VerbMakes verb.Serve rows (command.Serve manifest plan) =
     HasText (codes "MANIFEST") rows manifest.now × HasPlan rows plan
 VerbMakes verb.Show rows (command.Send sent.Show port) = HasShort (codes "operator") rows port
@@ -52,11 +52,3 @@ VerbMakes verb rows command = ⊥
 
 abbrev pub VerbMakesNone : Verb → List Row → Type 0
 VerbMakesNone verb rows = (command : Command) → ¬ VerbMakes verb rows command
-
--- a command of the table, with what its arguments were given, makes this command
-abbrev pub IsMade : Option (Verb × List Row) → Command → Type 0
-IsMade None command = ⊥
-IsMade (Some found) command = VerbMakes found.0 found.1 command
-
-abbrev pub IsNoneMade : Option (Verb × List Row) → Type 0
-IsNoneMade found = (command : Command) → ¬ IsMade found command

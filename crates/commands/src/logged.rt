@@ -50,7 +50,7 @@ where
         port: ports.service().port(),
         operator: ports.operator().port(),
     };
-    note_start(rt, &queue, starting, server.digest());
+    note_start(rt, &queue, starting, server.loaded());
     let outcome = serve_by(rt, disk, server, plan, Some(&queue), out);
     note_outcome(rt, &queue, starting, &outcome);
     drop(queue);

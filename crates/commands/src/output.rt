@@ -1,7 +1,7 @@
 //! The output of a command.
 
 ghost use Rattle.std.specs.Prelude.{Some};
-ghost use Rattle.commands.specs.Texts.{answer_text};
+ghost use Rattle.commands.specs.Texts.{output_text};
 
 use crate::request::Plan;
 use hot_swap::Generation;
@@ -30,7 +30,7 @@ pub enum CommandOutput {
 }
 
 impl fmt::Display for CommandOutput {
-    ghost output = { λ output. Some (answer_text output) };
+    ghost output = { λ output. Some (output_text output) };
 
     fn fmt<W: fmt::Write>(&self, f: &mut fmt::Formatter<W>) -> fmt::Result {
         match self {

@@ -64,7 +64,7 @@ pub const RUN: CommandRow<Verb> = CommandRow {
 pub const VERIFY: CommandRow<Verb> = CommandRow {
     verb: Verb::Verify,
     name: "verify",
-    about: "Tell whether a program is accepted; prints `accepted N slots`, or its refusal",
+    about: "Verify a program; prints `accepted N slots`, or its refusal",
     end: None,
     arguments: &[PROGRAM, RELEASES, ARRAYS],
 };

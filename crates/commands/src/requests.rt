@@ -1,7 +1,7 @@
 //! From a command to its output.
 
 ghost use Rattle.std.specs.Prelude.{IfOk, IfErr};
-ghost use Rattle.commands.specs.Answers.{IsAnswer, IsRefused};
+ghost use Rattle.commands.specs.Outputs.{IsOutput, IsRefused};
 
 use crate::fault::Fault;
 use crate::output::CommandOutput;
@@ -21,12 +21,12 @@ use std::time::Clock;
 /// For `serve`, the server of a manifest is made ready, and doesn't serve yet.
 // open: which bytes a device's file gives: no contract can say what a device does, so the tests run
 // each command on files.
-pub fn answer<R, D>(rt: &R, disk: &D, command: &Command<'_>) -> Result<CommandOutput, Fault>
+pub fn output_of<R, D>(rt: &R, disk: &D, command: &Command<'_>) -> Result<CommandOutput, Fault>
 where
     R: Files + AllocGlobal + Clock + Eprint,
     R: Net<Listener = TcpListener, Stream = TcpStream>,
     D: Disk,
-    ensures answer { IfOk result (IsAnswer (D.known disk.now) command.now) }
+    ensures output { IfOk result (IsOutput (D.known disk.now) command.now) }
     ensures fault { IfErr result (IsRefused (D.known disk.now) command.now) }
 {
     let alloc = rt.alloc();
@@ -63,7 +63,7 @@ where
 
 // The choice of a run.
 fn chosen<D: Disk>(alloc: Global, disk: &D, run: &RunArgs<'_>) -> Result<CommandOutput, Fault>
-    ensures answer { IfOk result (IsAnswer (D.known disk.now) (Command.Run run.now)) }
+    ensures output { IfOk result (IsOutput (D.known disk.now) (Command.Run run.now)) }
     ensures fault { IfErr result (IsRefused (D.known disk.now) (Command.Run run.now)) }
 {
     match run_file(alloc, disk, run) {

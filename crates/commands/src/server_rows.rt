@@ -7,7 +7,7 @@ use command_line::{CommandArgument, CommandRow, MANIFEST, NumberLimits, OPERATOR
 pub const CELLS: CommandRow<Verb> = CommandRow {
     verb: Verb::Cells,
     name: "cells",
-    about: "Tell a server's counters that aren't 0; prints `NAME[I] V` for each",
+    about: "Show a server's counters that aren't 0; prints `NAME[I] V` for each",
     end: None,
     arguments: &[OPERATOR],
 };
@@ -16,12 +16,12 @@ pub const CELLS: CommandRow<Verb> = CommandRow {
 pub const LOAD: CommandRow<Verb> = CommandRow {
     verb: Verb::Load,
     name: "load",
-    about: "Have a server load a manifest; prints `generation G`, or its refusal",
+    about: "Let a server load a manifest; prints `generation G`, or its refusal",
     end: None,
     arguments: &[
         CommandArgument::Word(
             "PATH",
-            "Manifest, as the server sees it: write its path whole, from / on",
+            "Absolute path of the manifest, as the server sees it",
         ),
         OPERATOR,
     ],
@@ -31,7 +31,7 @@ pub const LOAD: CommandRow<Verb> = CommandRow {
 pub const REPLAY: CommandRow<Verb> = CommandRow {
     verb: Verb::Replay,
     name: "replay",
-    about: "Play a script of runs and swaps, without a server; prints a line an event",
+    about: "Play a script of runs and swaps, without a server; prints a line for each event",
     end: Some(SCRIPT),
     arguments: &[
         CommandArgument::Word("MANIFEST", "File of the first manifest"),
@@ -69,8 +69,8 @@ pub const SERVE: CommandRow<Verb> = CommandRow {
         ),
         CommandArgument::Flag(
             "log",
-            "Write the log to standard error: a JSON object a line, for each connection, start, \
-             load, stop and counter",
+            "Write the log to standard error: a line of JSON for each connection, start, load, \
+             stop and counter",
         ),
     ],
 };
@@ -79,7 +79,7 @@ pub const SERVE: CommandRow<Verb> = CommandRow {
 pub const SHOW: CommandRow<Verb> = CommandRow {
     verb: Verb::Show,
     name: "show",
-    about: "Tell a server's generation and its apps",
+    about: "Show a server's generation and its apps",
     end: None,
     arguments: &[OPERATOR],
 };
@@ -98,7 +98,7 @@ pub const STOP: CommandRow<Verb> = CommandRow {
 
 // The end of `replay --help`.
 const SCRIPT: &str = "\
-A script has a line an event. Empty lines and those that begin with # are passed over.
+A script has a line for each event. Empty lines and lines that begin with # are skipped.
 
   # Worker 0 (of 0 to 63) starts a run for the app agent: bucket 4998, and no version.
   start 0 agent 4998 -

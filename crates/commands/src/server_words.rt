@@ -1,6 +1,6 @@
 //! The arguments of `replay`, and of the commands that start a server or are sent to one.
 
-ghost use Rattle.std.specs.Prelude.{List, IfOk, codes};
+ghost use Rattle.std.specs.Prelude.{List, IfOk, OnErr, codes};
 ghost use Rattle.clap.specs.Words.{Row, found_of, rows_of};
 ghost use Rattle.command_line.specs.Values.{HasFlag, HasShort, OnWrong};
 ghost use Rattle.commands.specs.Words.{HasPlan, LacksPlan, VerbMakes, VerbMakesNone};
@@ -34,7 +34,7 @@ pub fn read_serve<'a>(found: &ArgMatches<'a>) -> Result<Command<'a>, ArgsError>
 // How a server is to serve, by the options.
 fn plan_of(found: &ArgMatches<'_>) -> Result<Plan, ArgsError>
     ensures given { IfOk result (HasPlan (rows_of (found_of found.now))) }
-    ensures lacking { OnWrong result (LacksPlan (rows_of (found_of found.now))) }
+    ensures lacking { OnErr result (LacksPlan (rows_of (found_of found.now))) }
 {
     let port = number_of(found, "port")?;
     let operator = number_of(found, "operator")?;

@@ -10,7 +10,7 @@ use crate::fault::Fault;
 use crate::logged::note_refusal;
 use crate::output::CommandOutput;
 use crate::request::{Command, Plan};
-use crate::requests::answer;
+use crate::requests::output_of;
 use crate::serve::serve_until_stopped;
 use crate::words::read_words;
 use command_line::{print_output, refused, usage};
@@ -69,14 +69,22 @@ where
     ensures done { result ≡ 0 → IsAnswered (D.known disk.now) command.now
         (O.contents out.old) (O.contents out.new) (IsGiven E.contents err.old err.new) }
 {
-    match answer(rt, disk, command) {
+    match output_of(rt, disk, command) {
         Ok(CommandOutput::Ready { server, plan }) => {
             serve(rt, disk, server, manifest_of(command), &plan, out, err)
         }
-        Ok(output) => print_output(&output, out, err),
+        // An output and a fault are dropped by one call. Left to the end of the arm, each of their
+        // many parts would be dropped by its own call.
+        Ok(output) => {
+            let status = print_output(&output, out, err);
+            drop(output);
+            status
+        }
         Err(fault) => {
             note_refusal(rt, command, &fault);
-            refused(err, &fault)
+            let status = refused(err, &fault);
+            drop(fault);
+            status
         }
     }
 }
@@ -114,6 +122,11 @@ where
 {
     match serve_until_stopped(rt, disk, server, manifest, plan, out) {
         Ok(()) => 0,
-        Err(fault) => refused(err, &Fault::Serving(fault)),
+        Err(fault) => {
+            let fault = Fault::Serving(fault);
+            let status = refused(err, &fault);
+            drop(fault);
+            status
+        }
     }
 }

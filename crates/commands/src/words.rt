@@ -3,12 +3,13 @@
 ghost use Rattle.std.specs.Prelude.{map, IfOk, IfErr};
 ghost use Rattle.clap.specs.Words.{found_of, rows_of, subcommand_rows_of};
 ghost use Rattle.command_line.specs.Grammar.{verb_of};
+ghost use Rattle.command_line.specs.Requests.{FoundMakes, FoundMakesNone};
 ghost use Rattle.command_line.specs.Values.{OnWrong};
 ghost use Rattle.commands.specs.Grammar.{names};
 ghost use Rattle.commands.specs.Requests.{AskFor, IsWordsFault};
-ghost use Rattle.commands.specs.Words.{IsMade, IsNoneMade, VerbMakes, VerbMakesNone};
+ghost use Rattle.commands.specs.Words.{VerbMakes, VerbMakesNone};
 
-use crate::program_words::{read_assemble, read_compile, read_list, read_run_once, read_verify};
+use crate::program_words::{read_assemble, read_compile, read_list, read_run_command, read_verify};
 use crate::request::Command;
 use crate::rows::command_rows;
 use crate::server_words::{read_cells, read_load, read_replay, read_serve, read_show, read_stop};
@@ -31,7 +32,7 @@ pub fn read_words<'a, S: AsStr>(alloc: Global, words: &'a [S]) -> Result<Command
     };
     match command_of(alloc, &matches) {
         Ok(command) => Ok(command),
-        Err(ArgsError::Wrong(fault)) => Err(WordsFault::Nothing(fault)),
+        Err(ArgsError::Wrong(fault)) => Err(WordsFault::Argument(fault)),
         Err(ArgsError::Memory) => Err(WordsFault::Memory),
     }
 }
@@ -40,8 +41,10 @@ pub fn read_words<'a, S: AsStr>(alloc: Global, words: &'a [S]) -> Result<Command
 // days are well-formed, since the grammar requires each other value and checks its range. This is
 // tested, command by command.
 fn command_of<'a>(alloc: Global, matches: &ArgMatches<'a>) -> Result<Command<'a>, ArgsError>
-    ensures made { IfOk result (IsMade (verb_of names (subcommand_rows_of matches.now))) }
-    ensures none { OnWrong result (IsNoneMade (verb_of names (subcommand_rows_of matches.now))) }
+    ensures made { IfOk result (FoundMakes VerbMakes
+        (verb_of names (subcommand_rows_of matches.now))) }
+    ensures none { OnWrong result (FoundMakesNone VerbMakes
+        (verb_of names (subcommand_rows_of matches.now))) }
 {
     match command_found(command_rows(), matches) {
         Some((verb, found)) => command_with(alloc, verb, found),
@@ -64,7 +67,7 @@ fn command_with<'a>(
         Verb::List => read_list(found),
         Verb::Load => read_load(found),
         Verb::Replay => read_replay(found),
-        Verb::Run => read_run_once(alloc, found),
+        Verb::Run => read_run_command(alloc, found),
         Verb::Serve => read_serve(found),
         Verb::Show => read_show(found),
         Verb::Stop => read_stop(found),

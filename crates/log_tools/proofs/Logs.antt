@@ -5,7 +5,7 @@ use Rattle.std.proofs.Common.{Bool, is_some, option_map, string_bytes}
 use Rattle.std.proofs.lemmas.Grind.{flat_map-append}
 use Rattle.std.proofs.lemmas.List.{length-append}
 use Rattle.std.proofs.lemmas.List.Concat.{flat_map-cons}
-use Rattle.log_tools.specs.Reports.{CountsLogs, HasReported, picture_told, text_told}
+use Rattle.log_tools.specs.Reports.{CountsLogs, HasReported, picture_if, text_by}
 use Rattle.log_tools.specs.declared.reporting.ReportOutput.{ReportOutput}
 use Rattle.moments.specs.declared.moment.NamedTime.{NamedTime}
 use Rattle.report.specs.Counts.{Counts}
@@ -57,17 +57,17 @@ module _ (window : Window) where
   }
 
 pub has_reported : (n : ℕ) (since until : Option NamedTime) (prometheus drawn : Bool)
-    (told : ReportOutput) (window : Window) (start last : Report)
+    (output : ReportOutput) (window : Window) (start last : Report)
     → is_some window.since ≡ is_some since → is_some window.until ≡ is_some until
     → Counts window [] drawn start → CountsLogs window n start last
-    → string_bytes told.text ≡ text_told prometheus last
-    → option_map string_bytes told.picture ≡ picture_told drawn last
-    → HasReported n since until prometheus drawn told
-has_reported n since until prometheus drawn told window start last from to none reads text
+    → string_bytes output.text ≡ text_by prometheus last
+    → option_map string_bytes output.picture ≡ picture_if drawn last
+    → HasReported n since until prometheus drawn output
+has_reported n since until prometheus drawn output window start last from to none reads text
     picture =
     record {
       window = window;
-      asked_for = record { since_is = from; until_is = to };
+      window_is = record { since_is = from; until_is = to };
       logs = reads.logs;
       each = reads.each;
       report = last;

@@ -25,21 +25,21 @@ pub record CountsLogs (window : Window) (n : ℕ) (old new : Report) : Type 0 wh
   pub counted : CountsLines window (flat_map lines_in logs) old new
 
 -- the text: as a screen, or in Prometheus's format
-abbrev pub text_told : Bool → Report → List ℕ
-text_told prometheus report = if prometheus then exposition report else screen report
+abbrev pub text_by : Bool → Report → List ℕ
+text_by prometheus report = if prometheus then exposition report else screen report
 
 -- the picture, if one is drawn
-abbrev pub picture_told : Bool → Report → Option (List ℕ)
-picture_told drawn report = if drawn then Some (course_picture report) else None
+abbrev pub picture_if : Bool → Report → Option (List ℕ)
+picture_if drawn report = if drawn then Some (course_picture report) else None
 
 -- the report that counts the lines of `n` logs, each from its first byte to its last
 pub record HasReported (n : ℕ) (since until : Option NamedTime) (prometheus drawn : Bool)
-    (told : ReportOutput) : Type 0 where
+    (output : ReportOutput) : Type 0 where
   pub window : Window
-  pub asked_for : IsWindowOf since until window
+  pub window_is : IsWindowOf since until window
   pub logs : List (List ℕ)
   pub each : length logs ≡ n
   pub report : Report
   pub counted : Counts window (flat_map lines_in logs) drawn report
-  pub text_is : string_bytes told.text ≡ text_told prometheus report
-  pub picture_is : option_map string_bytes told.picture ≡ picture_told drawn report
+  pub text_is : string_bytes output.text ≡ text_by prometheus report
+  pub picture_is : option_map string_bytes output.picture ≡ picture_if drawn report

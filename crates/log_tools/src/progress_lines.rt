@@ -32,7 +32,7 @@ impl<'a, R: Clock + Eprint> LogOnlooker for ProgressLines<'a, R> {
         if now.saturating_duration_since(said).as_secs() > 0 {
             self.said = Some(now);
             let read = bytes / MEBIBYTE;
-            let _told = eprintln!(self.rt; "read {read} MiB");
+            let _printed = eprintln!(self.rt; "read {read} MiB");
         }
     }
 }

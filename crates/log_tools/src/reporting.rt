@@ -2,7 +2,7 @@
 
 ghost use Rattle.std.specs.Prelude.{◌≡◌, IfOk, OnOk, is_some, length, option_map};
 ghost use Rattle.std.specs.String.{string_bytes};
-ghost use Rattle.log_tools.specs.Reports.{CountsLogs, HasReported, picture_told, text_told};
+ghost use Rattle.log_tools.specs.Reports.{CountsLogs, HasReported, picture_if, text_by};
 
 use crate::picture_file::{require_drawable, write_picture};
 use crate::progress_lines::ProgressLines;
@@ -50,13 +50,13 @@ where
         (HasReported (length logs.now) since until prometheus (is_some file.entry)) }
 {
     require_drawable(rt, logs, file)?;
-    let told = told_of_logs(rt, logs, since, until, prometheus, file.is_some())?;
-    write_picture(rt, file, &told.picture)?;
-    Ok(told)
+    let output = output_of_logs(rt, logs, since, until, prometheus, file.is_some())?;
+    write_picture(rt, file, &output.picture)?;
+    Ok(output)
 }
 
 // The report, before its picture is written.
-fn told_of_logs<R>(
+fn output_of_logs<R>(
     rt: &R,
     logs: &[&str],
     since: Option<NamedTime>,
@@ -76,22 +76,22 @@ where
     };
     let mut report = Report::new(rt.alloc(), drawn);
     count_logs(rt, logs, &window, &mut report)?;
-    match told_of(rt.alloc(), prometheus, drawn, &report) {
-        Ok(told) => Ok(told),
+    match output_of(rt.alloc(), prometheus, drawn, &report) {
+        Ok(output) => Ok(output),
         Err(_) => Err(ResourceFault::Memory),
     }
 }
 
-fn told_of(
+fn output_of(
     alloc: Global,
     prometheus: bool,
     drawn: bool,
     report: &Report,
 ) -> Result<ReportOutput, AllocError>
     ensures text { IfOk result
-        (λ told. string_bytes told.text ≡ text_told prometheus report.now) }
+        (λ output. string_bytes output.text ≡ text_by prometheus report.now) }
     ensures picture { IfOk result
-        (λ told. option_map string_bytes told.picture ≡ picture_told drawn report.now) }
+        (λ output. option_map string_bytes output.picture ≡ picture_if drawn report.now) }
 {
     let text = text_by(alloc, prometheus, report)?;
     let picture = if drawn {
@@ -103,7 +103,7 @@ fn told_of(
 }
 
 fn text_by(alloc: Global, prometheus: bool, report: &Report) -> Result<String, AllocError>
-    ensures { IfOk result (λ text. string_bytes text ≡ text_told prometheus report.now) }
+    ensures { IfOk result (λ text. string_bytes text ≡ text_by prometheus report.now) }
 {
     if prometheus {
         exposition_text(alloc, report)

@@ -42,13 +42,13 @@ picked_alike : (c d : Client) (apps : List AppRule) (appid : List ℕ) (s : Simu
     → IsSameButApp c d → HasPicked d apps appid s → HasPicked c apps appid s
 picked_alike c d apps appid s same (nothing lacks apps_none chosen_none) =
     nothing lacks apps_none chosen_none
-picked_alike c d apps appid s same (picked chosen place asked stands apps_are chosen_are) =
-    picked chosen place (simulated_alike c d apps chosen same asked) stands apps_are chosen_are
+picked_alike c d apps appid s same (picked chosen place simulated stands apps_are chosen_are) =
+    picked chosen place (simulated_alike c d apps chosen same simulated) stands apps_are chosen_are
 
-pub told_alike : (c d : Client) (rules : Rules) (appid : Option (List ℕ)) (s : Simulation)
+pub simulation_alike : (c d : Client) (rules : Rules) (appid : Option (List ℕ)) (s : Simulation)
     → IsSameButApp c d → IsSimulationBy d rules appid s → IsSimulationBy c rules appid s
-told_alike c d rules None s same by = record {
+simulation_alike c d rules None s same by = record {
   apps_are = by.apps_are;
-  asked = simulated_alike c d rules.apps s.chosen same by.asked;
+  simulated = simulated_alike c d rules.apps s.chosen same by.simulated;
 }
-told_alike c d rules (Some appid) s same by = picked_alike c d rules.apps appid s same by
+simulation_alike c d rules (Some appid) s same by = picked_alike c d rules.apps appid s same by

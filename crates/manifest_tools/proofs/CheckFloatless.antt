@@ -5,12 +5,13 @@ use Rattle.std.specs.Borrow.{Bor}
 use Rattle.bounded_files.specs.Files.{KnownFiles}
 use Rattle.cells.specs.Directory.{Declaration}
 use Rattle.diagnosis.specs.declared.accepted.CheckedManifest.{CheckedManifest}
-use Rattle.manifest_tools.specs.CheckObjects.{AreToldAs, IsToldAs, accepted_object, array_object}
+use Rattle.manifest_tools.specs.CheckObjects.{AreCheckObjects, IsCheckObject}
+use Rattle.manifest_tools.specs.CheckObjects.{accepted_object, array_object}
 use Rattle.manifest_tools.specs.CheckObjects.{checked_app_object, checks_object, fault_objects}
 use Rattle.manifest_tools.specs.CheckObjects.{further_object, quota_object, refused_object}
 use Rattle.manifest_tools.specs.CheckObjects.{warning_object}
-use Rattle.manifest_tools.specs.CheckObjects.IsToldAs.{accepted, refused}
-use Rattle.manifest_tools.specs.CheckObjects.AreToldAs.{none, next}
+use Rattle.manifest_tools.specs.CheckObjects.IsCheckObject.{accepted, refused}
+use Rattle.manifest_tools.specs.CheckObjects.AreCheckObjects.{none, next}
 use Rattle.manifest_tools.specs.declared.fault.ManifestToolFault.{ManifestToolFault}
 use Rattle.manifest_tools.specs.declared.fault.ManifestToolFault.TheVariants as fault
 use Rattle.serde_json.specs.Data.{Data}
@@ -55,15 +56,15 @@ quota (Some q) = refl
 of_array : (d : Declaration) → has_float (array_object d) ≡ false
 of_array d = or_neither (has_float (quota_object d.quota)) false (quota d.quota) refl
 
-of_accepted : (allowed : List (Bor (List ℕ))) (path : List ℕ) (told : CheckedManifest)
-    → has_float (accepted_object allowed path told) ≡ false
-of_accepted allowed path told =
-    or_neither _ _ (mapped checked_app_object told.apps.items (λ a. refl))
-    (or_neither _ _ (mapped array_object told.arrays.items of_array)
-    (or_neither _ false (mapped (warning_object allowed) told.warnings.items (λ w. refl)) refl))
+of_accepted : (allowed : List (Bor (List ℕ))) (path : List ℕ) (checked : CheckedManifest)
+    → has_float (accepted_object allowed path checked) ≡ false
+of_accepted allowed path checked =
+    or_neither _ _ (mapped checked_app_object checked.apps.items (λ a. refl))
+    (or_neither _ _ (mapped array_object checked.arrays.items of_array)
+    (or_neither _ false (mapped (warning_object allowed) checked.warnings.items (λ w. refl)) refl))
 
 of_faults : (why : ManifestToolFault) → AreFloatless (fault_objects why)
-of_faults (fault.Diagnosed told) = mapped further_object told.further.items (λ f. refl)
+of_faults (fault.Diagnosed found) = mapped further_object found.further.items (λ f. refl)
 of_faults why = refl
 
 of_refused : (path : List ℕ) (why : ManifestToolFault)
@@ -72,25 +73,25 @@ of_refused path why = or_neither _ false (of_faults why) refl
 
 -- ---- all of them
 
-of_told : (known : KnownFiles) (strict : Bool) (allowed : List (Bor (List ℕ))) (path : List ℕ)
-    (value : Data) (one : Bool) → IsToldAs known strict allowed path value one
+of_object : (known : KnownFiles) (strict : Bool) (allowed : List (Bor (List ℕ))) (path : List ℕ)
+    (value : Data) (one : Bool) → IsCheckObject known strict allowed path value one
     → has_float value ≡ false
-of_told known strict allowed path value one (accepted told checked) =
-    of_accepted allowed path told
-of_told known strict allowed path value one (refused why refuses) = of_refused path why
+of_object known strict allowed path value one (accepted manifest checked) =
+    of_accepted allowed path manifest
+of_object known strict allowed path value one (refused why refuses) = of_refused path why
 
 of_each : (known : KnownFiles) (strict : Bool) (allowed : List (Bor (List ℕ)))
     (paths : List (Bor (List ℕ))) (values : List Data) (all : Bool)
-    → AreToldAs known strict allowed paths values all → AreFloatless values
+    → AreCheckObjects known strict allowed paths values all → AreFloatless values
 of_each known strict allowed paths values all none = refl
 of_each known strict allowed paths values all
-    (next before path so_far value passed one told last) =
-    behind so_far value (of_each known strict allowed before so_far passed told)
-    (of_told known strict allowed path.now value one last)
+    (next before path so_far value passed one objects last) =
+    behind so_far value (of_each known strict allowed before so_far passed objects)
+    (of_object known strict allowed path.now value one last)
 
 pub of_checks : (known : KnownFiles) (strict : Bool) (allowed : List (Bor (List ℕ)))
     (paths : List (Bor (List ℕ))) (values : List Data) (all : Bool)
-    → AreToldAs known strict allowed paths values all
+    → AreCheckObjects known strict allowed paths values all
     → has_float (checks_object values all) ≡ false
-of_checks known strict allowed paths values all told =
-    or_neither _ false (of_each known strict allowed paths values all told) refl
+of_checks known strict allowed paths values all objects =
+    or_neither _ false (of_each known strict allowed paths values all objects) refl

@@ -50,23 +50,23 @@ refused_more known strict allowed path fault old new checked added = record {
 -- ---- in order
 
 -- the first `n` manifests are reported
-abbrev pub AreToldSoFar : KnownFiles → (strict : Bool) → (allowed paths : List (Bor (List ℕ)))
+abbrev pub AreCheckedSoFar : KnownFiles → (strict : Bool) → (allowed paths : List (Bor (List ℕ)))
     → (n : ℕ) → CheckOutput → Type 0
-AreToldSoFar known strict allowed paths n told =
-    AreCheckedEach known strict allowed (take n paths) (string_bytes told.text)
-    (string_bytes told.beside) told.passes
+AreCheckedSoFar known strict allowed paths n output =
+    AreCheckedEach known strict allowed (take n paths) (string_bytes output.text)
+    (string_bytes output.beside) output.passes
 
-pub none_told : (known : KnownFiles) (strict : Bool) (allowed paths : List (Bor (List ℕ)))
+pub none_checked : (known : KnownFiles) (strict : Bool) (allowed paths : List (Bor (List ℕ)))
     (text beside : List ℕ) → text ≡ [] → beside ≡ []
     → AreCheckedEach known strict allowed (take 0 paths) text beside true
-none_told known strict allowed paths text beside no_text nothing = rw (no_text, nothing) none
+none_checked known strict allowed paths text beside no_text nothing = rw (no_text, nothing) none
 
-pub one_told_more : (known : KnownFiles) (strict : Bool) (allowed paths : List (Bor (List ℕ)))
+pub one_more_checked : (known : KnownFiles) (strict : Bool) (allowed paths : List (Bor (List ℕ)))
     (n : ℕ) (d : Bor (List ℕ)) (old new : CheckOutput)
-    → AreToldSoFar known strict allowed paths n old → n < length paths
+    → AreCheckedSoFar known strict allowed paths n old → n < length paths
     → AddsChecked known strict allowed (get_or paths n d).now old new
-    → AreToldSoFar known strict allowed paths (n + 1) new
-one_told_more known strict allowed paths n d old new so_far within added =
+    → AreCheckedSoFar known strict allowed paths (n + 1) new
+one_more_checked known strict allowed paths n d old new so_far within added =
     let paths_are : take (n + 1) paths ≡ take n paths ++ get_or paths n d ∷ [] =
     rw add-one (take-suc paths n d within) in
     rw (paths_are, added.text_is, added.beside_is, added.passes_is)

@@ -69,13 +69,13 @@ warning_object allowed w = object (
 
 abbrev pub accepted_object : (allowed : List (Bor (List ℕ))) → (path : List ℕ)
     → CheckedManifest → Data
-accepted_object allowed path told = object (
+accepted_object allowed path checked = object (
     member (codes "accepted") (boolean true) (
-    member (codes "apps") (list_of (map checked_app_object told.apps.items)) (
-    member (codes "arrays") (list_of (map array_object told.arrays.items)) (
-    member (codes "digest") (string (encode_lower told.digest)) (
+    member (codes "apps") (list_of (map checked_app_object checked.apps.items)) (
+    member (codes "arrays") (list_of (map array_object checked.arrays.items)) (
+    member (codes "digest") (string (encode_lower checked.digest)) (
     member (codes "manifest") (string path) (
-    member (codes "warnings") (list_of (map (warning_object allowed) told.warnings.items))
+    member (codes "warnings") (list_of (map (warning_object allowed) checked.warnings.items))
     no_members))))))
 
 -- ---- a refused manifest
@@ -89,16 +89,16 @@ fault_object refusal reason = object (
     no_members))
 
 abbrev pub further_object : ToldFault → Data
-further_object told = fault_object (load_fault_text told.fault) (string_bytes told.reason)
+further_object further = fault_object (load_fault_text further.fault) (string_bytes further.reason)
 
 -- the fault for which it is refused, and further ones
-abbrev pub told_objects : Refused → List Data
-told_objects refused =
+abbrev pub diagnosed_objects : Refused → List Data
+diagnosed_objects refused =
     fault_object (load_fault_text refused.fault) (string_bytes refused.own)
     ∷ map further_object refused.further.items
 
 abbrev pub fault_objects : ManifestToolFault → List Data
-fault_objects (fault.Diagnosed refused) = told_objects refused
+fault_objects (fault.Diagnosed refused) = diagnosed_objects refused
 fault_objects refused = fault_object (fault_text refused) [] ∷ []
 
 -- how many further faults are left out, and how many apps have files that weren't read
@@ -129,35 +129,35 @@ checks_object manifests passes = object (
 
 module _ (known : KnownFiles) (strict : Bool) (allowed : List (Bor (List ℕ))) where
   -- the object of a manifest, and whether it passes
-  pub data IsToldAs (path : List ℕ) : Data → (passes : Bool) → Type 0 where
-    accepted : (told : CheckedManifest) → IsChecked known path told
-        → IsToldAs path (accepted_object allowed path told)
-        (passes strict allowed told.warnings.items)
+  pub data IsCheckObject (path : List ℕ) : Data → (passes : Bool) → Type 0 where
+    accepted : (checked : CheckedManifest) → IsChecked known path checked
+        → IsCheckObject path (accepted_object allowed path checked)
+        (passes strict allowed checked.warnings.items)
     refused : (why : ManifestToolFault) → IsCheckRefusal known path why
-        → IsToldAs path (refused_object path why) false
+        → IsCheckObject path (refused_object path why) false
 
   -- the objects of manifests, in order; all have to pass
-  pub data AreToldAs : List (Bor (List ℕ)) → List Data → (passes : Bool) → Type 0 where
-    none : AreToldAs [] [] true
+  pub data AreCheckObjects : List (Bor (List ℕ)) → List Data → (passes : Bool) → Type 0 where
+    none : AreCheckObjects [] [] true
     next : (paths : List (Bor (List ℕ))) (path : Bor (List ℕ)) (values : List Data)
-        (value : Data) (all one : Bool) → AreToldAs paths values all
-        → IsToldAs path.now value one
-        → AreToldAs (paths ++ path ∷ []) (values ++ value ∷ []) (all && one)
+        (value : Data) (all one : Bool) → AreCheckObjects paths values all
+        → IsCheckObject path.now value one
+        → AreCheckObjects (paths ++ path ∷ []) (values ++ value ∷ []) (all && one)
 
   -- a line of JSON, and nothing in `beside`
-  pub record AreCheckedAsJson (paths : List (Bor (List ℕ))) (told : CheckOutput) : Type 0 where
+  pub record AreCheckedAsJson (paths : List (Bor (List ℕ))) (output : CheckOutput) : Type 0 where
     pub values : List Data
-    pub told_as : AreToldAs paths values told.passes
-    pub text_is : string_bytes told.text ≡ json_line (checks_object values told.passes)
-    pub beside_is : string_bytes told.beside ≡ []
+    pub objects : AreCheckObjects paths values output.passes
+    pub text_is : string_bytes output.text ≡ json_line (checks_object values output.passes)
+    pub beside_is : string_bytes output.beside ≡ []
 
 -- ---- as lines, or as JSON
 
 abbrev pub IsCheckOutput : KnownFiles → (json strict : Bool) → (allowed paths : List (Bor (List ℕ)))
     → CheckOutput → Type 0
-IsCheckOutput known false strict allowed paths told = AreChecked known strict allowed paths told
-IsCheckOutput known true strict allowed paths told =
-    AreCheckedAsJson known strict allowed paths told
+IsCheckOutput known false strict allowed paths output = AreChecked known strict allowed paths output
+IsCheckOutput known true strict allowed paths output =
+    AreCheckedAsJson known strict allowed paths output
 
 -- as JSON each manifest is reported, unless memory runs out
 abbrev pub RefusesChecks : KnownFiles → (json : Bool) → List (Bor (List ℕ)) → ManifestToolFault

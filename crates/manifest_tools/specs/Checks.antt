@@ -29,10 +29,10 @@ digest_line digest = line (codes "digest " ++ encode_lower digest)
 -- the report on an accepted manifest: its lines with the digest, those of its warnings, and whether
 -- it passes
 pub record TellsChecked (strict : Bool) (allowed : List (Bor (List ℕ))) (one : CheckedManifest)
-    (told : CheckOutput) : Type 0 where
-  pub text_is : string_bytes told.text ≡ string_bytes one.text ++ digest_line one.digest
-  pub beside_is : string_bytes told.beside ≡ warnings_text one.warnings.items
-  pub passes_is : told.passes ≡ passes strict allowed one.warnings.items
+    (output : CheckOutput) : Type 0 where
+  pub text_is : string_bytes output.text ≡ string_bytes one.text ++ digest_line one.digest
+  pub beside_is : string_bytes output.beside ≡ warnings_text one.warnings.items
+  pub passes_is : output.passes ≡ passes strict allowed one.warnings.items
 
 -- the report on a refused manifest: the line of its refusal, followed by where and why
 abbrev pub reason_behind : ManifestToolFault → List ℕ
@@ -73,17 +73,17 @@ pub record AddsRefused (path : List ℕ) (why : ManifestToolFault) (old new : Ch
 
 module _ (known : KnownFiles) (strict : Bool) (allowed : List (Bor (List ℕ))) where
   -- the check of a single manifest
-  pub record IsCheckedAlone (path : List ℕ) (told : CheckOutput) : Type 0 where
+  pub record IsCheckedAlone (path : List ℕ) (output : CheckOutput) : Type 0 where
     pub one : CheckedManifest
     pub checked : IsChecked known path one
-    pub tells : TellsChecked strict allowed one told
+    pub tells : TellsChecked strict allowed one output
 
   -- one of several: its lines, those in `beside`, and whether it passes
   pub data IsCheckedAmong (path : List ℕ) : (text beside : List ℕ) → (passes : Bool) → Type 0
     where
-      accepted : (told : CheckOutput) → IsCheckedAlone path told
-          → IsCheckedAmong path (titled path (string_bytes told.text))
-          (titled_if_any path (string_bytes told.beside)) told.passes
+      accepted : (output : CheckOutput) → IsCheckedAlone path output
+          → IsCheckedAmong path (titled path (string_bytes output.text))
+          (titled_if_any path (string_bytes output.beside)) output.passes
       refused : (why : ManifestToolFault) → IsCheckRefusal known path why
           → IsCheckedAmong path [] (titled path (refusal_text why)) false
 
@@ -107,9 +107,9 @@ module _ (known : KnownFiles) (strict : Bool) (allowed : List (Bor (List ℕ))) 
         → AreCheckedEach (paths ++ path ∷ []) (texts ++ text) (besides ++ beside) (all && one)
 
   abbrev pub AreChecked : List (Bor (List ℕ)) → CheckOutput → Type 0
-  AreChecked (path ∷ []) told = IsCheckedAlone path.now told
-  AreChecked paths told =
-      AreCheckedEach paths (string_bytes told.text) (string_bytes told.beside) told.passes
+  AreChecked (path ∷ []) output = IsCheckedAlone path.now output
+  AreChecked paths output =
+      AreCheckedEach paths (string_bytes output.text) (string_bytes output.beside) output.passes
 
 -- a single manifest is refused; for several, each is reported, unless memory runs out
 abbrev pub AreCheckRefusal : KnownFiles → List (Bor (List ℕ)) → ManifestToolFault → Type 0

@@ -14,8 +14,8 @@ module _ (known : KnownFiles) where
   -- the manifest of the file loads as a ruleset, whose arrays and apps are reported, with its
   -- warnings
   abbrev pub IsChecked : (path : List ℕ) → CheckedManifest → Type 0
-  IsChecked path told = OfFile (regular_files known) path (λ bytes.
-      PassesCheck (known_beside known path) bytes told)
+  IsChecked path checked = OfFile (regular_files known) path (λ bytes.
+      PassesCheck (known_beside known path) bytes checked)
 
   -- the file can't be read or isn't regular, or its manifest is refused, with where and why;
   -- running out of memory for the file is always allowed

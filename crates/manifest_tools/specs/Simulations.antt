@@ -27,7 +27,7 @@ use Rattle.manifest_tools.specs.declared.simulation_output.SimulationOutput.{Sim
 -- what the clients in all buckets get by a ruleset
 pub record IsSimulationOfAll (client : Client) (rules : Rules) (s : Simulation) : Type 0 where
   pub apps_are : s.apps ≡ rules.apps
-  pub asked : IsSimulated client rules.apps s.chosen
+  pub simulated : IsSimulated client rules.apps s.chosen
 
 -- the simulation of all its apps, or of the app with this appid
 abbrev pub IsSimulationBy : Client → Rules → (appid : Option (List ℕ)) → Simulation → Type 0
@@ -56,33 +56,33 @@ text_against true now next = json_line (comparison_object now next)
 
 -- the report on a simulation, and the picture of the same simulation
 pub record TellsAlone (json : Bool) (next : Simulation) (file : Option (List ℕ))
-    (told : SimulationOutput) : Type 0 where
-  pub text_is : string_bytes told.text ≡ text_alone json next
-  pub picture_is : option_map string_bytes told.picture ≡ picture_if file next
-  pub loses_is : told.loses ≡ false
+    (output : SimulationOutput) : Type 0 where
+  pub text_is : string_bytes output.text ≡ text_alone json next
+  pub picture_is : option_map string_bytes output.picture ≡ picture_if file next
+  pub loses_is : output.loses ≡ false
 
 -- compared with another one
 pub record TellsAgainst (json : Bool) (next now : Simulation) (file : Option (List ℕ))
-    (told : SimulationOutput) : Type 0 where
-  pub text_is : string_bytes told.text ≡ text_against json now next
-  pub picture_is : option_map string_bytes told.picture ≡ picture_if file next
-  pub loses_is : told.loses ≡ is_lossy now next
+    (output : SimulationOutput) : Type 0 where
+  pub text_is : string_bytes output.text ≡ text_against json now next
+  pub picture_is : option_map string_bytes output.picture ≡ picture_if file next
+  pub loses_is : output.loses ≡ is_lossy now next
 
 -- the report on a single ruleset
 pub record ShowsAlone (json : Bool) (client : Client) (rules : Rules)
-    (appid file : Option (List ℕ)) (told : SimulationOutput) : Type 0 where
+    (appid file : Option (List ℕ)) (output : SimulationOutput) : Type 0 where
   pub next : Simulation
   pub simulated : IsSimulationBy client rules appid next
-  pub tells : TellsAlone json next file told
+  pub tells : TellsAlone json next file output
 
 -- the report on a ruleset compared with another one
 pub record ShowsAgainst (json : Bool) (client : Client) (rules serving : Rules)
-    (appid file : Option (List ℕ)) (told : SimulationOutput) : Type 0 where
+    (appid file : Option (List ℕ)) (output : SimulationOutput) : Type 0 where
   pub next : Simulation
   pub simulated : IsSimulationBy client rules appid next
   pub now : Simulation
   pub served : IsSimulationBy client serving appid now
-  pub tells : TellsAgainst json next now file told
+  pub tells : TellsAgainst json next now file output
 
 -- ---- manifests
 
@@ -98,13 +98,13 @@ module _ (known : KnownFiles) where
   -- the report on a simulation, and its picture
   abbrev pub HasSimulated : (json : Bool) → Client → (manifest : List ℕ)
       → (against appid file : Option (List ℕ)) → SimulationOutput → Type 0
-  HasSimulated json client manifest None appid file told =
+  HasSimulated json client manifest None appid file output =
       (rules : Rules) × IsLoadedFor manifest appid rules
-      × ShowsAlone json client rules appid file told
-  HasSimulated json client manifest (Some path) appid file told =
+      × ShowsAlone json client rules appid file output
+  HasSimulated json client manifest (Some path) appid file output =
       (rules : Rules) × IsLoadedFor manifest appid rules
       × (serving : Rules) × IsLoadedAlone path serving
-      × ShowsAgainst json client rules serving appid file told
+      × ShowsAgainst json client rules serving appid file output
 
   -- the other manifest can't be loaded, and the first one can
   abbrev pub RefusesAgainst : (manifest : List ℕ) → (against appid : Option (List ℕ))
@@ -132,8 +132,8 @@ module _ (known : KnownFiles) where
   pub record IsPictureRefusal (json : Bool) (client : Client) (manifest : List ℕ)
       (against appid file : Option (List ℕ)) : Type 0 where
     pub named : IsSome file
-    pub told : SimulationOutput
-    pub simulated : HasSimulated json client manifest against appid file told
+    pub output : SimulationOutput
+    pub simulated : HasSimulated json client manifest against appid file output
 
   -- the manifests give no report, or the picture can't be written
   abbrev pub IsSimulationRefusal : (json : Bool) → Client → (manifest : List ℕ)

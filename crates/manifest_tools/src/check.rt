@@ -17,7 +17,7 @@ pub(crate) fn check_file<D: Disk>(
     disk: &D,
     path: &str,
 ) -> Result<CheckedManifest, ManifestToolFault>
-    ensures told { IfOk result (IsChecked (D.known disk.now) path.now) }
+    ensures checked { IfOk result (IsChecked (D.known disk.now) path.now) }
     ensures fault { IfErr result (IsCheckRefusal (D.known disk.now) path.now) }
 {
     let bytes = match disk.read_regular(path, MOST_MANIFEST) {
@@ -27,7 +27,7 @@ pub(crate) fn check_file<D: Disk>(
     };
     let mut files = FolderFiles::beside(alloc, disk, path);
     match check(alloc, bytes.as_slice(), &mut files) {
-        Ok(told) => Ok(told),
+        Ok(checked) => Ok(checked),
         Err(refused) => Err(ManifestToolFault::Diagnosed(refused)),
     }
 }

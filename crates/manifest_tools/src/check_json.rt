@@ -3,7 +3,7 @@
 ghost use Rattle.std.specs.Prelude.{IfOk, map};
 ghost use Rattle.serde_json.specs.View.{view};
 ghost use Rattle.manifest_tools.specs.CheckObjects as specs;
-ghost use Rattle.manifest_tools.specs.CheckedObjects.{AddsToldAs};
+ghost use Rattle.manifest_tools.specs.CheckedObjects.{AddsCheckObject};
 
 use crate::check::check_file;
 use crate::check_objects::{accepted_object, checks_object, refused_object};
@@ -15,7 +15,7 @@ use std::alloc::{AllocError, Global};
 
 // An object for each manifest so far, and whether all of them pass.
 #[derive(Drop)]
-struct ToldObjects {
+struct ManifestObjects {
     values: Vec<Value>,
     passes: bool,
 }
@@ -30,9 +30,9 @@ pub(crate) fn check_as_json<D: Disk>(
 ) -> Result<CheckOutput, AllocError>
     ensures { IfOk result (specs.AreCheckedAsJson (D.known disk.now) strict allowed.now paths.now) }
 {
-    let told = objects_of(alloc, disk, paths, strict, allowed)?;
-    let passes = told.passes;
-    let value = checks_object(alloc, told.values, passes)?;
+    let objects = objects_of(alloc, disk, paths, strict, allowed)?;
+    let passes = objects.passes;
+    let value = checks_object(alloc, objects.values, passes)?;
     let text = json_line(alloc, &value)?;
     Ok(CheckOutput {
         text,
@@ -48,18 +48,18 @@ fn objects_of<D: Disk>(
     paths: &[&str],
     strict: bool,
     allowed: &[&str],
-) -> Result<ToldObjects, AllocError>
-    ensures { IfOk result (λ told. specs.AreToldAs (D.known disk.now) strict allowed.now paths.now
-        (map view told.values.items) told.passes) }
+) -> Result<ManifestObjects, AllocError>
+    ensures { IfOk result (λ objects. specs.AreCheckObjects (D.known disk.now) strict allowed.now
+        paths.now (map view objects.values.items) objects.passes) }
 {
-    let mut told = ToldObjects {
+    let mut objects = ManifestObjects {
         values: Vec::new(alloc),
         passes: true,
     };
     for path in paths {
-        told = add_object(alloc, disk, *path, strict, allowed, told)?;
+        objects = add_object(alloc, disk, *path, strict, allowed, objects)?;
     }
-    Ok(told)
+    Ok(objects)
 }
 
 // Adds the object of one more manifest.
@@ -69,14 +69,14 @@ fn add_object<D: Disk>(
     path: &str,
     strict: bool,
     allowed: &[&str],
-    mut told: ToldObjects,
-) -> Result<ToldObjects, AllocError>
-    ensures { IfOk result (AddsToldAs (D.known disk.now) strict allowed.now path.now told) }
+    mut objects: ManifestObjects,
+) -> Result<ManifestObjects, AllocError>
+    ensures { IfOk result (AddsCheckObject (D.known disk.now) strict allowed.now path.now objects) }
 {
     let (value, passes) = object_of(alloc, disk, path, strict, allowed)?;
-    push_value(&mut told.values, value)?;
-    told.passes = told.passes && passes;
-    Ok(told)
+    push_value(&mut objects.values, value)?;
+    objects.passes = objects.passes && passes;
+    Ok(objects)
 }
 
 // The object of a manifest, and whether it passes.
@@ -87,13 +87,13 @@ fn object_of<D: Disk>(
     strict: bool,
     allowed: &[&str],
 ) -> Result<(Value, bool), AllocError>
-    ensures { IfOk result (λ told. specs.IsToldAs (D.known disk.now) strict allowed.now path.now
-        (view told.0) told.1) }
+    ensures { IfOk result (λ made. specs.IsCheckObject (D.known disk.now) strict allowed.now
+        path.now (view made.0) made.1) }
 {
     match check_file(alloc, disk, path) {
-        Ok(told) => {
-            let one = passes(strict, allowed, told.warnings.as_slice());
-            let value = accepted_object(alloc, allowed, path, &told)?;
+        Ok(checked) => {
+            let one = passes(strict, allowed, checked.warnings.as_slice());
+            let value = accepted_object(alloc, allowed, path, &checked)?;
             Ok((value, one))
         }
         Err(fault) => {

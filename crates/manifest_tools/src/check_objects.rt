@@ -21,15 +21,15 @@ pub(crate) fn accepted_object(
     alloc: Global,
     allowed: &[&str],
     path: &str,
-    told: &CheckedManifest,
+    checked: &CheckedManifest,
 ) -> Result<Value, AllocError>
     ensures { IfOk result (λ value. view value
-        ≡ specs.accepted_object allowed.now path.now told.now) }
+        ≡ specs.accepted_object allowed.now path.now checked.now) }
 {
-    let apps = app_objects(alloc, told.apps.as_slice())?;
-    let arrays = array_objects(alloc, told.arrays.as_slice())?;
-    let warnings = warning_objects(alloc, allowed, told.warnings.as_slice())?;
-    let digest = hex::encode(alloc, told.digest)?;
+    let apps = app_objects(alloc, checked.apps.as_slice())?;
+    let arrays = array_objects(alloc, checked.arrays.as_slice())?;
+    let warnings = warning_objects(alloc, allowed, checked.warnings.as_slice())?;
+    let digest = hex::encode(alloc, checked.digest)?;
     json!(in alloc; {
         "accepted": true,
         "apps": apps,
@@ -164,7 +164,7 @@ fn fault_objects(alloc: Global, fault: &ManifestToolFault) -> Result<Vec<Value>,
     ensures { IfOk result (λ values. map view values.items ≡ specs.fault_objects fault.now) }
 {
     match fault {
-        ManifestToolFault::Diagnosed(refused) => told_objects(alloc, refused),
+        ManifestToolFault::Diagnosed(refused) => diagnosed_objects(alloc, refused),
         _ => other_objects(alloc, fault),
     }
 }
@@ -181,8 +181,8 @@ fn other_objects(alloc: Global, fault: &ManifestToolFault) -> Result<Vec<Value>,
     Ok(values)
 }
 
-fn told_objects(alloc: Global, refused: &Refused) -> Result<Vec<Value>, AllocError>
-    ensures { IfOk result (λ values. map view values.items ≡ specs.told_objects refused.now) }
+fn diagnosed_objects(alloc: Global, refused: &Refused) -> Result<Vec<Value>, AllocError>
+    ensures { IfOk result (λ values. map view values.items ≡ specs.diagnosed_objects refused.now) }
 {
     let refusal = refused.fault.to_string(alloc)?;
     let value = fault_object(alloc, refusal, refused.own.as_str())?;
@@ -196,18 +196,18 @@ fn push_further(values: &mut Vec<Value>, further: &[ToldFault]) -> Result<(), Al
     ensures { OnOk result (map view values.new.items
         ≡ map view values.old.items ++ map specs.further_object further.now) }
 {
-    for told in further {
-        let value = further_object(*values.allocator(), told)?;
+    for fault in further {
+        let value = further_object(*values.allocator(), fault)?;
         push_value(values, value)?;
     }
     Ok(())
 }
 
-fn further_object(alloc: Global, told: &ToldFault) -> Result<Value, AllocError>
-    ensures { IfOk result (λ value. view value ≡ specs.further_object told.now) }
+fn further_object(alloc: Global, further: &ToldFault) -> Result<Value, AllocError>
+    ensures { IfOk result (λ value. view value ≡ specs.further_object further.now) }
 {
-    let refusal = told.fault.to_string(alloc)?;
-    fault_object(alloc, refusal, told.reason.as_str())
+    let refusal = further.fault.to_string(alloc)?;
+    fault_object(alloc, refusal, further.reason.as_str())
 }
 
 fn fault_object(alloc: Global, refusal: String, reason: &str) -> Result<Value, AllocError>

@@ -45,7 +45,7 @@ pub fn check_files<D: Disk>(
     allowed: &[&str],
     json: bool,
 ) -> Result<CheckOutput, ManifestToolFault>
-    ensures told { IfOk result
+    ensures output { IfOk result
         (IsCheckOutput (D.known disk.now) json strict allowed.now paths.now) }
     ensures fault { IfErr result (RefusesChecks (D.known disk.now) json paths.now) }
 {
@@ -53,7 +53,7 @@ pub fn check_files<D: Disk>(
         return check_as_lines(alloc, disk, paths, strict, allowed);
     }
     match check_as_json(alloc, disk, paths, strict, allowed) {
-        Ok(told) => Ok(told),
+        Ok(output) => Ok(output),
         Err(_) => Err(ManifestToolFault::Resource(ResourceFault::Memory)),
     }
 }
@@ -65,13 +65,14 @@ fn check_as_lines<D: Disk>(
     strict: bool,
     allowed: &[&str],
 ) -> Result<CheckOutput, ManifestToolFault>
-    ensures told { IfOk result (specs.AreChecked (D.known disk.now) strict allowed.now paths.now) }
+    ensures output { IfOk result
+        (specs.AreChecked (D.known disk.now) strict allowed.now paths.now) }
     ensures fault { IfErr result (specs.AreCheckRefusal (D.known disk.now) paths.now) }
 {
     match paths {
         [path] => check_alone(alloc, disk, *path, strict, allowed),
         _ => match check_each(alloc, disk, paths, strict, allowed) {
-            Ok(told) => Ok(told),
+            Ok(output) => Ok(output),
             Err(_) => Err(ManifestToolFault::Resource(ResourceFault::Memory)),
         },
     }
@@ -85,13 +86,13 @@ fn check_alone<D: Disk>(
     strict: bool,
     allowed: &[&str],
 ) -> Result<CheckOutput, ManifestToolFault>
-    ensures told { IfOk result
+    ensures output { IfOk result
         (specs.IsCheckedAlone (D.known disk.now) strict allowed.now path.now) }
     ensures fault { IfErr result (IsCheckRefusal (D.known disk.now) path.now) }
 {
     let checked = check_file(alloc, disk, path)?;
     match tell_alone(alloc, checked, strict, allowed) {
-        Ok(told) => Ok(told),
+        Ok(output) => Ok(output),
         Err(_) => Err(ManifestToolFault::Resource(ResourceFault::Memory)),
     }
 }
@@ -132,18 +133,18 @@ fn check_each<D: Disk>(
     strict: bool,
     allowed: &[&str],
 ) -> Result<CheckOutput, AllocError>
-    ensures { IfOk result (λ told. specs.AreCheckedEach (D.known disk.now) strict allowed.now
-        paths.now (string_bytes told.text) (string_bytes told.beside) told.passes) }
+    ensures { IfOk result (λ output. specs.AreCheckedEach (D.known disk.now) strict allowed.now
+        paths.now (string_bytes output.text) (string_bytes output.beside) output.passes) }
 {
-    let mut told = CheckOutput {
+    let mut output = CheckOutput {
         text: String::new(alloc),
         beside: String::new(alloc),
         passes: true,
     };
     for path in paths {
-        told = add_checked(alloc, disk, *path, strict, allowed, told)?;
+        output = add_checked(alloc, disk, *path, strict, allowed, output)?;
     }
-    Ok(told)
+    Ok(output)
 }
 
 // Adds the check of one more manifest.
@@ -154,18 +155,18 @@ fn add_checked<D: Disk>(
     path: &str,
     strict: bool,
     allowed: &[&str],
-    told: CheckOutput,
+    output: CheckOutput,
 ) -> Result<CheckOutput, AllocError>
     ensures { IfOk result
-        (specs.AddsChecked (D.known disk.now) strict allowed.now path.now told) }
+        (specs.AddsChecked (D.known disk.now) strict allowed.now path.now output) }
 {
     match check_alone(alloc, disk, path, strict, allowed) {
         Ok(one) => {
-            let longer = add_accepted(path, &one, told)?;
+            let longer = add_accepted(path, &one, output)?;
             Ok(longer)
         }
         Err(fault) => {
-            let longer = add_refused(path, &fault, told);
+            let longer = add_refused(path, &fault, output);
             // Dropped by one call: left to the `?`, each of its many parts would be dropped by its
             // own call.
             drop(fault);
@@ -178,28 +179,28 @@ fn add_checked<D: Disk>(
 fn add_accepted(
     path: &str,
     one: &CheckOutput,
-    mut told: CheckOutput,
+    mut output: CheckOutput,
 ) -> Result<CheckOutput, AllocError>
-    ensures { IfOk result (specs.AddsAccepted path.now one.now told) }
+    ensures { IfOk result (specs.AddsAccepted path.now one.now output) }
 {
-    push_titled(&mut told.text, path, one.text.as_str())?;
-    push_if_any(&mut told.beside, path, one.beside.as_str())?;
-    told.passes = told.passes && one.passes;
-    Ok(told)
+    push_titled(&mut output.text, path, one.text.as_str())?;
+    push_if_any(&mut output.beside, path, one.beside.as_str())?;
+    output.passes = output.passes && one.passes;
+    Ok(output)
 }
 
 // Adds why a manifest is refused.
 fn add_refused(
     path: &str,
     fault: &ManifestToolFault,
-    mut told: CheckOutput,
+    mut output: CheckOutput,
 ) -> Result<CheckOutput, AllocError>
-    ensures { IfOk result (specs.AddsRefused path.now fault.now told) }
+    ensures { IfOk result (specs.AddsRefused path.now fault.now output) }
 {
-    push_title(&mut told.beside, path)?;
-    push_refusal(&mut told.beside, fault)?;
-    told.passes = false;
-    Ok(told)
+    push_title(&mut output.beside, path)?;
+    push_refusal(&mut output.beside, fault)?;
+    output.passes = false;
+    Ok(output)
 }
 
 // ---- lines

@@ -9,7 +9,7 @@ use load::PathFault;
 use std::fmt;
 
 /// What is wrong; it is displayed as it is printed, except for the lines of a diagnosis.
-#[derive(Debug, Drop)]
+#[derive(Drop)]
 pub enum ManifestToolFault {
     /// B3 and B4: a manifest can't be read, the picture of `simulate` can't be written, or an
     /// allocation of the command failed.

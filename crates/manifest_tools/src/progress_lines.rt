@@ -28,7 +28,7 @@ impl<'a, R: Clock + Eprint> Onlooker for ProgressLines<'a, R> {
         };
         if now.saturating_duration_since(said).as_secs() > 0 {
             self.said = Some(now);
-            let _told = eprintln!(self.rt; "simulated {done} of {all} apps");
+            let _printed = eprintln!(self.rt; "simulated {done} of {all} apps");
         }
     }
 }

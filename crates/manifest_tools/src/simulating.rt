@@ -47,15 +47,15 @@ pub fn simulate_files<R, D>(
 where
     R: Files + AllocGlobal + Clock + Eprint,
     D: Disk,
-    ensures told { IfOk result (specs.HasSimulated (D.known disk.now) json client manifest.now
+    ensures output { IfOk result (specs.HasSimulated (D.known disk.now) json client manifest.now
         (option_copied against.entry) (option_copied appid.entry) (option_copied file.entry)) }
     ensures fault { IfErr result (specs.IsSimulationRefusal (D.known disk.now) json client
         manifest.now (option_copied against.entry) (option_copied appid.entry)
         (option_copied file.entry)) }
 {
-    let told = told_for(rt, disk, manifest, against, appid, file, json, client)?;
-    match write_picture(rt, file, &told) {
-        Ok(()) => Ok(told),
+    let output = output_for(rt, disk, manifest, against, appid, file, json, client)?;
+    match write_picture(rt, file, &output) {
+        Ok(()) => Ok(output),
         Err(ResourceFault::File) => Err(ManifestToolFault::Resource(ResourceFault::File)),
         Err(ResourceFault::Memory) => Err(ManifestToolFault::Resource(ResourceFault::Memory)),
     }
@@ -66,13 +66,13 @@ where
 fn write_picture<R>(
     rt: &R,
     file: Option<&str>,
-    told: &SimulationOutput,
+    output: &SimulationOutput,
 ) -> Result<(), ResourceFault>
 where
     R: Files + AllocGlobal,
     ensures { OnErr result (IsSome (option_copied file.entry)) }
 {
-    match (file, &told.picture) {
+    match (file, &output.picture) {
         (Some(path), Some(picture)) => {
             if !may_write_over(rt, path, b"<svg") {
                 return Err(ResourceFault::File);
@@ -86,7 +86,7 @@ where
 // The report on the files, none written yet. From here on the client is lent, and it is dropped
 // here, by one call. In a function that owned it, each `?` would drop its twenty parts one by one,
 // and each of these calls would be proved. The same holds for the simulations below.
-fn told_for<R, D>(
+fn output_for<R, D>(
     rt: &R,
     disk: &D,
     manifest: &str,
@@ -99,18 +99,18 @@ fn told_for<R, D>(
 where
     R: AllocGlobal + Clock + Eprint,
     D: Disk,
-    ensures told { IfOk result (specs.HasSimulated (D.known disk.now) json client manifest.now
+    ensures output { IfOk result (specs.HasSimulated (D.known disk.now) json client manifest.now
         (option_copied against.entry) (option_copied appid.entry) (option_copied file.entry)) }
     ensures fault { IfErr result (specs.IsLoadRefusal (D.known disk.now)
         manifest.now (option_copied against.entry) (option_copied appid.entry)) }
 {
-    let told = told_of_files(rt, disk, manifest, against, appid, file, json, &mut client);
+    let output = output_of_files(rt, disk, manifest, against, appid, file, json, &mut client);
     drop(client);
-    told
+    output
 }
 
 // The same, with the client lent.
-fn told_of_files<R, D>(
+fn output_of_files<R, D>(
     rt: &R,
     disk: &D,
     manifest: &str,
@@ -123,7 +123,7 @@ fn told_of_files<R, D>(
 where
     R: AllocGlobal + Clock + Eprint,
     D: Disk,
-    ensures told { IfOk result (specs.HasSimulated (D.known disk.now) json client.old manifest.now
+    ensures output { IfOk result (specs.HasSimulated (D.known disk.now) json client.old manifest.now
         (option_copied against.entry) (option_copied appid.entry) (option_copied file.entry)) }
     ensures fault { IfErr result (specs.IsLoadRefusal (D.known disk.now)
         manifest.now (option_copied against.entry) (option_copied appid.entry)) }
@@ -136,13 +136,13 @@ where
         return Err(ManifestToolFault::NoApp);
     }
     match against {
-        None => match told_alone(rt, rules, appid, file, json, client) {
-            Ok(told) => Ok(told),
+        None => match output_alone(rt, rules, appid, file, json, client) {
+            Ok(output) => Ok(output),
             Err(_) => Err(ManifestToolFault::Resource(ResourceFault::Memory)),
         },
         Some(path) => match load_alone(rt.alloc(), disk, path) {
-            Ok(serving) => match told_against(rt, rules, serving, appid, file, json, client) {
-                Ok(told) => Ok(told),
+            Ok(serving) => match output_against(rt, rules, serving, appid, file, json, client) {
+                Ok(output) => Ok(output),
                 Err(_) => Err(ManifestToolFault::Resource(ResourceFault::Memory)),
             },
             Err(fault) => Err(ManifestToolFault::Against(fault)),
@@ -176,7 +176,7 @@ fn lacks_app(rules: &Ruleset, appid: Option<&str>) -> bool
 }
 
 // The report on a single ruleset.
-fn told_alone<R>(
+fn output_alone<R>(
     rt: &R,
     rules: Ruleset,
     appid: Option<&str>,
@@ -190,9 +190,9 @@ where
         (option_copied file.entry)) }
 {
     let next = simulation_of(rt, rules, appid, client, &mut ProgressLines::new(rt))?;
-    let told = tell_alone(rt.alloc(), &next, file, json);
+    let output = tell_alone(rt.alloc(), &next, file, json);
     drop(next);
-    Ok(told?)
+    Ok(output?)
 }
 
 // The simulation of a ruleset: of all its apps, or only of one.
@@ -222,7 +222,7 @@ where
 }
 
 // The report on a ruleset compared with the one that is served.
-fn told_against<R>(
+fn output_against<R>(
     rt: &R,
     rules: Ruleset,
     serving: Ruleset,
@@ -239,8 +239,8 @@ where
     let mut progress = ProgressLines::new(rt);
     let next = simulation_of(rt, rules, appid, client, &mut progress)?;
     let now = simulation_of(rt, serving, appid, client, &mut progress)?;
-    let told = tell_against(rt.alloc(), &now, &next, file, json);
+    let output = tell_against(rt.alloc(), &now, &next, file, json);
     drop(now);
     drop(next);
-    Ok(told?)
+    Ok(output?)
 }

@@ -23,7 +23,7 @@ pub record IsExplanation (bytes : List ℕ) (shape : AppShape) (refused : Option
   pub code : Code
   pub are : AreOnly bytes code
   pub finding : IsFinding code shape refused
-  pub told : IsExplained (shaped code shape) text
+  pub explained : IsExplained (shaped code shape) text
   pub same : Assembles text (Ok bytes)
 
 -- why the bytes are refused, as by `verify`, except by a rule
@@ -31,15 +31,15 @@ abbrev pub IsExplainFault : AppShape → ProgramToolFault → List ℕ → Type 
 IsExplainFault shape (Program (Verify (refusal.Rule slot rule))) bytes = ⊥
 IsExplainFault shape fault bytes = IsProgramFault shape fault bytes
 
-module _ (known : KnownFiles) (path : List ℕ) (asked : DeclaredShape) where
+module _ (known : KnownFiles) (path : List ℕ) (options : DeclaredShape) where
   -- the file's program is accepted with the declared shape, or refused like this, and this is what
   -- is known about it
   pub record HasExplained (refused : Option Refusal) (text : List ℕ) : Type 0 where
     pub shape : AppShape
-    pub shape_is : IsShapeFor asked shape
+    pub shape_is : IsShapeFor options shape
     pub explained : OfFile known path (λ bytes. IsExplanation bytes shape refused text)
 
   -- why a file has no explanation
   abbrev pub IsExplainRefusal : ProgramToolFault → Type 0
   IsExplainRefusal fault =
-      IsRefusedUnder known path asked (IsUnreadProgram known path) IsExplainFault fault
+      IsRefusedUnder known path options (IsUnreadProgram known path) IsExplainFault fault

@@ -7,9 +7,9 @@ use Rattle.program_tools.specs.declared.fault.ProgramToolFault.{ProgramToolFault
 use Rattle.program_tools.specs.declared.fault.ProgramToolFault.TheVariants.{Resource, Arrays, Text}
 use Rattle.program_tools.specs.declared.fault.ProgramToolFault.TheVariants.{Rule, Bytes, Program}
 
-module _ (known : KnownFiles) (path : List ℕ) (asked : DeclaredShape) where
-  pub no_program : (fault : ProgramToolFault) → IsRuleRefusal known path asked fault
-      → IsCompileRefusal known path asked fault
+module _ (known : KnownFiles) (path : List ℕ) (options : DeclaredShape) where
+  pub no_program : (fault : ProgramToolFault) → IsRuleRefusal known path options fault
+      → IsCompileRefusal known path options fault
   no_program (Resource fault) h = inl h
   no_program (Arrays fault) h = h
   no_program (Text fault) h = h

@@ -36,27 +36,27 @@ most_program = 2 ^ 15
 
 -- the shape has the arrays that the command line declares, in a directory that starts without
 -- arrays
-pub record IsShapeFor (asked : DeclaredShape) (shape : AppShape) : Type 0 where
-  pub releases : shape.releases ≡ asked.releases
+pub record IsShapeFor (options : DeclaredShape) (shape : AppShape) : Type 0 where
+  pub releases : shape.releases ≡ options.releases
   pub numbers : List ArrayNo
   pub directory : List CellArray
-  pub declared : AreDeclared [] asked.arrays.items numbers directory
+  pub declared : AreDeclared [] options.arrays.items numbers directory
   pub arrays : AreNumbered directory numbers shape.arrays
 
 -- an array is refused; running out of memory is always allowed
 abbrev pub IsShapeRefusal : DeclaredShape → ProgramToolFault → Type 0
-IsShapeRefusal asked (Arrays cells.Memory) = Unit {0}
-IsShapeRefusal asked (Arrays fault) =
+IsShapeRefusal options (Arrays cells.Memory) = Unit {0}
+IsShapeRefusal options (Arrays fault) =
     (number : ℕ) × (before : List CellArray)
-    × IsRefusedArray [] asked.arrays.items number fault before
-IsShapeRefusal asked fault = ⊥
+    × IsRefusedArray [] options.arrays.items number fault before
+IsShapeRefusal options fault = ⊥
 
 -- ---- programs
 
 -- the program of a file, accepted with the declared shape
-pub record IsProgramFor (known : KnownFiles) (path : List ℕ) (asked : DeclaredShape)
+pub record IsProgramFor (known : KnownFiles) (path : List ℕ) (options : DeclaredShape)
     (p : ShapedProgram) : Type 0 where
-  pub shape : IsShapeFor asked p.shape
+  pub shape : IsShapeFor options p.shape
   pub program : OfFile known path (λ bytes. IsProgramOf bytes p)
 
 -- the fault of a file that has more bytes than a program can have
@@ -76,24 +76,24 @@ IsProgramFault shape fault bytes = ⊥
 
 -- why a file is refused: the shape comes first, then the file, then its bytes, by the faults that
 -- they have with a shape
-pub data IsRefusedUnder (known : KnownFiles) (path : List ℕ) (asked : DeclaredShape)
+pub data IsRefusedUnder (known : KnownFiles) (path : List ℕ) (options : DeclaredShape)
     (unread : ProgramToolFault → Type 0) (faults : AppShape → ProgramToolFault → List ℕ → Type 0)
     (fault : ProgramToolFault) : Type 0 where
-  of_shape : IsShapeRefusal asked fault → IsRefusedUnder known path asked unread faults fault
-  of_file : {s : AppShape} → IsShapeFor asked s → unread fault
-      → IsRefusedUnder known path asked unread faults fault
-  of_bytes : {s : AppShape} → IsShapeFor asked s → OfFile known path (faults s fault)
-      → IsRefusedUnder known path asked unread faults fault
+  of_shape : IsShapeRefusal options fault → IsRefusedUnder known path options unread faults fault
+  of_file : {s : AppShape} → IsShapeFor options s → unread fault
+      → IsRefusedUnder known path options unread faults fault
+  of_bytes : {s : AppShape} → IsShapeFor options s → OfFile known path (faults s fault)
+      → IsRefusedUnder known path options unread faults fault
 
 -- why a file has no accepted program: the shape comes first, then the file, then its bytes
 abbrev pub IsProgramRefusal : KnownFiles → List ℕ → DeclaredShape → ProgramToolFault → Type 0
-IsProgramRefusal known path asked fault =
-    IsRefusedUnder known path asked (IsUnreadProgram known path) IsProgramFault fault
+IsProgramRefusal known path options fault =
+    IsRefusedUnder known path options (IsUnreadProgram known path) IsProgramFault fault
 
 -- an accepted program has `slots` slots
 abbrev pub HasSlots : KnownFiles → List ℕ → DeclaredShape → ℕ → Type 0
-HasSlots known path asked slots =
-    (p : ShapedProgram) × IsProgramFor known path asked p × (slots ≡ length p.code)
+HasSlots known path options slots =
+    (p : ShapedProgram) × IsProgramFor known path options p × (slots ≡ length p.code)
 
 -- ---- runs
 
@@ -110,11 +110,11 @@ pub record RunsTo (p : ShapedProgram) (a : Attributes) (choice count : ℕ) : Ty
 
 -- the requested program is accepted, and makes this choice after `count` instructions
 abbrev pub HasChosen : KnownFiles → RunArgs → (choice count : ℕ) → Type 0
-HasChosen known asked choice count =
-    (p : ShapedProgram) × IsProgramFor known asked.path.now asked.shape p
-    × RunsTo p (app_attributes asked.app asked.bucket) choice count
+HasChosen known run choice count =
+    (p : ShapedProgram) × IsProgramFor known run.path.now run.shape p
+    × RunsTo p (app_attributes run.app run.bucket) choice count
 
 -- it isn't accepted, or an allocation for the run fails
 abbrev pub IsRunRefusal : KnownFiles → List ℕ → DeclaredShape → ProgramToolFault → Type 0
-IsRunRefusal known path asked fault =
-    (fault ≡ Resource Memory) ⊎ IsProgramRefusal known path asked fault
+IsRunRefusal known path options fault =
+    (fault ≡ Resource Memory) ⊎ IsProgramRefusal known path options fault

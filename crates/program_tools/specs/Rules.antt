@@ -17,16 +17,16 @@ IsCompileFault shape (Rule fault) bytes =
     (length bytes ≤ most_bytes) × RefusesRule bytes shape fault
 IsCompileFault shape fault bytes = ⊥
 
-module _ (known : KnownFiles) (path : List ℕ) (asked : DeclaredShape) where
+module _ (known : KnownFiles) (path : List ℕ) (options : DeclaredShape) where
   -- the program is accepted with the declared shape, and has the meaning of the rule in the file
   pub record IsRuleProgramFor (p : ShapedProgram) : Type 0 where
-    pub shape : IsShapeFor asked p.shape
+    pub shape : IsShapeFor options p.shape
     pub program : OfFileWithin most_bytes known path (λ bytes. IsProgramOfRule bytes p)
 
   abbrev pub IsRuleRefusal : ProgramToolFault → Type 0
   IsRuleRefusal fault =
-      IsRefusedUnder (within most_bytes known) path asked (IsNoFile (within most_bytes known) path)
-      IsCompileFault fault
+      IsRefusedUnder (within most_bytes known) path options
+      (IsNoFile (within most_bytes known) path) IsCompileFault fault
 
   -- such a program has `slots` slots
   abbrev pub HasCompiled : ℕ → Type 0

@@ -10,7 +10,7 @@ use cells::CellsFault;
 use std::fmt;
 
 /// What is wrong; it is displayed as it is printed.
-#[derive(Debug, Drop)]
+#[derive(Drop)]
 pub enum ProgramToolFault {
     /// B3 and B4: a file can't be read or written, or an allocation of the command failed.
     Resource(ResourceFault),

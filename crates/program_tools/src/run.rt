@@ -22,18 +22,18 @@ use std::sync::Arc;
 pub fn run_file<D: Disk>(
     alloc: Global,
     disk: &D,
-    asked: &RunArgs<'_>,
+    run: &RunArgs<'_>,
 ) -> Result<(u8, u32), ProgramToolFault>
-    ensures run { IfOk result (λ c. HasChosen (D.known disk.now) asked.now c.0 c.1) }
+    ensures run { IfOk result (λ c. HasChosen (D.known disk.now) run.now c.0 c.1) }
     ensures fault { IfErr result
-        (IsRunRefusal (D.known disk.now) asked.now.path.now asked.now.shape) }
+        (IsRunRefusal (D.known disk.now) run.now.path.now run.now.shape) }
 {
-    let program = match program_of_file(alloc, disk, asked.path, &asked.shape) {
+    let program = match program_of_file(alloc, disk, run.path, &run.shape) {
         Ok(program) => program,
         Err(fault) => return Err(fault),
     };
-    match choose(alloc, program, &asked.app, asked.bucket) {
-        Ok(run) => Ok(run),
+    match choose(alloc, program, &run.app, run.bucket) {
+        Ok(chosen) => Ok(chosen),
         Err(_) => Err(ProgramToolFault::Resource(ResourceFault::Memory)),
     }
 }

@@ -34,7 +34,7 @@ pub record IsReplyBy (rules : Rules) (arrays : List CellArray) (body : List ℕ)
   pub moment : ℤ
   pub at : IsAt args.at moment
   pub served : List Told
-  pub told : AreServed args.operator served
+  pub counters : AreServed args.operator served
   pub replies : RepliesAsTold rules arrays body moment served args.cells.items text
 
 -- what prevents a reply: the server at the port, if one is given, or else the counters or the body;

@@ -1,7 +1,7 @@
 -- The output of each command, and why it is refused, by the bytes of the files, as far as they are
 -- known. The bytes of a device's files aren't known, so an output is one for some bytes. No
 -- contract can say what a server replies, and nothing is claimed for out of memory.
-use Rattle.std.specs.Prelude.{◌≡◌, ◌⊎◌, ◌&&◌, List, ℕ, None, Some, Bool, true, false, not}
+use Rattle.std.specs.Prelude.{◌≡◌, ◌⊎◌, ◌&&◌, List, ℕ, None, Some, true, false, not}
 use Rattle.std.specs.Prelude.{is_some, length, option_copied}
 use Rattle.std.specs.String.{string_bytes}
 use Rattle.bounded_files.specs.Files.{KnownFiles}

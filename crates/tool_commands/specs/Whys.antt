@@ -18,7 +18,7 @@ pub record IsWhyBy (opened : OpenedWhy) (args : AskArgs) (text : List ℕ) : Typ
   pub moment : ℤ
   pub at : IsAt args.at moment
   pub served : List Told
-  pub told : AreServed args.operator served
+  pub counters : AreServed args.operator served
   pub lines : List ℕ
   pub tells : TellsWhy opened moment served args.cells.items lines
   pub text_is : text ≡ lines ++ digest_line opened.digest

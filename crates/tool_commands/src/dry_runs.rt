@@ -56,7 +56,9 @@ where
         Ok(opened) => opened,
         Err(fault) => return Err(Fault::DryRun(fault)),
     };
-    match reply_to(rt, &opened, args) {
+    let reply = reply_to(rt, &opened, args);
+    drop(opened);
+    match reply {
         Ok(body) => Ok(body),
         Err(fault) => Err(fault),
     }

@@ -12,7 +12,7 @@ use program_tools::ProgramToolFault;
 use std::fmt;
 
 /// The reason, printed after `refused `.
-#[derive(Debug, Drop)]
+#[derive(Drop)]
 pub(crate) enum Fault {
     /// B3: a log can't be read, or a picture can't be written. B4: out of memory.
     Resource(ResourceFault),

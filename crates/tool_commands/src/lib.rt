@@ -12,9 +12,9 @@
 mod dry_runs;
 mod fault;
 mod output;
-mod performing;
 mod programs;
 mod reports;
+mod requests;
 mod simulations;
 mod status;
 mod whys;

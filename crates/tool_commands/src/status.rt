@@ -8,9 +8,9 @@ ghost use Rattle.tool_commands.specs.Texts.{output_text, passes, warnings_of};
 
 use crate::fault::Fault;
 use crate::output::ToolOutput;
-use crate::performing::perform;
+use crate::requests::output_of;
 use bounded_files::{Disk, ResourceFault};
-use command_line::{print_lines, print_refusal, refused, status_of, usage};
+use command_line::{print_lines, print_refusal, refused, usage};
 use std::convert::AsStr;
 use std::io::{self, Write};
 use std::net::{Net, TcpStream};
@@ -39,13 +39,13 @@ where
     ensures usage { result ≡ 2 → out.new ≡ out.old }
 {
     match read_tool_words(rt.alloc(), words) {
-        Ok(command) => answer(rt, disk, &command, out, err),
+        Ok(command) => perform(rt, disk, &command, out, err),
         Err(fault) => usage(&fault, out, err),
     }
 }
 
 // Does what the command says, and prints its output or its refusal.
-fn answer<R, D, O, E>(rt: &R, disk: &D, command: &ToolCommand<'_>, out: &mut O, err: &mut E) -> u8
+fn perform<R, D, O, E>(rt: &R, disk: &D, command: &ToolCommand<'_>, out: &mut O, err: &mut E) -> u8
 where
     R: Files + AllocGlobal + Clock + Eprint + Net<Stream = TcpStream>,
     D: Disk,
@@ -55,9 +55,19 @@ where
     ensures done { result ≡ 0 → IsAnswered (D.known disk.now) command.now
         (O.contents out.old) (O.contents out.new) (IsGiven E.contents err.old err.new) }
 {
-    match perform(rt, disk, command) {
-        Ok(output) => print_whole(&output, out, err),
-        Err(fault) => refused_for(&fault, out, err),
+    match output_of(rt, disk, command) {
+        // An output and a fault are dropped by one call. Left to the end of the arm, each of their
+        // many parts would be dropped by its own call.
+        Ok(output) => {
+            let status = print_whole(&output, out, err);
+            drop(output);
+            status
+        }
+        Err(fault) => {
+            let status = refused_for(&fault, out, err);
+            drop(fault);
+            status
+        }
     }
 }
 
@@ -105,7 +115,8 @@ fn refused_for<O: Write, E: Write>(fault: &Fault, out: &mut O, err: &mut E) -> u
     if let Fault::Explained { text, .. } = fault {
         let _printed = print_lines(out, text.as_str());
     }
-    status_of(print_fault(fault, err).is_ok(), 1)
+    let _refused = print_fault(fault, err);
+    1
 }
 
 // Prints a refusal, followed by the place and the reason of a manifest's refusal.

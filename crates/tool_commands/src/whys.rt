@@ -28,7 +28,7 @@ pub(crate) fn why_of<R, D>(rt: &R, disk: &D, args: &AskArgs<'_>) -> Result<Strin
 where
     R: AllocGlobal + Clock + Net<Stream = TcpStream>,
     D: Disk,
-    ensures told { IfOk result (λ text.
+    ensures why { IfOk result (λ text.
         specs.HasWhy (D.known disk.now) args.now (string_bytes text)) }
     ensures fault { IfErr result (specs.IsWhyRefusal (D.known disk.now) args.now) }
 {
@@ -36,18 +36,20 @@ where
         Ok(opened) => opened,
         Err(fault) => return Err(Fault::DryRun(fault)),
     };
-    match told_why(rt, &opened, args) {
+    let why = why_from(rt, &opened, args);
+    drop(opened);
+    match why {
         Ok(text) => Ok(text),
         Err(fault) => Err(fault),
     }
 }
 
 // Why each app gets what it gets, from the opened files.
-fn told_why<R>(rt: &R, opened: &OpenedWhy, args: &AskArgs<'_>) -> Result<String, Fault>
+fn why_from<R>(rt: &R, opened: &OpenedWhy, args: &AskArgs<'_>) -> Result<String, Fault>
 where
     R: AllocGlobal + Clock + Net<Stream = TcpStream>,
     requires { HaveMeanings opened.now.rules.apps opened.now.known_rules.items }
-    ensures told { IfOk result (λ text.
+    ensures why { IfOk result (λ text.
         specs.IsWhyBy opened.now args.now (string_bytes text)) }
     ensures fault { IfErr result
         (IsReplyFault opened.now.directory opened.now.body.items args.now) }

@@ -1,6 +1,6 @@
 -- Arguments that are malformed.
 use Rattle.std.proofs.Common.{◌≡◌, ◌∙◌, sym, ap, List, Option, Some, None}
-use Rattle.std.specs.Prelude.{IsErr, Ok, Result, is_some}
+use Rattle.std.specs.Prelude.{is_some}
 use Rattle.clap.specs.Words.{Row, Text}
 use Rattle.command_line.specs.AppOptions.{HasApp}
 use Rattle.command_line.specs.declared.app_args.AppArgs.{AppArgs}
@@ -12,15 +12,12 @@ use Rattle.tool_words.specs.SimulateWords.{IsAnyones, LacksAnyone}
 pub no_value : {A : Type 0} (o : Option A) (a : A) → o ≡ None → o ≡ Some a → ⊥
 no_value o a none some = let bad : Some a ≡ None = sym some ∙ none in cc
 
-not_ok : {T E : Type 0} (r : Result T E) (x : T) → IsErr r → r ≡ Ok x → ⊥
-not_ok r x err ok = cc
-
 pub no_moment : (text : Option Text) (moment : Option NamedTime) → LacksNamedTime text
     → IsNamedTime text moment → ⊥
 no_moment None moment lacks is = lacks
 no_moment (Some text) (Some (Ago seconds)) lacks is =
     let bad : Some seconds ≡ None = sym is ∙ lacks.0 in cc
-no_moment (Some text) (Some (At time)) lacks is = not_ok _ _ lacks.1 is.1
+no_moment (Some text) (Some (At time)) lacks is = no_value _ _ lacks.1 is.1
 no_moment (Some text) None lacks is = is
 
 -- the options describe one app, and it names a client

@@ -1,3 +1,2 @@
 mod Lacking
 mod Making
-mod Reading

@@ -1,5 +1,5 @@
 -- Which command the arguments of each command make.
-use Rattle.std.specs.Prelude.{List, Option, Some, None, codes}
+use Rattle.std.specs.Prelude.{List, codes}
 use Rattle.clap.specs.Words.{Row}
 use Rattle.command_line.specs.Runs.{HasRun}
 use Rattle.command_line.specs.Values.{HasShape, HasText}
@@ -26,11 +26,3 @@ VerbMakes verb rows command = ⊥
 
 abbrev pub VerbMakesNone : ToolVerb → List Row → Type 0
 VerbMakesNone verb rows = (command : ToolCommand) → ¬ VerbMakes verb rows command
-
--- a command of the table, with what its arguments were given, makes this command
-abbrev pub IsMade : Option (ToolVerb × List Row) → ToolCommand → Type 0
-IsMade None command = ⊥
-IsMade (Some found) command = VerbMakes found.0 found.1 command
-
-abbrev pub IsNoneMade : Option (ToolVerb × List Row) → Type 0
-IsNoneMade found = (command : ToolCommand) → ¬ IsMade found command

@@ -43,11 +43,11 @@ const ASK: CommandRow<ToolVerb> = CommandRow {
             "operator",
             "P",
             PORTS,
-            "Operator's port of a server whose counters are taken: 1 to 65535",
+            "Operator's port of a server whose counters are used: 1 to 65535",
         ),
         CommandArgument::Flag(
             "why",
-            "Tell in place of the reply why each app gets what it gets",
+            "Print why each app gets what it gets, instead of the reply",
         ),
     ],
 };
@@ -55,17 +55,17 @@ const ASK: CommandRow<ToolVerb> = CommandRow {
 const CHECK: CommandRow<ToolVerb> = CommandRow {
     verb: ToolVerb::Check,
     name: "check",
-    about: "Tell what manifests declare, or where and why they are refused",
+    about: "Check manifests, and show what they declare or why they are refused",
     end: None,
     arguments: &[
         CommandArgument::Words("MANIFEST", "Files of the manifests"),
-        CommandArgument::Flag("strict", "End with status 1 where a warning is told"),
+        CommandArgument::Flag("strict", "End with status 1 if there is a warning"),
         CommandArgument::Texts(
             "allow",
             "NAME",
             "Name of a warning that doesn't count for --strict, any number of times",
         ),
-        CommandArgument::Flag("json", "Tell all of it as a line of JSON"),
+        CommandArgument::Flag("json", "Print everything as a line of JSON"),
     ],
 };
 
@@ -85,14 +85,14 @@ const ORDER: CommandRow<ToolVerb> = CommandRow {
     end: None,
     arguments: &[
         PROGRAM,
-        CommandArgument::Word("OUT", "File that gets the program in order"),
+        CommandArgument::Word("OUT", "Output file for the program in order"),
     ],
 };
 
 const REPORT: CommandRow<ToolVerb> = CommandRow {
     verb: ToolVerb::Report,
     name: "report",
-    about: "Tell what a server's log comes to: asks, offers, installs and refusals",
+    about: "Count the requests, offers, installs and refusals in a server's log",
     end: None,
     arguments: &[
         CommandArgument::Words(
@@ -102,18 +102,18 @@ const REPORT: CommandRow<ToolVerb> = CommandRow {
         CommandArgument::Text(
             "since",
             "MOMENT",
-            "Lines from this time on (RFC 3339), or since so long ago: 90s, 10m, 2h, 3d",
+            "Only lines from this time on (RFC 3339), or this long ago: 90s, 10m, 2h, 3d",
         ),
         CommandArgument::Text(
             "until",
             "MOMENT",
-            "Lines before this time, by the same forms",
+            "Only lines before this time, in the same forms",
         ),
         CommandArgument::Flag("prometheus", "Print the counts as Prometheus reads them"),
         CommandArgument::Text(
             "svg",
             "FILE",
-            "File that gets a picture of the versions' shares over time, in SVG",
+            "Output file for a picture of the versions' shares over time, in SVG",
         ),
     ],
 };
@@ -121,26 +121,26 @@ const REPORT: CommandRow<ToolVerb> = CommandRow {
 const SIMULATE: CommandRow<ToolVerb> = CommandRow {
     verb: ToolVerb::Simulate,
     name: "simulate",
-    about: "Tell how many of the 10000 buckets get which release by a manifest",
+    about: "Count how many of the 10000 buckets get which release by a manifest",
     end: None,
     arguments: &[
         MANIFEST,
         CommandArgument::Text(
             "against",
             "MANIFEST",
-            "File of the manifest that serves now",
+            "File of the manifest that is served now",
         ),
-        CommandArgument::Text("svg", "FILE", "File that gets a picture, in SVG"),
+        CommandArgument::Text("svg", "FILE", "Output file for a picture, in SVG"),
         CommandArgument::Text(
             "app",
             "APPID",
-            "The one app that is told of; all by default",
+            "The only app in the output; all apps by default",
         ),
         CommandArgument::Flag(
             "fail-on-lost",
-            "End with status 1 where a bucket loses its release; wants --against",
+            "End with status 1 if a bucket loses its release; requires --against",
         ),
-        CommandArgument::Flag("json", "Tell it as a line of JSON"),
+        CommandArgument::Flag("json", "Print a line of JSON"),
         VERSION,
         ATTR,
         CommandArgument::Flag("ping", "The clients send a ping"),
@@ -154,7 +154,7 @@ const SIMULATE: CommandRow<ToolVerb> = CommandRow {
 const TRACE: CommandRow<ToolVerb> = CommandRow {
     verb: ToolVerb::Trace,
     name: "trace",
-    about: "Run a program like `run`, and print a line an instruction before its choice",
+    about: "Run a program like `run`, and print a line for each instruction before its choice",
     end: None,
     arguments: &[
         PROGRAM, RELEASES, ARRAYS, BUCKET, VERSION, ATTR, PING, EVENT, TODAY, AT, INSTALLED,

@@ -1,6 +1,6 @@
 //! The arguments of `simulate`.
 
-ghost use Rattle.std.specs.Prelude.{◌≡◌, ◌↔◌, IfOk, IsNone, IsTrue};
+ghost use Rattle.std.specs.Prelude.{◌↔◌, IfOk, IsNone, IsTrue, OnErr};
 ghost use Rattle.std.specs.Option.{option_copied};
 ghost use Rattle.clap.specs.Words.{found_of, rows_of};
 ghost use Rattle.command_line.specs.Values.{OnWrong};
@@ -28,7 +28,7 @@ pub(crate) fn read_simulate<'a>(found: &ArgMatches<'a>) -> Result<ToolCommand<'a
 
 fn simulate_args<'a>(found: &ArgMatches<'a>) -> Result<SimulateArgs<'a>, ArgsError>
     ensures given { IfOk result (specs.HasSimulate (rows_of (found_of found.now))) }
-    ensures lacking { OnWrong result (specs.LacksSimulate (rows_of (found_of found.now))) }
+    ensures lacking { OnErr result (specs.LacksSimulate (rows_of (found_of found.now))) }
 {
     let manifest = text_of(found, "MANIFEST")?;
     let app = read_anyone(found)?;
@@ -53,7 +53,7 @@ fn simulate_args<'a>(found: &ArgMatches<'a>) -> Result<SimulateArgs<'a>, ArgsErr
 // each bucket.
 fn read_anyone<'a>(found: &ArgMatches<'a>) -> Result<AppArgs<'a>, ArgsError>
     ensures given { IfOk result (specs.HasAnyone (rows_of (found_of found.now))) }
-    ensures lacking { OnWrong result (specs.LacksAnyone (rows_of (found_of found.now))) }
+    ensures lacking { OnErr result (specs.LacksAnyone (rows_of (found_of found.now))) }
 {
     let app = read_app(found)?;
     if is_anyones(&app) {

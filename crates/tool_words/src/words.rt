@@ -3,10 +3,11 @@
 ghost use Rattle.std.specs.Prelude.{IfErr, IfOk, map};
 ghost use Rattle.clap.specs.Words.{found_of, rows_of, subcommand_rows_of};
 ghost use Rattle.command_line.specs.Grammar.{verb_of};
+ghost use Rattle.command_line.specs.Requests.{FoundMakes, FoundMakesNone};
 ghost use Rattle.command_line.specs.Values.{OnWrong};
 ghost use Rattle.tool_words.specs.Requests.{AskFor, IsWordsFault};
 ghost use Rattle.tool_words.specs.Tools.{names};
-ghost use Rattle.tool_words.specs.Words.{IsMade, IsNoneMade, VerbMakes, VerbMakesNone};
+ghost use Rattle.tool_words.specs.Words.{VerbMakes, VerbMakesNone};
 
 use crate::args::ToolCommand;
 use crate::ask_words::read_ask;
@@ -37,15 +38,17 @@ pub fn read_tool_words<'a, S: AsStr>(
     };
     match command_of(alloc, &matches) {
         Ok(command) => Ok(command),
-        Err(ArgsError::Wrong(fault)) => Err(WordsFault::Nothing(fault)),
+        Err(ArgsError::Wrong(fault)) => Err(WordsFault::Argument(fault)),
         Err(ArgsError::Memory) => Err(WordsFault::Memory),
     }
 }
 
 // The command of the matches, if they make one.
 fn command_of<'a>(alloc: Global, matches: &ArgMatches<'a>) -> Result<ToolCommand<'a>, ArgsError>
-    ensures made { IfOk result (IsMade (verb_of names (subcommand_rows_of matches.now))) }
-    ensures none { OnWrong result (IsNoneMade (verb_of names (subcommand_rows_of matches.now))) }
+    ensures made { IfOk result (FoundMakes VerbMakes
+        (verb_of names (subcommand_rows_of matches.now))) }
+    ensures none { OnWrong result (FoundMakesNone VerbMakes
+        (verb_of names (subcommand_rows_of matches.now))) }
 {
     match command_found(tool_rows(), matches) {
         Some((verb, found)) => command_with(alloc, verb, found),

@@ -1,8 +1,10 @@
-use Rattle.commands.proofs.Written.{said_first}
+use Rattle.std.proofs.Common.{subst, ℕ}
+use Rattle.std.specs.Io.KnownBytes.{Appends}
+use Rattle.workers.specs.Texts.{serving_line}
 use Rattle.commands.proofs.serve.serve_by.Goals as goal
 
 pub returns-in-Ok-serve-clause-said : goal.returns-in-Ok-serve-clause-said
 returns-in-Ok-serve-clause-said g c =
-    said_first c.in-Ok.server.control.publishing.latest.generation
-    (g.O.Write.contents c.args.out.now) (g.O.Write.contents c.serve.new.out)
-    c.in-Ok-serve.ensures.said c.in-Ok.ensures.first
+    subst (λ (n : ℕ). Appends (g.O.Write.contents c.args.out.now)
+    (g.O.Write.contents c.serve.new.out) (serving_line n)) c.in-Ok.ensures.first
+    c.in-Ok-serve.ensures.said

@@ -1,21 +1,31 @@
-use Rattle.std.proofs.Common.{rules}
+use Rattle.clap.specs.Words.{found_of, rows_of}
+use Rattle.command_line.proofs.Lacking.{on_any_error}
+use Rattle.commands.specs.Words.{LacksPlan}
 use Rattle.commands.proofs.server_words.plan_of.Goals as goal
 
 pub returns-in_err-port-clause-lacking : goal.returns-in_err-port-clause-lacking
-returns-in_err-port-clause-lacking c = λ fault wrong plan has.
-    c.in_err-port.ensures.lacking fault (search rules) plan.port has.port
+returns-in_err-port-clause-lacking c =
+    on_any_error (LacksPlan (rows_of (found_of c.args.found.now)))
+    c.from_residual.result (λ plan has.
+    c.in_err-port.ensures.lacking plan.port has.port)
 
 pub returns-in_err-operator-clause-lacking : goal.returns-in_err-operator-clause-lacking
-returns-in_err-operator-clause-lacking c = λ fault wrong plan has.
-    c.in_err-operator.ensures.lacking fault (search rules) plan.operator has.operator
+returns-in_err-operator-clause-lacking c =
+    on_any_error (LacksPlan (rows_of (found_of c.args.found.now)))
+    c.from_residual-in_err-operator.result (λ plan has.
+    c.in_err-operator.ensures.lacking plan.operator has.operator)
 
 pub returns-in_err-workers-clause-lacking : goal.returns-in_err-workers-clause-lacking
-returns-in_err-workers-clause-lacking c = λ fault wrong plan has.
-    c.in_err-workers.ensures.lacking fault (search rules) plan.workers has.workers
+returns-in_err-workers-clause-lacking c =
+    on_any_error (LacksPlan (rows_of (found_of c.args.found.now)))
+    c.from_residual-in_err-workers.result (λ plan has.
+    c.in_err-workers.ensures.lacking plan.workers has.workers)
 
 pub returns-in_err-timeout-clause-lacking : goal.returns-in_err-timeout-clause-lacking
-returns-in_err-timeout-clause-lacking c = λ fault wrong plan has.
-    c.in_err-timeout.ensures.lacking fault (search rules) plan.timeout has.timeout
+returns-in_err-timeout-clause-lacking c =
+    on_any_error (LacksPlan (rows_of (found_of c.args.found.now)))
+    c.from_residual-in_err-timeout.result (λ plan has.
+    c.in_err-timeout.ensures.lacking plan.timeout has.timeout)
 
 pub returns-clause-given : goal.returns-clause-given
 returns-clause-given c = record {

@@ -2,8 +2,9 @@ use Rattle.std.proofs.Common.{◌≡◌, ◌∙◌, ap, subst, sym, List, Option
 use Rattle.std.specs.Prelude.{IfOk, option_map}
 use Rattle.clap.specs.Words.{Row, Text, found_of, rows_of, subcommand_rows_of}
 use Rattle.command_line.specs.Grammar.{verb_of}
+use Rattle.command_line.specs.Requests.{FoundMakes, FoundMakesNone}
 use Rattle.commands.specs.Grammar.{names}
-use Rattle.commands.specs.Words.{IsMade, IsNoneMade}
+use Rattle.commands.specs.Words.{VerbMakes}
 use Rattle.commands.specs.declared.verb.Verb.{Verb}
 use Rattle.commands.proofs.words.command_of.Goals as goal
 
@@ -14,7 +15,7 @@ returns-in-Some-clause-made c =
     ap (option_map (λ f. (f.0, rows_of (found_of f.1.now)))) (sym c.in-Some.is)
     ∙ c.command_found.ensures
     ∙ ap (λ (n : List (Text × Verb)). verb_of n rows) c.command_rows.ensures.names in
-    subst (λ (f : Option (Verb × List Row)). IfOk c.command_with.result (IsMade f)) is
+    subst (λ (f : Option (Verb × List Row)). IfOk c.command_with.result (FoundMakes VerbMakes f)) is
     c.command_with.ensures.made
 
 pub returns-in-Some-clause-none : goal.returns-in-Some-clause-none
@@ -24,7 +25,7 @@ returns-in-Some-clause-none c = λ fault wrong.
     ap (option_map (λ f. (f.0, rows_of (found_of f.1.now)))) (sym c.in-Some.is)
     ∙ c.command_found.ensures
     ∙ ap (λ (n : List (Text × Verb)). verb_of n rows) c.command_rows.ensures.names in
-    subst (λ (f : Option (Verb × List Row)). IsNoneMade f) is
+    subst (λ (f : Option (Verb × List Row)). FoundMakesNone VerbMakes f) is
     (c.command_with.ensures.none fault wrong)
 
 pub returns-in-None-clause-none : goal.returns-in-None-clause-none
@@ -34,4 +35,4 @@ returns-in-None-clause-none c = λ fault wrong.
     ap (option_map (λ f. (f.0, rows_of (found_of f.1.now)))) (sym c.in-None.is)
     ∙ c.command_found.ensures
     ∙ ap (λ (n : List (Text × Verb)). verb_of n rows) c.command_rows.ensures.names in
-    subst (λ (f : Option (Verb × List Row)). IsNoneMade f) is (λ command made. made)
+    subst (λ (f : Option (Verb × List Row)). FoundMakesNone VerbMakes f) is (λ command made. made)

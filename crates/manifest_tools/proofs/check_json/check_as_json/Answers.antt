@@ -3,4 +3,4 @@ use Rattle.manifest_tools.proofs.check_json.check_as_json.Goals as goal
 
 pub json_line-requires : goal.json_line-requires
 json_line-requires g c = rw c.in_ok-value.ensures
-    (of_checks _ c.args.strict c.args.allowed.now c.args.paths.now _ _ c.in_ok-told.ensures)
+    (of_checks _ c.args.strict c.args.allowed.now c.args.paths.now _ _ c.in_ok-objects.ensures)

@@ -1,10 +1,10 @@
-use Rattle.manifest_tools.specs.CheckObjects.IsToldAs.{accepted, refused}
+use Rattle.manifest_tools.specs.CheckObjects.IsCheckObject.{accepted, refused}
 use Rattle.manifest_tools.proofs.check_json.object_of.Goals as goal
 
 pub returns-in_ok-value-in-Ok : goal.returns-in_ok-value-in-Ok
 returns-in_ok-value-in-Ok g c =
     rw (c.in_ok-value-in-Ok.ensures, c.passes-one.ensures, c.as_slice.ensures.value)
-    (accepted c.in-Ok.told c.in-Ok.ensures.told)
+    (accepted c.in-Ok.checked c.in-Ok.ensures.checked)
 
 pub returns-in_ok-value-in-Err : goal.returns-in_ok-value-in-Err
 returns-in_ok-value-in-Err g c = rw c.in_ok-value-in-Err.ensures

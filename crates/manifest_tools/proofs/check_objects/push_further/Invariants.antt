@@ -4,7 +4,7 @@ use Rattle.manifest_tools.specs.CheckObjects.{further_object}
 use Rattle.manifest_tools.proofs.check_objects.push_further.Given as goal
 
 -- the objects so far, with those of the faults that are left, are all
-abbrev pub invariant-loop-told : goal.invariant-loop-told
-invariant-loop-told l =
-    map view l.values.items ++ map further_object (drop l.told-index l.further)
+abbrev pub invariant-loop-fault : goal.invariant-loop-fault
+invariant-loop-fault l =
+    map view l.values.items ++ map further_object (drop l.fault-index l.further)
     ≡ map view l.initial.values.items ++ map further_object l.further

@@ -1,11 +1,11 @@
-use Rattle.manifest_tools.proofs.Checked.{none_told, one_told_more}
+use Rattle.manifest_tools.proofs.Checked.{none_checked, one_more_checked}
 use Rattle.manifest_tools.proofs.checks.check_each.Goals as goal
 
 pub loop-path-init : goal.loop-path-init
-loop-path-init g c = none_told _ c.args.strict c.args.allowed.now c.args.paths.now _ _
+loop-path-init g c = none_checked _ c.args.strict c.args.allowed.now c.args.paths.now _ _
     c.new.ensures.bytes c.new-2.ensures.bytes
 
 pub loop-path-preserved : goal.loop-path-preserved
-loop-path-preserved g c = one_told_more _ c.args.strict c.args.allowed.now c.args.paths.now
-    c.loop-path.path-index _ c.loop-path.told c.in_ok-told.told c.loop-path.invariant
-    c.loop-path-test.true c.in_ok-told.ensures
+loop-path-preserved g c = one_more_checked _ c.args.strict c.args.allowed.now c.args.paths.now
+    c.loop-path.path-index _ c.loop-path.output c.in_ok-output.output c.loop-path.invariant
+    c.loop-path-test.true c.in_ok-output.ensures

@@ -4,11 +4,11 @@ use Rattle.tool_words.proofs.ask_words.ask_args.Goals as goal
 
 pub returns-in_err-manifest-clause-lacking : goal.returns-in_err-manifest-clause-lacking
 returns-in_err-manifest-clause-lacking c = λ fault is args has.
-    c.in_err-manifest.ensures.lacking fault (search rules) args.manifest.now has.manifest
+    c.in_err-manifest.ensures.lacking args.manifest.now has.manifest
 
 pub returns-in_err-request-clause-lacking : goal.returns-in_err-request-clause-lacking
 returns-in_err-request-clause-lacking c = λ fault is args has.
-    c.in_err-request.ensures.lacking fault (search rules) args.request.now has.request
+    c.in_err-request.ensures.lacking args.request.now has.request
 
 pub returns-in_err-at-clause-lacking : goal.returns-in_err-at-clause-lacking
 returns-in_err-at-clause-lacking c = λ fault is args has.

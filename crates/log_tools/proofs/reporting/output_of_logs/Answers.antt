@@ -1,7 +1,7 @@
 use Rattle.std.proofs.Common.{◌∙◌}
 use Rattle.report.specs.declared.window.Window.{Window}
 use Rattle.log_tools.proofs.Logs.{has_reported}
-use Rattle.log_tools.proofs.reporting.told_of_logs.Goals as goal
+use Rattle.log_tools.proofs.reporting.output_of_logs.Goals as goal
 
 pub returns-in-Ok : goal.returns-in-Ok
 returns-in-Ok g c =
@@ -9,7 +9,7 @@ returns-in-Ok g c =
       since = c.text_of.result;
       until = c.text_of-2.result;
     } in
-    has_reported _ c.args.since c.args.until c.args.prometheus c.args.drawn c.in-Ok.told window
+    has_reported _ c.args.since c.args.until c.args.prometheus c.args.drawn c.in-Ok.output window
     c.new-report.result c.count_logs.new.report (c.text_of.ensures ∙ c.in_ok-since.ensures)
     (c.text_of-2.ensures ∙ c.in_ok-until.ensures) (c.new-report.ensures window)
     c.in_ok-count_logs.ensures c.in-Ok.ensures.text c.in-Ok.ensures.picture

@@ -1,21 +1,21 @@
 use Rattle.std.proofs.Common.{◌≡◌, ◌∙◌, ap, subst, sym, ℕ, List, Option, Some}
 use Rattle.std.specs.Option.{option_copied}
 use Rattle.manifest_tools.specs.Simulations.{HasSimulated}
-use Rattle.manifest_tools.proofs.simulating.told_of_files.Goals as goal
+use Rattle.manifest_tools.proofs.simulating.output_of_files.Goals as goal
 
-pub returns-in-Ok-told_against-clause-told : goal.returns-in-Ok-told_against-clause-told
-returns-in-Ok-told_against-clause-told g c =
+pub returns-in-Ok-output_against-clause-output : goal.returns-in-Ok-output_against-clause-output
+returns-in-Ok-output_against-clause-output g c =
     let known = g.D.Disk.known c.args.disk.now in
     let against : option_copied c.args.against ≡ Some c.in-Some.path.now =
     ap option_copied c.in-Some.is in
     let has = sym c.lacks_app.ensures ∙ c.if-lacks_app.false in
-    let told = c.in-Ok-told_against.told in
+    let output = c.in-Ok-output_against.output in
     subst (λ (other : Option (List ℕ)).
     HasSimulated known c.args.json c.args.client.now c.args.manifest.now other
-    (option_copied c.args.appid) (option_copied c.args.file) told) (sym against) (
+    (option_copied c.args.appid) (option_copied c.args.file) output) (sym against) (
       c.in-Ok.rules,
       (c.in-Ok.ensures.rules, has),
       c.in-Ok-load_alone.serving,
       c.in-Ok-load_alone.ensures.rules,
-      c.in-Ok-told_against.ensures,
+      c.in-Ok-output_against.ensures,
     )

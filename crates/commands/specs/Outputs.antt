@@ -22,26 +22,26 @@ use Rattle.commands.specs.declared.output.CommandOutput.{CommandOutput}
 use Rattle.commands.specs.declared.output.CommandOutput.TheVariants as output
 
 module _ (known : KnownFiles) where
-  abbrev pub IsAnswer : Command → CommandOutput → Type 0
-  IsAnswer (command.Assemble text out) (output.Assembled program) =
+  abbrev pub IsOutput : Command → CommandOutput → Type 0
+  IsOutput (command.Assemble text out) (output.Assembled program) =
       IsAssembledFrom known text.now program.items
-  IsAnswer (command.Compile text shape out) (output.Compiled slots) =
+  IsOutput (command.Compile text shape out) (output.Compiled slots) =
       HasCompiled known text.now shape slots
-  IsAnswer (command.List path) (output.Listed text) =
+  IsOutput (command.List path) (output.Listed text) =
       IsListedFrom known path.now (string_bytes text)
-  IsAnswer (command.Replay manifest script) (output.Replayed text) =
+  IsOutput (command.Replay manifest script) (output.Replayed text) =
       HasReplayed known manifest.now script.now (string_bytes text)
-  IsAnswer (command.Run run) (output.Chosen choice instructions) =
+  IsOutput (command.Run run) (output.Chosen choice instructions) =
       HasChosen known run choice instructions
-  IsAnswer (command.Send request port) (output.Replied text) = IsDoneAs request (string_bytes text)
-  IsAnswer (command.Serve manifest plan) (output.Ready server kept) =
+  IsOutput (command.Send request port) (output.Replied text) = IsDoneAs request (string_bytes text)
+  IsOutput (command.Serve manifest plan) (output.Ready server kept) =
       IsLoadedFrom known manifest.now [] server.loaded.rules server.loaded.directory
       × IsMadeFrom known manifest.now [] server.loaded × (kept ≡ plan)
-  IsAnswer (command.StopAndWait port) (output.Replied text) =
+  IsOutput (command.StopAndWait port) (output.Replied text) =
       IsDoneAs sent.Stop (string_bytes text)
-  IsAnswer (command.Verify path shape) (output.Accepted slots) =
+  IsOutput (command.Verify path shape) (output.Accepted slots) =
       HasSlots known path.now shape slots
-  IsAnswer command output = ⊥
+  IsOutput command output = ⊥
 
   abbrev pub IsRefused : Command → Fault → Type 0
   IsRefused (command.Assemble text out) (Program fault) = IsAssemblyRefusal known text.now fault

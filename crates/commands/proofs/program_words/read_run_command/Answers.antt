@@ -1,7 +1,7 @@
 use Rattle.std.proofs.Common.{◌≡◌, ◌∙◌, rules, sym, true, false}
 use Rattle.clap.specs.Words.{found_of, rows_of}
 use Rattle.commands.proofs.Making.{runs_none, traces_none}
-use Rattle.commands.proofs.program_words.read_run_once.Goals as goal
+use Rattle.commands.proofs.program_words.read_run_command.Goals as goal
 
 pub returns-then-is_text-clause-none : goal.returns-then-is_text-clause-none
 returns-then-is_text-clause-none c = λ fault wrong.
@@ -10,7 +10,7 @@ returns-then-is_text-clause-none c = λ fault wrong.
 pub returns-in-Ok-clause-made : goal.returns-in-Ok-clause-made
 returns-in-Ok-clause-made c = record {
   run_is = c.in-Ok.ensures.given;
-  once = λ traces. let bad : true ≡ false = sym (c.is_text.ensures.1 traces)
+  untraced = λ traces. let bad : true ≡ false = sym (c.is_text.ensures.1 traces)
       ∙ c.if-is_text.false in cc;
 }
 

@@ -1,14 +1,14 @@
 use Rattle.std.specs.Option.{option_copied}
-use Rattle.manifest_tools.proofs.Alike.{told_alike}
-use Rattle.manifest_tools.proofs.simulating.told_against.Goals as goal
+use Rattle.manifest_tools.proofs.Alike.{simulation_alike}
+use Rattle.manifest_tools.proofs.simulating.output_against.Goals as goal
 
 pub returns : goal.returns
 returns g c = record {
   next = c.in_ok-next.next;
   simulated = c.in_ok-next.ensures.simulated;
   now = c.in_ok-now.now;
-  served = told_alike c.args.client.now c.simulation_of.new.client c.args.serving
+  served = simulation_alike c.args.client.now c.simulation_of.new.client c.args.serving
       (option_copied c.args.appid) c.in_ok-now.now c.simulation_of.ensures.client
       c.in_ok-now.ensures.simulated;
-  tells = c.in_ok-told.ensures;
+  tells = c.in_ok-output.ensures;
 }

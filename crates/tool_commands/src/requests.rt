@@ -19,7 +19,7 @@ use tool_words::ToolCommand;
 /// Does what the command says, with files of the disk; output files are written by the runtime.
 // open: which bytes a device's file gives: no contract can say what a device does, so the tests run
 // each command on files.
-pub(crate) fn perform<R, D>(
+pub(crate) fn output_of<R, D>(
     rt: &R,
     disk: &D,
     command: &ToolCommand<'_>,

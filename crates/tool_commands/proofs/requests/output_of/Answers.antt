@@ -2,7 +2,7 @@ use Rattle.std.proofs.Common.{sym, subst}
 use Rattle.std.specs.Prelude.{IfErr, IfOk}
 use Rattle.tool_commands.specs.Outputs.{IsOutput, IsRefused}
 use Rattle.tool_words.specs.declared.args.ToolCommand.{ToolCommand}
-use Rattle.tool_commands.proofs.performing.perform.Goals as goal
+use Rattle.tool_commands.proofs.requests.output_of.Goals as goal
 
 pub returns-in-Report-clause-output : goal.returns-in-Report-clause-output
 returns-in-Report-clause-output g c =

@@ -1,8 +1,8 @@
 use Rattle.std.proofs.Common.{sym, subst}
-use Rattle.commands.specs.Answers.{IsRefused}
+use Rattle.commands.specs.Outputs.{IsRefused}
 use Rattle.commands.specs.declared.fault.Fault.TheVariants.{Program}
 use Rattle.commands.specs.declared.request.Command.{Command}
-use Rattle.commands.proofs.requests.answer.Goals as goal
+use Rattle.commands.proofs.requests.output_of.Goals as goal
 
 pub returns-in-Err-clause-fault : goal.returns-in-Err-clause-fault
 returns-in-Err-clause-fault g c =
