@@ -1,0 +1,11 @@
+pub mod Cells
+pub mod Flags
+pub mod Ranges
+pub mod Versions
+pub mod Tests
+pub mod Takes
+pub mod Grown
+pub mod Cohorts
+pub mod Fitting
+pub mod Everyone
+pub mod Planned

@@ -1,0 +1,45 @@
+-- Which cells of a group a machine can have together: the cell of its version, whether the version
+-- is known, and its text; or its bucket, whether the cohort names it, and the cohort.
+use Rattle.std.specs.Prelude.{ℕ, List, [], ◌∷◌, is_some, Option, Some, None, Bool, false}
+use Rattle.std.specs.Prelude.{◌&&◌, ◌||◌, ◌==◌, not, nat_le, nat_lt, if◌then◌else◌}
+use Rattle.std.specs.List.{list_any}
+use Rattle.attrs.specs.Bucket.{cohort_bucket}
+use Rattle.attrs.specs.Version.{version_of}
+use Rattle.rule_space.specs.Numbers.{version_number}
+
+-- ---- versions
+
+-- a number of the cell from `low` to before `high`; the last cell has no end
+abbrev pub in_cell : (low : ℕ) → (high : Option ℕ) → ℕ → Bool
+in_cell low (Some high) n = nat_le low n && nat_lt n high
+in_cell low None n = nat_le low n
+
+-- a text that is a version is known by its numbers, and one that isn't counts as 0
+abbrev pub numbers_fit : Option (List ℕ) → (known : Bool) → (low : ℕ) → (high : Option ℕ) → Bool
+numbers_fit (Some v) known low high = known && in_cell low high (version_number v)
+numbers_fit None known low high = not known && (low == 0)
+
+-- another text than those that are named may be any version, or none. The empty text may be that
+-- of a version that is too long to be kept
+abbrev pub version_fits : (text : Option (List ℕ)) → (known : Bool) → (low : ℕ)
+    → (high : Option ℕ) → Bool
+version_fits None known low high = known || (low == 0)
+version_fits (Some []) known low high = known || (low == 0)
+version_fits (Some (c ∷ cs)) known low high = numbers_fit (version_of (c ∷ cs)) known low high
+
+-- ---- buckets
+
+abbrev pub is_bucket : Option ℕ → (bucket : ℕ) → Bool
+is_bucket (Some b) bucket = b == bucket
+is_bucket None bucket = false
+
+abbrev pub names_bucket : (bucket : ℕ) → (cohort : List ℕ) → Bool
+names_bucket bucket cohort = is_bucket (cohort_bucket cohort) bucket
+
+-- a cohort that names a bucket has that one. Another cohort than those that are named may name each
+-- bucket that none of these names
+abbrev pub cohort_fits : (texts : List (List ℕ)) → (cohort : Option (List ℕ)) → (known : Bool)
+    → (bucket : ℕ) → Bool
+cohort_fits texts None known bucket = not known || not (list_any (names_bucket bucket) texts)
+cohort_fits texts (Some cohort) known bucket =
+    if is_some (cohort_bucket cohort) then known && names_bucket bucket cohort else not known

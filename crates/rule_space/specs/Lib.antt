@@ -1,0 +1,12 @@
+pub mod Machines
+pub mod Scopes
+pub mod Numbers
+pub mod Coordinates
+pub mod Lines
+pub mod Plans
+pub mod Groups
+pub mod Spaces
+pub mod Fits
+pub mod Families
+pub mod Tests
+pub mod Growing

@@ -1,0 +1,48 @@
+-- How a test is a comparison of its dimension's number, and which cell a take is about. No public
+-- clause uses this: the promise is in Plans.antt.
+use Rattle.std.specs.Prelude.{◌≡◌, ℕ, ◌+◌, ◌<◌, List, Some, None, true, slice_get}
+use Rattle.std.specs.Ordering.{nat_cmp}
+use Rattle.attrs.specs.Attributes.{Attributes}
+use Rattle.cells.specs.Arrays.{AppShape}
+use Rattle.cells.specs.declared.array.CellArray.{CellArray}
+use Rattle.rule_lang.specs.Meaning.{allows, cell_asked, test_holds}
+use Rattle.rule_lang.specs.Shapes.{array_named}
+use Rattle.rule_lang.specs.declared.test.Test.{Test}
+use Rattle.rule_space.specs.declared.coordinate.Coordinate.{Coordinate}
+use Rattle.rule_space.specs.declared.coordinate.Coordinate.TheVariants as coordinate
+use Rattle.rule_space.specs.declared.test_line.Against.{Against}
+use Rattle.rule_space.specs.Coordinates.{Dimension, number_in}
+use Rattle.rule_space.specs.Machines.{State, declared}
+use Rattle.rule_space.specs.Numbers.{decides}
+use Rattle.rule_space.specs.Scopes.{IsWithin, Scope}
+
+-- the test uses no cell, and holds as the number of a machine compares
+pub record IsAgainst (of : Coordinate) (texts : List (List ℕ)) (t : Test) (by : Against)
+    : Type 0 where
+  pub no_cell : (s : AppShape) → cell_asked s t ≡ None
+  pub holds : (s : AppShape) (x : Scope) (a : Attributes) (g : State) → IsWithin x a g
+      → test_holds a s 0 t ≡ allows by.comparison (nat_cmp (number_in of texts a g) by.number)
+
+-- the same for a dimension at a place, whose cells decide it
+pub record IsAgainstAt (ds : List Dimension) (at : ℕ) (t : Test) (by : Against) : Type 0 where
+  pub dimension : Dimension
+  pub is_at : slice_get ds at ≡ Some dimension
+  pub against : IsAgainst dimension.of dimension.texts t by
+  pub decided : decides dimension.ends dimension.last by.comparison by.number ≡ true
+
+-- the number says how many takes this cell of an array grants
+abbrev pub IsGrantOf : Coordinate → CellArray → (index : ℕ) → Type 0
+IsGrantOf (coordinate.Takes own place) array index =
+    (declared own ≡ declared array) × (place ≡ index)
+IsGrantOf of array index = ⊥
+
+-- the dimension at a place says so of this cell of the first array with this name
+pub record IsGrantAt (ds : List Dimension) (at : ℕ) (s : AppShape) (name : List ℕ) (index cell : ℕ)
+    : Type 0 where
+  pub dimension : Dimension
+  pub is_at : slice_get ds at ≡ Some dimension
+  pub array : CellArray
+  pub is_named : array_named name s.arrays ≡ Some array
+  pub within : index < array.length
+  pub grants : IsGrantOf dimension.of array index
+  pub its_cell : cell ≡ array.base + index

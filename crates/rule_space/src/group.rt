@@ -1,0 +1,143 @@
+//! Groups of dimensions that depend on each other. A group lists the tuples of cells that a machine
+//! can have in them.
+
+ghost use Rattle.std.specs.Prelude.{◌≡◌, Contains, IfOk, IfSome, OnOk, true};
+ghost use Rattle.rule_space.specs.Groups.{all_cells};
+ghost use Rattle.rule_space.specs.Growing.{HasAdded};
+
+use std::alloc::{AllocError, Global};
+use std::marker::Model;
+
+/// The cells of a group's dimensions in their order, and the buckets that have them, which rise. In
+/// a group without a bucket they are empty.
+#[derive(Drop)]
+pub struct Tuple {
+    pub cells: Vec<u16>,
+    pub buckets: Vec<u16>,
+}
+
+impl Model for Tuple {
+    ghost use Rattle.rule_space.specs.Groups as specs;
+
+    ghost Value = { specs.Tuple };
+
+    ghost view = { λ t. record { cells = t.cells.items; buckets = t.buckets.items } };
+}
+
+/// The numbers of dimensions, which rise, and the tuples that a machine can have in them.
+#[derive(Drop)]
+pub struct Group {
+    pub dimensions: Vec<usize>,
+    pub tuples: Vec<Tuple>,
+}
+
+impl Model for Group {
+    ghost use Rattle.rule_space.specs.Groups as specs;
+
+    ghost Value = { specs.Group };
+
+    ghost view = { λ g. record { dimensions = g.dimensions.items; tuples = g.tuples.items } };
+}
+
+fn are_same(cells: &[u16], others: &[u16]) -> bool
+    ensures { result ≡ true → cells.now ≡ others.now }
+{
+    cells == others
+}
+
+// The place of the tuple with these cells.
+fn find_tuple(tuples: &[Tuple], cells: &[u16]) -> Option<usize>
+    ensures { IfSome result (λ place. Contains (all_cells tuples.now) cells.now) }
+{
+    let mut place: usize = 0;
+    let mut left = tuples;
+    while let [tuple, others @ ..] = left {
+        if are_same(&tuple.cells, cells) {
+            return Some(place);
+        }
+        place = place.saturating_add(1);
+        left = others;
+    }
+    None
+}
+
+// The place of the tuple with these cells; it is added unless it is there.
+fn add_tuple(alloc: Global, tuples: &mut Vec<Tuple>, cells: Vec<u16>) -> Result<usize, AllocError>
+    ensures { IfOk result (λ place. HasAdded tuples.old.items tuples.new.items cells.items) }
+{
+    if let Some(place) = find_tuple(tuples, &cells) {
+        return Ok(place);
+    }
+    let place = tuples.len();
+    let buckets = Vec::new(alloc);
+    tuples.push(Tuple { cells, buckets })?;
+    Ok(place)
+}
+
+impl Tuple {
+    // Adds a bucket that isn't below those that are there.
+    fn add_bucket(&mut self, bucket: u16) -> Result<(), AllocError>
+        ensures { self.new.cells ≡ self.old.cells }
+    {
+        if self.buckets.last().copied() == Some(bucket) {
+            return Ok(());
+        }
+        self.buckets.push(bucket)?;
+        Ok(())
+    }
+}
+
+fn add_bucket(tuples: &mut Vec<Tuple>, place: usize, bucket: u16) -> Result<(), AllocError>
+    ensures { all_cells tuples.new.items ≡ all_cells tuples.old.items }
+{
+    if place < tuples.len() {
+        tuples[place].add_bucket(bucket)?;
+    }
+    Ok(())
+}
+
+// Adds a tuple, unless it is there, and its bucket, if there is one.
+fn add_cells(
+    alloc: Global,
+    tuples: &mut Vec<Tuple>,
+    cells: Vec<u16>,
+    bucket: Option<u16>,
+) -> Result<(), AllocError>
+    ensures { OnOk result (HasAdded tuples.old.items tuples.new.items cells.items) }
+{
+    let place = add_tuple(alloc, tuples, cells)?;
+    match bucket {
+        Some(bucket) => {
+            add_bucket(tuples, place, bucket)?;
+            Ok(())
+        }
+        None => Ok(()),
+    }
+}
+
+impl Group {
+    ghost use Rattle.rule_space.specs.Groups.{HasTuple};
+    ghost use Rattle.rule_space.specs.Growing.{GrowsTo};
+    ghost use Rattle.std.specs.Prelude.{OnOk};
+
+    /// The numbers of its dimensions.
+    pub(crate) fn members(&self) -> &[usize]
+        ensures { result.now ≡ self.now.dimensions }
+    {
+        &self.dimensions
+    }
+
+    /// Adds a tuple, unless it is there, and its bucket, if there is one.
+    pub(crate) fn add(
+        &mut self,
+        alloc: Global,
+        cells: Vec<u16>,
+        bucket: Option<u16>,
+    ) -> Result<(), AllocError>
+        ensures grows { OnOk result (GrowsTo self.old self.new) }
+        ensures has { OnOk result (HasTuple self.new cells.items) }
+    {
+        add_cells(alloc, &mut self.tuples, cells, bucket)?;
+        Ok(())
+    }
+}

@@ -1,0 +1,146 @@
+//! Makes the group of a family: a tuple for each combination that a machine can have.
+
+ghost use Rattle.std.specs.Prelude.{◌≡◌, ℕ, ◌≤◌, Bool, true, All, IfOk, IfSome, OnOk};
+ghost use Rattle.std.specs.Prelude.{length, slice_get};
+ghost use Rattle.rule_space.specs.Families as specs;
+ghost use Rattle.rule_space.specs.Families.{AreFew, HasCombination, IsMadeOf, combination};
+ghost use Rattle.rule_space.specs.Groups.{IsGroup};
+ghost use Rattle.rule_space.specs.Growing.{GrowsTo};
+ghost use Rattle.rule_space.specs.Lines.{IsLine};
+ghost use Rattle.rule_space.specs.Scopes.{IsWithin, Scope};
+
+use crate::combination::{Combination, cells_of, is_possible};
+use crate::dimension::Dimension;
+use crate::family::{Family, GroupKind, family_of, line_at, members_of, texts_at};
+use crate::group::Group;
+use crate::line::MOST_CELLS;
+use attrs::Bucket;
+use std::alloc::{AllocError, Global};
+
+fn bucket_of(family: Family, combination: Combination) -> Option<u16> {
+    match family.kind {
+        GroupKind::Version => None,
+        GroupKind::Bucket => Some(combination.number),
+    }
+}
+
+// Adds the tuple of a combination, if a machine can have it.
+fn add_combination(
+    alloc: Global,
+    dimensions: &[Dimension],
+    family: Family,
+    group: &mut Group,
+    combination: Combination,
+) -> Result<(), AllocError>
+    ensures grows { OnOk result (GrowsTo group.old group.new) }
+    ensures has { AreFew dimensions.now
+        → OnOk result (HasCombination family dimensions.now group.new combination) }
+{
+    if !is_possible(dimensions, family, combination) {
+        return Ok(());
+    }
+    let cells = cells_of(alloc, dimensions, group.members(), combination)?;
+    group.add(alloc, cells, bucket_of(family, combination))?;
+    Ok(())
+}
+
+// Adds the tuples of a number with a text, known or not.
+fn add_text(
+    alloc: Global,
+    dimensions: &[Dimension],
+    family: Family,
+    group: &mut Group,
+    number: u16,
+    text: usize,
+) -> Result<(), AllocError>
+    ensures grows { OnOk result (GrowsTo group.old group.new) }
+    ensures has { AreFew dimensions.now → OnOk result ((known : Bool)
+        → HasCombination family dimensions.now group.new (combination number known text)) }
+{
+    let unknown = Combination {
+        number,
+        known: false,
+        text,
+    };
+    let known = Combination {
+        number,
+        known: true,
+        text,
+    };
+    add_combination(alloc, dimensions, family, group, unknown)?;
+    add_combination(alloc, dimensions, family, group, known)?;
+    Ok(())
+}
+
+// Adds the tuples of a number with each text.
+fn add_number(
+    alloc: Global,
+    dimensions: &[Dimension],
+    family: Family,
+    group: &mut Group,
+    number: u16,
+) -> Result<(), AllocError>
+    ensures grows { OnOk result (GrowsTo group.old group.new) }
+    ensures has { AreFew dimensions.now → OnOk result ((text : ℕ)
+        → text ≤ length (specs.texts_at dimensions.now family.text) → (known : Bool)
+        → HasCombination family dimensions.now group.new (combination number known text)) }
+{
+    let texts = texts_at(dimensions, family.text);
+    for text in 0..texts.len() + 1 {
+        add_text(alloc, dimensions, family, group, number, text)?;
+    }
+    Ok(())
+}
+
+fn count_of(dimensions: &[Dimension], family: Family) -> u16
+    ensures { AreFew dimensions.now → result ≡ specs.count_of family dimensions.now }
+{
+    match family.kind {
+        GroupKind::Version => match line_at(dimensions, family.line) {
+            Some(line) => line.cells().min(MOST_CELLS) as u16,
+            None => 1,
+        },
+        GroupKind::Bucket => Bucket::COUNT,
+    }
+}
+
+fn make_group(
+    alloc: Global,
+    dimensions: &[Dimension],
+    family: Family,
+    members: Vec<usize>,
+) -> Result<Group, AllocError>
+    requires { All (λ place. specs.is_member_at family place
+        (slice_get dimensions.now place) ≡ true) members.items }
+    ensures { AreFew dimensions.now → IfOk result (IsMadeOf family dimensions.now) }
+{
+    let mut group = Group {
+        dimensions: members,
+        tuples: Vec::new(alloc),
+    };
+    for number in 0..count_of(dimensions, family) {
+        add_number(alloc, dimensions, family, &mut group, number)?;
+    }
+    Ok(group)
+}
+
+/// The group of a kind, if one of its dimensions is there; of the version, if two are.
+pub(crate) fn group_of(
+    alloc: Global,
+    dimensions: &[Dimension],
+    kind: GroupKind,
+) -> Result<Option<Group>, AllocError>
+    ensures { (x : Scope) → All (IsLine x) dimensions.now
+        → IfOk result (λ o. IfSome o (IsGroup (IsWithin x) dimensions.now)) }
+{
+    let family = family_of(dimensions, kind);
+    let members = members_of(alloc, dimensions, family)?;
+    let least = match kind {
+        GroupKind::Version => 2,
+        GroupKind::Bucket => 1,
+    };
+    if members.len() < least {
+        return Ok(None);
+    }
+    Ok(Some(make_group(alloc, dimensions, family, members)?))
+}

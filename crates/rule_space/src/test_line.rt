@@ -1,0 +1,174 @@
+//! A test as a comparison of its dimension's number with another one.
+
+ghost use Rattle.std.specs.Prelude.{◌≡◌, ℕ, List, IfSome, true};
+ghost use Rattle.rule_space.specs.Coordinates as coordinates;
+ghost use Rattle.rule_space.specs.Tests.{IsAgainst};
+
+use crate::coordinate::Coordinate;
+use crate::line::version_number;
+use attrs::{Attribute, Context, Flag};
+use rule_lang::{Comparison, Literal, Test};
+
+/// A comparison with a number.
+#[derive(Clone, Copy)]
+pub(crate) struct Against {
+    pub comparison: Comparison,
+    pub number: u128,
+}
+
+/// The place of a text among these, or their number.
+pub(crate) fn place_among(texts: &[Literal], text: &str) -> usize
+    ensures { result ≡ coordinates.place_among texts.now text.now }
+{
+    let mut place: usize = 0;
+    let mut left = texts;
+    while let [literal, others @ ..] = left {
+        if literal.as_str() == text {
+            return place;
+        }
+        place += 1;
+        left = others;
+    }
+    place
+}
+
+fn version_against(test: &Test) -> Option<Against>
+    ensures { (texts : List (List ℕ))
+        → IfSome result (IsAgainst Coordinate.Version texts test.now) }
+{
+    match test {
+        Test::Version {
+            comparison,
+            version,
+        } => Some(Against {
+            comparison: *comparison,
+            number: version_number(*version),
+        }),
+        _ => None,
+    }
+}
+
+fn today_against(test: &Test) -> Option<Against>
+    ensures { (texts : List (List ℕ)) → IfSome result (IsAgainst Coordinate.Today texts test.now) }
+{
+    match test {
+        Test::Today { comparison, number } => Some(Against {
+            comparison: *comparison,
+            number: *number as u128,
+        }),
+        _ => None,
+    }
+}
+
+// The flag `installdate_known` is about the day of the installation.
+fn installed_against(test: &Test) -> Option<Against>
+    ensures { (texts : List (List ℕ))
+        → IfSome result (IsAgainst Coordinate.Installed texts test.now) }
+{
+    match test {
+        Test::Installed { comparison, number } => Some(Against {
+            comparison: *comparison,
+            number: *number as u128,
+        }),
+        Test::Flag(Flag::InstalldateKnown) => Some(Against {
+            comparison: Comparison::Lt,
+            number: Context::UNKNOWN_DAY as u128,
+        }),
+        _ => None,
+    }
+}
+
+fn is_same_salt(salt: Option<u64>, other: Option<u64>) -> bool
+    ensures { result ≡ true → salt ≡ other }
+{
+    match (salt, other) {
+        (None, None) => true,
+        (Some(salt), Some(other)) => salt == other,
+        _ => false,
+    }
+}
+
+fn is_same_modulus(modulus: Option<u32>, other: Option<u32>) -> bool
+    ensures { result ≡ true → modulus ≡ other }
+{
+    match (modulus, other) {
+        (None, None) => true,
+        (Some(modulus), Some(other)) => modulus == other,
+        _ => false,
+    }
+}
+
+fn bucket_against(salt: Option<u64>, modulus: Option<u32>, test: &Test) -> Option<Against>
+    ensures { (texts : List (List ℕ))
+        → IfSome result (IsAgainst (Coordinate.Bucket salt modulus) texts test.now) }
+{
+    match test {
+        Test::Bucket {
+            salt: other,
+            modulus: divisor,
+            comparison,
+            number,
+        } => {
+            if is_same_salt(salt, *other) && is_same_modulus(modulus, *divisor) {
+                return Some(Against {
+                    comparison: *comparison,
+                    number: *number as u128,
+                });
+            }
+            None
+        }
+        _ => None,
+    }
+}
+
+fn flag_against(own: Flag, test: &Test) -> Option<Against>
+    ensures { (texts : List (List ℕ))
+        → IfSome result (IsAgainst (Coordinate.Flag own) texts test.now) }
+{
+    match test {
+        Test::Flag(flag) => {
+            if own == *flag {
+                return Some(Against {
+                    comparison: Comparison::Ge,
+                    number: 1,
+                });
+            }
+            None
+        }
+        _ => None,
+    }
+}
+
+fn text_against(own: Attribute, texts: &[Literal], test: &Test) -> Option<Against>
+    ensures { IfSome result (IsAgainst (Coordinate.Text own) texts.now test.now) }
+{
+    match test {
+        Test::Attr { attribute, text } => {
+            let place = place_among(texts, text.as_str());
+            if own == *attribute && place < texts.len() {
+                return Some(Against {
+                    comparison: Comparison::Eq,
+                    number: place as u128,
+                });
+            }
+            None
+        }
+        _ => None,
+    }
+}
+
+/// The comparison that a test makes with the number of a coordinate, if it is about that; none for
+/// a take, whose number changes along a run, or for a text that isn't among these.
+pub(crate) fn against_of(of: &Coordinate, texts: &[Literal], test: &Test) -> Option<Against>
+    ensures { IfSome result (IsAgainst of.now texts.now test.now) }
+{
+    match of {
+        Coordinate::Version => version_against(test),
+        Coordinate::Today => today_against(test),
+        Coordinate::Installed => installed_against(test),
+        Coordinate::Bucket { salt, modulus } => bucket_against(*salt, *modulus, test),
+        Coordinate::Flag(flag) => flag_against(*flag, test),
+        Coordinate::Text(attribute) => text_against(*attribute, texts, test),
+        Coordinate::Takes { .. } => None,
+    }
+}
