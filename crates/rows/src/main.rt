@@ -3,12 +3,17 @@
 //! it prints how many rows it has, and each row whose output or status isn't the wanted one.
 #![tactic(auto)]
 
+mod background;
+mod calling;
 mod escapes;
+mod logging;
+mod loopback;
 mod printed;
 mod reading;
 mod running;
 mod steps;
 
+use crate::logging::Logging;
 use crate::running::run_files;
 use anyhow::Result;
 use std::env;
@@ -16,7 +21,7 @@ use std::process::ExitCode;
 
 fn main(rt: HostRuntime) -> Result<ExitCode> {
     let names: Vec<String> = env::args(&rt)?.collect(rt.alloc())?;
-    Ok(if run_files(&rt, names.as_slice())? {
+    Ok(if run_files(&Logging { rt }, names.as_slice())? {
         ExitCode::SUCCESS
     } else {
         ExitCode::FAILURE

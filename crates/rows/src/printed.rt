@@ -10,6 +10,17 @@ pub(crate) struct Printed {
     pub(crate) err: String,
 }
 
+impl Printed {
+    /// This text on standard output, with status 0.
+    pub(crate) fn of(alloc: Global, out: String) -> Printed {
+        Printed {
+            status: 0,
+            out,
+            err: String::new(alloc),
+        }
+    }
+}
+
 /// What a row wants a command to print: all of its output, and texts that are somewhere in it.
 #[derive(Drop)]
 pub(crate) struct Wanted {
@@ -21,11 +32,7 @@ impl Wanted {
     /// Status 0 and no output.
     pub(crate) fn nothing(alloc: Global) -> Wanted {
         Wanted {
-            printed: Printed {
-                status: 0,
-                out: String::new(alloc),
-                err: String::new(alloc),
-            },
+            printed: Printed::of(alloc, String::new(alloc)),
             parts: Vec::new(alloc),
         }
     }
@@ -62,10 +69,10 @@ impl Wanted {
     }
 }
 
-/// Whether a text is the wanted one, or begins with it up to `...` at its end.
+/// Whether a text is the wanted one, in which `...` at the end of a line is any text.
 fn is_wanted(text: &str, wanted: &str) -> bool {
-    match wanted.strip_suffix("...\n") {
-        Some(beginning) => text.starts_with(beginning),
+    match wanted.rsplit_once("...\n") {
+        Some((beginning, end)) => text.starts_with(beginning) && text.ends_with(end),
         None => text == wanted,
     }
 }

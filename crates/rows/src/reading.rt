@@ -8,8 +8,23 @@
 //! * N TEXT       appends this text, with the same escapes, N times to the last file
 //! % WORDS        a command that prepares: it ends with status 0, whatever it prints
 //! $ WORDS        a row: a command, whose status and whole output are compared
+//! @ NAME TARGET  makes NAME a symbolic link that leads to TARGET
 //! < NAME         a row: the text of the file NAME, as if a command printed it
+//! > PORT NAME    a row: the bytes of the file NAME are sent to this port, and what comes back is
+//!                as if a command printed it, with `\r` for a carriage return
+//! ^ WORDS        a row: a command whose standard output takes only ten bytes, which aren't
+//!                compared; without words, both programs' refusals if memory for words is refused
+//! & PORT WORDS   a row: a command that runs in the background up to its line `)`, which compares
+//!                its status and its whole output. The next line waits until something listens at
+//!                the port
+//! ( PORT N NAME  a row: the first N bytes of the file NAME are sent to this port, and the others
+//!                half a second later, in the background. Its line `)`, which may not come sooner,
+//!                compares what comes back
+//! : PORT NAME    the next client of this port gets the bytes of the file NAME, once it has sent
+//!                a line, in the background
+//! )              waits for the end of what was last begun in the background
 //! | LINE         a line of its standard output
+//! . TEXT         the end of its standard output, without a line feed
 //! ! LINE         a line of its standard error
 //! = N            its status, if that isn't 0
 //! ? LINE         all its output: a line that begins with `refused ` is on standard error, with
@@ -22,9 +37,16 @@
 //!                which ` | ` divides; a line of the table that begins with `# ` is a comment
 //! ```
 //!
-//! Spaces divide the words; two single quotes enclose one word, in which the escapes of `+` hold. A
-//! wanted output that ends with `...` need only be the beginning. All files of one file of rows are
-//! in one folder, and stay there until they are written again.
+//! Spaces divide the words; two single quotes enclose one word, in which the escapes of `+` hold.
+//! If the first word is `rollout` or `rollout-tools`, that program has the command; otherwise the
+//! one that knows it. A wanted output in which `...` ends a line begins with what is before the
+//! last such mark, and ends with what is after it. All files of one file of rows are in one folder,
+//! and stay there until they are written again. A `/` in a file's name makes the folder before it.
+//!
+//! In the whole text `<port1>` to `<port12>` are free ports, and with these `<day>` is the number
+//! of days from 2007-01-01 to today; in a text without ports `<folder>` is the path of its folder.
+//! The log of a server is appended to the file `log`, but its lines of connections to the file
+//! `connections`; each line begins after its `"kind":`.
 
 use crate::steps::{Step, Steps};
 use anyhow::{Result, bail};

@@ -1,61 +1,19 @@
 //! Running the steps of a file of rows, and what is printed about them.
 
-use crate::escapes::words_of;
+use crate::background::{Background, give, hold, start};
+use crate::calling::called;
+use crate::loopback::filled_text;
 use crate::printed::{Printed, Wanted};
 use crate::reading::read_steps;
 use crate::steps::Step;
-use anyhow::Result;
-use commands::{Device, LogOutput};
+use anyhow::{Result, bail};
+use commands::LogOutput;
+use std::fs;
 use std::net::{Net, TcpListener, TcpStream};
 use std::rt::Files;
 use std::sync::Wait;
 use std::thread::Threads;
 use std::time::Clock;
-use std::{fs, str};
-
-/// Whether `rollout-tools` has the command; `rollout` has any other word.
-fn is_tool(words: &[String]) -> bool {
-    match words {
-        [_, command, ..] => matches!(
-            command.as_str(),
-            "check" | "explain" | "trace" | "order" | "simulate" | "ask" | "report"
-        ),
-        _ => false,
-    }
-}
-
-/// The output of a command, by the program that has it.
-fn printed_of<R>(rt: &R, words: &[String]) -> Result<Printed>
-where
-    R: Files + Threads + Wait + AllocGlobal + Clock + LogOutput,
-    R: Copy + Drop + Send + Sync + 'static,
-    R: Net<Listener = TcpListener, Stream = TcpStream>,
-    R::File: Send,
-    R::Dir: Send,
-{
-    let mut out = Vec::new(rt.alloc());
-    let mut err = Vec::new(rt.alloc());
-    let disk = Device::new(rt);
-    let status = if is_tool(words) {
-        tool_commands::command(rt, &disk, words, &mut out, &mut err)
-    } else {
-        commands::command(rt, &disk, words, &mut out, &mut err)
-    };
-    Ok(Printed {
-        status,
-        out: String::from_utf8(out)?,
-        err: String::from_utf8(err)?,
-    })
-}
-
-/// The text of a file, as if a command printed it.
-fn file_of<R: Files + AllocGlobal>(rt: &R, name: &str) -> Result<Printed> {
-    Ok(Printed {
-        status: 0,
-        out: fs::read_to_string(rt, name)?,
-        err: String::new(rt.alloc()),
-    })
-}
 
 /// Prints a command, its wanted output, and its output.
 fn show_difference<R: Print>(
@@ -103,16 +61,85 @@ impl Count {
         }
         Ok(())
     }
+
+    /// Counts a step's result, and prints it if its output or its status isn't the wanted one.
+    fn judge<R: Print>(
+        &mut self,
+        rt: &R,
+        place: usize,
+        words: &str,
+        wanted: &Option<Wanted>,
+        came: &Printed,
+    ) -> Result<()> {
+        if wanted.is_some() {
+            self.rows = self.rows.saturating_add(1);
+        }
+        if is_right(wanted, came) {
+            return Ok(());
+        }
+        self.wrong = self.wrong.saturating_add(1);
+        show_difference(rt, place, words, wanted, came)
+    }
 }
 
-/// Runs the command of a step, and prints it if its output or its status isn't the wanted one.
-fn run_step<R>(
+/// Ends what was last started in the background, and judges it by the step that started it.
+fn end_last<R>(
     rt: &R,
+    steps: &[Step],
+    background: &mut Vec<Background>,
     count: &mut Count,
-    place: usize,
-    words: &str,
-    wanted: &Option<Wanted>,
+    number: usize,
 ) -> Result<()>
+where
+    R: Threads + Print + Net<Stream = TcpStream>,
+{
+    let Some(last) = background.pop() else {
+        bail!("line {number}: nothing runs in the background")
+    };
+    let place = last.place();
+    let Some(came) = last.end(rt, count.wrong != 0) else {
+        bail!("line {number}: nothing came back, or this line came too soon")
+    };
+    match steps.get(place) {
+        Some(
+            Step::Run {
+                line,
+                words,
+                wanted,
+            },
+        ) => { count.judge(rt, *line, words.as_str(), wanted, &came) }
+        _ => Ok(()),
+    }
+}
+
+/// What starts in the background, if these words start something.
+fn started<R>(rt: &R, place: usize, words: &str) -> Result<Option<Background>>
+where
+    R: Files + Threads + Wait + AllocGlobal + Clock + LogOutput,
+    R: Copy + Drop + Send + Sync + 'static,
+    R: Net<Listener = TcpListener, Stream = TcpStream>,
+    R::File: Send,
+    R::Dir: Send,
+{
+    match words.split_once(' ') {
+        Some(("&", rest)) => Ok(Some(start(rt, place, rest)?)),
+        Some(("(", rest)) => Ok(Some(hold(rt, place, rest)?)),
+        Some((":", rest)) => Ok(Some(give(rt, place, rest)?)),
+        _ => Ok(None),
+    }
+}
+
+/// Writes a file, and the folder that is in its name.
+fn write<R: Files>(rt: &R, name: &str, bytes: &[u8]) -> Result<()> {
+    if let Some((folder, _name)) = name.rsplit_once('/') {
+        fs::create_dir_all(rt, folder)?;
+    }
+    fs::write(rt, name, bytes)?;
+    Ok(())
+}
+
+/// Runs the steps of a file of rows.
+fn run_steps<R>(rt: &R, steps: &[Step]) -> Result<Count>
 where
     R: Files + Threads + Wait + AllocGlobal + Clock + LogOutput + Print,
     R: Copy + Drop + Send + Sync + 'static,
@@ -120,18 +147,29 @@ where
     R::File: Send,
     R::Dir: Send,
 {
-    let came = match words.strip_prefix("< ") {
-        Some(name) => file_of(rt, name)?,
-        None => printed_of(rt, words_of(rt.alloc(), words)?.as_slice())?,
-    };
-    if wanted.is_some() {
-        count.rows = count.rows.saturating_add(1);
+    let mut count = Count { rows: 0, wrong: 0 };
+    let mut background = Vec::new(rt.alloc());
+    for (place, step) in steps.iter().enumerate() {
+        match step {
+            Step::Write { name, bytes } => write(rt, name.as_str(), bytes.as_slice())?,
+            Step::Run { line, words, .. } if words.as_str() == ")" => {
+                end_last(rt, steps, &mut background, &mut count, *line)?;
+            }
+            Step::Run {
+                line,
+                words,
+                wanted,
+            } => {
+                if let Some(it) = started(rt, place, words.as_str())? {
+                    background.push(it)?;
+                } else {
+                    let came = called(rt, words.as_str())?;
+                    count.judge(rt, *line, words.as_str(), wanted, &came)?;
+                }
+            }
+        }
     }
-    if !is_right(wanted, &came) {
-        count.wrong = count.wrong.saturating_add(1);
-        show_difference(rt, place, words, wanted, &came)?;
-    }
-    Ok(())
+    Ok(count)
 }
 
 /// Runs the rows of a file, and returns whether all are right.
@@ -143,21 +181,9 @@ where
     R::File: Send,
     R::Dir: Send,
 {
-    let text = fs::read(rt, name)?;
-    let steps = read_steps(rt.alloc(), str::from_utf8(&text)?)?;
-    let mut count = Count { rows: 0, wrong: 0 };
-    for step in steps.iter() {
-        match step {
-            Step::Write { name, bytes } => fs::write(rt, name.as_str(), bytes)?,
-            Step::Run {
-                line,
-                words,
-                wanted,
-            } => {
-                run_step(rt, &mut count, *line, words.as_str(), wanted)?;
-            }
-        }
-    }
+    let text = filled_text(rt, fs::read_to_string(rt, name)?)?;
+    let steps = read_steps(rt.alloc(), text.as_str())?;
+    let count = run_steps(rt, steps.as_slice())?;
     count.show(rt, name)?;
     Ok(count.wrong == 0)
 }

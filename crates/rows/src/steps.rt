@@ -13,8 +13,8 @@ pub(crate) enum Step {
         name: String,
         bytes: Vec<u8>,
     },
-    /// Runs a command, or shows a file after `< `. If `wanted` is `None`, it prepares: only its
-    /// status is checked.
+    /// Runs a command, or what the mark before the words says. If `wanted` is `None`, it prepares:
+    /// only its status is checked.
     Run {
         line: usize,
         words: String,
@@ -87,7 +87,8 @@ impl Steps {
             "*" => self.repeat(number, text),
             "%" => self.run(number, text, None),
             "$" => self.run(number, text, Some(Wanted::nothing(alloc))),
-            "<" => self.run(number, line, Some(Wanted::nothing(alloc))),
+            "<" | ">" | "^" | "&" | "(" => self.run(number, line, Some(Wanted::nothing(alloc))),
+            "@" | ":" | ")" => self.run(number, line, None),
             _ => self.go_on(number, line),
         }
     }
@@ -147,6 +148,7 @@ fn want(alloc: Global, wanted: &mut Wanted, number: usize, line: &str) -> Result
         "=" => wanted.printed.status = text.parse()?,
         "?" => wanted.want_line(text)?,
         "~" => wanted.parts.push(String::from_str(alloc, text)?)?,
+        "." => wanted.printed.out.push_str(text)?,
         _ => pass_over(number, line)?,
     }
     Ok(())

@@ -1,7 +1,8 @@
 //! The server over loopback, with both ends in one process: workers in their threads, and clients.
 
-use crate::clients::{ended, halt, held, refused, silent, slow, two, waiting};
+use crate::clients::{halt, held, silent, slow, two, waiting};
 use crate::crew::{Crew, crew_of};
+use crate::loopback::listening;
 use crate::meeting::{Meeting, gate_that_holds};
 use crate::shelf::publisher_of;
 use crate::whole_server::service_of;
@@ -42,8 +43,6 @@ enum Clients {
     Silent,
     Slow,
     Waiting,
-    Refused,
-    Ended,
 }
 
 /// Whether the clients got the replies that they should. Then the server is stopped.
@@ -63,8 +62,6 @@ where
         Clients::Silent => silent(rt, place),
         Clients::Slow => slow(rt, place),
         Clients::Waiting => waiting(rt, place, gate, stop),
-        Clients::Refused => refused(rt, place),
-        Clients::Ended => ended(rt, place),
     };
     halt(rt, place, stop);
     heard
@@ -87,8 +84,7 @@ where
         + Sync
         + Net<Listener = TcpListener, Stream = TcpStream>,
 {
-    let listener = TcpListener::bind(rt, "127.0.0.1:0")?;
-    let place = listener.local_addr()?;
+    let (listener, place) = listening(rt)?;
     let stop = AtomicBool::new(false);
     let gate = gate_that_holds(holds);
     let service = service_of(seconds);
@@ -157,14 +153,6 @@ fn clients_are_served(rt: HostRuntime) -> Result<(), Fail> {
     assert!(rt;
         is_served(&rt, Clients::Waiting, 1, 1, 30)?,
         "accepted before a stop"
-    );
-    assert!(rt;
-        is_served(&rt, Clients::Refused, 0, 1, 30)?,
-        "a refusal is heard"
-    );
-    assert!(rt;
-        is_served(&rt, Clients::Ended, 0, 1, 30)?,
-        "a reply is heard whole"
     );
     Ok(())
 }

@@ -23,6 +23,14 @@ pub(crate) fn is_replied<H: AllocGlobal>(rt: &H, stream: &TcpStream) -> io::Resu
     Ok(bytes.starts_with(b"HTTP/1.1 200 OK\r\n") && bytes.ends_with(b"\"server\":\"prod\"}}"))
 }
 
+/// Whether a whole request gets that reply.
+pub(crate) fn is_answered<H>(rt: &H, place: SocketAddr) -> io::Result<bool>
+where
+    H: Net<Stream = TcpStream> + AllocGlobal,
+{
+    is_replied(rt, &asked(rt, place)?)
+}
+
 /// Connections that have sent a whole request each.
 fn asked_times<H>(rt: &H, place: SocketAddr, count: u32) -> io::Result<Vec<TcpStream>>
 where
@@ -60,6 +68,16 @@ where
     are_replied(rt, &streams)
 }
 
+/// A request that gets its reply, which the gate has seen.
+fn second_replied<H>(rt: &H, place: SocketAddr, gate: &Meeting) -> io::Result<bool>
+where
+    H: Net<Stream = TcpStream> + AllocGlobal,
+{
+    let stream = asked(rt, place)?;
+    let is_made = awaits(&gate.made);
+    Ok(is_replied(rt, &stream)? && is_made)
+}
+
 /// A request whose body is sent after the reply to another request.
 pub(crate) fn held<H>(rt: &H, place: SocketAddr, gate: &Meeting) -> io::Result<bool>
 where
@@ -69,11 +87,9 @@ where
     let (head, body) = whole.split_at(whole.len().saturating_sub(TWO_APPS.len()));
     let first = sent(rt, place, head)?;
     let came = gate.awaits_calls(1);
-    let second = asked(rt, place)?;
-    let answered = awaits(&gate.made);
-    let later = is_replied(rt, &second)?;
-    send(&first, body)?;
-    Ok(came && answered && later && is_replied(rt, &first)?)
+    let later = second_replied(rt, place, gate).unwrap_or(false);
+    let is_sent = send(&first, body).is_ok();
+    Ok(came && later && is_sent && is_replied(rt, &first)?)
 }
 
 /// A client that sends nothing, and whether a second one gets its reply meanwhile.
@@ -82,8 +98,7 @@ where
     H: Net<Stream = TcpStream> + AllocGlobal,
 {
     let first = sent(rt, place, b"")?;
-    let second = asked(rt, place)?;
-    let heard = is_replied(rt, &second)?;
+    let heard = is_answered(rt, place)?;
     Ok((first, heard))
 }
 
@@ -142,34 +157,4 @@ where
     halt(rt, place, stop);
     gate.made.store(true, Ordering::SeqCst);
     Ok(are_replied(rt, &streams)? && came)
-}
-
-/// A client that sends a line end after its body, not counted in the body's length, and gets the
-/// whole reply. The body is longer than what is read with a head, so the line end isn't read with
-/// it.
-pub(crate) fn ended<H>(rt: &H, place: SocketAddr) -> io::Result<bool>
-where
-    H: Net<Stream = TcpStream> + AllocGlobal,
-{
-    let blanks = " ".repeat(rt.alloc(), 20_000)?;
-    let body = format!(in rt.alloc(); "{TWO_APPS}{blanks}")?;
-    let mut bytes = post(rt.alloc(), body.as_str())?;
-    bytes.extend_from_slice(b"\r\n")?;
-    let stream = sent(rt, place, &bytes)?;
-    is_replied(rt, &stream)
-}
-
-/// A client that sends more than the server reads, and gets the whole refusal.
-pub(crate) fn refused<H>(rt: &H, place: SocketAddr) -> io::Result<bool>
-where
-    H: Net<Stream = TcpStream> + AllocGlobal,
-{
-    let head = b"POST /service/update2/json HTTP/1.1\r\nContent-Length: 2000000\r\n\r\n";
-    let stream = sent(rt, place, head)?;
-    let piece = " ".repeat(rt.alloc(), 4096)?;
-    for _ in 0..20 {
-        send(&stream, piece.as_bytes())?;
-    }
-    let heard = reply(rt.alloc(), &stream)?;
-    Ok(heard.starts_with(b"HTTP/1.1 413 ") && heard.ends_with(b"\r\n\r\nP5 TooLarge\n"))
 }

@@ -24,48 +24,57 @@ const ASKED_TOLD: &str =
 /// What is left out of 256 apps, of which 48 are in the line.
 const LEFT_OUT: &str = "],\"left_out\":208,\"offers_left_out\":207,\"unknown_left_out\":1";
 
-/// A text, `count` times.
-fn repeated(alloc: Global, text: &str, count: usize) -> Result<String, AllocError> {
-    let mut all = String::new(alloc);
-    for _ in 0..count {
-        all.push_str(text)?;
-    }
-    Ok(all)
+/// A body of these apps, padded with blanks to `size` bytes.
+fn body_of(alloc: Global, apps: &str, size: usize) -> Result<String, AllocError> {
+    let mut body = format!(in alloc; "{{\"request\":{{\"protocol\":\"3.1\",\"app\":[{apps}]}}}}")?;
+    let blanks = " ".repeat(alloc, size.saturating_sub(body.len()))?;
+    body.push_str(&blanks)?;
+    Ok(body)
 }
 
 /// A row: a request of these apps, padded with blanks to `size` bytes, and the apps in the log.
-fn row(alloc: Global, apps: &str, size: usize, told: &str) -> Result<String, Fail> {
-    let mut body = format!(in alloc; "{{\"request\":{{\"protocol\":\"3.1\",\"app\":[{apps}]}}}}")?;
-    let blanks = repeated(alloc, " ", size.saturating_sub(body.len()))?;
-    body.push_str(&blanks)?;
+fn row(alloc: Global, apps: &str, size: usize, told: &str) -> Result<String, AllocError> {
+    let body = body_of(alloc, apps, size)?;
     let length = body.len();
-    let mut row = format!(in alloc; "Content-Length: {length};X-Forwarded-For: ::1\n")?;
-    row.push_str(&body)?;
-    row.push_str("\n\"forwarded\":\"::1\",\"status\":200,\"generation\":1,\n,\"apps\":[")?;
-    row.push_str(told)?;
-    row.push_str("\n\n")?;
-    Ok(row)
+    format!(in alloc;
+        "Content-Length: {length};X-Forwarded-For: ::1\n{body}\n\
+        \"forwarded\":\"::1\",\"status\":200,\"generation\":1,\n,\"apps\":[{told}\n\n"
+    )
 }
 
 /// An unknown app with a long appid before 255 that are offered a release.
-fn crowd(alloc: Global) -> Result<String, Fail> {
-    let long = repeated(alloc, "a", 3300)?;
-    let mut apps = format!(in alloc; "{{\"appid\":\"{long}\",\"updatecheck\":{{}}}}")?;
-    apps.push_str(&repeated(alloc, ASKED, 255)?)?;
-    let mut told = String::from_str(alloc, ASKED_TOLD)?;
-    for _ in 0..47 {
-        told.push(',')?;
-        told.push_str(ASKED_TOLD)?;
-    }
-    told.push_str(LEFT_OUT)?;
+fn crowd(alloc: Global) -> Result<String, AllocError> {
+    let long = "a".repeat(alloc, 3300)?;
+    let asked = ASKED.repeat(alloc, 255)?;
+    format!(in alloc; "{{\"appid\":\"{long}\",\"updatecheck\":{{}}}}{asked}")
+}
+
+/// These apps in the log.
+fn crowd_line(alloc: Global) -> Result<String, AllocError> {
+    let first = format!(in alloc; "{ASKED_TOLD},")?;
+    let told = first.repeat(alloc, 47)?;
+    drop(first);
+    format!(in alloc; "{told}{ASKED_TOLD}{LEFT_OUT}")
+}
+
+/// The row of the crowd.
+fn crowd_row(alloc: Global) -> Result<String, AllocError> {
+    let apps = crowd(alloc)?;
+    let told = crowd_line(alloc)?;
     row(alloc, &apps, 0, &told)
+}
+
+/// The rows of all these clients.
+fn rows(alloc: Global) -> Result<String, AllocError> {
+    let mut rows = row(alloc, STRANGE, 0, STRANGE_TOLD)?;
+    rows.push_str(&crowd_row(alloc)?)?;
+    rows.push_str(&row(alloc, STRANGE, 1048576, STRANGE_TOLD)?)?;
+    Ok(rows)
 }
 
 #[test]
 fn no_client_keeps_itself_out_of_the_log(rt: HostRuntime) -> Result<(), Fail> {
-    let mut rows = row(rt.alloc(), STRANGE, 0, STRANGE_TOLD)?;
-    rows.push_str(&crowd(rt.alloc())?)?;
-    rows.push_str(&row(rt.alloc(), STRANGE, 1048576, STRANGE_TOLD)?)?;
+    let rows = rows(rt.alloc())?;
     assert!(rt; is_logged(&rt, "yes", &rows)?);
     Ok(())
 }

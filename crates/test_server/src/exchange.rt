@@ -3,9 +3,9 @@
 use crate::shelf::publisher_of;
 use cells::{CellSteps, PlainCells, PlainPass};
 use hot_swap::{Publisher, Watcher};
-use http_front::{Counted, FailAt};
+use http_front::Counted;
 use std::alloc::{AllocError, Global};
-use std::fmt::Display;
+use std::io::Read;
 use std::sync::Wait;
 use workers::{AnswerFault, answer};
 
@@ -57,28 +57,25 @@ impl Answering {
     }
 }
 
-/// The outcome of a request, the failures of its reader, and what was written.
+/// The outcome of a request, and what was written.
 #[derive(Drop)]
 pub(crate) struct Exchanged {
     pub(crate) outcome: Result<u16, AnswerFault>,
-    pub(crate) read_failures: u64,
     pub(crate) written: Vec<u8>,
 }
 
-/// One request to the worker of this pass and this watcher. The reader's call of number `fails`
-/// fails, counted from 1; none if it is 0.
-pub(crate) fn exchange_over<C: CellSteps>(
+/// One request to the worker of this pass and this watcher.
+pub(crate) fn exchange<C: CellSteps, R: Read + Drop>(
     alloc: Global,
     cells: &C,
     pass: &mut C::Pass,
     watcher: &mut Watcher,
-    input: &[u8],
-    fails: u64,
+    input: R,
 ) -> Exchanged
     requires { C.belongs cells.now pass.old }
     ensures { C.belongs cells.now pass.new }
 {
-    let mut reader = Counted::new(FailAt::new(input, 1_000_000, fails));
+    let mut reader = Counted::new(input);
     let mut writer = Counted::new(Vec::new(alloc));
     let outcome = answer(
         alloc,
@@ -95,26 +92,8 @@ pub(crate) fn exchange_over<C: CellSteps>(
     };
     Exchanged {
         outcome,
-        read_failures: reader.failures(),
         written: writer.into_inner(),
     }
-}
-
-/// One request to the server.
-pub(crate) fn exchange(
-    alloc: Global,
-    server: &mut Answering,
-    input: &[u8],
-    fails: u64,
-) -> Exchanged {
-    exchange_over(
-        alloc,
-        &server.cells,
-        &mut server.pass,
-        &mut server.watcher,
-        input,
-        fails,
-    )
 }
 
 /// A POST of a body, with its head.
@@ -134,15 +113,6 @@ pub(crate) fn success(alloc: Global, text: &str) -> Result<Vec<u8>, AllocError> 
             Content-Length: {size}\r\nConnection: close\r\n\r\n{text}"
     )?;
     Ok(reply.into_bytes())
-}
-
-/// Whether a fault is printed like this. It is generic, so no proof reads how a fault is printed.
-pub(crate) fn is_printed<F: Display>(
-    alloc: Global,
-    fault: &F,
-    want: &str,
-) -> Result<bool, AllocError> {
-    Ok(format!(in alloc; "{fault}")?.as_str() == want)
 }
 
 /// How often a text occurs in the bytes.

@@ -5,13 +5,7 @@
 #[cfg(test)]
 mod both_ends;
 #[cfg(test)]
-mod causes;
-#[cfg(test)]
 mod clients;
-#[cfg(test)]
-mod clocks;
-#[cfg(test)]
-mod counters;
 #[cfg(test)]
 mod crew;
 #[cfg(test)]
@@ -31,8 +25,6 @@ mod memory;
 #[cfg(test)]
 mod quota;
 #[cfg(test)]
-mod refusals;
-#[cfg(test)]
 mod replies;
 #[cfg(test)]
 mod session;
@@ -45,7 +37,11 @@ mod stops;
 #[cfg(test)]
 mod swaps_under_load;
 #[cfg(test)]
+mod totals;
+#[cfg(test)]
 mod unconnected;
+#[cfg(test)]
+mod unread;
 #[cfg(test)]
 mod whole_log;
 #[cfg(test)]

@@ -1,28 +1,30 @@
-//! The log of a server over loopback, with a runtime whose clock doesn't advance: the pieces in the
-//! log's queue once the server has ended.
+//! The log of a server over loopback, with a runtime whose clock doesn't advance, or can't be read:
+//! the pieces in the log's queue once the server has ended.
 
 use crate::both_ends::serves;
 use crate::clients::halt;
 use crate::crew::{Crew, crew_of};
 use crate::exchange::{MOMENT, times};
-use crate::loopback::{reply, sent};
+use crate::loopback::{listening, reply, sent};
 use crate::shelf::publisher_of;
 use crossbeam_channel::Receiver;
 use server_log::{LogPiece, LogQueue};
 use std::alloc::{AllocError, Global};
+use std::io::{self, ErrorKind};
 use std::net::{Net, Shutdown, SocketAddr, TcpListener, TcpStream};
+use std::str;
 use std::sync::Wait;
 use std::sync::atomic::AtomicBool;
 use std::test::Fail;
 use std::thread::{self, Threads};
 use std::time::{Clock, Duration};
-use std::{io, str};
 use workers::{Open, Service};
 
-/// A runtime at one moment.
+/// A runtime at one moment after 1970 began, if its clock can be read.
 #[derive(Drop)]
 struct Still<'a, R> {
     rt: &'a R,
+    moment: Option<Duration>,
 }
 
 impl<R: Threads> Threads for Still<'_, R> {}
@@ -39,17 +41,25 @@ impl<R: AllocGlobal> Alloc for Still<'_, R> {
 
 impl<R: Clock> Clock for Still<'_, R> {
     fn monotonic(&self) -> io::Result<Duration> {
-        Ok(Duration::from_secs(1))
+        self.since_1970()
     }
 
     fn since_1970(&self) -> io::Result<Duration> {
-        Ok(Duration::from_secs(MOMENT.unsigned_abs()))
+        match self.moment {
+            Some(moment) => Ok(moment),
+            None => Err(io::Error::from(ErrorKind::Unsupported)),
+        }
     }
 
     fn sleep(&self, duration: Duration) {
         self.rt.sleep(duration)
     }
 }
+
+/// The time in the log at the moment of these tests, and without a clock.
+const AT_MOMENT: &str = "2026-03-02T01:00:00.000Z";
+
+const WITHOUT_CLOCK: &str = "1970-01-01T00:00:00.000Z";
 
 /// Rows: a client's headers, with `;` for the end of a line, and the body; and what is logged of it
 /// before `bytes` and after `waited`. `-` means nothing.
@@ -90,9 +100,17 @@ Content-Length: 2
 -
 "#;
 
-/// The line of a connection that couldn't be accepted. A nonblocking port without waiting
-/// connections causes it.
-const UNACCEPTED: &str = "{\"time\":\"2026-03-02T01:00:00.000Z\",\"kind\":\"unaccepted\",\
+/// A request that gets no reply if the clock can't be read.
+const UNTIMED: &str = r#"
+Content-Length: 69
+{"request":{"protocol":"3.1","app":[{"appid":"x","updatecheck":{}}]}}
+"refusal":"P8 Device","cause":"clock",
+-
+"#;
+
+/// The line of a connection that couldn't be accepted, after its time. A nonblocking port without
+/// waiting connections causes it.
+const UNACCEPTED: &str = "\"kind\":\"unaccepted\",\
     \"reason\":\"Resource temporarily unavailable (os error 11)\"}\n";
 
 /// The clock's moment in Omaha's reply.
@@ -103,35 +121,39 @@ fn part(line: &str) -> &str {
     if line == "-" { "" } else { line }
 }
 
+/// A request of these headers and this body.
+fn request_of(alloc: Global, headers: &str, body: &str) -> Result<String, AllocError> {
+    let headers = headers.replace(alloc, ";", "\r\n")?;
+    let body = part(body);
+    format!(in alloc; "POST /service/update2/json HTTP/1.1\r\n{headers}\r\n\r\n{body}")
+}
+
 /// A connection that has sent these headers and this body, and ended.
-fn asked<H>(rt: &H, place: SocketAddr, headers: &str, body: &str) -> Result<TcpStream, Fail>
+fn asked<H>(rt: &H, place: SocketAddr, headers: &str, body: &str) -> io::Result<TcpStream>
 where
     H: Net<Stream = TcpStream> + AllocGlobal,
 {
-    let headers = headers.replace(rt.alloc(), ";", "\r\n")?;
-    let mut bytes = String::from_str(rt.alloc(), "POST /service/update2/json HTTP/1.1\r\n")?;
-    bytes.push_str(&headers)?;
-    bytes.push_str("\r\n\r\n")?;
-    bytes.push_str(part(body))?;
-    let stream = sent(rt, place, bytes.as_bytes())?;
-    stream.shutdown(Shutdown::Write)?;
+    let request = request_of(rt.alloc(), headers, body)?;
+    let stream = sent(rt, place, request.as_bytes())?;
+    drop(request);
+    let _ended = stream.shutdown(Shutdown::Write);
     Ok(stream)
 }
 
 /// How many bytes the reply has; 0 if it is Omaha's and doesn't have the clock's moment.
-fn replied_bytes(alloc: Global, stream: &TcpStream, told: &str) -> io::Result<usize> {
-    let reply = reply(alloc, stream)?;
+fn replied_bytes(alloc: Global, stream: &TcpStream, told: &str) -> usize {
+    let reply = reply(alloc, stream).unwrap_or(Vec::new(alloc));
     let is_right = !told.contains("200") || times(&reply, DAYSTART) == 1;
-    Ok(if is_right { reply.len() } else { 0 })
+    if is_right { reply.len() } else { 0 }
 }
 
-/// Appends the line that the log should have of a connection.
+/// Appends the line that the log should have of a connection, after its time.
 fn want_line(alloc: Global, stream: &TcpStream, told: &str, log: &mut String) -> Result<(), Fail> {
     let (before, behind) = told.split_once('\n').ok_or("a row of four lines")?;
-    let size = replied_bytes(alloc, stream, before)?;
+    let size = replied_bytes(alloc, stream, before);
     let client = stream.local_addr()?;
     let behind = part(behind);
-    log.push_str("{\"time\":\"2026-03-02T01:00:00.000Z\",\"kind\":\"connection\",")?;
+    log.push_str("\"kind\":\"connection\",")?;
     Ok(writeln!(
         log,
         "\"peer\":\"{client}\",{before}\"bytes\":{size},\"micros\":0,\"waited\":0{behind}}}"
@@ -206,32 +228,66 @@ pub(crate) fn take<H: Wait>(
     Ok(())
 }
 
-/// Whether these lines are the expected ones, and lines of connections that couldn't be accepted.
-fn is_log(alloc: Global, kept: &str, wanted: &str) -> Result<bool, AllocError> {
-    let others = kept.replace(alloc, UNACCEPTED, "")?;
-    Ok(others.as_str() == wanted && kept.contains(UNACCEPTED))
+/// Whether each line has this prefix.
+fn begin_with(lines: &str, beginning: &str) -> bool {
+    for line in lines.lines() {
+        if !line.starts_with(beginning) {
+            return false;
+        }
+    }
+    true
+}
+
+/// Whether these lines are the expected ones at this time, and lines of connections that couldn't
+/// be accepted.
+fn is_log(alloc: Global, kept: &str, time: &str, wanted: &str) -> Result<bool, AllocError> {
+    let beginning = format!(in alloc; "{{\"time\":\"{time}\",")?;
+    let are_timed = kept
+        .lines()
+        .all(|line| line.starts_with(beginning.as_str()));
+    let untimed = kept.replace(alloc, beginning.as_str(), "")?;
+    drop(beginning);
+    let others = untimed.replace(alloc, UNACCEPTED, "")?;
+    Ok(are_timed && others.as_str() == wanted && untimed.contains(UNACCEPTED))
 }
 
 /// Whether the log of a server with these workers is as these rows say, after the server has ended.
-fn is_logged_by<H>(rt: &H, crew: Crew, rows: &str) -> Result<bool, Fail>
+fn is_logged_by<H>(
+    rt: &H,
+    crew: Crew,
+    queue: &LogQueue,
+    pieces: &Receiver<LogPiece>,
+    time: &str,
+    rows: &str,
+) -> Result<bool, Fail>
 where
     H: Threads + Wait + AllocGlobal + Clock + Sync,
     H: Net<Listener = TcpListener, Stream = TcpStream>,
 {
-    let listener = TcpListener::bind(rt, "127.0.0.1:0")?;
+    let (listener, place) = listening(rt)?;
     listener.set_nonblocking(true)?;
-    let place = listener.local_addr()?;
     let stop = AtomicBool::new(false);
-    let still = Still { rt };
-    let (queue, pieces) = LogQueue::new(rt.alloc())?;
+    let still = still_at(rt, time);
     let (ended, heard) = thread::join(
         rt,
-        || serves(&still, &Open, listener, crew, &stop, logging_to(&queue)),
-        || heard(rt, place, rows, &stop, &pieces),
+        || serves(&still, &Open, listener, crew, &stop, logging_to(queue)),
+        || heard(rt, place, rows, &stop, pieces),
     );
     let mut lines = heard?;
-    take(rt, &pieces, &mut lines.kept)?;
-    Ok(ended && is_log(rt.alloc(), lines.kept.as_str(), lines.wanted.as_str())?)
+    take(rt, pieces, &mut lines.kept)?;
+    Ok(ended && is_log(rt.alloc(), lines.kept.as_str(), time, lines.wanted.as_str())?)
+}
+
+/// A runtime for which this is the time in the log.
+fn still_at<'a, R>(rt: &'a R, time: &str) -> Still<'a, R> {
+    Still {
+        rt,
+        moment: if time == AT_MOMENT {
+            Some(Duration::from_secs(MOMENT.unsigned_abs()))
+        } else {
+            None
+        },
+    }
 }
 
 /// Each connection may last half a minute, and the log goes to a queue.
@@ -243,22 +299,39 @@ pub(crate) fn logging_to<'a>(queue: &'a LogQueue) -> Service<'a> {
 }
 
 /// As above, for a server of a manifest with one worker.
-pub(crate) fn is_logged<H>(rt: &H, path: &str, rows: &str) -> Result<bool, Fail>
+fn is_logged_at<H>(rt: &H, path: &str, time: &str, rows: &str) -> Result<bool, Fail>
 where
     H: Threads + Wait + AllocGlobal + Clock + Sync,
     H: Net<Listener = TcpListener, Stream = TcpStream>,
 {
+    let (queue, pieces) = LogQueue::new(rt.alloc())?;
     let mut publisher = publisher_of(rt, rt.alloc(), path, 1)?;
     let is_logged = match crew_of(rt.alloc(), &mut publisher, 1) {
-        Ok(crew) => is_logged_by(rt, crew, rows),
+        Ok(crew) => is_logged_by(rt, crew, &queue, &pieces, time, rows),
         Err(fault) => Err(fault),
     };
     publisher.close(rt);
     is_logged
 }
 
+/// As above, at the moment of these tests.
+pub(crate) fn is_logged<H>(rt: &H, path: &str, rows: &str) -> Result<bool, Fail>
+where
+    H: Threads + Wait + AllocGlobal + Clock + Sync,
+    H: Net<Listener = TcpListener, Stream = TcpStream>,
+{
+    is_logged_at(rt, path, AT_MOMENT, rows)
+}
+
 #[test]
 fn log_has_a_line_a_connection(rt: HostRuntime) -> Result<(), Fail> {
     assert!(rt; is_logged(&rt, "nothing", ROWS)?);
+    Ok(())
+}
+
+/// If the clock can't be read, a client gets nothing, and its connection has a line.
+#[test]
+fn a_clock_that_fails_is_told(rt: HostRuntime) -> Result<(), Fail> {
+    assert!(rt; is_logged_at(&rt, "nothing", WITHOUT_CLOCK, UNTIMED)?);
     Ok(())
 }

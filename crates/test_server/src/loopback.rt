@@ -2,7 +2,17 @@
 
 use std::alloc::Global;
 use std::io::{self, Read, Write};
-use std::net::{Net, SocketAddr, TcpStream};
+use std::net::{Net, SocketAddr, TcpListener, TcpStream};
+
+/// A listener at a free port, and its address.
+pub(crate) fn listening<H>(rt: &H) -> io::Result<(TcpListener, SocketAddr)>
+where
+    H: Net<Listener = TcpListener, Stream = TcpStream>,
+{
+    let listener = TcpListener::bind(rt, "127.0.0.1:0")?;
+    let place = listener.local_addr()?;
+    Ok((listener, place))
+}
 
 /// A connection that has sent these bytes.
 pub(crate) fn sent<H>(rt: &H, place: SocketAddr, bytes: &[u8]) -> io::Result<TcpStream>

@@ -4,7 +4,6 @@
 //! for each in turn.
 
 use crate::exchange::{Answering, Exchanged, exchange, post, server_of, success};
-use crate::refusals::refusal;
 use crate::replies::{NO_UPDATE, TWO_APPS};
 use cells::CellNo;
 use std::alloc::{AllocError, Global};
@@ -59,8 +58,11 @@ fn is_reply(alloc: Global, written: &[u8], text: &str) -> Result<bool, AllocErro
 }
 
 fn is_refusal(alloc: Global, written: &[u8], name: &str) -> Result<bool, AllocError> {
-    let line = refusal(alloc, "500 Internal Server Error", name)?;
-    Ok(written == line.as_bytes())
+    let reply = format!(in alloc;
+        "HTTP/1.1 500 Internal Server Error\r\nContent-Type: text/plain\r\n\
+            Content-Length: 10\r\nConnection: close\r\n\r\n{name}\n"
+    )?;
+    Ok(written == reply.as_bytes())
 }
 
 /// Which of these lines was written.
@@ -90,7 +92,13 @@ fn asked_of(alloc: Global, heard: &Exchanged, before: u64) -> Result<MemoryAnswe
 fn asked(alloc: Global, server: &mut Answering) -> Result<MemoryAnswer, AllocError> {
     let before = server.pass.value(CellNo::new(0));
     let input = again!(post(alloc, TWO_APPS))?;
-    let heard = exchange(alloc, server, &input, 0);
+    let heard = exchange(
+        alloc,
+        &server.cells,
+        &mut server.pass,
+        &mut server.watcher,
+        input.as_slice(),
+    );
     let rise = server.pass.value(CellNo::new(0)).wrapping_sub(before);
     let asked = again!(asked_of(alloc, &heard, before))?;
     let is_right = rise == 1 || rise == 0 && asked != MemoryAnswer::Replied;

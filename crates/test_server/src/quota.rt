@@ -3,9 +3,9 @@
 
 ghost use Rattle.shared_cells.specs.Passes.{IsPassOf};
 
-use crate::counters::{OFFER, asking};
 use crate::crew::{Crew, crew_of};
-use crate::exchange::{exchange_over, times};
+use crate::exchange::{exchange, post, times};
+use crate::session::ONE_APP;
 use crate::shelf::publisher_of;
 use cells::{CellNo, CellOp, CellSteps};
 use hot_swap::Watcher;
@@ -29,8 +29,8 @@ fn offers(
     let (mut pass, mut watcher) = worker;
     let mut count = 0usize;
     for _ in 0..asks {
-        let heard = exchange_over(alloc, cells, &mut pass, &mut watcher, input, 0);
-        count = count.saturating_add(times(&heard.written, OFFER));
+        let heard = exchange(alloc, cells, &mut pass, &mut watcher, input);
+        count = count.saturating_add(times(&heard.written, "\"version\":\"2.0.0.0\""));
     }
     count
 }
@@ -45,7 +45,7 @@ where
     let Some((mut pass, _watcher)) = workers.pop() else {
         return Err(Fail::from("no workers"));
     };
-    let input = asking(rt.alloc())?;
+    let input = post(rt.alloc(), ONE_APP)?;
     let counts = thread::map_vec(
         rt,
         workers,

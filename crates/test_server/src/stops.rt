@@ -1,6 +1,6 @@
 //! A server that ends while a client's request is read: what its operator's port replies meanwhile.
 
-use crate::clients::is_replied;
+use crate::clients::{is_answered, is_replied};
 use crate::exchange::post;
 use crate::loopback::{send, sent};
 use crate::replies::TWO_APPS;
@@ -21,8 +21,21 @@ const ASKED: &[(&str, &str)] = &[
     ("stop", "stopping\n"),
 ];
 
-/// The first line with a wrong reply, if there is one, while an accepted client still has to send
-/// its body; or that the client gets no reply.
+/// The first line with a wrong reply, if there is one.
+fn wrong_line<H>(rt: &H, port: u16) -> io::Result<Option<&'static str>>
+where
+    H: Net<Stream = TcpStream> + AllocGlobal,
+{
+    for (line, want) in ASKED {
+        if !is_asked(rt, port, *line, *want)? {
+            return Ok(Some(*line));
+        }
+    }
+    Ok(None)
+}
+
+/// As above, while an accepted client still has to send its body; or that the client gets no reply.
+/// It was accepted, since a client after it is answered.
 fn wrong_meanwhile<H>(rt: &H, clients: SocketAddr, port: u16) -> io::Result<Option<&'static str>>
 where
     H: Net<Stream = TcpStream> + AllocGlobal,
@@ -30,19 +43,14 @@ where
     let whole = post(rt.alloc(), TWO_APPS)?;
     let (head, body) = whole.split_at(whole.len().saturating_sub(TWO_APPS.len()));
     let first = sent(rt, clients, head)?;
-    let behind = sent(rt, clients, &whole)?;
-    let mut is_heard = is_replied(rt, &behind)?;
-    let mut wrong = None;
-    for (line, want) in ASKED {
-        if !is_asked(rt, port, *line, *want)? {
-            wrong = Some(*line);
-        }
-    }
-    send(&first, body)?;
-    if !is_replied(rt, &first)? {
-        is_heard = false;
-    }
-    Ok(if is_heard { wrong } else { Some("the client") })
+    let is_behind = is_answered(rt, clients).unwrap_or(false);
+    let wrong = wrong_line(rt, port).unwrap_or(Some("the port"));
+    let is_heard = send(&first, body).is_ok() && is_replied(rt, &first).unwrap_or(false);
+    Ok(if is_behind && is_heard {
+        wrong
+    } else {
+        Some("the client")
+    })
 }
 
 /// As above; a failed connection is also wrong.

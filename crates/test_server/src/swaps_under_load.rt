@@ -13,13 +13,13 @@ use std::{io, thread};
 
 /// What clients request while rulesets are loaded in turn.
 #[derive(Clone, Copy)]
-struct Swaps {
+pub(crate) struct Swaps {
     /// The manifest that is served at first, and the one that is loaded in turn with it. Each has
     /// its name as the server's text.
     served: &'static str,
     other: &'static str,
     /// How many loads there are. They begin after the first reply to a client.
-    loads: u64,
+    pub(crate) loads: u64,
     /// How many requests each of four clients sends, and how many of them before it waits for all
     /// loads.
     asks: u64,
@@ -31,7 +31,7 @@ struct Swaps {
 
 /// Clients that don't wait for the loads. One of the two rulesets offers each app the release, the
 /// other offers none.
-const WHOLE: Swaps = Swaps {
+pub(crate) const WHOLE: Swaps = Swaps {
     served: "yes",
     other: "no",
     loads: 60,
@@ -42,7 +42,7 @@ const WHOLE: Swaps = Swaps {
 };
 
 /// Clients that take from a quota of 40. Before all is loaded they send at most 36 requests.
-const QUOTA: Swaps = Swaps {
+pub(crate) const QUOTA: Swaps = Swaps {
     served: "forty",
     other: "other_forty",
     loads: 7,

@@ -2,6 +2,7 @@
 //! still ends when its operator stops it.
 
 use crate::session::ports_of;
+use crate::shelf::Shelf;
 use crate::whole_server::{PortTask, served, service_of, wrong_at};
 use std::alloc::Global;
 use std::io::{self, ErrorKind};
@@ -72,9 +73,10 @@ where
     let ports = ports_of(rt, 0, 0)?;
     let (clients, operator) = (ports.service(), ports.operator());
     let unconnected = Unconnected { rt, kind };
+    let shelf = Shelf::new();
     let (ended, wrong) = thread::join(
         rt,
-        || { served(&unconnected, ports, "nothing", 2, service_of(30)) },
+        || { served(&unconnected, ports, "nothing", 2, service_of(30), &shelf) },
         || wrong_at(rt, clients, operator, PortTask::AtOnce),
     );
     ended?;

@@ -1,11 +1,11 @@
 //! A whole server over loopback, with its operator, and what is done at its two ports.
 
 use crate::clients::at_once;
-use crate::session::{first_wrong, is_asked, ports_of};
+use crate::session::{is_asked, ports_of};
 use crate::shelf::{Shelf, ruleset};
 use crate::staffed::is_given_up;
 use crate::stops::wrong_at_end;
-use crate::swaps_under_load::{are_whole, is_shared};
+use crate::swaps_under_load::{QUOTA, WHOLE, are_whole, is_shared};
 use bounded_files::ResourceFault;
 use cells::Directory;
 use serving::{ServingFault, staff};
@@ -20,8 +20,6 @@ use workers::{Ports, Service};
 /// What is done at a server's ports.
 #[derive(Clone, Copy)]
 pub(crate) enum PortTask {
-    /// Lines and requests are sent one after another, and each has its reply; the last is a stop.
-    Rows(&'static str),
     /// A client sends nothing until another one got its reply.
     AtOnce,
     /// A client sends nothing, and another one needs the only worker.
@@ -35,37 +33,22 @@ pub(crate) enum PortTask {
     Ending,
 }
 
+impl PortTask {
+    /// How many loads the operator requests.
+    fn loads(self) -> u64 {
+        match self {
+            PortTask::Swaps => WHOLE.loads,
+            PortTask::Quota => QUOTA.loads,
+            _ => 0,
+        }
+    }
+}
+
 /// A connection may last this number of seconds, and there is no log.
 pub(crate) fn service_of(seconds: u64) -> Service<'static> {
     Service {
         timeout: Duration::from_secs(seconds),
         log: None,
-    }
-}
-
-/// Serves a manifest of the shelf with 1 to 64 workers, until the server is stopped. Prints to
-/// `out` that it does.
-pub(crate) fn served_to<H, O>(
-    rt: &H,
-    ports: Ports,
-    path: &str,
-    workers: usize,
-    service: Service<'_>,
-    out: &mut O,
-) -> Result<(), ServingFault>
-where
-    H: Threads + Wait + AllocGlobal + Clock + Sync,
-    H: Net<Listener = TcpListener, Stream = TcpStream>,
-    O: Write,
-{
-    let mut directory = Directory::new(rt.alloc());
-    let Ok(rules) = ruleset(rt.alloc(), path, &mut directory) else {
-        return Err(ServingFault::Resource(ResourceFault::Memory));
-    };
-    let server = staff(rt, ports, rules, directory, workers.clamp(1, 64))?;
-    match server.serve(rt, &Shelf, service, out) {
-        Ok(_) => Ok(()),
-        Err(fault) => Err(fault),
     }
 }
 
@@ -90,27 +73,37 @@ impl Write for Said {
     }
 }
 
-/// As above; B3 if it printed anything else, or not by one write.
+/// Serves a manifest of the shelf with 1 to 64 workers, until the server is stopped; B3 if it
+/// printed anything else than that it serves, or not by one write.
 pub(crate) fn served<H>(
     rt: &H,
     ports: Ports,
     path: &str,
     workers: usize,
     service: Service<'_>,
+    shelf: &Shelf,
 ) -> Result<(), ServingFault>
 where
     H: Threads + Wait + AllocGlobal + Clock + Sync,
     H: Net<Listener = TcpListener, Stream = TcpStream>,
 {
+    let mut directory = Directory::new(rt.alloc());
+    let Ok(rules) = ruleset(rt.alloc(), path, &mut directory) else {
+        return Err(ServingFault::Resource(ResourceFault::Memory));
+    };
+    let server = staff(rt, ports, rules, directory, workers.clamp(1, 64))?;
     let mut said = Said {
         text: Vec::new(rt.alloc()),
         writes: 0,
     };
-    served_to(rt, ports, path, workers, service, &mut said)?;
-    if said.text.as_slice() == SERVING && said.writes == 1 {
-        return Ok(());
+    let outcome = server.serve(rt, shelf, service, &mut said);
+    let is_said = said.text.as_slice() == SERVING && said.writes == 1;
+    drop(said);
+    match outcome {
+        Ok(_) if is_said => Ok(()),
+        Ok(_) => Err(ServingFault::Resource(ResourceFault::File)),
+        Err(fault) => Err(fault),
     }
-    Err(ServingFault::Resource(ResourceFault::File))
 }
 
 /// What goes wrong at the ports of a server, if anything does. Then the server is stopped.
@@ -126,7 +119,6 @@ where
 {
     let port = operator.port();
     let is_done = match work {
-        PortTask::Rows(rows) => return first_wrong(rt, rows, clients, operator),
         PortTask::Ending => return wrong_at_end(rt, clients, port),
         PortTask::AtOnce => at_once(rt, clients),
         PortTask::Silent => is_given_up(rt, clients),
@@ -158,7 +150,8 @@ where
     wrong_by(rt, path, workers, service_of(seconds), work)
 }
 
-/// As above, for a server with this service.
+/// As above, for a server with this service. It is also wrong if the server makes more or fewer
+/// loads than its operator requests.
 pub(crate) fn wrong_by<H>(
     rt: &H,
     path: &'static str,
@@ -172,11 +165,18 @@ where
 {
     let ports = ports_of(rt, 0, 0)?;
     let (clients, operator) = (ports.service(), ports.operator());
+    let shelf = Shelf::new();
     let (ended, wrong) = thread::join(
         rt,
-        || served(rt, ports, path, workers, service),
+        || served(rt, ports, path, workers, service, &shelf),
         || wrong_at(rt, clients, operator, work),
     );
+    let loads = shelf.loads();
+    drop(shelf);
     ended?;
-    Ok(wrong)
+    Ok(if loads == work.loads() {
+        wrong
+    } else {
+        Some("the loads")
+    })
 }

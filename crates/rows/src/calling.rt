@@ -1,0 +1,152 @@
+//! What a step calls: a command, a file that is shown, or a request that is sent to a port.
+
+use crate::escapes::words_of;
+use crate::loopback::reply_of;
+use crate::printed::Printed;
+use anyhow::Result;
+use command_line::{WordsFault, unreadable_words, usage};
+use commands::{Device, LogOutput};
+use std::alloc::Global;
+use std::fs;
+use std::io::{self, ErrorKind, Write};
+use std::net::{Net, TcpListener, TcpStream};
+use std::os::unix::fs::symlink;
+use std::rt::Files;
+use std::sync::Wait;
+use std::thread::Threads;
+use std::time::Clock;
+
+/// Whether `rollout-tools` has the command; `rollout` has any other word.
+fn is_tool(words: &[String]) -> bool {
+    match words {
+        [_, command, ..] => matches!(
+            command.as_str(),
+            "check" | "explain" | "trace" | "order" | "simulate" | "ask" | "report"
+        ),
+        _ => false,
+    }
+}
+
+/// Whether the first word is this name.
+fn begins_with(words: &[String], name: &str) -> bool {
+    match words {
+        [first, ..] => first.as_str() == name,
+        [] => false,
+    }
+}
+
+/// The words of a command, without a name of a program in front of them, and whether
+/// `rollout-tools` has the command.
+fn program_of(words: &[String]) -> (&[String], bool) {
+    match words {
+        [_, named @ ..] if begins_with(named, "rollout") => (named, false),
+        [_, named @ ..] if begins_with(named, "rollout-tools") => (named, true),
+        _ => (words, is_tool(words)),
+    }
+}
+
+/// Calls a command, and returns its status.
+fn status_of<R, O>(rt: &R, words: &[String], out: &mut O, err: &mut Vec<u8>) -> u8
+where
+    R: Files + Threads + Wait + AllocGlobal + Clock + LogOutput,
+    R: Copy + Drop + Send + Sync + 'static,
+    R: Net<Listener = TcpListener, Stream = TcpStream>,
+    R::File: Send,
+    R::Dir: Send,
+    O: Write,
+{
+    let disk = Device::new(rt);
+    let (words, is_of_tools) = program_of(words);
+    if is_of_tools {
+        tool_commands::command(rt, &disk, words, out, err)
+    } else {
+        commands::command(rt, &disk, words, out, err)
+    }
+}
+
+/// The output of a command.
+pub(crate) fn printed_of<R>(rt: &R, words: &[String]) -> Result<Printed>
+where
+    R: Files + Threads + Wait + AllocGlobal + Clock + LogOutput,
+    R: Copy + Drop + Send + Sync + 'static,
+    R: Net<Listener = TcpListener, Stream = TcpStream>,
+    R::File: Send,
+    R::Dir: Send,
+{
+    let mut out = Vec::new(rt.alloc());
+    let mut err = Vec::new(rt.alloc());
+    let status = status_of(rt, words, &mut out, &mut err);
+    Ok(Printed {
+        status,
+        out: String::from_utf8(out)?,
+        err: String::from_utf8(err)?,
+    })
+}
+
+/// The output of a command whose standard output takes only ten bytes, without these.
+fn narrow_of<R>(rt: &R, words: &[String]) -> Result<Printed>
+where
+    R: Files + Threads + Wait + AllocGlobal + Clock + LogOutput,
+    R: Copy + Drop + Send + Sync + 'static,
+    R: Net<Listener = TcpListener, Stream = TcpStream>,
+    R::File: Send,
+    R::Dir: Send,
+{
+    let mut bytes = [0; 10];
+    let mut out: &mut [u8] = &mut bytes;
+    let mut err = Vec::new(rt.alloc());
+    let status = status_of(rt, words, &mut out, &mut err);
+    Ok(Printed {
+        status,
+        out: String::new(rt.alloc()),
+        err: String::from_utf8(err)?,
+    })
+}
+
+/// What both programs print if memory for words is refused, as they are read and as they are
+/// parsed. The status is 1 if both statuses are.
+fn without_memory(alloc: Global) -> Result<Printed> {
+    let mut out = Vec::new(alloc);
+    let mut err = Vec::new(alloc);
+    let reading = io::Error::from(ErrorKind::OutOfMemory);
+    let unread = unreadable_words(&reading, &mut err);
+    let status = usage(&WordsFault::Memory, &mut out, &mut err);
+    Ok(Printed {
+        status: if unread == 1 { status } else { 0 },
+        out: String::from_utf8(out)?,
+        err: String::from_utf8(err)?,
+    })
+}
+
+/// The text of a file, as if a command printed it.
+fn file_of<R: Files + AllocGlobal>(rt: &R, name: &str) -> Result<Printed> {
+    Ok(Printed::of(rt.alloc(), fs::read_to_string(rt, name)?))
+}
+
+/// Makes a symbolic link, by its name and its target.
+fn link<R: Files + AllocGlobal>(rt: &R, text: &str) -> Result<Printed> {
+    let (name, target) = text.split_once(' ').unwrap_or((text, ""));
+    symlink(rt, target, name)?;
+    Ok(Printed::of(rt.alloc(), String::new(rt.alloc())))
+}
+
+/// What the call of a step gives.
+pub(crate) fn called<R>(rt: &R, words: &str) -> Result<Printed>
+where
+    R: Files + Threads + Wait + AllocGlobal + Clock + LogOutput,
+    R: Copy + Drop + Send + Sync + 'static,
+    R: Net<Listener = TcpListener, Stream = TcpStream>,
+    R::File: Send,
+    R::Dir: Send,
+{
+    if words == "^" {
+        return without_memory(rt.alloc());
+    }
+    match words.split_once(' ') {
+        Some(("<", name)) => file_of(rt, name),
+        Some((">", rest)) => reply_of(rt, rest),
+        Some(("@", rest)) => link(rt, rest),
+        Some(("^", rest)) => narrow_of(rt, words_of(rt.alloc(), rest)?.as_slice()),
+        _ => printed_of(rt, words_of(rt.alloc(), words)?.as_slice()),
+    }
+}
