@@ -38,13 +38,15 @@ def pack(folder, name, file):
 
 
 def set_in_place(new, place):
-    """Writes a file and its SHA-256 into the requested folder."""
+    """Writes a file and its SHA-256 into the requested folder. It writes through no link there."""
     place.parent.mkdir(parents=True, exist_ok=True)
-    beside = place.with_name(f".{place.name}.new")
-    shutil.copyfile(new, beside)
-    beside.replace(place)
-    found = hashlib.sha256(place.read_bytes()).hexdigest()
-    place.with_name(f"{place.name}.sha256").write_text(f"{found}  {place.name}\n")
+    found = hashlib.sha256(new.read_bytes()).hexdigest()
+    with tempfile.TemporaryDirectory(dir=place.parent, prefix=".rollout-") as room:
+        made, sums = (Path(room) / f"{place.name}{end}" for end in ("", ".sha256"))
+        shutil.copyfile(new, made)
+        sums.write_text(f"{found}  {place.name}\n")
+        for it in (made, sums):
+            it.replace(place.with_name(it.name))
     say(f"wrote {place} and its SHA-256")
 
 
