@@ -8,7 +8,8 @@ file of its link, and its figures are no more than a tenth off. README is short,
 of the installed toolchain; VERSION, README and CHANGELOG name one version. The pages by hand have
 few long sentences. Each wrong body can be put in place: what it replaces is in its file once.
 `plain.txt` and `weight.txt` bound the words of this house in comments, and the words of each page.
-Each file of rows is run. The page of help that the launcher prints is that of the programs.
+Each file of rows is run. The page of help that the launcher prints is that of the programs, and has
+each of their commands, as has each list of the commands of one program.
 
 usage: docs/check.py [--write [FOLDER] | --long | --words CRATE]
 
@@ -21,7 +22,9 @@ in a crate's comments.
 import sys
 from pathlib import Path
 
-from checking import crates_page, left_open, plain, quotes, reference, rows, weight
+from checking import (
+    commands, crates_page, left_open, plain, quotes, reference, rows, weight
+)
 from checking.exports import lost_comments
 from checking.names import contracts, false_clauses, lost_edits, strangers, unknown_names
 from checking.pages import (
@@ -66,6 +69,7 @@ def faults():
     yield from plain.too_many()
     yield from weight.too_heavy()
     yield from rows.left_out()
+    yield from commands.other_lists()
     yield from lost_edits()
 
 
