@@ -1,10 +1,8 @@
 -- A number lies in its cell, and the number at which its cell begins compares as it does.
-use Rattle.std.proofs.Common.{◌≡◌, ℕ, suc, ◌+◌, ◌-◌, ◌<◌, ◌≤◌, List, [], ◌∷◌, length}
-use Rattle.std.proofs.Common.{Bool, true, false, not, ◌&&◌, ◌||◌, inl, inr, Some, cond}
-use Rattle.std.proofs.Common.{count_by}
-use Rattle.std.proofs.Common.{add-zero, refl, sym, ap, ap₂, subst, ◌∙◌, arith, leb-true}
-use Rattle.std.proofs.Common.{eqb-true}
-use Rattle.std.proofs.Common.{ltb-true, le-leb, lt-ltb, le-ltb, eq-eqb, Less, Equal, Greater}
+use Rattle.std.proofs.Common.{◌≡◌, ℕ, suc, ◌+◌, ◌-◌, ◌<◌, ◌≤◌, List, [], ◌∷◌, length, Bool, true}
+use Rattle.std.proofs.Common.{false, not, ◌&&◌, ◌||◌, inl, inr, Some, cond, count_by, add-zero}
+use Rattle.std.proofs.Common.{refl, sym, ap, ap₂, subst, ◌∙◌, arith, leb-true, eqb-true, ltb-true}
+use Rattle.std.proofs.Common.{le-leb, lt-ltb, le-ltb, eq-eqb, Less, Equal, Greater}
 use Rattle.std.specs.Prelude.{nat_le, nat_lt, ◌==◌, slice_get, slice_index}
 use Rattle.std.specs.Cmp.{nat_cmp_is}
 use Rattle.std.specs.List.{list_any}

@@ -1,8 +1,8 @@
 -- What a machine has fits.
-use Rattle.std.proofs.Common.{◌≡◌, ℕ, ◌<◌, ◌≤◌, List, [], ◌∷◌, length, Option, Some, None}
-use Rattle.std.proofs.Common.{Bool, true, false, not, ◌&&◌, ◌||◌, inl, inr, refl, sym, ap}
-use Rattle.std.proofs.Common.{subst, ◌∙◌, arith, slice_get, is_some, unwrap_or, replicate, eq-eqb}
-use Rattle.std.proofs.Common.{eqb-true, le-leb, lt-ltb, get_or}
+use Rattle.std.proofs.Common.{◌≡◌, ℕ, ◌<◌, ◌≤◌, List, [], ◌∷◌, length, Option, Some, None, Bool}
+use Rattle.std.proofs.Common.{true, false, not, ◌&&◌, ◌||◌, inl, inr, refl, sym, ap, subst, ◌∙◌}
+use Rattle.std.proofs.Common.{arith, slice_get, is_some, unwrap_or, replicate, eq-eqb, eqb-true}
+use Rattle.std.proofs.Common.{le-leb, lt-ltb, get_or}
 use Rattle.std.specs.Prelude.{nat_le, nat_lt, ◌==◌, slice_index_or, option_and_then, if◌then◌else◌}
 use Rattle.std.specs.List.{list_any}
 use Rattle.std.specs.Str.{bytes_eq}

@@ -1,6 +1,5 @@
 -- The flags of a machine are what its facts say.
-use Rattle.std.proofs.Common.{◌≡◌, ℕ, ◌+◌, ℤ, List, [], ◌∷◌, Bool, true, false, not}
-use Rattle.std.proofs.Common.{refl, ap, ◌∙◌}
+use Rattle.std.proofs.Common.{◌≡◌, ℕ, ◌+◌, ℤ, List, [], ◌∷◌, Bool, true, false, not, refl, ap, ◌∙◌}
 use Rattle.std.specs.Prelude.{bit_and, is_some, ◌==◌}
 use Rattle.attrs.specs.Attributes.{Attributes}
 use Rattle.attrs.specs.Bucket.{named_bucket}

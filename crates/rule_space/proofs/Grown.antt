@@ -1,16 +1,15 @@
 -- Tuples are added, and none is gone.
 use Rattle.std.proofs.Common.{◌≡◌, ℕ, zero, suc, ◌+◌, ◌<◌, ◌≤◌, Bool, true, false, List, [], ◌∷◌}
-use Rattle.std.proofs.Common.{◌++◌, length, map, set, get_or, Contains}
-use Rattle.std.proofs.Common.{refl, sym, ap, ap₂, subst, ◌∙◌, arith, below_more, slice_get, take}
-use Rattle.std.proofs.Common.{Some, ◌^◌}
+use Rattle.std.proofs.Common.{◌++◌, length, map, set, get_or, Contains, refl, sym, ap, ap₂, subst}
+use Rattle.std.proofs.Common.{◌∙◌, arith, below_more, slice_get, take, Some, ◌^◌}
 use Rattle.std.proofs.lemmas.List.{map-append, take_more}
 use Rattle.std.proofs.lemmas.List.Elements.{Contains-append_left, Contains-push}
 use Rattle.rule_space.specs.declared.combination.Combination.{Combination}
 use Rattle.rule_space.specs.declared.family.Family.{Family}
 use Rattle.rule_space.specs.Coordinates.{Dimension}
 use Rattle.rule_space.specs.Families.{AreFew, HasCombination, cell_or, cells_by, combination}
+use Rattle.rule_space.specs.Families.{GrowsTo, HasAdded}
 use Rattle.rule_space.specs.Groups.{Group, HasTuple, Tuple, all_cells}
-use Rattle.rule_space.specs.Growing.{GrowsTo, HasAdded}
 use Rattle.rule_space.proofs.Tests.{all_at}
 
 pub there : (tuples : List Tuple) (cells : List ℕ) → Contains (all_cells tuples) cells

@@ -7,5 +7,6 @@ pub mod Takes
 pub mod Grown
 pub mod Cohorts
 pub mod Fitting
+pub mod Combinations
 pub mod Everyone
 pub mod Planned

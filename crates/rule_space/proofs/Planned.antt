@@ -1,7 +1,6 @@
 -- Loops over what is left of a list.
 use Rattle.std.proofs.Common.{◌≡◌, List, [], ◌∷◌, ◌++◌, append_assoc, append-nil, sym, ap, subst}
-use Rattle.std.proofs.Common.{◌∙◌}
-use Rattle.std.proofs.Common.{◌-◌, ◌<◌, All, length, get_or, take, drop, arith, refl}
+use Rattle.std.proofs.Common.{◌∙◌, ◌-◌, ◌<◌, All, length, get_or, take, drop, arith, refl}
 use Rattle.std.specs.List.{AllZip}
 use Rattle.std.proofs.lemmas.List.{take_all}
 use Rattle.std.proofs.lemmas.List.Elements.{All-cons}

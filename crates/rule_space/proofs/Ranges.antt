@@ -1,8 +1,6 @@
 -- The number of a machine in a state lies on the line of its dimension, and in its cell.
-use Rattle.std.proofs.Common.{◌≡◌, ℕ, ◌+◌, ◌-◌, ◌/◌, ◌%◌, ◌<◌, ◌≤◌, ℤ, pos, negsuc, List}
-use Rattle.std.proofs.Common.{[]}
-use Rattle.std.proofs.Common.{length, min, Option, Some, None, Bool, true, false, not, inl}
-use Rattle.std.proofs.Common.{inr}
+use Rattle.std.proofs.Common.{◌≡◌, ℕ, ◌+◌, ◌-◌, ◌/◌, ◌%◌, ◌<◌, ◌≤◌, ℤ, pos, negsuc, List, []}
+use Rattle.std.proofs.Common.{length, min, Option, Some, None, Bool, true, false, not, inl, inr}
 use Rattle.std.proofs.Common.{refl, sym, ap, subst, ◌∙◌, arith, add-one, eq-eqb, ne_eqb}
 use Rattle.std.specs.Prelude.{slice_get, slice_index, slice_index_or, bit_and, ◌==◌, if◌then◌else◌}
 use Rattle.std.specs.Str.{bytes_eq}
@@ -16,8 +14,7 @@ use Rattle.attrs.specs.Vocabulary.{attribute_number, flag_bit}
 use Rattle.rule_lang.specs.Meaning.{bucket_by, remainder}
 use Rattle.rule_space.specs.declared.coordinate.Coordinate.{Coordinate}
 use Rattle.rule_space.specs.declared.coordinate.Coordinate.TheVariants as coordinate
-use Rattle.rule_space.specs.Coordinates.{Dimension, cell_in, last_before, number_in}
-use Rattle.rule_space.specs.Coordinates.{number_of}
+use Rattle.rule_space.specs.Coordinates.{Dimension, cell_in, last_before, number_in, number_of}
 use Rattle.rule_space.specs.Lines.{IsLine, high_in, last_remainder, low_in}
 use Rattle.rule_space.specs.Machines.{State, declared}
 use Rattle.rule_space.specs.Plans.{IsInCell}

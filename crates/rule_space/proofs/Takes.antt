@@ -1,9 +1,8 @@
 -- A take of a plan is granted as the rule's take is.
 use Rattle.std.proofs.Common.{◌≡◌, ℕ, zero, suc, ◌+◌, ◌-◌, ◌^◌, ◌<◌, ◌≤◌, List, [], ◌∷◌, All}
-use Rattle.std.proofs.Common.{Contains, length}
-use Rattle.std.proofs.Common.{Option, Some, None, Bool, true, false, inl, inr, refl, sym}
-use Rattle.std.proofs.Common.{ap, ap₂, subst, ◌∙◌, arith, find, le-leb, lt-ltb}
-use Rattle.std.proofs.Common.{le-ltb, ltb-true, leb-true, cond}
+use Rattle.std.proofs.Common.{Contains, length, Option, Some, None, Bool, true, false, inl, inr}
+use Rattle.std.proofs.Common.{refl, sym, ap, ap₂, subst, ◌∙◌, arith, find, le-leb, lt-ltb, le-ltb}
+use Rattle.std.proofs.Common.{ltb-true, leb-true, cond}
 use Rattle.std.specs.Prelude.{nat_le, nat_lt, slice_index_or, if◌then◌else◌}
 use Rattle.std.specs.Str.{bytes_eq}
 use Rattle.std.proofs.lemmas.List.Elements.{All-contains}

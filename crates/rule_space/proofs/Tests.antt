@@ -1,6 +1,5 @@
 -- A test holds as the number of its dimension compares.
-use Rattle.std.proofs.Common.{◌≡◌, ℕ, ℤ, ◌<◌, ◌≤◌, ◌^◌, List, [], All, length, Option, Some}
-use Rattle.std.proofs.Common.{None}
+use Rattle.std.proofs.Common.{◌≡◌, ℕ, ℤ, ◌<◌, ◌≤◌, ◌^◌, List, [], All, length, Option, Some, None}
 use Rattle.std.proofs.Common.{Bool, true, false, not, inl, inr, refl, sym, ap, ap₂, subst, ◌∙◌}
 use Rattle.std.proofs.Common.{arith, Less, Equal, Greater, ltb-true, le-leb, slice_get, is_some}
 use Rattle.std.proofs.Common.{unwrap_or}
@@ -30,8 +29,7 @@ use Rattle.rule_lang.specs.declared.test.Test as the_test
 use Rattle.rule_lang.specs.declared.test.Test.TheVariants as test
 use Rattle.rule_space.specs.declared.coordinate.Coordinate.TheVariants as coordinate
 use Rattle.rule_space.specs.declared.test_line.Against.{Against}
-use Rattle.rule_space.specs.Coordinates.{Dimension, number_of}
-use Rattle.rule_space.specs.Coordinates.{place_among}
+use Rattle.rule_space.specs.Coordinates.{Dimension, number_of, place_among}
 use Rattle.rule_space.specs.Lines.{IsLine}
 use Rattle.rule_space.specs.Machines.{State}
 use Rattle.rule_space.specs.Numbers.{version_number}

@@ -1,8 +1,8 @@
 -- How the code makes a group: which dimensions are in it, and the cells that a combination has in
 -- them. No public clause uses this: the promise is in Groups.antt.
-use Rattle.std.specs.Prelude.{◌≡◌, ℕ, ◌+◌, ◌^◌, ◌<◌, ◌≤◌, All, List, [], length, map, Option, Some}
-use Rattle.std.specs.Prelude.{None, option_and_then}
-use Rattle.std.specs.Prelude.{Bool, true, false, ◌&&◌, ◌==◌, not, slice_get, if◌then◌else◌}
+use Rattle.std.specs.Prelude.{Contains, ◌≡◌, ℕ, ◌+◌, ◌^◌, ◌<◌, ◌≤◌, All, List, [], length, map}
+use Rattle.std.specs.Prelude.{Option, Some, None, option_and_then, Bool, true, false, ◌&&◌, ◌==◌}
+use Rattle.std.specs.Prelude.{not, slice_get, if◌then◌else◌}
 use Rattle.attrs.specs.Attributes.{plain}
 use Rattle.attrs.specs.declared.vocabulary.Attribute.{Attribute}
 use Rattle.attrs.specs.declared.vocabulary.Attribute.TheVariants as attribute
@@ -16,7 +16,7 @@ use Rattle.rule_space.specs.declared.family.Family.{Family}
 use Rattle.rule_space.specs.declared.family.GroupKind.{GroupKind}
 use Rattle.rule_space.specs.declared.family.GroupKind.TheVariants as kind
 use Rattle.rule_space.specs.Coordinates.{Dimension, begin_of}
-use Rattle.rule_space.specs.Groups.{Group, HasTuple}
+use Rattle.rule_space.specs.Groups.{Group, HasTuple, Tuple, all_cells}
 use Rattle.rule_space.specs.Fits.{cohort_fits, version_fits}
 use Rattle.rule_space.specs.Numbers.{cell_at}
 
@@ -133,3 +133,15 @@ pub record IsMadeOf (f : Family) (ds : List Dimension) (group : Group) : Type 0 
   pub has : (number : ℕ) → number < count_of f ds → (text : ℕ)
       → text ≤ length (texts_at ds f.text) → (known : Bool)
       → HasCombination f ds group (combination number known text)
+
+-- ---- additions
+
+-- a tuple with these cells is there, and no other is gone
+pub record HasAdded (old new : List Tuple) (cells : List ℕ) : Type 0 where
+  pub has : Contains (all_cells new) cells
+  pub kept : (others : List ℕ) → Contains (all_cells old) others → Contains (all_cells new) others
+
+-- it is about the same dimensions, and no tuple is gone
+pub record GrowsTo (old new : Group) : Type 0 where
+  pub dimensions : new.dimensions ≡ old.dimensions
+  pub tuples : (cells : List ℕ) → HasTuple old cells → HasTuple new cells

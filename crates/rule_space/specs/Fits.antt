@@ -1,7 +1,7 @@
 -- Which cells of a group a machine can have together: the cell of its version, whether the version
 -- is known, and its text; or its bucket, whether the cohort names it, and the cohort.
-use Rattle.std.specs.Prelude.{ℕ, List, [], ◌∷◌, is_some, Option, Some, None, Bool, false}
-use Rattle.std.specs.Prelude.{◌&&◌, ◌||◌, ◌==◌, not, nat_le, nat_lt, if◌then◌else◌}
+use Rattle.std.specs.Prelude.{ℕ, List, [], ◌∷◌, is_some, Option, Some, None, Bool, false, ◌&&◌}
+use Rattle.std.specs.Prelude.{◌||◌, ◌==◌, not, nat_le, nat_lt, if◌then◌else◌}
 use Rattle.std.specs.List.{list_any}
 use Rattle.attrs.specs.Bucket.{cohort_bucket}
 use Rattle.attrs.specs.Version.{version_of}

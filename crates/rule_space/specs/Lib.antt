@@ -9,4 +9,3 @@ pub mod Spaces
 pub mod Fits
 pub mod Families
 pub mod Tests
-pub mod Growing

@@ -1,6 +1,6 @@
 -- The lines of dimensions: from which number to which the numbers of machines in states go.
-use Rattle.std.specs.Prelude.{◌≡◌, ℕ, ◌+◌, ◌-◌, ◌^◌, ◌<◌, length, true, min}
-use Rattle.std.specs.Prelude.{Bool, Option, Some, None, ◌==◌, slice_index, if◌then◌else◌}
+use Rattle.std.specs.Prelude.{◌≡◌, ℕ, ◌+◌, ◌-◌, ◌^◌, ◌<◌, length, true, min, Bool, Option, Some}
+use Rattle.std.specs.Prelude.{None, ◌==◌, slice_index, if◌then◌else◌}
 use Rattle.rule_space.specs.declared.coordinate.Coordinate.{Coordinate}
 use Rattle.rule_space.specs.declared.coordinate.Coordinate.TheVariants as coordinate
 use Rattle.rule_space.specs.Coordinates.{Dimension}

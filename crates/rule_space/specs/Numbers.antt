@@ -1,6 +1,6 @@
 -- A line of numbers in cells. Each cell begins at an end, and has the numbers up to the next one.
-use Rattle.std.specs.Prelude.{ℕ, ◌+◌, ◌-◌, ◌*◌, ◌^◌, List, [], ◌∷◌, slice_index}
-use Rattle.std.specs.Prelude.{Bool, false, ◌&&◌, ◌||◌, ◌==◌, nat_le, nat_lt}
+use Rattle.std.specs.Prelude.{ℕ, ◌+◌, ◌-◌, ◌*◌, ◌^◌, List, [], ◌∷◌, slice_index, Bool, false, ◌&&◌}
+use Rattle.std.specs.Prelude.{◌||◌, ◌==◌, nat_le, nat_lt}
 use Rattle.std.specs.List.{count_by, list_any}
 use Rattle.rule_lang.specs.declared.test.Comparison.{Comparison}
 use Rattle.rule_lang.specs.declared.test.Comparison.TheVariants.{Lt, Le, Eq, Ne, Ge, Gt}

@@ -3,7 +3,7 @@
 
 ghost use Rattle.std.specs.Prelude.{◌≡◌, Contains, IfOk, IfSome, OnOk, true};
 ghost use Rattle.rule_space.specs.Groups.{all_cells};
-ghost use Rattle.rule_space.specs.Growing.{HasAdded};
+ghost use Rattle.rule_space.specs.Families.{HasAdded};
 
 use std::alloc::{AllocError, Global};
 use std::marker::Model;
@@ -117,7 +117,7 @@ fn add_cells(
 
 impl Group {
     ghost use Rattle.rule_space.specs.Groups.{HasTuple};
-    ghost use Rattle.rule_space.specs.Growing.{GrowsTo};
+    ghost use Rattle.rule_space.specs.Families.{GrowsTo};
     ghost use Rattle.std.specs.Prelude.{OnOk};
 
     /// The numbers of its dimensions.

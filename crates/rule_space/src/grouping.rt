@@ -5,7 +5,7 @@ ghost use Rattle.std.specs.Prelude.{length, slice_get};
 ghost use Rattle.rule_space.specs.Families as specs;
 ghost use Rattle.rule_space.specs.Families.{AreFew, HasCombination, IsMadeOf, combination};
 ghost use Rattle.rule_space.specs.Groups.{IsGroup};
-ghost use Rattle.rule_space.specs.Growing.{GrowsTo};
+ghost use Rattle.rule_space.specs.Families.{GrowsTo};
 ghost use Rattle.rule_space.specs.Lines.{IsLine};
 ghost use Rattle.rule_space.specs.Scopes.{IsWithin, Scope};
 

@@ -1,6 +1,5 @@
 use Rattle.std.proofs.Common.{ℕ, ◌<◌, Bool}
-use Rattle.rule_space.specs.Families.{AreFew, HasCombination, combination}
-use Rattle.rule_space.specs.Growing.{GrowsTo}
+use Rattle.rule_space.specs.Families.{AreFew, HasCombination, combination, GrowsTo}
 use Rattle.rule_space.proofs.grouping.add_number.Given as goal
 
 abbrev pub invariant-loop-text : goal.invariant-loop-text
