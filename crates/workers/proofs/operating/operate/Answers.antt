@@ -14,7 +14,8 @@ returns-in_default g c =
 pub returns-then-is_stopping : goal.returns-then-is_stopping
 returns-then-is_stopping g c =
     let did = c.attend-reply.ensures in
-    at_end _ (g.C.CellSteps.grew) _ c.ended-then-is_stopping.result _ _ _ _ c.ended-then-is_stopping.ensures.accepted
+    at_end _ (g.C.CellSteps.grew) _ c.ended-then-is_stopping.result _ _ _ _
+    c.ended-then-is_stopping.ensures.accepted
     (c.ended-then-is_stopping.ensures.requested ∙ c.is_stopping-is_stopping.ensures)
     (one_more _ (g.C.CellSteps.grew) _ c.growth.ensures.append _ _ c.in-Some-accept.ensures.one
     _ _ _ _ _ _ c.loop.invariant did.belongs c.attend-reply.result did.answers did.unread)
@@ -22,5 +23,5 @@ returns-then-is_stopping g c =
 pub loop-preserved : goal.loop-preserved
 loop-preserved g c =
     let did = c.attend-reply.ensures in
-    one_more _ (g.C.CellSteps.grew) _ c.growth.ensures.append _ _ c.in-Some-accept.ensures.one _ _ _ _ _ _
-    c.loop.invariant did.belongs c.attend-reply.result did.answers did.unread
+    one_more _ (g.C.CellSteps.grew) _ c.growth.ensures.append _ _ c.in-Some-accept.ensures.one
+    _ _ _ _ _ _ c.loop.invariant did.belongs c.attend-reply.result did.answers did.unread
