@@ -41,8 +41,8 @@ fn is_told<R: Files + AllocGlobal>(
 
 #[test]
 fn each_kind(rt: HostRuntime) -> Result<(), Fail> {
-    write_file(&rt, "three", b"123").map_err(|_| "not written")?;
-    write_file(&rt, "four", b"1234").map_err(|_| "not written")?;
+    write(&rt, "three", b"123")?;
+    write(&rt, "four", b"1234")?;
     for (path, any, regular) in PATHS {
         is_told(&rt, path, any, regular)?;
     }
@@ -78,8 +78,10 @@ fn told_kept(alloc: Global, kept: Result<KeptBytes, ResourceFault>) -> Result<St
 }
 
 fn write<R: Files + AllocGlobal>(rt: &R, path: &str, bytes: &[u8]) -> Result<(), Fail> {
-    write_file(rt, path, bytes).map_err(|_| "not written")?;
-    Ok(())
+    match write_file(rt, path, bytes) {
+        Ok(_) => Ok(()),
+        Err(_) => Err(Fail::from("not written")),
+    }
 }
 
 fn write_texts<R: Files + AllocGlobal>(rt: &R) -> Result<(), Fail> {
@@ -111,13 +113,13 @@ fn kept(rt: HostRuntime) -> Result<(), Fail> {
 #[test]
 fn written(rt: HostRuntime) -> Result<(), Fail> {
     fs::create_dir(&rt, "place")?;
-    write_file(&rt, "place/new", b"1").map_err(|_| "not written")?;
+    write(&rt, "place/new", b"1")?;
     let mut mode = fs::metadata(&rt, "place/new")?.permissions();
     mode.set_mode(0o640);
     fs::set_permissions(&rt, "place/new", mode)?;
     symlink(&rt, "place/new", "link")?;
-    write_file(&rt, "link", b"two").map_err(|_| "not written")?;
-    write_file(&rt, "/dev/null", b"3").map_err(|_| "not into a device")?;
+    write(&rt, "link", b"two")?;
+    write(&rt, "/dev/null", b"3")?;
     let text = fs::read_to_string(&rt, "place/new")?;
     must("the new bytes", text.as_str(), text.as_str() == "two")?;
     let mode = fs::metadata(&rt, "place/new")?.permissions().mode() & 0o7777;
@@ -138,7 +140,7 @@ fn written_over(rt: HostRuntime) -> Result<(), Fail> {
         ("<sv", false),
         ("server", false),
     ] {
-        write_file(&rt, "over", bytes.as_bytes()).map_err(|_| "not written")?;
+        write(&rt, "over", bytes.as_bytes())?;
         must(
             bytes,
             "another answer",

@@ -12,7 +12,6 @@ mov r0, 0 / exit
 - none.bpf: mov r0, 0 / exit
 - first.bpf: mov r0, 1 / exit
 - unset.bpf: exit
-- ../back.bpf: mov r0, 0 / ja -2
 "#;
 
 /// Files by their bytes: none, a part of an instruction, and a text whose last line is empty.
@@ -41,7 +40,8 @@ fn add_files(alloc: Global, files: &mut MemFiles, rules: &str) -> Result<(), Fai
 fn add_programs(alloc: Global, files: &mut MemFiles) -> Result<(), Fail> {
     for line in PROGRAMS.split("\n- ").skip(1) {
         let (name, text) = halves(line, ": ")?;
-        add_program(alloc, files, name, text, " / ")?;
+        let text = text.replace(alloc, " / ", "\n")?;
+        files.add(name, Some(assemble(alloc, text.as_str())?))?;
     }
     Ok(())
 }
@@ -59,18 +59,6 @@ fn add_bytes(alloc: Global, files: &mut MemFiles) -> Result<(), AllocError> {
         files.add(name, Some(Vec::from_slice(alloc, bytes)?))?;
     }
     Ok(())
-}
-
-/// Adds the program with this text, in which the mark ends a line.
-pub(crate) fn add_program(
-    alloc: Global,
-    files: &mut MemFiles,
-    name: &str,
-    text: &str,
-    mark: &str,
-) -> Result<(), Fail> {
-    let text = text.replace(alloc, mark, "\n")?;
-    Ok(files.add(name, Some(assemble(alloc, text.as_str())?))?)
 }
 
 /// A text `count` times. It has no clauses, so that no proof evaluates it.
