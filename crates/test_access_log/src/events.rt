@@ -5,8 +5,8 @@ use access_log::{AskedApp, Connection, Counter, Excerpt, Load, LogEvent, Outcome
 use std::alloc::Global;
 use std::test::Fail;
 
-/// The lines at 2026-11-24T12:19:16.042Z, each after its time and up to its line feed. A line that
-/// is too wide for this page is broken.
+/// The lines at 2026-11-24T12:19:16.042Z, each after its time and up to its line feed. Line feeds
+/// and empty lines here don't count.
 const LINES: &str = r##"
 "kind":"start","path":"m.toml","port":8080,"operator":8081}
 
@@ -193,47 +193,82 @@ fn app(
     }
 }
 
-// The lines of the server's own events, and of refused connections.
-fn told(alloc: Global) -> Result<String, Fail> {
+// Appends the line of an event, without its time and its line feed.
+fn push(alloc: Global, lines: &mut String, event: &LogEvent<'_>) -> Result<(), Fail> {
+    let line = line_at(alloc, &AT, event)?;
+    let Some(rest) = line.strip_prefix("{\"time\":\"2026-11-24T12:19:16.042Z\",") else {
+        return Err(Fail::from("a line that begins with the time"));
+    };
+    let Some(rest) = rest.strip_suffix('\n') else {
+        return Err(Fail::from("a line that ends"));
+    };
+    Ok(lines.push_str(rest)?)
+}
+
+// Appends the lines of the server's own events.
+fn push_events(alloc: Global, lines: &mut String) -> Result<(), Fail> {
     let cut = cut("a\tb", 9);
-    let mut lines = String::new(alloc);
-    for event in [
-        start(whole("m.toml"), 8080, None),
-        start(whole("m.toml"), 8080, Some(DIGEST)),
-        start(cut, 80, None),
-        refused_start("B6 Bind", None),
-        refused_start("M2 Field", Some(cut)),
-        LogEvent::Serving(1),
-        load("next.toml", 2, None),
-        load("next.toml", 2, Some(DIGEST)),
-        refused_load(cut, "M2 Field", None),
-        refused_load(
+    push(alloc, lines, &start(whole("m.toml"), 8080, None))?;
+    push(alloc, lines, &start(whole("m.toml"), 8080, Some(DIGEST)))?;
+    push(alloc, lines, &start(cut, 80, None))?;
+    push(alloc, lines, &refused_start("B6 Bind", None))?;
+    push(alloc, lines, &refused_start("M2 Field", Some(cut)))?;
+    push(alloc, lines, &LogEvent::Serving(1))?;
+    push(alloc, lines, &load("next.toml", 2, None))?;
+    push(alloc, lines, &load("next.toml", 2, Some(DIGEST)))?;
+    push(alloc, lines, &refused_load(cut, "M2 Field", None))?;
+    push(
+        alloc,
+        lines,
+        &refused_load(
             whole("m.toml"),
             REDEFINED,
             Some(whole("q:64:1:2 to q:64:1:3")),
         ),
-        refused_load(whole("m.toml"), "M2 Field", Some(cut)),
-        LogEvent::Unaccepted("Too many open files (os error 24)"),
-        LogEvent::Lost(18446744073709551615),
-        LogEvent::Totals(TOTALS),
-        LogEvent::Stop(None),
-        LogEvent::Stop(Some("H2 NoPlace")),
-        LogEvent::Counter(Counter {
+    )?;
+    push(
+        alloc,
+        lines,
+        &refused_load(whole("m.toml"), "M2 Field", Some(cut)),
+    )?;
+    push(
+        alloc,
+        lines,
+        &LogEvent::Unaccepted("Too many open files (os error 24)"),
+    )?;
+    push(alloc, lines, &LogEvent::Lost(18446744073709551615))?;
+    push(alloc, lines, &LogEvent::Totals(TOTALS))?;
+    push(alloc, lines, &LogEvent::Stop(None))?;
+    push(alloc, lines, &LogEvent::Stop(Some("H2 NoPlace")))?;
+    push(
+        alloc,
+        lines,
+        &LogEvent::Counter(Counter {
             array: "canary",
             index: 3,
             value: 18446744073709551615,
         }),
-        unanswered("[2001:db8::1]:443", 411, "P4 Length", None, 111),
-        unanswered("[fe80::1%2]:80", 0, "P8 Device", Some("time-out"), 0),
-        unanswered("[fe80::1%2]:80", 0, "P8 Device", Some("device"), 7),
-    ] {
-        lines.push_str(line_at(alloc, &AT, &event)?.as_str())?;
-    }
-    Ok(lines)
+    )?;
+    Ok(())
 }
 
-// Those of connections whose requests got replies.
-fn answers(alloc: Global) -> Result<String, Fail> {
+// Those of refused connections, and of those whose requests got replies.
+fn push_answers(alloc: Global, lines: &mut String) -> Result<(), Fail> {
+    push(
+        alloc,
+        lines,
+        &unanswered("[2001:db8::1]:443", 411, "P4 Length", None, 111),
+    )?;
+    push(
+        alloc,
+        lines,
+        &unanswered("[fe80::1%2]:80", 0, "P8 Device", Some("time-out"), 0),
+    )?;
+    push(
+        alloc,
+        lines,
+        &unanswered("[fe80::1%2]:80", 0, "P8 Device", Some("device"), 7),
+    )?;
     let apps = [
         app(
             "q\"\\é",
@@ -261,37 +296,23 @@ fn answers(alloc: Global) -> Result<String, Fail> {
             ..app("\u{2028}", None, 2, Outcome::Offered(64, "2.0"), None)
         },
     ];
-    let mut lines = line_at(alloc, &AT, &answered(&[NOTES]))?;
-    lines.push_str(line_at(alloc, &AT, &answered(&apps))?.as_str())?;
-    lines.push_str(line_at(alloc, &AT, &answered(&strange))?.as_str())?;
+    push(alloc, lines, &answered(&[NOTES]))?;
+    push(alloc, lines, &answered(&apps))?;
+    push(alloc, lines, &answered(&strange))
+}
+
+// All these lines.
+fn found(alloc: Global) -> Result<String, Fail> {
+    let mut lines = String::new(alloc);
+    push_events(alloc, &mut lines)?;
+    push_answers(alloc, &mut lines)?;
     Ok(lines)
-}
-
-// The lines in the table's form.
-fn as_rows(alloc: Global, lines: &str) -> Result<String, Fail> {
-    let mut rows = String::new(alloc);
-    for line in lines.lines() {
-        let rest = line.strip_prefix("{\"time\":\"2026-11-24T12:19:16.042Z\",");
-        rows.push_str(rest.ok_or("a line that begins with the time")?)?;
-        rows.push('\n')?;
-    }
-    Ok(rows)
-}
-
-// The table, with its broken lines whole.
-fn rows(alloc: Global) -> Result<String, Fail> {
-    let joined = LINES.trim().replace(alloc, "\n\n", "\u{2}")?;
-    let joined = joined.replace(alloc, "\n", "")?;
-    let mut rows = joined.replace(alloc, "\u{2}", "\n")?;
-    rows.push('\n')?;
-    Ok(rows)
 }
 
 #[test]
 fn each_event_has_its_line(rt: HostRuntime) -> Result<(), Fail> {
-    let mut lines = told(rt.alloc())?;
-    lines.push_str(answers(rt.alloc())?.as_str())?;
-    let found = as_rows(rt.alloc(), &lines)?;
-    assert!(rt; found == rows(rt.alloc())?, "{found}");
+    let wanted = LINES.replace(rt.alloc(), "\n", "")?;
+    let found = found(rt.alloc())?;
+    assert!(rt; found == wanted, "{found}");
     Ok(())
 }

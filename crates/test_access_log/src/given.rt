@@ -61,15 +61,15 @@ pub(crate) fn answered<'a>(apps: &'a [AskedApp<'a>]) -> LogEvent<'a> {
 /// The line of an event.
 pub(crate) fn line_at(alloc: Global, at: &Utc, event: &LogEvent<'_>) -> io::Result<String> {
     let line = log_line(alloc, at, event)?;
-    String::from_utf8(line).map_err(|_| io::Error::from(ErrorKind::InvalidData))
+    match String::from_utf8(line) {
+        Ok(line) => Ok(line),
+        Err(_) => Err(io::Error::from(ErrorKind::InvalidData)),
+    }
 }
 
 /// `count` times `a`, followed by a text.
 pub(crate) fn repeated(alloc: Global, count: usize, end: &str) -> Result<String, AllocError> {
-    let mut text = String::new(alloc);
-    for _ in 0..count {
-        text.push('a')?;
-    }
+    let mut text = "a".repeat(alloc, count)?;
     text.push_str(end)?;
     Ok(text)
 }

@@ -3,6 +3,8 @@
 use crate::given::{AT, line_at};
 use access_log::LogEvent;
 use printing::{has_control, is_control};
+use std::alloc::Global;
+use std::io;
 use std::test::Fail;
 
 /// A text, and what is between its quotes. The rows also have the last character before each range
@@ -56,26 +58,35 @@ const CONTROLS: &str =
 const OTHERS: &str =
     " ~\u{a0}\u{61b}\u{61d}\u{200d}\u{2010}\u{2027}\u{202f}\u{2065}\u{206a}\u{10ffff}";
 
+// Whether each character of a text is a control, or none is.
+fn are_all(text: &str, controls: bool) -> bool {
+    for c in text.chars() {
+        if is_control(c) != controls {
+            return false;
+        }
+    }
+    has_control(text) == controls
+}
+
 #[test]
-fn controls_are_those_of_what_is_printed(rt: HostRuntime) -> Result<(), Fail> {
-    for c in CONTROLS.chars() {
-        assert!(rt; is_control(c), "{c:?}");
-    }
-    for c in OTHERS.chars() {
-        assert!(rt; !is_control(c), "{c:?}");
-    }
-    assert!(rt; has_control(CONTROLS) && !has_control(OTHERS));
-    Ok(())
+fn controls_are_those_of_what_is_printed(rt: HostRuntime) {
+    assert!(rt; are_all(CONTROLS, true), "controls");
+    assert!(rt; are_all(OTHERS, false), "others");
+}
+
+// Whether a text is spelled like this.
+fn is_spelled(alloc: Global, text: &str, spelled: &str) -> io::Result<bool> {
+    let wanted = format!(in alloc;
+        "{{\"time\":\"2026-11-24T12:19:16.042Z\",\"kind\":\"unaccepted\",\
+        \"reason\":\"{spelled}\"}}\n"
+    )?;
+    Ok(line_at(alloc, &AT, &LogEvent::Unaccepted(text))? == wanted)
 }
 
 #[test]
 fn texts_change_no_terminal(rt: HostRuntime) -> Result<(), Fail> {
     for (text, spelled) in TEXTS {
-        let line = line_at(rt.alloc(), &AT, &LogEvent::Unaccepted(*text))?;
-        let wanted = format!(in rt.alloc();
-            "{{\"time\":\"2026-11-24T12:19:16.042Z\",\"kind\":\"unaccepted\",\"reason\":\"{spelled}\"}}\n"
-        )?;
-        assert!(rt; line == wanted, "{line}");
+        assert!(rt; is_spelled(rt.alloc(), *text, *spelled)?, "{spelled}");
     }
     Ok(())
 }

@@ -1,6 +1,6 @@
 //! How many names in a log have rows of their own.
 
-use crate::given::report_of;
+use crate::reports::report_of;
 use std::alloc::{AllocError, Global};
 use std::test::Fail;
 

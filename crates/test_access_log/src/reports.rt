@@ -1,4 +1,9 @@
-//! Input of the tests: the report on the lines of a text.
+//! What no row shows of reports: limits of a log, days and times. Here is the report on the lines of
+//! a text.
+
+mod calendars;
+mod limits;
+mod times;
 
 use report::{LogOnlooker, Report, Window, count_log};
 use std::alloc::Global;

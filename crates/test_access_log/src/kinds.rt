@@ -1,0 +1,107 @@
+//! Requests of apps of several kinds: what is left out of a line is counted by kind, and no line is
+//! too long.
+
+use crate::apps::{beside, first, push_apps};
+use crate::given::{AT, NOTES, answered, line_at};
+use access_log::{AskedApp, Connection, Excerpt, LogEvent, Outcome};
+use std::alloc::Global;
+use std::io;
+use std::test::Fail;
+
+/// How many apps of one letter are offered the release 1.1, how many after them request no update,
+/// how many are unknown, and the line's end. They take 87, 58 and 73 bytes.
+const KINDS: &[(usize, usize, usize, &str)] = &[
+    (42, 0, 0, "]}\n"),
+    (42, 1, 0, "],\"left_out\":1}\n"),
+    (41, 0, 2, "],\"left_out\":1,\"unknown_left_out\":1}\n"),
+    (41, 1, 1, "],\"left_out\":1,\"unknown_left_out\":1}\n"),
+    (45, 0, 0, "],\"left_out\":3,\"offers_left_out\":3}\n"),
+    (
+        45,
+        0,
+        4,
+        "],\"left_out\":7,\"offers_left_out\":3,\"unknown_left_out\":4}\n",
+    ),
+    (256, 0, 0, "],\"left_out\":214,\"offers_left_out\":214}\n"),
+];
+
+// An app with this appid and this outcome.
+fn kind(appid: &'static str, outcome: Outcome<'static>) -> AskedApp<'static> {
+    AskedApp {
+        appid: Excerpt::brief(appid),
+        outcome,
+        ..NOTES
+    }
+}
+
+// The line of a request of apps of three kinds.
+fn line_of_kinds(
+    alloc: Global,
+    offers: usize,
+    others: usize,
+    unknown: usize,
+) -> io::Result<String> {
+    let mut apps = Vec::new(alloc);
+    push_apps(&mut apps, offers, kind("x", Outcome::Offered(2, "1.1")))?;
+    push_apps(&mut apps, others, kind("x", Outcome::Unasked))?;
+    push_apps(&mut apps, unknown, kind("x", Outcome::Unknown))?;
+    line_at(alloc, &AT, &answered(&apps))
+}
+
+#[test]
+fn what_is_left_out_is_counted_by_kind(rt: HostRuntime) -> Result<(), Fail> {
+    for (offers, others, unknown, end) in KINDS {
+        let line = line_of_kinds(rt.alloc(), *offers, *others, *unknown)?;
+        assert!(rt; line.ends_with(*end), "{line}");
+    }
+    Ok(())
+}
+
+/// The longest line around the apps of a connection. It has a peer with a scope, the longest
+/// address of a proxy, a refusal with a cause, and numbers of twenty digits.
+fn long<'a>(apps: &'a [AskedApp<'a>]) -> LogEvent<'a> {
+    LogEvent::Connection(Connection {
+        peer: "[ffff:ffff:ffff:ffff:ffff:ffff:ffff:ffff%4294967295]:65535",
+        forwarded: Some("ffff:ffff:ffff:ffff:ffff:ffff:ffff:ffff"),
+        status: 0,
+        refusal: Some("P8 Device"),
+        cause: Some("time-out"),
+        generation: u64::MAX,
+        bytes: u64::MAX,
+        micros: u64::MAX,
+        waited: u64::MAX,
+        apps,
+    })
+}
+
+/// A text of 64 bytes.
+const WIDE: &str = "aaaaaaaaaaaaaaaaaaaaaaaaaaaaaaaaaaaaaaaaaaaaaaaaaaaaaaaaaaaaaaaa";
+
+// An app with this appid and the further members, which isn't named.
+fn full(appid: &'static str, outcome: Outcome<'static>) -> AskedApp<'static> {
+    AskedApp {
+        named: false,
+        more: beside("x"),
+        ..kind(appid, outcome)
+    }
+}
+
+// The line of 256 apps that take as much as they may. 26 with 64 bytes and one with 52 fill 3660
+// bytes, except the comma before the first; the rest of the line has 431.
+fn longest_line(alloc: Global) -> io::Result<String> {
+    let mut apps = Vec::new(alloc);
+    push_apps(&mut apps, 26, full(WIDE, Outcome::Unknown))?;
+    push_apps(&mut apps, 1, full(first(WIDE, 52), Outcome::Unknown))?;
+    push_apps(&mut apps, 103, full(WIDE, Outcome::Unknown))?;
+    push_apps(&mut apps, 126, full(WIDE, Outcome::Offered(64, "1.0")))?;
+    line_at(alloc, &AT, &long(&apps))
+}
+
+#[test]
+fn no_line_of_a_connection_is_too_long(rt: HostRuntime) -> Result<(), Fail> {
+    let line = longest_line(rt.alloc())?;
+    let end = "],\"more_left_out\":27,\"left_out\":229,\"offers_left_out\":126,\
+        \"unknown_left_out\":103}\n";
+    assert!(rt; line.ends_with(end) && line.len() == 4090, "{line}");
+    Ok(())
+}
