@@ -1,7 +1,8 @@
 //! The results of reading and of compiling a rule's text. The calls have no clauses here, so that
 //! no proof reads the bytes of a test.
 
-use crate::given::{must, shape};
+use crate::programs::must;
+use crate::rules::shape;
 use bpf_verify::Verified;
 use cells::Shape;
 use rule_compile::{CompileFault, compile};

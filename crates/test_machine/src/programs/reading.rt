@@ -1,6 +1,6 @@
 //! Rows of bytes that are read as a program, for any targets of its edges.
 
-use crate::row::{case_of, lines, must};
+use crate::programs::{case_of, lines, must};
 use bpf_insn::Insn;
 use bpf_text::assemble;
 use flow_check::{laid_out, read_program};

@@ -1,6 +1,11 @@
-//! Tables of programs. A row begins with `- ` and has what is tested and what is expected, and on
-//! the lines below it the program. The program's lines are separated by ` / `, which doesn't occur
-//! in the assembler's texts.
+//! What no command shows of programs: how one is laid out, and how many entries are kept at once;
+//! the listing of twelve opcodes with every offset. A row of a table begins with `- ` and has what
+//! is tested and what is expected, and on the lines below it the program. The program's lines are
+//! separated by ` / `, which doesn't occur in the assembler's texts.
+
+mod counts;
+mod offsets;
+mod reading;
 
 use std::alloc::{AllocError, Global};
 use std::test::Fail;

@@ -1,7 +1,8 @@
 //! How many slots the code of each test has for each truth value, and that no jump leads to a jump.
 
-use crate::given::{halves, must};
-use crate::told::program;
+use crate::programs::must;
+use crate::rules::halves;
+use crate::rules::told::program;
 use bpf_insn::Insn;
 use bpf_verify::Verified;
 use flow_check::jump_target;

@@ -2,8 +2,9 @@
 //! second result is the normal one. A failure in one of the two calls is printed. So these tests
 //! pass if no allocation fails, and if any one does.
 
-use crate::given::{halves, must};
-use crate::told::{told, told_as_read};
+use crate::programs::must;
+use crate::rules::halves;
+use crate::rules::told::{told, told_as_read};
 use std::alloc::{AllocError, Global};
 use std::test::Fail;
 

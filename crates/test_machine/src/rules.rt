@@ -1,4 +1,11 @@
-//! The shape and the long texts of these tests, and the rows of tables.
+//! What no command prints about rules: reading the longest texts, the slots of each kind of test,
+//! and failed allocations. Here are the shape and the long texts of these tests, and the rows of
+//! tables.
+
+mod longest;
+mod memory;
+mod sizes;
+mod told;
 
 use cells::{ArrayNo, CellWidth, CellsFault, Directory, Shape};
 use std::alloc::{AllocError, Global};
@@ -54,12 +61,4 @@ pub(crate) fn chain(
 /// The parts of a row before and after the first mark.
 pub(crate) fn halves<'a>(row: &'a str, mark: &str) -> Result<(&'a str, &'a str), Fail> {
     Ok(row.split_once(mark).ok_or("a row of another form")?)
-}
-
-/// Fails with what was found and its row, unless `is_right` is set.
-pub(crate) fn must(row: &str, found: &str, is_right: bool) -> Result<(), Fail> {
-    if is_right {
-        return Ok(());
-    }
-    Err(Fail::new(format_args!("{found}: {row}")))
 }

@@ -1,7 +1,7 @@
 //! How many entries are kept at once: the current one, and one for each later target of an edge
 //! that isn't dropped.
 
-use crate::row::{case_of, lines, must};
+use crate::programs::{case_of, lines, must};
 use bpf_text::assemble;
 use bpf_verify::{Refusal, Shape, Verified, verify_counted};
 use cells::{ArrayNo, CellWidth, CellsFault, Directory};

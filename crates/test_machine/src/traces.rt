@@ -1,10 +1,13 @@
 //! Traces of programs on counters with given values.
 
-use crate::given::{attributes, program_of, shape_of};
+use crate::given::{attributes, shape_over};
+use acceptance::accept;
+use bpf_text::assemble;
+use bpf_verify::Verified;
 use cells::{CellNo, CellOp, CellSteps, PlainCells, PlainPass};
 use std::alloc::{AllocError, Global};
 use std::test::Fail;
-use trace::{Jump, trace_on};
+use trace::{Jump, TracedRun, trace_on};
 
 /// The program of the first two rows, which jumps by the value of q[0].
 const BY_COUNTER: &str = "ldcell r6, 0, 0
@@ -99,14 +102,26 @@ fn jump_text(alloc: Global, jump: Option<Jump>) -> Result<String, AllocError> {
     }
 }
 
+fn program_of(alloc: Global, text: &str) -> Result<Verified, Fail> {
+    let bytes = assemble(alloc, text)?;
+    let shape = shape_over(alloc, 1, "q:64:1:2")?;
+    Ok(accept(alloc, &bytes, &shape)?)
+}
+
+/// The run of a program on these counters.
+fn traced(alloc: Global, text: &str, counters: &mut PlainPass) -> Result<TracedRun, Fail> {
+    let program = program_of(alloc, text)?;
+    let attrs = attributes(alloc, "1.0")?;
+    let run = trace_on(alloc, &program, attrs, counters);
+    drop(program);
+    Ok(run?)
+}
+
 fn told_on(alloc: Global, text: &str, value: u64) -> Result<String, Fail> {
-    let program = program_of(alloc, text, &shape_of(alloc, 1)?)?;
     let mut counters = counters_with(alloc, value)?;
-    let run = trace_on(alloc, &program, attributes(alloc)?, &mut counters)?;
+    let run = traced(alloc, text, &mut counters)?;
     let left = counters.value(CellNo::new(0));
-    let lines = run.text.as_str();
-    let choice = run.choice;
-    let count = run.count;
+    let (lines, choice, count) = (run.text.as_str(), run.choice, run.count);
     let jump = jump_text(alloc, run.last_jump)?;
     Ok(format!(in alloc; "{lines}choice {choice} after {count}; {jump}; q[0] {left}\n")?)
 }

@@ -1,7 +1,8 @@
 //! The longest texts of each kind of chain, which loops read and drop.
 
-use crate::given::{chain, halves, must};
-use crate::told::must_tell;
+use crate::programs::must;
+use crate::rules::told::must_tell;
+use crate::rules::{chain, halves};
 use std::alloc::{AllocError, Global};
 use std::test::Fail;
 

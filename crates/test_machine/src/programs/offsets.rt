@@ -1,7 +1,7 @@
 //! The opcodes of MUL, DIV and MOD, each with every offset: its listing with 0 and with 1, and the
 //! one fault of all others.
 
-use crate::row::must;
+use crate::programs::must;
 use bpf_text::listing;
 use std::alloc::{AllocError, Global};
 use std::test::Fail;
