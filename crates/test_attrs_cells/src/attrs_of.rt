@@ -3,7 +3,8 @@
 
 use crate::facts::{app_of, attributes_at, request_of};
 use attrs::{Context, Elapsed, fnv1a, hashed_bucket, named_or_hashed};
-use std::alloc::Global;
+use std::alloc::{AllocError, Global};
+use std::fmt::Write;
 use std::test::Fail;
 
 /// A cohort that names no bucket leaves that of the empty text, 6037. A row has the facts of the
@@ -58,20 +59,28 @@ fn context_of(alloc: Global, facts: &str) -> Result<Context, Fail> {
     Ok(attributes_at(alloc, facts, MOMENT)?.context())
 }
 
-/// The context of the facts, as words.
-fn told(alloc: Global, facts: &str) -> Result<String, Fail> {
-    let context = context_of(alloc, facts)?;
+fn push(words: &mut String, name: &str, number: u64) -> Result<(), AllocError> {
+    write!(words, "{name}={number} ")
+}
+
+/// Appends a context, as words.
+fn push_context(words: &mut String, context: &Context) -> Result<(), AllocError> {
     let [first, second, third, fourth] = context.version;
-    let numbers = format!(in alloc; "{first}.{second}.{third}.{fourth}")?;
-    let days = format!(in alloc;
-        "install_day={} today={}",
-        context.install_day, context.today
-    )?;
-    let flags = format!(in alloc; "flags={} seconds={}", context.flags, context.seconds)?;
-    Ok(format!(in alloc;
-        "version={numbers} bucket={} {flags} {days}",
-        context.bucket
-    )?)
+    write!(words, "version={first}.{second}.{third}.{fourth} ")?;
+    push(words, "bucket", context.bucket as u64)?;
+    push(words, "flags", context.flags as u64)?;
+    push(words, "seconds", context.seconds as u64)?;
+    push(words, "install_day", context.install_day as u64)?;
+    push(words, "today", context.today as u64)
+}
+
+/// Whether the context of a row's facts has the row's words.
+fn has_row_words(alloc: Global, row: &str) -> Result<bool, Fail> {
+    let (facts, wanted) = row.rsplit_once(" => ").ok_or("a row of another form")?;
+    let context = context_of(alloc, facts)?;
+    let mut words = String::new(alloc);
+    push_context(&mut words, &context)?;
+    Ok(has_words(words.as_str(), wanted))
 }
 
 /// Whether each of the expected words is one of the context's.
@@ -96,9 +105,7 @@ fn has_word(told: &str, wanted: &str) -> bool {
 fn contexts(rt: HostRuntime) -> Result<(), Fail> {
     for rows in [COHORTS, INSTALL_DAYS, VERSIONS, FLAGS, TODAY] {
         for row in rows.lines().skip(1) {
-            let (facts, wanted) = row.rsplit_once(" => ").ok_or("a row of another form")?;
-            let found = told(rt.alloc(), facts)?;
-            assert!(rt; has_words(found.as_str(), wanted), "{row}: {found}");
+            assert!(rt; has_row_words(rt.alloc(), row)?, "{row}");
         }
     }
     Ok(())

@@ -9,7 +9,6 @@ use cells::{
     PlainCells, PlainPass, Shape,
 };
 use std::alloc::Global;
-use std::test::Fail;
 
 const HALF: u64 = 4294967295;
 
@@ -23,85 +22,71 @@ macro_rules! again {
     };
 }
 
-/// One operation on a cell, with the reply and the value after.
-#[derive(Clone, Copy)]
-struct Act {
-    cell: u16,
-    op: CellOp,
-    reply: u64,
-    value: u64,
-}
+/// Operations on cells, each with the reply and the value after.
+type Acts = &'static [(u16, CellOp, u64, u64)];
 
 /// Does these operations in turn, from cells that are 0. Returns the first wrong one.
-fn acts_in_turn(alloc: Global, acts: &[Act]) -> Result<Option<usize>, CellsFault> {
+fn acts_in_turn(alloc: Global, acts: Acts) -> Result<Option<usize>, CellsFault> {
     let (cells, mut pass): (PlainCells, PlainPass) = again!(PlainCells::new(alloc))?;
-    for (place, act) in acts.iter().enumerate() {
-        if act.cell >= 8192 {
+    for (place, (cell, op, reply, value)) in acts.iter().enumerate() {
+        if *cell >= 8192 {
             return Ok(Some(place));
         }
-        let cell = CellNo::new(act.cell);
-        let reply = cells.act(&mut pass, cell, act.op);
-        if reply != act.reply || pass.value(cell) != act.value {
+        let cell = CellNo::new(*cell);
+        if cells.act(&mut pass, cell, *op) != *reply || pass.value(cell) != *value {
             return Ok(Some(place));
         }
     }
     Ok(None)
 }
 
-fn on(cell: u16, op: CellOp, reply: u64, value: u64) -> Act {
-    Act {
-        cell,
-        op,
-        reply,
-        value,
-    }
-}
+const NARROW: Acts = &[
+    (4096, CellOp::Add(HALF), 0, HALF),
+    (4096, CellOp::Add(2), HALF, 1),
+    (4096, CellOp::Load, 1, 1),
+    (4096, CellOp::CompareExchange(1, 9), 1, 9),
+    (4096, CellOp::Load, 9, 9),
+    (4096, CellOp::CompareExchange(1, 3), 9, 9),
+    (
+        4096,
+        CellOp::CompareExchange(0x100000009, 0x200000005),
+        9,
+        5,
+    ),
+    (4096, CellOp::Store(0x1234567890abcdef), 0, 0x90abcdef),
+    (4096, CellOp::Swap(0xf0000000f), 0x90abcdef, 15),
+    (4096, CellOp::Or(0xff00000030), 15, 63),
+    (4096, CellOp::And(0xff0000003c), 63, 60),
+    (4096, CellOp::Xor(0xff000000ff), 60, 195),
+    (8191, CellOp::Load, 0, 0),
+    (4095, CellOp::Load, 0, 0),
+];
 
 #[test]
 fn narrow_counters(rt: HostRuntime) {
-    let acts = [
-        on(4096, CellOp::Add(HALF), 0, HALF),
-        on(4096, CellOp::Add(2), HALF, 1),
-        on(4096, CellOp::Load, 1, 1),
-        on(4096, CellOp::CompareExchange(1, 9), 1, 9),
-        on(4096, CellOp::Load, 9, 9),
-        on(4096, CellOp::CompareExchange(1, 3), 9, 9),
-        on(
-            4096,
-            CellOp::CompareExchange(0x100000009, 0x200000005),
-            9,
-            5,
-        ),
-        on(4096, CellOp::Store(0x1234567890abcdef), 0, 0x90abcdef),
-        on(4096, CellOp::Swap(0xf0000000f), 0x90abcdef, 15),
-        on(4096, CellOp::Or(0xff00000030), 15, 63),
-        on(4096, CellOp::And(0xff0000003c), 63, 60),
-        on(4096, CellOp::Xor(0xff000000ff), 60, 195),
-        on(8191, CellOp::Load, 0, 0),
-        on(4095, CellOp::Load, 0, 0),
-    ];
-    assert!(rt; acts_in_turn(rt.alloc(), &acts) == Ok(None));
+    assert!(rt; acts_in_turn(rt.alloc(), NARROW) == Ok(None));
 }
+
+const WIDE: Acts = &[
+    (0, CellOp::Add(HALF), 0, HALF),
+    (0, CellOp::Add(2), HALF, HALF + 2),
+    (0, CellOp::Add(u64::MAX), HALF + 2, HALF + 1),
+    (0, CellOp::Store(u64::MAX), 0, u64::MAX),
+    (0, CellOp::Add(3), u64::MAX, 2),
+    (0, CellOp::Or(0x100000001), 2, 0x100000003),
+    (0, CellOp::And(0x100000002), 0x100000003, 0x100000002),
+    (0, CellOp::Xor(0x300000003), 0x100000002, 0x200000001),
+    (0, CellOp::Swap(7), 0x200000001, 7),
+    (0, CellOp::CompareExchange(0x100000007, 1), 7, 7),
+    (0, CellOp::CompareExchange(7, 0x100000000), 7, 0x100000000),
+    (1, CellOp::Load, 0, 0),
+    (4095, CellOp::Add(1), 0, 1),
+    (4096, CellOp::Load, 0, 0),
+];
 
 #[test]
 fn wide_counters(rt: HostRuntime) {
-    let acts = [
-        on(0, CellOp::Add(HALF), 0, HALF),
-        on(0, CellOp::Add(2), HALF, HALF + 2),
-        on(0, CellOp::Add(u64::MAX), HALF + 2, HALF + 1),
-        on(0, CellOp::Store(u64::MAX), 0, u64::MAX),
-        on(0, CellOp::Add(3), u64::MAX, 2),
-        on(0, CellOp::Or(0x100000001), 2, 0x100000003),
-        on(0, CellOp::And(0x100000002), 0x100000003, 0x100000002),
-        on(0, CellOp::Xor(0x300000003), 0x100000002, 0x200000001),
-        on(0, CellOp::Swap(7), 0x200000001, 7),
-        on(0, CellOp::CompareExchange(0x100000007, 1), 7, 7),
-        on(0, CellOp::CompareExchange(7, 0x100000000), 7, 0x100000000),
-        on(1, CellOp::Load, 0, 0),
-        on(4095, CellOp::Add(1), 0, 1),
-        on(4096, CellOp::Load, 0, 0),
-    ];
-    assert!(rt; acts_in_turn(rt.alloc(), &acts) == Ok(None));
+    assert!(rt; acts_in_turn(rt.alloc(), WIDE) == Ok(None));
 }
 
 /// The result of a declaration without a quota, which is repeated if an allocation failed.
@@ -197,17 +182,4 @@ fn has_places(alloc: Global) -> Result<bool, CellsFault> {
 fn shapes(rt: HostRuntime) {
     assert!(rt; again!(has_places(rt.alloc())) == Ok(true));
     assert!(rt; Shape::plain(rt.alloc(), 3).arrays().is_empty());
-}
-
-#[test]
-fn faults_are_printed(rt: HostRuntime) -> Result<(), Fail> {
-    let rows = [
-        (CellsFault::CellsFull, "N1 CellsFull"),
-        (CellsFault::Redefined, "N2 Redefined"),
-        (CellsFault::Memory, "N3 Memory"),
-    ];
-    for (fault, text) in rows {
-        assert_eq!(rt; format!(in rt.alloc(); "{fault}")?.as_str(), text);
-    }
-    Ok(())
 }

@@ -115,31 +115,44 @@ fn shape_of(alloc: Global, all: &Directory) -> Result<Shape, CellsFault> {
     )
 }
 
-/// The copied value stays as it was.
-#[test]
-fn shapes(rt: HostRuntime) -> Result<(), Fail> {
-    let alloc = rt.alloc();
-    let all = again!(CellsFault::Memory, both(alloc))?;
+/// Whether a directory is copied, and stays as it was.
+fn is_copied<R: Print>(rt: &R, alloc: Global, all: &Directory) -> Result<bool, Fail> {
     let copy = again!(
-        &rt,
+        rt,
         "Directory::copy: N3 Memory",
         CellsFault::Memory,
         all.copy(alloc)
     )?;
-    assert!(rt; are_both(all.arrays()) && are_both(copy.arrays()));
-    let shape = again!(
-        &rt,
-        "Shape::of: N3 Memory",
-        CellsFault::Memory,
-        shape_of(alloc, &all)
-    )?;
+    Ok(are_both(all.arrays()) && are_both(copy.arrays()))
+}
+
+/// Whether a shape is copied, and stays as it was.
+fn is_shape_copied<R: Print>(rt: &R, alloc: Global, shape: &Shape) -> Result<bool, Fail> {
     let copy = again!(
-        &rt,
+        rt,
         "Shape::copy: N3 Memory",
         CellsFault::Memory,
         shape.copy(alloc)
     )?;
-    assert!(rt; are_both(shape.arrays()) && are_both(copy.arrays()) && copy.releases() == 64);
+    Ok(are_both(shape.arrays()) && are_both(copy.arrays()) && copy.releases() == 64)
+}
+
+/// Whether a shape is made over a directory, and copied.
+fn is_shaped<R: Print>(rt: &R, alloc: Global, all: &Directory) -> Result<bool, Fail> {
+    let shape = again!(
+        rt,
+        "Shape::of: N3 Memory",
+        CellsFault::Memory,
+        shape_of(alloc, all)
+    )?;
+    is_shape_copied(rt, alloc, &shape)
+}
+
+#[test]
+fn shapes(rt: HostRuntime) -> Result<(), Fail> {
+    let alloc = rt.alloc();
+    let all = again!(CellsFault::Memory, both(alloc))?;
+    assert!(rt; is_copied(&rt, alloc, &all)? && is_shaped(&rt, alloc, &all)?);
     Ok(())
 }
 

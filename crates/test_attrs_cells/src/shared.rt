@@ -33,34 +33,46 @@ fn has_texts(attrs: &Attrs) -> bool {
     true
 }
 
-#[test]
-fn owners_see_the_same(rt: HostRuntime) -> Result<(), Fail> {
-    let first = shared(rt.alloc(), FULL)?;
+/// Whether a second owner has the facts when the first has dropped them.
+fn is_shared(alloc: Global) -> Result<bool, AllocError> {
+    let first = shared(alloc, FULL)?;
     let second = first.share()?;
     drop(first);
-    assert_eq!(rt; second.appid(), "x");
-    assert_eq!(rt; second.facts().installdate, Some(7000));
+    Ok(second.appid() == "x" && second.facts().installdate == Some(7000))
+}
+
+#[test]
+fn owners_see_the_same(rt: HostRuntime) -> Result<(), Fail> {
+    assert!(rt; is_shared(rt.alloc())?);
     Ok(())
+}
+
+/// The attributes of an app whose facts its owner has dropped.
+fn outliving(alloc: Global, facts: &str) -> Result<Attrs, Fail> {
+    let app = shared(alloc, facts)?;
+    let attrs = attributes(alloc, &app, facts);
+    drop(app);
+    Ok(attrs?)
 }
 
 // The facts outlive the request from which they were read.
 #[test]
 fn attributes_share_texts(rt: HostRuntime) -> Result<(), Fail> {
-    let app = shared(rt.alloc(), FULL)?;
-    let attrs = attributes(rt.alloc(), &app, FULL)?;
-    drop(app);
-    assert!(rt; has_texts(&attrs));
-    assert_eq!(rt; attrs.context().bucket, 42);
+    let attrs = outliving(rt.alloc(), FULL)?;
+    assert!(rt; has_texts(&attrs) && attrs.context().bucket == 42);
     Ok(())
+}
+
+fn long_facts(alloc: Global) -> Result<String, AllocError> {
+    let zeros = "0".repeat(alloc, 1025)?;
+    format!(in alloc; "version={zeros} & brand={zeros} & platform={zeros}")
 }
 
 // Texts over 1024 bytes count as empty, but the version has its numbers.
 #[test]
 fn long_shared_texts_are_not_seen(rt: HostRuntime) -> Result<(), Fail> {
-    let zeros = "0".repeat(rt.alloc(), 1025)?;
-    let facts = format!(in rt.alloc(); "version={zeros} & brand={zeros} & platform={zeros}")?;
-    let app = shared(rt.alloc(), facts.as_str())?;
-    let attrs = attributes(rt.alloc(), &app, facts.as_str())?;
+    let facts = long_facts(rt.alloc())?;
+    let attrs = outliving(rt.alloc(), facts.as_str())?;
     let lengths = (
         attrs.text(1).len(),
         attrs.text(2).len(),

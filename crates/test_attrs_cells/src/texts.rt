@@ -3,7 +3,7 @@
 
 use crate::facts::attributes_at;
 use attrs::{AttrFault, Attrs, Text, four_digits, helper_attr_is, helper_attr_len, helper_bucket};
-use std::alloc::Global;
+use std::alloc::{AllocError, Global};
 use std::test::Fail;
 
 /// An app and a request with all their texts.
@@ -64,12 +64,16 @@ fn unknown_numbers_have_no_text(rt: HostRuntime) {
     }
 }
 
+fn facts_of(alloc: Global, brand: usize, zeros: usize) -> Result<String, AllocError> {
+    let brand = "b".repeat(alloc, brand)?;
+    let version = "0".repeat(alloc, zeros)?;
+    format!(in alloc; "brand={brand} & version={version}")
+}
+
 /// The lengths of a brand of `brand` bytes and a version of `zeros` zeros, whether the brand is
 /// empty, and the flags.
 fn kept(alloc: Global, brand: usize, zeros: usize) -> Result<(u64, u64, u64, u8), Fail> {
-    let brand = "b".repeat(alloc, brand)?;
-    let version = "0".repeat(alloc, zeros)?;
-    let facts = format!(in alloc; "brand={brand} & version={version}")?;
+    let facts = facts_of(alloc, brand, zeros)?;
     let attrs = attributes_at(alloc, facts.as_str(), 0)?;
     let lengths = (length_of(&attrs, 2), length_of(&attrs, 1));
     Ok((
