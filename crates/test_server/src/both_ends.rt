@@ -136,23 +136,19 @@ fn head_held(rt: HostRuntime) -> Result<(), Fail> {
     Ok(())
 }
 
+/// What clients do, how many calls the gate holds, how many workers there are, how many seconds a
+/// connection may last, and what is shown.
+const SERVED: [(Clients, u64, usize, u64, &str); 4] = [
+    (Clients::Silent, 0, 1, 1, "a silent one is dropped"),
+    (Clients::Slow, 0, 1, 1, "a slow one is dropped"),
+    (Clients::Waiting, 3, 3, 30, "three are held, and a stop"),
+    (Clients::Waiting, 1, 1, 30, "accepted before a stop"),
+];
+
 #[test]
 fn clients_are_served(rt: HostRuntime) -> Result<(), Fail> {
-    assert!(rt;
-        is_served(&rt, Clients::Silent, 0, 1, 1)?,
-        "a silent one is dropped"
-    );
-    assert!(rt;
-        is_served(&rt, Clients::Slow, 0, 1, 1)?,
-        "a slow one is dropped"
-    );
-    assert!(rt;
-        is_served(&rt, Clients::Waiting, 3, 3, 30)?,
-        "three are held, and a stop"
-    );
-    assert!(rt;
-        is_served(&rt, Clients::Waiting, 1, 1, 30)?,
-        "accepted before a stop"
-    );
+    for (clients, holds, workers, seconds, what) in SERVED {
+        assert!(rt; is_served(&rt, clients, holds, workers, seconds)?, "{what}");
+    }
     Ok(())
 }

@@ -167,8 +167,34 @@ struct Lines {
     kept: String,
 }
 
-/// Sends the requests of all rows before it reads the first reply. Collects the lines that the log
-/// should have, and those that it has so far.
+/// A connection that has sent the request of a row, and what is logged of it.
+fn ask_row<'a, H>(rt: &H, place: SocketAddr, row: &'a str) -> Result<(TcpStream, &'a str), Fail>
+where
+    H: Net<Stream = TcpStream> + AllocGlobal,
+{
+    let (headers, rest) = row.split_once('\n').ok_or("a row of four lines")?;
+    let (body, told) = rest.split_once('\n').ok_or("a row of four lines")?;
+    Ok((asked(rt, place, headers, body)?, told))
+}
+
+/// Collects the lines that the log should have of these connections, and those that it has so far.
+fn collect_lines<H>(
+    rt: &H,
+    streams: &[(TcpStream, &str)],
+    pieces: &Receiver<LogPiece>,
+    lines: &mut Lines,
+) -> Result<(), Fail>
+where
+    H: Wait + AllocGlobal,
+{
+    for (stream, told) in streams.iter() {
+        want_line(rt.alloc(), stream, *told, &mut lines.wanted)?;
+        take(rt, pieces, &mut lines.kept)?;
+    }
+    Ok(())
+}
+
+/// Sends the requests of all rows before it reads the first reply.
 fn ask_rows<H>(
     rt: &H,
     place: SocketAddr,
@@ -181,15 +207,9 @@ where
 {
     let mut streams = Vec::new(rt.alloc());
     for row in rows.trim().split("\n\n") {
-        let (headers, rest) = row.split_once('\n').ok_or("a row of four lines")?;
-        let (body, told) = rest.split_once('\n').ok_or("a row of four lines")?;
-        streams.push((asked(rt, place, headers, body)?, told))?;
+        streams.push(ask_row(rt, place, row)?)?;
     }
-    for (stream, told) in streams.iter() {
-        want_line(rt.alloc(), stream, *told, &mut lines.wanted)?;
-        take(rt, pieces, &mut lines.kept)?;
-    }
-    Ok(())
+    collect_lines(rt, streams.as_slice(), pieces, lines)
 }
 
 /// Sends what the rows have, stops the server, and returns both logs.
