@@ -115,13 +115,13 @@ pub(crate) fn add_cuts(
     comparison: Comparison,
     number: u128,
 ) -> Result<(), AllocError> {
-    let behind = number.saturating_add(1);
+    let after = number.saturating_add(1);
     match comparison {
         Comparison::Lt | Comparison::Ge => add_end(ends, last, number),
-        Comparison::Le | Comparison::Gt => add_end(ends, last, behind),
+        Comparison::Le | Comparison::Gt => add_end(ends, last, after),
         Comparison::Eq | Comparison::Ne => {
             add_end(ends, last, number)?;
-            add_end(ends, last, behind)
+            add_end(ends, last, after)
         }
     }
 }

@@ -269,6 +269,12 @@ fn push_answers(alloc: Global, lines: &mut String) -> Result<(), Fail> {
         lines,
         &unanswered("[fe80::1%2]:80", 0, "P8 Device", Some("device"), 7),
     )?;
+    push(alloc, lines, &answered(&[NOTES]))?;
+    push_strange(alloc, lines)
+}
+
+// Those of requests with strange texts.
+fn push_strange(alloc: Global, lines: &mut String) -> Result<(), Fail> {
     let apps = [
         app(
             "q\"\\é",
@@ -296,7 +302,6 @@ fn push_answers(alloc: Global, lines: &mut String) -> Result<(), Fail> {
             ..app("\u{2028}", None, 2, Outcome::Offered(64, "2.0"), None)
         },
     ];
-    push(alloc, lines, &answered(&[NOTES]))?;
     push(alloc, lines, &answered(&apps))?;
     push(alloc, lines, &answered(&strange))
 }
