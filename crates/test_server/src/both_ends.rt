@@ -46,7 +46,7 @@ enum Clients {
 }
 
 /// Whether the clients got the replies that they should. Then the server is stopped.
-fn heard<H>(
+fn received<H>(
     rt: &H,
     place: SocketAddr,
     gate: &Meeting,
@@ -56,7 +56,7 @@ fn heard<H>(
 where
     H: Net<Stream = TcpStream> + AllocGlobal + Clock,
 {
-    let heard = match clients {
+    let received = match clients {
         Clients::Two => two(rt, place),
         Clients::Held => held(rt, place, gate),
         Clients::Silent => silent(rt, place),
@@ -64,7 +64,7 @@ where
         Clients::Waiting => waiting(rt, place, gate, stop),
     };
     halt(rt, place, stop);
-    heard
+    received
 }
 
 /// Whether the clients got their replies, the gate didn't run out, and the server ended. It has
@@ -88,13 +88,13 @@ where
     let stop = AtomicBool::new(false);
     let gate = gate_that_holds(holds);
     let service = service_of(seconds);
-    let (ended, heard) = thread::join(
+    let (ended, received) = thread::join(
         rt,
         || serves(rt, &gate, listener, crew, &stop, service),
-        || heard(rt, place, &gate, &stop, clients),
+        || received(rt, place, &gate, &stop, clients),
     );
-    let is_heard = heard?;
-    Ok(is_heard && ended && !gate.ran_out.load(Ordering::SeqCst))
+    let is_received = received?;
+    Ok(is_received && ended && !gate.ran_out.load(Ordering::SeqCst))
 }
 
 /// As above, for a server that offers nothing, with `workers` workers.

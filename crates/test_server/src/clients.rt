@@ -10,7 +10,7 @@ use std::time::{Clock, Duration};
 use std::{io, thread};
 
 /// A connection that has sent a whole request.
-fn asked<H>(rt: &H, place: SocketAddr) -> io::Result<TcpStream>
+fn requested<H>(rt: &H, place: SocketAddr) -> io::Result<TcpStream>
 where
     H: Net<Stream = TcpStream> + AllocGlobal,
 {
@@ -28,7 +28,7 @@ pub(crate) fn is_answered<H>(rt: &H, place: SocketAddr) -> io::Result<bool>
 where
     H: Net<Stream = TcpStream> + AllocGlobal,
 {
-    is_replied(rt, &asked(rt, place)?)
+    is_replied(rt, &requested(rt, place)?)
 }
 
 /// Connections that have sent a whole request each.
@@ -38,7 +38,7 @@ where
 {
     let mut streams = Vec::new(rt.alloc());
     for _ in 0..count {
-        streams.push(asked(rt, place)?)?;
+        streams.push(requested(rt, place)?)?;
     }
     Ok(streams)
 }
@@ -73,7 +73,7 @@ fn second_replied<H>(rt: &H, place: SocketAddr, gate: &Meeting) -> io::Result<bo
 where
     H: Net<Stream = TcpStream> + AllocGlobal,
 {
-    let stream = asked(rt, place)?;
+    let stream = requested(rt, place)?;
     let is_made = awaits(&gate.made);
     Ok(is_replied(rt, &stream)? && is_made)
 }
@@ -98,8 +98,8 @@ where
     H: Net<Stream = TcpStream> + AllocGlobal,
 {
     let first = sent(rt, place, b"")?;
-    let heard = is_answered(rt, place)?;
-    Ok((first, heard))
+    let received = is_answered(rt, place)?;
+    Ok((first, received))
 }
 
 /// A client that sends nothing until a second one got its reply, and gets its own then.
@@ -107,9 +107,9 @@ pub(crate) fn at_once<H>(rt: &H, place: SocketAddr) -> io::Result<bool>
 where
     H: Net<Stream = TcpStream> + AllocGlobal,
 {
-    let (first, heard) = beside_silent(rt, place)?;
+    let (first, received) = beside_silent(rt, place)?;
     send(&first, &post(rt.alloc(), TWO_APPS)?)?;
-    Ok(is_replied(rt, &first)? && heard)
+    Ok(is_replied(rt, &first)? && received)
 }
 
 /// A client that sends nothing, and a second one that needs the only worker.
@@ -117,9 +117,9 @@ pub(crate) fn silent<H>(rt: &H, place: SocketAddr) -> io::Result<bool>
 where
     H: Net<Stream = TcpStream> + AllocGlobal,
 {
-    let (silent, heard) = beside_silent(rt, place)?;
+    let (silent, received) = beside_silent(rt, place)?;
     let none = reply(rt.alloc(), &silent).unwrap_or(Vec::new(rt.alloc()));
-    Ok(heard && none.is_empty())
+    Ok(received && none.is_empty())
 }
 
 /// A client that sends a byte now and then for three seconds, and a second one that needs the only
@@ -129,7 +129,7 @@ where
     H: Net<Stream = TcpStream> + AllocGlobal + Clock,
 {
     let slow = sent(rt, place, b"")?;
-    let second = asked(rt, place)?;
+    let second = requested(rt, place)?;
     for byte in b"POST /service/u" {
         let _dropped = send(&slow, &[*byte]);
         thread::sleep(rt, Duration::from_millis(200));

@@ -33,35 +33,35 @@ fn body_of(alloc: Global, apps: &str, size: usize) -> Result<String, AllocError>
 }
 
 /// A row: a request of these apps, padded with blanks to `size` bytes, and the apps in the log.
-fn row(alloc: Global, apps: &str, size: usize, told: &str) -> Result<String, AllocError> {
+fn row(alloc: Global, apps: &str, size: usize, reported: &str) -> Result<String, AllocError> {
     let body = body_of(alloc, apps, size)?;
     let length = body.len();
     format!(in alloc;
         "Content-Length: {length};X-Forwarded-For: ::1\n{body}\n\
-        \"forwarded\":\"::1\",\"status\":200,\"generation\":1,\n,\"apps\":[{told}\n\n"
+        \"forwarded\":\"::1\",\"status\":200,\"generation\":1,\n,\"apps\":[{reported}\n\n"
     )
 }
 
 /// An unknown app with a long appid before 255 that are offered a release.
 fn crowd(alloc: Global) -> Result<String, AllocError> {
     let long = "a".repeat(alloc, 3300)?;
-    let asked = ASKED.repeat(alloc, 255)?;
-    format!(in alloc; "{{\"appid\":\"{long}\",\"updatecheck\":{{}}}}{asked}")
+    let requested = ASKED.repeat(alloc, 255)?;
+    format!(in alloc; "{{\"appid\":\"{long}\",\"updatecheck\":{{}}}}{requested}")
 }
 
 /// These apps in the log.
 fn crowd_line(alloc: Global) -> Result<String, AllocError> {
     let first = format!(in alloc; "{ASKED_TOLD},")?;
-    let told = first.repeat(alloc, 47)?;
+    let reported = first.repeat(alloc, 47)?;
     drop(first);
-    format!(in alloc; "{told}{ASKED_TOLD}{LEFT_OUT}")
+    format!(in alloc; "{reported}{ASKED_TOLD}{LEFT_OUT}")
 }
 
 /// The row of the crowd.
 fn crowd_row(alloc: Global) -> Result<String, AllocError> {
     let apps = crowd(alloc)?;
-    let told = crowd_line(alloc)?;
-    row(alloc, &apps, 0, &told)
+    let reported = crowd_line(alloc)?;
+    row(alloc, &apps, 0, &reported)
 }
 
 /// The rows of all these clients.

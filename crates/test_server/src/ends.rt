@@ -92,8 +92,8 @@ where
     let stream = sent(rt, place, b"stop\n")?;
     let operated = operates(rt, &listener, &AtomicBool::new(true), 30);
     drop(listener);
-    let heard = reply(alloc, &stream).unwrap_or(Vec::new(alloc));
-    Ok(operated == Some(false) && heard.is_empty())
+    let received = reply(alloc, &stream).unwrap_or(Vec::new(alloc));
+    Ok(operated == Some(false) && received.is_empty())
 }
 
 #[test]

@@ -129,7 +129,7 @@ fn request_of(alloc: Global, headers: &str, body: &str) -> Result<String, AllocE
 }
 
 /// A connection that has sent these headers and this body, and ended.
-fn asked<H>(rt: &H, place: SocketAddr, headers: &str, body: &str) -> io::Result<TcpStream>
+fn requested<H>(rt: &H, place: SocketAddr, headers: &str, body: &str) -> io::Result<TcpStream>
 where
     H: Net<Stream = TcpStream> + AllocGlobal,
 {
@@ -141,15 +141,20 @@ where
 }
 
 /// How many bytes the reply has; 0 if it is Omaha's and doesn't have the clock's moment.
-fn replied_bytes(alloc: Global, stream: &TcpStream, told: &str) -> usize {
+fn replied_bytes(alloc: Global, stream: &TcpStream, reported: &str) -> usize {
     let reply = reply(alloc, stream).unwrap_or(Vec::new(alloc));
-    let is_right = !told.contains("200") || times(&reply, DAYSTART) == 1;
+    let is_right = !reported.contains("200") || times(&reply, DAYSTART) == 1;
     if is_right { reply.len() } else { 0 }
 }
 
 /// Appends the line that the log should have of a connection, after its time.
-fn want_line(alloc: Global, stream: &TcpStream, told: &str, log: &mut String) -> Result<(), Fail> {
-    let (before, behind) = told.split_once('\n').ok_or("a row of four lines")?;
+fn want_line(
+    alloc: Global,
+    stream: &TcpStream,
+    reported: &str,
+    log: &mut String,
+) -> Result<(), Fail> {
+    let (before, behind) = reported.split_once('\n').ok_or("a row of four lines")?;
     let size = replied_bytes(alloc, stream, before);
     let client = stream.local_addr()?;
     let behind = part(behind);
@@ -173,8 +178,8 @@ where
     H: Net<Stream = TcpStream> + AllocGlobal,
 {
     let (headers, rest) = row.split_once('\n').ok_or("a row of four lines")?;
-    let (body, told) = rest.split_once('\n').ok_or("a row of four lines")?;
-    Ok((asked(rt, place, headers, body)?, told))
+    let (body, reported) = rest.split_once('\n').ok_or("a row of four lines")?;
+    Ok((requested(rt, place, headers, body)?, reported))
 }
 
 /// Collects the lines that the log should have of these connections, and those that it has so far.
@@ -187,8 +192,8 @@ fn collect_lines<H>(
 where
     H: Wait + AllocGlobal,
 {
-    for (stream, told) in streams.iter() {
-        want_line(rt.alloc(), stream, *told, &mut lines.wanted)?;
+    for (stream, reported) in streams.iter() {
+        want_line(rt.alloc(), stream, *reported, &mut lines.wanted)?;
         take(rt, pieces, &mut lines.kept)?;
     }
     Ok(())
@@ -213,7 +218,7 @@ where
 }
 
 /// Sends what the rows have, stops the server, and returns both logs.
-fn heard<H>(
+fn received<H>(
     rt: &H,
     place: SocketAddr,
     rows: &str,
@@ -227,9 +232,9 @@ where
         wanted: String::new(rt.alloc()),
         kept: String::new(rt.alloc()),
     };
-    let asked = ask_rows(rt, place, rows, pieces, &mut lines);
+    let requested = ask_rows(rt, place, rows, pieces, &mut lines);
     halt(rt, place, stop);
-    asked?;
+    requested?;
     Ok(lines)
 }
 
@@ -288,12 +293,12 @@ where
     listener.set_nonblocking(true)?;
     let stop = AtomicBool::new(false);
     let still = still_at(rt, time);
-    let (ended, heard) = thread::join(
+    let (ended, received) = thread::join(
         rt,
         || serves(&still, &Open, listener, crew, &stop, logging_to(queue)),
-        || heard(rt, place, rows, &stop, pieces),
+        || received(rt, place, rows, &stop, pieces),
     );
-    let mut lines = heard?;
+    let mut lines = received?;
     take(rt, pieces, &mut lines.kept)?;
     Ok(ended && is_log(rt.alloc(), lines.kept.as_str(), time, lines.wanted.as_str())?)
 }

@@ -39,7 +39,7 @@ pub(crate) fn reply(alloc: Global, stream: &TcpStream) -> io::Result<Vec<u8>> {
 }
 
 /// Sends all of the bytes, and returns what the other side sends until it ends.
-pub(crate) fn told<H>(rt: &H, place: SocketAddr, bytes: &[u8]) -> io::Result<Vec<u8>>
+pub(crate) fn reported<H>(rt: &H, place: SocketAddr, bytes: &[u8]) -> io::Result<Vec<u8>>
 where
     H: Net<Stream = TcpStream> + AllocGlobal,
 {

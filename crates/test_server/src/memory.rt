@@ -76,11 +76,11 @@ fn refusal_in(alloc: Global, written: &[u8]) -> Result<MemoryAnswer, AllocError>
 }
 
 /// The outcome of an exchange with a server whose counter was `before`.
-fn asked_of(alloc: Global, heard: &Exchanged, before: u64) -> Result<MemoryAnswer, AllocError> {
-    let written = heard.written.as_slice();
+fn asked_of(alloc: Global, received: &Exchanged, before: u64) -> Result<MemoryAnswer, AllocError> {
+    let written = received.written.as_slice();
     let text = if before == 0 { OFFERED } else { NO_UPDATE };
     let is_reply = is_reply(alloc, written, text)?;
-    match heard.outcome {
+    match received.outcome {
         Ok(200) if is_reply => Ok(MemoryAnswer::Replied),
         Ok(500) => refusal_in(alloc, written),
         Err(AnswerFault::Writing(_)) => Ok(MemoryAnswer::Unwritten),
@@ -89,10 +89,10 @@ fn asked_of(alloc: Global, heard: &Exchanged, before: u64) -> Result<MemoryAnswe
 }
 
 /// Sends one request. The counter rises by one with a reply, and by at most one without.
-fn asked(alloc: Global, server: &mut Answering) -> Result<MemoryAnswer, AllocError> {
+fn requested(alloc: Global, server: &mut Answering) -> Result<MemoryAnswer, AllocError> {
     let before = server.pass.value(CellNo::new(0));
     let input = again!(post(alloc, TWO_APPS))?;
-    let heard = exchange(
+    let received = exchange(
         alloc,
         &server.cells,
         &mut server.pass,
@@ -100,16 +100,20 @@ fn asked(alloc: Global, server: &mut Answering) -> Result<MemoryAnswer, AllocErr
         input.as_slice(),
     );
     let rise = server.pass.value(CellNo::new(0)).wrapping_sub(before);
-    let asked = again!(asked_of(alloc, &heard, before))?;
-    let is_right = rise == 1 || rise == 0 && asked != MemoryAnswer::Replied;
-    Ok(if is_right { asked } else { MemoryAnswer::Wrong })
+    let requested = again!(asked_of(alloc, &received, before))?;
+    let is_right = rise == 1 || rise == 0 && requested != MemoryAnswer::Replied;
+    Ok(if is_right {
+        requested
+    } else {
+        MemoryAnswer::Wrong
+    })
 }
 
 /// Makes a server, and sends two requests.
 fn asked_twice<H: Wait>(rt: &H, alloc: Global) -> Result<[MemoryAnswer; 2], Fail> {
     let mut server = again!(server_of(rt, alloc, "one"))?;
-    let first = asked(alloc, &mut server);
-    let second = asked(alloc, &mut server);
+    let first = requested(alloc, &mut server);
+    let second = requested(alloc, &mut server);
     server.close(rt);
     Ok([first?, second?])
 }

@@ -29,8 +29,8 @@ fn offers(
     let (mut pass, mut watcher) = worker;
     let mut count = 0usize;
     for _ in 0..asks {
-        let heard = exchange(alloc, cells, &mut pass, &mut watcher, input);
-        count = count.saturating_add(times(&heard.written, "\"version\":\"2.0.0.0\""));
+        let received = exchange(alloc, cells, &mut pass, &mut watcher, input);
+        count = count.saturating_add(times(&received.written, "\"version\":\"2.0.0.0\""));
     }
     count
 }

@@ -2,7 +2,7 @@
 //! program `rows`.
 
 use crate::exchange::post;
-use crate::loopback::told;
+use crate::loopback::reported;
 use operator::ask_server;
 use operator_request::OperatorRequest;
 use std::io;
@@ -32,7 +32,7 @@ pub(crate) fn posted<H>(rt: &H, place: SocketAddr, body: &str) -> io::Result<Vec
 where
     H: Net<Stream = TcpStream> + AllocGlobal,
 {
-    told(rt, place, &post(rt.alloc(), body)?)
+    reported(rt, place, &post(rt.alloc(), body)?)
 }
 
 /// The request of a line. Other lines give a load with an empty path, which no line spells.
@@ -46,7 +46,7 @@ fn request_of(line: &str) -> OperatorRequest<'_> {
 }
 
 /// What the operator's side of a port returns for a line, or its printed fault.
-fn asked<H>(rt: &H, port: u16, line: &str) -> io::Result<String>
+fn requested<H>(rt: &H, port: u16, line: &str) -> io::Result<String>
 where
     H: Net<Stream = TcpStream> + AllocGlobal,
 {
@@ -61,7 +61,7 @@ pub(crate) fn is_asked<H>(rt: &H, port: u16, line: &str, want: &str) -> io::Resu
 where
     H: Net<Stream = TcpStream> + AllocGlobal,
 {
-    Ok(asked(rt, port, line)?.as_str() == want)
+    Ok(requested(rt, port, line)?.as_str() == want)
 }
 
 /// A port that was in use, if both ports were on loopback, and couldn't be bound meanwhile.

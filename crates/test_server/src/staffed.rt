@@ -14,8 +14,8 @@ where
     H: Net<Stream = TcpStream> + AllocGlobal + Clock,
 {
     let begun = Instant::now(rt)?;
-    let heard = silent(rt, place)?;
-    Ok(heard && begun.elapsed(rt)? < Duration::from_secs(30))
+    let received = silent(rt, place)?;
+    Ok(received && begun.elapsed(rt)? < Duration::from_secs(30))
 }
 
 /// Two workers serve at once; the only worker of a server with a limit of one second drops a silent

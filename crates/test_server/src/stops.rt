@@ -45,8 +45,8 @@ where
     let first = sent(rt, clients, head)?;
     let is_behind = is_answered(rt, clients).unwrap_or(false);
     let wrong = wrong_line(rt, port).unwrap_or(Some("the port"));
-    let is_heard = send(&first, body).is_ok() && is_replied(rt, &first).unwrap_or(false);
-    Ok(if is_behind && is_heard {
+    let is_received = send(&first, body).is_ok() && is_replied(rt, &first).unwrap_or(false);
+    Ok(if is_behind && is_received {
         wrong
     } else {
         Some("the client")

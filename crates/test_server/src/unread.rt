@@ -11,14 +11,14 @@ use workers::AnswerFault;
 /// Whether nothing happens if the first read fails.
 fn is_unread(alloc: Global, server: &mut Answering) -> Result<bool, AllocError> {
     let input = post(alloc, ONE_APP)?;
-    let heard = exchange(
+    let received = exchange(
         alloc,
         &server.cells,
         &mut server.pass,
         &mut server.watcher,
         FailAt::new(input.as_slice(), 1_000_000, 1),
     );
-    let is_told = heard.outcome == Err(AnswerFault::Reading) && heard.written.is_empty();
+    let is_told = received.outcome == Err(AnswerFault::Reading) && received.written.is_empty();
     Ok(is_told && server.pass.value(CellNo::new(0)) == 0)
 }
 

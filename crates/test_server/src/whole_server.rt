@@ -130,7 +130,7 @@ where
     }
     match is_done {
         Ok(true) => None,
-        _ => Some("what clients heard"),
+        _ => Some("what clients received"),
     }
 }
 
