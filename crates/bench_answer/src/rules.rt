@@ -56,7 +56,7 @@ pub(crate) fn without_apps(alloc: Global) -> Result<Arc<Ruleset>> {
 
 fn ruleset(alloc: Global, apps: Vec<App>) -> Result<Arc<Ruleset>> {
     let server = String::from_str(alloc, "prod")?;
-    let rules = Ruleset::new(server, apps)?.context("an appid stands twice")?;
+    let rules = Ruleset::new(server, apps).context("an appid stands twice")?;
     Ok(Arc::new(alloc, rules)?)
 }
 

@@ -6,7 +6,7 @@ use Rattle.cells.specs.Apart.{NumberedArraysAreNamed}
 use Rattle.cells.specs.Directory.{IsDirectory}
 use Rattle.cells.specs.declared.array.CellArray.{CellArray}
 use Rattle.declarations.specs.Order.{AreDeclared}
-use Rattle.ruleset.specs.Rules.{AppRule, HasTwice, KnowsOnly, Rules, appids_of}
+use Rattle.ruleset.specs.Rules.{AppRule, HasDuplicate, KnowsOnly, Rules, appids_of}
 use Rattle.load.specs.Apps.{AreAppsOf}
 use Rattle.load.specs.Folder.{known_beside}
 use Rattle.load.specs.Gathered.{IsGathered}
@@ -30,7 +30,7 @@ module _ (known : KnownFiles) (old : List CellArray) (bytes : List ℕ) (g : Gat
       load.supplied programs judged
 
   once : (programs : List ShapedProgram) → AreJudged g.apps.items programs
-      → ¬ HasTwice (appids_of (apps_of g.apps.items programs))
+      → ¬ HasDuplicate (appids_of (apps_of g.apps.items programs))
   once programs judged =
       let r = of_programs programs judged in
       never_twice known g.directory r.numbers r.manifest (apps_of g.apps.items programs) r.read.1

@@ -11,7 +11,7 @@ use Rattle.cells.specs.declared.array.CellArray.{CellArray}
 use Rattle.manifest.specs.App.{AppEntry}
 use Rattle.manifest.specs.Manifest.{Manifest, none_of, once}
 use Rattle.manifest.specs.Twice.{repeated}
-use Rattle.ruleset.specs.Rules.{AppRule, HasTwice, appids_of}
+use Rattle.ruleset.specs.Rules.{AppRule, HasDuplicate, appids_of}
 use Rattle.bounded_files.specs.Files.{KnownFiles}
 use Rattle.load.specs.Apps.{AreAppsOf, none, next}
 
@@ -56,7 +56,7 @@ none_in (Some x) fault other y e = absurd cc
 -- so the apps of a manifest with distinct names have no duplicate appid
 module _ (known : KnownFiles) (directory : List CellArray) (numbers : List ArrayNo) where
   pub never_twice : (manifest : Manifest) (apps : List AppRule) → once manifest ≡ Ok manifest
-      → AreAppsOf known directory numbers manifest.apps apps → ¬ HasTwice (appids_of apps)
+      → AreAppsOf known directory numbers manifest.apps apps → ¬ HasDuplicate (appids_of apps)
   never_twice manifest apps is are twice =
       let arrays = none_in _ _ _ _ is in
       let appids = none_in _ _ _ _ arrays.1 in

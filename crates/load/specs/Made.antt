@@ -11,7 +11,7 @@ use Rattle.load.specs.Judged.{AreJudged, apps_of}
 use Rattle.load.specs.Load.{IsRulesetOf}
 use Rattle.load.specs.declared.gathering.Gathered.{Gathered}
 use Rattle.ruleset.specs.declared.loaded.LoadedRuleset.{LoadedRuleset}
-use Rattle.ruleset.specs.Rules.{HasTwice, appids_of}
+use Rattle.ruleset.specs.Rules.{HasDuplicate, appids_of}
 
 -- Each app has the program that its file is judged to be; the digest is that of the manifest's
 -- bytes and of exactly the bytes that were judged.
@@ -47,7 +47,7 @@ pub record IsMadeFrom (known : KnownFiles) (path : List ℕ) (old : List CellArr
 pub record IsMadeLoad (known : KnownFiles) (old : List CellArray) (bytes : List ℕ) (g : Gathered)
     : Type 0 where
   pub once : (programs : List ShapedProgram) → AreJudged g.apps.items programs
-      → ¬ HasTwice (appids_of (apps_of g.apps.items programs))
+      → ¬ HasDuplicate (appids_of (apps_of g.apps.items programs))
   pub made : (made : LoadedRuleset) → IsMadeOf bytes g made
       → IsRulesetOf known old bytes made.rules made.directory
 

@@ -5,7 +5,7 @@ ghost use Rattle.bpf_semantics.specs.Program.{ShapedProgram};
 ghost use Rattle.load.specs.Gathered.{HasItsReleases};
 ghost use Rattle.load.specs.Judged.{AreJudged, RefusesFirst, apps_of};
 ghost use Rattle.load.specs.Made.{IsMadeOf};
-ghost use Rattle.ruleset.specs.Rules.{HasTwice, appids_of};
+ghost use Rattle.ruleset.specs.Rules.{HasDuplicate, appids_of};
 
 use crate::digest::judged_digest;
 use crate::fault::LoadFault;
@@ -24,7 +24,7 @@ pub fn make_ruleset(
 ) -> Result<LoadedRuleset, LoadFault>
     requires shaped { All HasItsReleases gathered.apps.items }
     requires once { (programs : List ShapedProgram) → AreJudged gathered.apps.items programs
-        → ¬ HasTwice (appids_of (apps_of gathered.apps.items programs)) }
+        → ¬ HasDuplicate (appids_of (apps_of gathered.apps.items programs)) }
     ensures made { IfOk result (IsMadeOf manifest.now gathered) }
     ensures fault { IfErr result (RefusesFirst gathered.apps.items) }
 {
@@ -40,11 +40,8 @@ pub fn make_ruleset(
     let Ok(apps) = supply(alloc, apps, programs) else {
         return Err(LoadFault::Memory);
     };
-    let Ok(rules) = Ruleset::known(server.into_string(), apps) else {
-        return Err(LoadFault::Memory);
-    };
     Ok(LoadedRuleset {
-        rules,
+        rules: Ruleset::known(server.into_string(), apps),
         directory,
         digest,
     })

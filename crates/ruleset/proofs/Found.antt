@@ -1,63 +1,18 @@
--- An app is found at the place of its appid in the index.
-use Rattle.std.proofs.Common.{◌≡◌, ℕ, zero, suc, ◌<◌, ◌≤◌, List, [], ◌∷◌, length, get_or}
+-- A found app is listed with its appid; if none is found, none is listed. So a list has a duplicate
+-- exactly if an appid is found again after its app.
+use Rattle.std.proofs.Common.{◌≡◌, ℕ, zero, suc, ◌-◌, ◌<◌, ◌≤◌, List, [], ◌∷◌, length, get_or}
+use Rattle.std.proofs.Common.{take, drop}
 use Rattle.std.proofs.Common.{Option, Some, None, Bool, true, false, cond, Bor, Contains}
-use Rattle.std.proofs.Common.{IfSome, IfNone, refl, sym, ap, ◌∙◌, arith}
-use Rattle.std.proofs.lemmas.List.{length-map}
-use Rattle.std.proofs.lemmas.List.Folds.{find_at}
-use Rattle.std.proofs.lemmas.Option.{none-some, same_Some, cond_some, slice_get_past}
-use Rattle.std.proofs.lemmas.Option.{slice_get_read}
+use Rattle.std.proofs.Common.{IfSome, IfNone, IsTrue, is_some, refl, sym, ap, subst, ◌∙◌, arith}
+use Rattle.std.proofs.lemmas.List.{get_or_default, length-map, take_all}
+use Rattle.std.proofs.lemmas.Option.{none-some, same_Some}
 use Rattle.std.proofs.lemmas.Bool.Decides.{not_from_Decides}
 use Rattle.std.proofs.lemmas.Slice.Eq.{bytes_eq-Decides}
-use Rattle.std.specs.Cmp.Lexicographic.{nat_list_eq_equiv}
-use Rattle.std.specs.List.{slice_get, position_or_len}
-use Rattle.std.specs.Prelude.{nat_lt, option_copied}
-use Rattle.std.specs.Slice.{IsItemAt}
+use Rattle.std.specs.Prelude.{option_copied}
 use Rattle.std.specs.Str.{bytes_eq}
 use Rattle.ruleset.specs.Rules.{Rules, AppRule, ListsApp, OffersNone, app_in, app_of}
-use Rattle.ruleset.specs.Rules.{appids_of, place_of}
-use Rattle.ruleset.proofs.Places.{first-map}
-
--- ---- the place
-
--- the first app with an appid is at the first place of the appid
-first_app : (apps : List AppRule) (appid : List ℕ)
-    → position_or_len (bytes_eq appid) (appids_of apps)
-    ≡ position_or_len (λ app. bytes_eq app.appid appid) apps
-first_app apps appid =
-    first-map (λ app. app.appid) (bytes_eq appid) apps
-    ∙ (λ i. position_or_len (λ app. nat_list_eq_equiv.symm appid app.appid i) apps)
-
-app_there : (apps : List AppRule) (appid : List ℕ)
-    → app_in apps appid ≡ slice_get apps (position_or_len (bytes_eq appid) (appids_of apps))
-app_there apps appid =
-    find_at (λ app. bytes_eq app.appid appid) apps
-    ∙ ap (slice_get apps) (sym (first_app apps appid))
-
-pub found_at : (apps : List AppRule) (appid : List ℕ) (place : ℕ)
-    → Some place ≡ place_of (appids_of apps) appid → slice_get apps place ≡ app_in apps appid
-found_at apps appid place is =
-    let first = position_or_len (bytes_eq appid) (appids_of apps) in
-    let known = cond_some (nat_lt first (length (appids_of apps))) first place (sym is) in
-    ap (slice_get apps) (sym known.1) ∙ sym (app_there apps appid)
-
-pub got_at : {X : Type 0} (xs : List X) (i : ℕ) (got : Option (Bor X)) → IsItemAt xs i got
-    → option_copied got ≡ slice_get xs i
-got_at xs i None is = sym (slice_get_past xs i is.3)
-got_at xs i (Some x) is = sym (slice_get_read xs (length xs) i x.now refl is.3.0 is.1)
-
-at_end : (first n : ℕ) → None ≡ cond (nat_lt first n) (Some first) None → n ≤ first
-at_end first n is = grind arith
-
-pub nothing_at : (apps : List AppRule) (appid : List ℕ)
-    → None ≡ place_of (appids_of apps) appid → None ≡ app_in apps appid
-nothing_at apps appid is =
-    let first = position_or_len (bytes_eq appid) (appids_of apps) in
-    let beyond : length (appids_of apps) ≤ first = at_end first (length (appids_of apps)) is in
-    let over : length apps ≤ first =
-    omega (arith, beyond, length-map apps (λ app. app.appid)) in
-    sym (app_there apps appid ∙ slice_get_past apps first over)
-
--- ---- what is found
+use Rattle.ruleset.specs.Rules.{HasDuplicate, appids_of}
+use Rattle.ruleset.proofs.Listed.{map_at}
 
 texts_equal : (a b : List ℕ) → bytes_eq a b ≡ true → a ≡ b
 texts_equal a b = (bytes_eq-Decides a b).0
@@ -126,3 +81,107 @@ offers_none rules appid None is = λ program offers.
     none_in rules.apps appid offers.app (sym is) offers.known.appid_is
     offers.known.listed.0 offers.known.listed.1 offers.known.listed.2
 offers_none rules appid (Some app) is = tt
+
+-- ---- duplicates
+
+-- an appid that is found again after its app is a duplicate
+pub found_again : (app : AppRule) (rest : List AppRule) (again : AppRule)
+    → app_in rest app.appid ≡ Some again → HasDuplicate (appids_of (app ∷ rest))
+found_again app rest again found =
+    let listed = found_in rest app.appid again found in
+    record {
+      first = 0;
+      second = suc listed.0.0;
+      apart = omega arith;
+      within = omega (arith, listed.0.1, length-map rest (λ a. a.appid));
+      same = sym (map_at (λ a. a.appid) rest listed.0.0 again [] listed.0.1 (sym listed.0.2)
+          ∙ listed.1);
+    }
+
+-- a duplicate among the others is one
+pub duplicate_later : (app : AppRule) (rest : List AppRule)
+    → HasDuplicate (appids_of rest) → HasDuplicate (appids_of (app ∷ rest))
+duplicate_later app rest d = record {
+  first = suc d.first;
+  second = suc d.second;
+  apart = omega (arith, d.apart);
+  within = omega (arith, d.within);
+  same = d.same;
+}
+
+-- if neither, there is none
+pub no_duplicate : (app : AppRule) (rest : List AppRule) → app_in rest app.appid ≡ None
+    → ¬ HasDuplicate (appids_of rest) → ¬ HasDuplicate (appids_of (app ∷ rest))
+no_duplicate app rest none apart d = by d.first d.second d.apart d.within d.same
+  where
+    by : (first second : ℕ) → first < second → second < length (appids_of (app ∷ rest))
+        → get_or (appids_of (app ∷ rest)) first [] ≡ get_or (appids_of (app ∷ rest)) second [] → ⊥
+    by first zero before within same = absurd (omega (arith, before))
+    by zero (suc second) before within same =
+        let inside : second < length rest =
+        omega (arith, within, length-map rest (λ a. a.appid)) in
+        let there = get_or rest second app in
+        let is : get_or rest second there ≡ there =
+        get_or_default rest second there app inside in
+        none_in rest app.appid there none
+        (sym (same ∙ map_at (λ a. a.appid) rest second there [] inside (sym is))) second inside is
+    by (suc first) (suc second) before within same =
+        apart (record {
+          first = first;
+          second = second;
+          apart = omega (arith, before);
+          within = omega (arith, within);
+          same = same;
+        })
+
+-- the apps that are left have a duplicate exactly if all apps have one
+pub record EndsIn (left apps : List AppRule) : Type 0 where
+  pub here : HasDuplicate (appids_of left) → HasDuplicate (appids_of apps)
+  pub none : ¬ HasDuplicate (appids_of left) → ¬ HasDuplicate (appids_of apps)
+
+-- the apps that are left are the first and the others
+first_and_others : (left : List AppRule) (app : AppRule) → 1 ≤ length left
+    → app ≡ get_or left 0 app → left ≡ app ∷ take (length left - 1) (drop 1 left)
+first_and_others [] app some is = absurd (omega (arith, some))
+first_and_others (x ∷ others) app some is =
+    ap (λ (y : AppRule). y ∷ others) (sym is)
+    ∙ ap (λ (l : List AppRule). app ∷ l) (sym (take_all (length (x ∷ others) - 1) others (omega arith)))
+
+module _ (left apps : List AppRule) (app : AppRule) (appid : List ℕ) (found : Option (Bor AppRule))
+    (ends : EndsIn left apps) (some : 1 ≤ length left) (is : app ≡ get_or left 0 app)
+    (named : appid ≡ app.appid)
+    (search : option_copied found ≡ app_in (take (length left - 1) (drop 1 left)) appid) where
+  abbrev pub others : List AppRule
+  others = take (length left - 1) (drop 1 left)
+
+  whole : left ≡ app ∷ others
+  whole = first_and_others left app some is
+
+  searched : option_copied found ≡ app_in others app.appid
+  searched = search ∙ ap (λ (text : List ℕ). app_in others text) named
+
+  pub is_again : is_some found ≡ true
+      → (IsTrue true → HasDuplicate (appids_of apps)) × (HasDuplicate (appids_of apps) → IsTrue true)
+  is_again again = (
+    λ _. ends.here (subst (λ (l : List AppRule). HasDuplicate (appids_of l))
+        (sym whole) (by found searched again)),
+    λ _. refl,
+  )
+    where
+      by : (o : Option (Bor AppRule)) → option_copied o ≡ app_in others app.appid
+          → is_some o ≡ true → HasDuplicate (appids_of (app ∷ others))
+      by (Some again) there _ = found_again app others again.now (sym there)
+      by None there e = absurd (cc)
+
+  pub goes_on : is_some found ≡ false → EndsIn others apps
+  goes_on none = record {
+    here = λ d. ends.here (subst (λ (l : List AppRule). HasDuplicate (appids_of l)) (sym whole)
+        (duplicate_later app others d));
+    none = λ apart. ends.none (subst (λ (l : List AppRule). ¬ HasDuplicate (appids_of l)) (sym whole)
+        (no_duplicate app others (by found searched none) apart));
+  }
+    where
+      by : (o : Option (Bor AppRule)) → option_copied o ≡ app_in others app.appid
+          → is_some o ≡ false → app_in others app.appid ≡ None
+      by (Some again) there e = absurd (cc)
+      by None there _ = sym there

@@ -1,7 +1,7 @@
 -- A ruleset: the apps of a server, in order, each with its program and its releases.
 use Rattle.std.specs.Prelude.{◌≡◌, ℕ, ◌<◌, List, [], length, map, slice_index_or, All, Contains}
-use Rattle.std.specs.Prelude.{Option, Some, None, IsTrue}
-use Rattle.std.specs.List.{find, position}
+use Rattle.std.specs.Prelude.{Option, IsTrue}
+use Rattle.std.specs.List.{find}
 use Rattle.std.specs.Str.{bytes_eq}
 use Rattle.attrs.specs.Attributes.{Attributes, AreShort}
 use Rattle.bpf_semantics.specs.State.{opening}
@@ -58,22 +58,13 @@ app_of rules appid = app_in rules.apps appid
 abbrev pub appids_of : List AppRule → List (List ℕ)
 appids_of apps = map (λ a. a.appid) apps
 
--- the place of an appid in a list of appids, from 0
-abbrev pub place_of : List (List ℕ) → List ℕ → Option ℕ
-place_of appids appid = position (bytes_eq appid) appids
-
 -- an appid occurs at two places
-pub record HasTwice (appids : List (List ℕ)) : Type 0 where
+pub record HasDuplicate (appids : List (List ℕ)) : Type 0 where
   pub first : ℕ
   pub second : ℕ
   pub apart : first < second
   pub within : second < length appids
   pub same : slice_index_or appids first [] ≡ slice_index_or appids second []
-
--- all of the appids, if they are distinct; `None` if one is a duplicate
-abbrev pub StandOnce : List (List ℕ) → Option (List (List ℕ)) → Type 0
-StandOnce appids (Some all) = (all ≡ appids) × (¬ HasTwice appids)
-StandOnce appids None = HasTwice appids
 
 -- for any attributes with short texts, a run of the program ends with 0 or one of its releases
 unfoldable pub AlwaysEndsWell : ShapedProgram → Type 0
@@ -93,10 +84,9 @@ pub record IsApp (app : AppRule) : Type 0 where
   pub ends : AlwaysEndsWell app.program
   pub all : ChoosesAmong app.program app.releases
 
--- the invariant of a ruleset's apps and of its index of appids
-pub record AppsAreKept (appids : List (List ℕ)) (apps : List AppRule) : Type 0 where
-  pub listed : appids ≡ appids_of apps
-  pub once : ¬ HasTwice (appids_of apps)
+-- the invariant of a ruleset's apps
+pub record AppsAreKept (apps : List AppRule) : Type 0 where
+  pub once : ¬ HasDuplicate (appids_of apps)
   pub each : All IsApp apps
 
 -- what a ruleset guarantees for its runs: at most one app for an appid, and each app's invariant

@@ -5,7 +5,6 @@
 #![tactic(auto)]
 
 mod app;
-mod appid_set;
 mod loaded;
 mod ruleset;
 mod telling;

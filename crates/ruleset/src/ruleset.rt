@@ -1,11 +1,9 @@
 //! A server's apps, by their appids.
 
-ghost use Rattle.std.specs.Prelude.{◌≡◌, ◌↔◌, IfOk, IfSome, IfNone, IsNone, All, option_copied};
-ghost use Rattle.ruleset.specs.Rules.{IsApp};
+ghost use Rattle.std.specs.Prelude.{◌≡◌, ◌↔◌, IfSome, IfNone, IsNone, IsTrue, All, option_copied};
+ghost use Rattle.ruleset.specs.Rules.{HasDuplicate, IsApp, app_in, appids_of};
 
 use crate::app::App;
-use crate::appid_set::AppidSet;
-use std::alloc::AllocError;
 use std::marker::Model;
 
 /// A server's apps, in order and with distinct appids, and the server's name.
@@ -13,7 +11,6 @@ use std::marker::Model;
 pub struct Ruleset {
     server: String,
     apps: Vec<App>,
-    appids: AppidSet,
 }
 
 impl Model for Ruleset {
@@ -24,49 +21,40 @@ impl Model for Ruleset {
 
     ghost view = { λ r. record { server = string_bytes r.server; apps = r.apps.items } };
 
-    ghost invariant = { λ r. AppsAreKept r.appids r.apps.items };
+    ghost invariant = { λ r. AppsAreKept r.apps.items };
 }
 
 impl Ruleset {
     ghost use Rattle.std.specs.Prelude.{string_bytes};
-    ghost use Rattle.ruleset.specs.Rules.{HasTwice, IsRuleset, ListsApp, OffersNone};
-    ghost use Rattle.ruleset.specs.Rules.{app_of, appids_of};
+    ghost use Rattle.ruleset.specs.Rules.{IsRuleset, ListsApp, OffersNone, app_of};
 
     /// A ruleset of these apps, for a server with this name; `None` exactly if an appid is a
-    /// duplicate.
-    // open: whether an allocation fails.
-    pub fn new(server: String, apps: Vec<App>) -> Result<Option<Ruleset>, AllocError>
-        ensures apps { IfOk result (λ o. IfSome o (λ r. r.apps ≡ apps.items)) }
-        ensures server { IfOk result (λ o. IfSome o (λ r. r.server ≡ string_bytes server)) }
-        ensures twice { IfOk result (λ o. IsNone o ↔ HasTwice (appids_of apps.items)) }
+    /// duplicate. It allocates nothing, and compares each appid with each other one.
+    pub fn new(server: String, apps: Vec<App>) -> Option<Ruleset>
+        ensures apps { IfSome result (λ r. r.apps ≡ apps.items) }
+        ensures server { IfSome result (λ r. r.server ≡ string_bytes server) }
+        ensures duplicate { IsNone result ↔ HasDuplicate (appids_of apps.items) }
     {
         are_apps(apps.as_slice());
-        match AppidSet::of(*apps.allocator(), apps.as_slice())? {
-            Some(appids) => Ok(Some(Ruleset {
-                server,
-                apps,
-                appids,
-            })),
-            None => Ok(None),
+        if has_duplicate(apps.as_slice()) {
+            return None;
         }
+        Some(Ruleset { server, apps })
     }
 
     /// A ruleset of apps that are known to have distinct appids.
-    // open: whether an allocation fails.
-    pub fn known(server: String, apps: Vec<App>) -> Result<Ruleset, AllocError>
-        requires { ¬ HasTwice (appids_of apps.items) }
-        ensures apps { IfOk result (λ r. r.apps ≡ apps.items) }
-        ensures server { IfOk result (λ r. r.server ≡ string_bytes server) }
+    pub fn known(server: String, apps: Vec<App>) -> Ruleset
+        requires { ¬ HasDuplicate (appids_of apps.items) }
+        ensures apps { result.apps ≡ apps.items }
+        ensures server { result.server ≡ string_bytes server }
     {
-        match Ruleset::new(server, apps)? {
-            Some(rules) => Ok(rules),
-            None => unreachable!(),
-        }
+        are_apps(apps.as_slice());
+        Ruleset { server, apps }
     }
 
     /// Law: the invariant of a ruleset.
     pub fn keeps(&self)
-        ensures once { ¬ HasTwice (appids_of self.now.apps) }
+        ensures once { ¬ HasDuplicate (appids_of self.now.apps) }
         // So an appid has one app. A run of its program only does operations on counters that the
         // program's arrays allow, and ends with 0 or a release of the app.
         ensures sound { IsRuleset self.now }
@@ -95,19 +83,36 @@ impl Ruleset {
         ensures known { IfSome result (λ a. ListsApp self.now appid.now a.now) }
         ensures none { IfNone result (OffersNone self.now appid.now) }
     {
-        self.app_at_place(appid)
+        first_app(self.apps.as_slice(), appid)
     }
+}
 
-    // The app at the place of this appid.
-    #[tactic(auto, using(crate::proofs::Found::nothing_at))]
-    fn app_at_place(&self, appid: &str) -> Option<&App>
-        ensures { option_copied result ≡ app_of self.now appid.now }
-    {
-        let Some(place) = self.appids.place(appid) else {
-            return None;
-        };
-        self.apps.as_slice().get(place)
+// The first app with this appid.
+fn first_app<'a>(apps: &'a [App], appid: &str) -> Option<&'a App>
+    ensures { option_copied result ≡ app_in apps.now appid.now }
+{
+    let mut left = apps;
+    while let [app, others @ ..] = left {
+        if app.appid() == appid {
+            return Some(app);
+        }
+        left = others;
     }
+    None
+}
+
+// Whether two apps have the same appid.
+fn has_duplicate(apps: &[App]) -> bool
+    ensures { IsTrue result ↔ HasDuplicate (appids_of apps.now) }
+{
+    let mut left = apps;
+    while let [app, others @ ..] = left {
+        if first_app(others, app.appid()).is_some() {
+            return true;
+        }
+        left = others;
+    }
+    false
 }
 
 // Law: the invariant of each app.

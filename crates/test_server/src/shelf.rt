@@ -194,7 +194,7 @@ fn ruleset_of(alloc: Global, server: &str, program: Verified) -> Result<Option<R
     }
     let server = String::from_str(alloc, server)?;
     let apps = vec![in alloc; app_of(alloc, program)?]?;
-    Ruleset::new(server, apps)
+    Ok(Ruleset::new(server, apps))
 }
 
 fn release(alloc: Global) -> Result<Release, AllocError> {

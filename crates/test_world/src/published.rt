@@ -12,7 +12,7 @@ use std::thread::{Threads, join};
 
 fn numbered_once(alloc: Global, number: u64) -> Result<Arc<Ruleset>, AllocError> {
     let server = format!(in alloc; "{number}")?;
-    let Ok(Some(rules)) = Ruleset::new(server, Vec::new(alloc)) else {
+    let Some(rules) = Ruleset::new(server, Vec::new(alloc)) else {
         return Err(AllocError);
     };
     Ok(Arc::new(alloc, rules)?)

@@ -40,7 +40,7 @@ fn rules_of(alloc: Global, appids: [&str; 2]) -> Result<Option<Ruleset>, AllocEr
     for appid in appids {
         apps.push(app_of(alloc, appid, program(alloc)?)?)?;
     }
-    Ruleset::new(String::new(alloc), apps)
+    Ok(Ruleset::new(String::new(alloc), apps))
 }
 
 /// Whether the ruleset has both apps; None if there is no ruleset.
