@@ -4,7 +4,7 @@ import re
 
 from checking.places import CRATES, HELP, ROOT
 
-ROLLOUT = ("commands/src/program_rows.rt", "commands/src/server_rows.rt")
+ROLLOUT = ("command_words/src/program_rows.rt", "command_words/src/server_rows.rt")
 TOOLS = ("tool_words/src/rows.rt",)
 NAME = re.compile(r'^    name: "([a-z]+)",$', re.M)
 SHOWN = re.compile(r"^  ([a-z]+)  +[A-Z]", re.M)

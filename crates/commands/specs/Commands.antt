@@ -4,10 +4,10 @@ use Rattle.std.specs.Io.KnownBytes.{Appends}
 use Rattle.bounded_files.specs.Files.{KnownFiles}
 use Rattle.commands.specs.Outputs.{IsOutput}
 use Rattle.command_line.specs.Faults.{AreFaulty}
-use Rattle.commands.specs.Grammar.{commands}
-use Rattle.commands.specs.Requests.{AskFor, AskForHelp, AskForNothing}
+use Rattle.command_words.specs.Grammar.{commands}
+use Rattle.command_words.specs.Requests.{AskFor, AskForHelp, AskForNothing}
 use Rattle.commands.specs.Texts.{output_text}
-use Rattle.commands.specs.declared.request.Command.{Command}
+use Rattle.command_words.specs.declared.request.Command.{Command}
 use Rattle.commands.specs.declared.output.CommandOutput.{CommandOutput}
 
 -- the command has this output, whose text was appended to standard output; standard error got

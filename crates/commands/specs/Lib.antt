@@ -1,6 +1,3 @@
-pub mod Grammar
-pub mod Words
-pub mod Requests
 pub mod Replays
 pub mod Texts
 pub mod Outputs

@@ -14,8 +14,8 @@ use Rattle.program_tools.specs.Programs.{HasChosen, HasSlots, IsProgramRefusal, 
 use Rattle.program_tools.specs.Rules.{HasCompiled, IsCompileRefusal}
 use Rattle.serving.specs.Manifests.{RefusesToServe}
 use Rattle.commands.specs.Replays.{HasReplayed, IsReplayRefusal}
-use Rattle.commands.specs.declared.request.Command.{Command}
-use Rattle.commands.specs.declared.request.Command.TheVariants as command
+use Rattle.command_words.specs.declared.request.Command.{Command}
+use Rattle.command_words.specs.declared.request.Command.TheVariants as command
 use Rattle.commands.specs.declared.fault.Fault.{Fault}
 use Rattle.commands.specs.declared.fault.Fault.TheVariants.{Ask, Program, Serving}
 use Rattle.commands.specs.declared.output.CommandOutput.{CommandOutput}

@@ -4,26 +4,18 @@
 //! See docs/PROGRAM.md, "Status".
 #![tactic(auto)]
 
-// How a command runs. Its words are read as a command, or what is wrong with them is printed. The
-// command is done: on a program or a script, by a server at its operator's port, or, for `serve`,
-// by a ready server. The output's lines are printed. A ready server prints that it serves, and does
-// so until it is stopped. The status says whether all this was done.
+// How a command runs. `command_words` reads its words as a command, or what is wrong with them is
+// printed. The command is done: on a program or a script, by a server at its operator's port, or,
+// for `serve`, by a ready server. The output's lines are printed. A ready server prints that it
+// serves, and does so until it is stopped. The status says whether all this was done.
 
 mod fault;
 mod logged;
 mod output;
-mod program_rows;
-mod program_words;
 mod replays;
-mod request;
 mod requests;
-mod rows;
 mod serve;
-mod server_rows;
-mod server_words;
 mod status;
-mod verb;
-mod words;
 
 pub use load::{Device, Disk};
 pub use server_log::LogOutput;

@@ -7,8 +7,8 @@ ghost use Rattle.serving.specs.Staffed.{IsStaffFault, IsEndFault};
 ghost use Rattle.workers.specs.Texts.{serving_line};
 
 use crate::fault::Fault;
-use crate::request::{Command, Plan};
 use crate::serve::serve_by;
+use command_words::{Command, Plan};
 use load::Disk;
 use server_log::{
     LogOutput, LogQueue, Starting, note_refused_start, note_start, start_log, write_refused_start,

@@ -3,7 +3,7 @@
 ghost use Rattle.std.specs.Prelude.{Some};
 ghost use Rattle.commands.specs.Texts.{output_text};
 
-use crate::request::Plan;
+use command_words::Plan;
 use hot_swap::Generation;
 use serving::Server;
 use std::fmt;

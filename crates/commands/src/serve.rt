@@ -7,7 +7,7 @@ ghost use Rattle.serving.specs.Staffed.{IsStaffFault, IsEndFault};
 ghost use Rattle.workers.specs.Texts.{serving_line};
 
 use crate::logged::serve_logged;
-use crate::request::Plan;
+use command_words::Plan;
 use load::Disk;
 use server_log::{LogOutput, LogQueue};
 use serving::{Manifests, Server, ServingFault};

@@ -1,7 +1,7 @@
 use Rattle.std.proofs.Common.{inl, inr, map}
 use Rattle.command_line.proofs.Parsed.{help_is, wrong_is}
-use Rattle.commands.specs.Grammar.{commands}
-use Rattle.commands.specs.Requests.{AskForNothing}
+use Rattle.command_words.specs.Grammar.{commands}
+use Rattle.command_words.specs.Requests.{AskForNothing}
 use Rattle.commands.proofs.status.command.Goals as goal
 
 pub returns-in-Err-clause-done : goal.returns-in-Err-clause-done

@@ -1,0 +1,25 @@
+-- What the words of a command line request, by the commands of the program.
+use Rattle.std.specs.Prelude.{List}
+use Rattle.clap.specs.Words.{Text}
+use Rattle.command_line.specs.Faults as line
+use Rattle.command_line.specs.Requests as request
+use Rattle.command_line.specs.declared.fault.WordsFault.{WordsFault}
+use Rattle.command_words.specs.Grammar.{commands, names}
+use Rattle.command_words.specs.Words.{VerbMakes}
+use Rattle.command_words.specs.declared.request.Command.{Command}
+
+-- the words fit the grammar, and make this command
+abbrev pub AskFor : List Text → Command → Type 0
+AskFor words command = request.AskFor VerbMakes commands names words command
+
+-- they fit the grammar, and make none
+abbrev pub AskForNothing : List Text → Type 0
+AskForNothing words = request.AskForNothing VerbMakes commands names words
+
+-- they request help
+abbrev pub AskForHelp : List Text → Type 0
+AskForHelp words = line.AskForHelp commands words
+
+-- why the words make no command
+abbrev pub IsWordsFault : List Text → WordsFault → Type 0
+IsWordsFault words fault = line.IsWordsFault commands (AskForNothing words) words fault

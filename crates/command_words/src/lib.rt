@@ -1,0 +1,20 @@
+//! The words of `rollout`, and the command that they make.
+//!
+//! See docs/PROGRAM.md, "Status".
+#![tactic(auto)]
+
+// How words are read. `command_rows` is the table of the eleven commands, by which `command_line`
+// has `clap` parse the words, or find their first fault. Of the texts that it finds, `words` makes
+// a command.
+
+mod program_rows;
+mod program_words;
+mod request;
+mod rows;
+mod server_rows;
+mod server_words;
+mod verb;
+mod words;
+
+pub use request::{Command, Plan};
+pub use words::read_words;
