@@ -32,3 +32,4 @@ pub use law::{
 };
 pub use quoted::push_quoted;
 pub use telling::tell_rule;
+pub use test_text::push_test;

@@ -10,8 +10,9 @@ use rule_lang::{Comparison, Test};
 use std::alloc::AllocError;
 use std::fmt::Write;
 
-/// Adds the text of a test.
-pub(crate) fn push_test(text: &mut String, test: &Test) -> Result<(), AllocError>
+/// Appends the text of a test, in the rule language.
+// open: whether an allocation fails.
+pub fn push_test(text: &mut String, test: &Test) -> Result<(), AllocError>
     ensures { OnOk result (Puts text.old text.new (texts.test_text test.now)) }
 {
     match test {

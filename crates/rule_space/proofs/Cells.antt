@@ -34,7 +34,7 @@ skips v x xs over =
     let none = ap (λ (b : Bool). cond b 1 0 + upto v xs) (lt-leb x v over) in
     upto-cons v x xs ∙ none ∙ omega arith
 
--- of the ends, `count` of those before `left` are up to a number
+-- of the ends before `left`, `count` are at most the number v
 pub record Counts (v : ℕ) (ends : List ℕ) (count : ℕ) (left : List ℕ) : Type 0 where
   pub all : count + upto v left ≡ upto v ends
   pub room : count + length left ≤ length ends
@@ -59,7 +59,7 @@ pub at_end : (v count : ℕ) (ends : List ℕ) → Counts v ends count [] → co
 at_end v count ends h =
     ap (λ (n : ℕ). n - 1) (sym (add-zero count) ∙ h.all)
 
--- no end is up to a number below the first
+-- no end is at most a number that is below the first
 none_upto : (last v x : ℕ) (xs : List ℕ) → is_rising_from last x xs ≡ true → v < x
     → upto v (x ∷ xs) ≡ 0
 none_upto last v x [] rising over = skips v x [] over
@@ -84,7 +84,7 @@ above_all last v x (y ∷ ys) rising over n is =
       | inr later ↦ above_all last v y ys both.1 further n later
     ]
 
--- the cell c has the number, and no other end up to it is above the cell's begin
+-- the cell c has the number v: no other end up to v is above the cell's begin
 pub record IsAt (ends : List ℕ) (v c : ℕ) : Type 0 where
   pub is_cell : c < length ends
   pub begin : slice_index ends c ≤ v

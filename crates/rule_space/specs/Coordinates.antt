@@ -19,7 +19,7 @@ pub record Dimension : Type 0 where
   pub ends : List ℕ
   pub last : ℕ
 
--- the place of a text among these, or their number
+-- the index of a text among these, or their count if it is another one
 abbrev pub place_among : (texts : List (List ℕ)) → List ℕ → ℕ
 place_among texts text = position_or_len (λ t. bytes_eq t text) texts
 
@@ -27,8 +27,8 @@ place_among texts text = position_or_len (λ t. bytes_eq t text) texts
 abbrev pub flag_number : (flags bit : ℕ) → ℕ
 flag_number flags bit = if bit_and flags bit == 0 then 0 else 1
 
--- the number of a machine in a state: a version's, a day, a bucket's, 1 for a flag that is set, the
--- place of an attribute's text, or how many takes a cell grants
+-- the number of a machine in a state: its version, a day, its bucket, 1 if a flag is set, the index
+-- of a text, or how many takes a cell grants
 abbrev pub number_in : Coordinate → (texts : List (List ℕ)) → Attributes → State → ℕ
 number_in coordinate.Version texts a g = version_number a.context.version
 number_in coordinate.Today texts a g = a.context.today

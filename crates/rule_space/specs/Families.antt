@@ -40,8 +40,8 @@ abbrev pub is_place : Option ℕ → ℕ → Bool
 is_place (Some other) place = other == place
 is_place None place = false
 
--- the dimension at this place is in the family's group: of lines of the version, and of texts, only
--- the one that the family names
+-- the dimension at this place is in the family's group: of the lines of the version only the one
+-- that the family names, and likewise of the texts
 abbrev pub is_member : Family → (place : ℕ) → Coordinate → Bool
 is_member f place coordinate.Version = is_version f.kind && is_place f.line place
 is_member f place (coordinate.Bucket salt modulus) = not (is_version f.kind)

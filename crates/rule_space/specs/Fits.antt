@@ -19,8 +19,8 @@ abbrev pub numbers_fit : Option (List ℕ) → (known : Bool) → (low : ℕ) �
 numbers_fit (Some v) known low high = known && in_cell low high (version_number v)
 numbers_fit None known low high = not known && (low == 0)
 
--- another text than those that are named may be any version, or none. The empty text may be that
--- of a version that is too long to be kept
+-- a text that isn't named may be any version, or none. The empty text may be that of a version that
+-- is too long to be kept
 abbrev pub version_fits : (text : Option (List ℕ)) → (known : Bool) → (low : ℕ)
     → (high : Option ℕ) → Bool
 version_fits None known low high = known || (low == 0)
@@ -36,7 +36,7 @@ is_bucket None bucket = false
 abbrev pub names_bucket : (bucket : ℕ) → (cohort : List ℕ) → Bool
 names_bucket bucket cohort = is_bucket (cohort_bucket cohort) bucket
 
--- a cohort that names a bucket has that one. Another cohort than those that are named may name each
+-- a cohort that names a bucket fits only that one. A cohort that isn't named here may name each
 -- bucket that none of these names
 abbrev pub cohort_fits : (texts : List (List ℕ)) → (cohort : Option (List ℕ)) → (known : Bool)
     → (bucket : ℕ) → Bool

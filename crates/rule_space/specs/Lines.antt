@@ -32,7 +32,7 @@ is_discrete (coordinate.Flag f) cells last = cells == last + 1
 is_discrete (coordinate.Text n) cells last = cells == last + 1
 is_discrete of cells last = true
 
--- the cells begin with the least number, and go on to the greatest
+-- the cells begin with the least number, and continue to the greatest
 pub record IsLine (x : Scope) (d : Dimension) : Type 0 where
   pub rises : are_rising d.last d.ends ≡ true
   pub few : length d.ends < 2 ^ 16

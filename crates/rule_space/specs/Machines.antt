@@ -54,8 +54,8 @@ left_in g s cell = left_of g (find (λ a. has_cell a cell) s.arrays) cell
 abbrev pub takes_of : (cell : ℕ) → (taken : List ℕ) → ℕ
 takes_of cell taken = count_by (λ c. c == cell) taken
 
--- a cell that grants `left` takes of a run grants one if fewer than that were taken. It replies 0,
--- and otherwise a number above each quota
+-- a cell that grants `left` takes of a run grants one if fewer than that were taken. Then it
+-- replies 0, and otherwise a number above each quota
 abbrev pub reply_after : (left taken : ℕ) → ℕ
 reply_after left taken = if nat_lt taken left then 0 else 2 ^ 63
 
@@ -66,9 +66,9 @@ chooses_in left taken (Chooses k) = k
 chooses_in left taken (Asks cell op next) =
     chooses_in left (cell ∷ taken) (next (reply_after (left cell) (takes_of cell taken)))
 
--- one side of a comparison: the shape of an app in a manifest, the statements of its rule, and for
--- each release the number of its content, from 1. Releases of both manifests with one content have
--- one number.
+-- one side of a comparison: the shape of an app in a manifest, the statements of its rule, and the
+-- number of each release's content, from 1. Releases with the same content, in either manifest,
+-- have the same number.
 pub record Side : Type 0 where
   pub shape : AppShape
   pub statements : List Statement

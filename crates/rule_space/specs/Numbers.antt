@@ -5,7 +5,7 @@ use Rattle.std.specs.List.{count_by, list_any}
 use Rattle.rule_lang.specs.declared.test.Comparison.{Comparison}
 use Rattle.rule_lang.specs.declared.test.Comparison.TheVariants.{Lt, Le, Eq, Ne, Ge, Gt}
 
--- a version as one number, which orders as its four numbers do in order
+-- a version as one number; such numbers compare as the versions do
 abbrev pub version_number : List ℕ → ℕ
 version_number v =
     ((slice_index v 0 * 2 ^ 32 + slice_index v 1) * 2 ^ 32 + slice_index v 2) * 2 ^ 32
@@ -21,7 +21,7 @@ abbrev pub are_rising : (last : ℕ) → List ℕ → Bool
 are_rising last [] = false
 are_rising last (end ∷ ends) = is_rising_from last end ends
 
--- the cell of a number: the one that begins at the last end up to it
+-- the cell of a number: the last one that begins at it or below
 abbrev pub cell_at : (ends : List ℕ) → ℕ → ℕ
 cell_at ends n = count_by (λ end. nat_le end n) ends - 1
 

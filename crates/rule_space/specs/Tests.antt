@@ -1,5 +1,4 @@
--- How a test is a comparison of its dimension's number, and which cell a take is about. No public
--- clause uses this: the promise is in Plans.antt.
+-- How a test is a comparison of its dimension's number, and which cell a take is about.
 use Rattle.std.specs.Prelude.{◌≡◌, ℕ, ◌+◌, ◌<◌, List, Some, None, true, slice_get}
 use Rattle.std.specs.Ordering.{nat_cmp}
 use Rattle.attrs.specs.Attributes.{Attributes}

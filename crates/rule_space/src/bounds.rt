@@ -7,9 +7,9 @@ ghost use Rattle.rule_space.specs.Scopes as specs;
 use cells::{ArrayName, CellArray, Shape};
 use rule_lang::Statement;
 
-/// One side of a comparison: the rule of an app in its manifest. `contents` has for each release,
-/// in their order, the number of its content, from 1. Releases of both manifests with the same
-/// content have one number.
+/// One side of a comparison: the rule of an app in its manifest. `contents` numbers the contents of
+/// its releases, in their order, from 1. Releases with the same content, in either manifest, have
+/// the same number.
 #[derive(Drop)]
 pub struct RuleSide<'a> {
     pub shape: &'a Shape,
@@ -17,7 +17,8 @@ pub struct RuleSide<'a> {
     pub contents: &'a [u8],
 }
 
-/// A cell that has at least this value. As it only grows, it grants at most what its quota leaves.
+/// A cell with at least this value. Values only grow, so it grants at most what is left of its
+/// quota.
 #[derive(Drop)]
 pub struct UsedCell {
     pub array: ArrayName,
@@ -26,7 +27,7 @@ pub struct UsedCell {
 }
 
 /// Which machines and states are compared: those of the app from a day on, while these cells have
-/// at least these values. If a cell is there several times, its last value counts.
+/// at least these values. If a cell is listed several times, its last value counts.
 #[derive(Drop)]
 pub struct Bounds<'a> {
     pub appid: &'a str,

@@ -1,4 +1,4 @@
-//! Combinations of what a family's dimensions are about, and the cells that each has.
+//! Combinations of the values that a family's dimensions depend on, and the cells of each.
 
 ghost use Rattle.std.specs.Prelude.{◌≡◌, ◌<◌, ◌^◌, [], IfOk, None, Some, length, option_copied};
 ghost use Rattle.std.specs.Prelude.{slice_get};
@@ -15,8 +15,8 @@ use attrs::{Bucket, fnv1a, four_digits};
 use rule_lang::Literal;
 use std::alloc::{AllocError, Global};
 
-/// The cell of the version, or the bucket; whether it is known; and the place of the text among the
-/// family's texts, or their number for another text.
+/// The cell of the version, or the bucket; whether it is known; and the index of the text among the
+/// family's texts, or their count for any other text.
 #[derive(Clone, Copy)]
 pub(crate) struct Combination {
     pub number: u16,

@@ -3,7 +3,7 @@
 use attrs::{Attribute, Flag};
 use cells::CellArray;
 
-/// What a test is about. It is a number of a machine in a state.
+/// What a test is about: a number that a machine has in a state.
 #[derive(Drop)]
 pub enum Coordinate {
     /// The version, as one number below 2^128.
@@ -19,7 +19,7 @@ pub enum Coordinate {
     },
     /// 1 if the flag is set, and otherwise 0.
     Flag(Flag),
-    /// The place of the attribute's text among the texts that are named, or their number.
+    /// The index of the attribute's text among the named texts, or their count for any other text.
     Text(Attribute),
     /// How many takes of one run a cell grants. The array is as it is declared, with base 0.
     Takes {

@@ -13,8 +13,8 @@ use rule_lang::{Literal, Test, array_named};
 use std::alloc::{AllocError, Global};
 use std::marker::Model;
 
-/// A coordinate, the texts that it distinguishes, the ends of its cells in their order, and its
-/// greatest number. Each cell begins at an end and goes up to the next one.
+/// A coordinate, the texts that it distinguishes, the numbers (ends) at which its cells begin, in
+/// their order, and its greatest number. Each cell goes up to the next end.
 #[derive(Drop)]
 pub struct Dimension {
     pub of: Coordinate,
@@ -101,7 +101,7 @@ fn high_in(bounds: &Bounds<'_>, of: &Coordinate, texts: usize) -> u128
     }
 }
 
-// Whether each number is a cell, as it must be for flags and texts.
+// Whether each number has a cell of its own, as flags and texts require.
 fn is_discrete(of: &Coordinate, cells: usize, last: u128) -> bool
     ensures { result ≡ lines.is_discrete of.now cells last }
 {

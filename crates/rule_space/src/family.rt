@@ -9,8 +9,8 @@ use attrs::{Attribute, Flag};
 use rule_lang::Literal;
 use std::alloc::{AllocError, Global};
 
-/// Of the version, whether it is known, and its text; or of the bucket, with and without salts,
-/// whether the cohort names it, and the cohort.
+/// The version, whether it is known, and its text; or the bucket, with and without salts, whether
+/// the cohort names it, and the cohort.
 #[derive(Clone, Copy)]
 pub(crate) enum GroupKind {
     Version,

@@ -18,8 +18,8 @@ fn in_cell(low: u128, high: Option<u128>, number: u128) -> bool
     }
 }
 
-/// Whether a version, known or not, may be in this cell and have this text; none is another text
-/// than those that are named.
+/// Whether a version, known or not, may be in this cell and have this text; `None` is any text that
+/// isn't named.
 pub(crate) fn version_fits(
     text: Option<&Literal>,
     known: bool,
@@ -62,8 +62,8 @@ fn some_names(texts: &[Literal], bucket: u16) -> bool
     false
 }
 
-/// Whether a machine of this bucket may have the cohort at this place, or another one if there is
-/// none, and whether that names its bucket.
+/// Whether a machine of this bucket may have this cohort (`None` is any that isn't named in
+/// `texts`), given whether its cohort names its bucket.
 pub(crate) fn cohort_fits(
     texts: &[Literal],
     cohort: Option<&Literal>,

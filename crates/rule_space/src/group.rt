@@ -8,8 +8,8 @@ ghost use Rattle.rule_space.specs.Families.{HasAdded};
 use std::alloc::{AllocError, Global};
 use std::marker::Model;
 
-/// The cells of a group's dimensions in their order, and the buckets that have them, which rise. In
-/// a group without a bucket they are empty.
+/// The cells of a group's dimensions in their order, and the buckets that have them, in rising
+/// order. In a group without a bucket there are none.
 #[derive(Drop)]
 pub struct Tuple {
     pub cells: Vec<u16>,
@@ -24,7 +24,7 @@ impl Model for Tuple {
     ghost view = { λ t. record { cells = t.cells.items; buckets = t.buckets.items } };
 }
 
-/// The numbers of dimensions, which rise, and the tuples that a machine can have in them.
+/// The indices of dimensions, in rising order, and the tuples that a machine can have in them.
 #[derive(Drop)]
 pub struct Group {
     pub dimensions: Vec<usize>,
@@ -120,7 +120,7 @@ impl Group {
     ghost use Rattle.rule_space.specs.Families.{GrowsTo};
     ghost use Rattle.std.specs.Prelude.{OnOk};
 
-    /// The numbers of its dimensions.
+    /// The indices of its dimensions.
     pub(crate) fn members(&self) -> &[usize]
         ensures { result.now ≡ self.now.dimensions }
     {

@@ -124,7 +124,7 @@ fn make_group(
     Ok(group)
 }
 
-/// The group of a kind, if one of its dimensions is there; of the version, if two are.
+/// The group of a kind, if one of its dimensions exists; for the version, if two do.
 pub(crate) fn group_of(
     alloc: Global,
     dimensions: &[Dimension],

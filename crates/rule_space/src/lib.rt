@@ -6,8 +6,8 @@
 
 // Each test of a rule is about one number of a machine in a state: its version, a day, its bucket,
 // a flag, the place of a text, or how many takes a cell grants. Such a number is a coordinate. A
-// dimension is a coordinate with the cells into which both rules cut its numbers. All numbers of a
-// cell are alike to each test.
+// dimension is a coordinate with the cells into which both rules cut its numbers. No test
+// distinguishes the numbers of a cell.
 //
 // Dimensions are collected from the tests without a contract (`naming.rt`). A plan is the rule with
 // tests on cells (`plan.rt`, `plan_test.rt`). It is made only if each test's dimension has the cuts
@@ -15,8 +15,8 @@
 //
 // Some coordinates depend on each other, such as the buckets under several salts. They are in one
 // group, which lists the tuples of cells that a machine can have (`group.rt`). It is made from all
-// combinations that a machine can have (`grouping.rt`): more tuples than machines would only give
-// rows that are about nobody, and a missing one would be a machine that no row is about.
+// combinations that a machine can have (`grouping.rt`): a tuple too many would only give a row
+// about nobody; a missing one would leave a machine without a row.
 
 mod bounds;
 mod combination;
@@ -37,6 +37,8 @@ pub use bounds::{Bounds, RuleSide, UsedCell};
 pub use coordinate::Coordinate;
 pub use dimension::Dimension;
 pub use group::{Group, Tuple};
+pub use line::decides;
 pub use plan::{Plan, PlanCondition, PlanStatement, PlanStep};
-pub use plan_test::PlanTest;
+pub use plan_test::{PlanTest, against_at};
 pub use space::{Space, space_of};
+pub use test_line::Against;

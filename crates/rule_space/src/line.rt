@@ -7,13 +7,13 @@ ghost use Rattle.rule_space.specs.Numbers as specs;
 use rule_lang::Comparison;
 use std::alloc::AllocError;
 
-/// The numbers below 2^32 are the digits of a version's number.
+/// The base of a version's number, whose digits are the version's four numbers.
 const WORD: u128 = 0x1_0000_0000;
 
 /// The most cells of a line.
 pub(crate) const MOST_CELLS: usize = 65535;
 
-/// A version as one number, below 2^128. It orders as the four numbers do in order.
+/// A version as one number, below 2^128. Such numbers compare as the versions do.
 pub(crate) fn version_number(version: [u32; 4]) -> u128
     ensures number { result ≡ specs.version_number version }
     ensures digits { All (λ n. n < 2 ^ 32) version }
@@ -54,7 +54,7 @@ fn has_cut_after(ends: &[u128], last: u128, number: u128) -> bool
 }
 
 /// Whether all numbers of a cell, up to the last one, compare alike with this number.
-pub(crate) fn decides(ends: &[u128], last: u128, comparison: Comparison, number: u128) -> bool
+pub fn decides(ends: &[u128], last: u128, comparison: Comparison, number: u128) -> bool
     ensures { result ≡ specs.decides ends.now last comparison number }
 {
     match comparison {
@@ -126,8 +126,8 @@ pub(crate) fn add_cuts(
     }
 }
 
-/// The cell of a number, on a line of at most 65535 cells: the one that begins at the last end up
-/// to the number.
+/// The cell of a number, on a line of at most 65535 cells: the last one that begins at the number
+/// or below.
 pub(crate) fn cell_at(ends: &[u128], number: u128) -> u16
     ensures { length ends.now < 2 ^ 16 → result ≡ specs.cell_at ends.now number }
 {

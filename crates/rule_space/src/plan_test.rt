@@ -74,7 +74,10 @@ fn constant_of(bounds: &Bounds<'_>, test: &Test) -> Option<bool>
 
 // ---- comparisons
 
-fn against_at(dimensions: &[Dimension], place: usize, test: &Test) -> Option<Against>
+/// The comparison that a test makes with the number of the dimension at a place, if it is about that
+/// number, and the dimension's cells decide it; none for a take.
+// open: for which tests of the dimension it returns none.
+pub fn against_at(dimensions: &[Dimension], place: usize, test: &Test) -> Option<Against>
     ensures { IfSome result (IsAgainstAt dimensions.now place test.now) }
 {
     let Some(dimension) = dimensions.get(place) else {
@@ -110,7 +113,7 @@ fn compares_at(dimensions: &[Dimension], place: usize, test: &Test) -> Option<Pl
 
 // ---- takes
 
-/// Whether an array is declared as another one.
+/// Whether two arrays have the same declaration.
 pub(crate) fn is_declared_as(own: &CellArray, array: &CellArray) -> bool
     ensures { result ≡ true → declared own.now ≡ declared array.now }
 {

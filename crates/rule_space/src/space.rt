@@ -94,8 +94,8 @@ fn groups_of(alloc: Global, dimensions: &[Dimension]) -> Result<Vec<Group>, Allo
     Ok(groups)
 }
 
-/// The space of two rules; none if the dimensions don't decide each test, as with more than 65535
-/// cells.
+/// The space of two rules; none if the dimensions don't decide each test, for example if that takes
+/// over 65535 cells.
 // open: whether an allocation fails, its one error; for which rules it returns none; which
 // buckets a tuple has.
 pub fn space_of(

@@ -11,12 +11,12 @@ use rule_lang::{Comparison, Literal, Test};
 
 /// A comparison with a number.
 #[derive(Clone, Copy)]
-pub(crate) struct Against {
+pub struct Against {
     pub comparison: Comparison,
     pub number: u128,
 }
 
-/// The place of a text among these, or their number.
+/// The index of a text among these, or their count if it is another one.
 pub(crate) fn place_among(texts: &[Literal], text: &str) -> usize
     ensures { result ≡ coordinates.place_among texts.now text.now }
 {

@@ -1,0 +1,12 @@
+pub mod Takes
+pub mod Tests
+pub mod Runs
+pub mod PlanRuns
+pub mod PartialPlaces
+pub mod Covered
+pub mod Checked
+pub mod Positions
+pub mod Rising
+pub mod Played
+pub mod NamedArrays
+pub mod InStates

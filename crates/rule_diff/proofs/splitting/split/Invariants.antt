@@ -1,0 +1,12 @@
+use Rattle.std.proofs.Common.{◌≤◌}
+use Rattle.rule_diff.proofs.Covered.{IsSplit}
+use Rattle.rule_diff.proofs.splitting.split.Given as goal
+
+-- the segments from here on are there
+abbrev pub invariant-loop-segment : goal.invariant-loop-segment
+invariant-loop-segment l =
+    (l.segment ≤ l.segments)
+    × IsSplit l.groups l.partial l.dimension l.segments l.segment l.initial.left.items l.left.items
+
+abbrev pub decreases-loop-segment : goal.decreases-loop-segment
+decreases-loop-segment l = l.segment

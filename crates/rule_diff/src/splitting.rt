@@ -1,0 +1,123 @@
+//! Splits a place by the segments of one more dimension.
+
+ghost use Rattle.std.specs.Prelude.{◌≡◌, ◌++◌, ◌∷◌, [], IfOk, OnOk, List, ℕ, true, Some};
+ghost use Rattle.std.specs.Prelude.{◌<◌, ◌≤◌, slice_index, slice_set};
+ghost use Rattle.rule_diff.specs.Classes.{Agrees};
+ghost use Rattle.rule_diff.specs.Search as specs;
+
+use crate::possible::may_have;
+use rule_space::{Group, Space};
+use std::alloc::{AllocError, Global};
+use std::marker::Model;
+
+/// A segment for some of the dimensions: a partial place whose classes are still to be made.
+#[derive(Drop)]
+pub(crate) struct Pending {
+    pub partial: Vec<Option<u16>>,
+}
+
+impl Model for Pending {
+    ghost use Rattle.rule_diff.specs.Truths as specs;
+
+    ghost Value = { specs.PartialPlace };
+
+    ghost view = { λ p. p.partial.items };
+}
+
+// The partial place with the segment of one more dimension.
+fn with_segment(
+    alloc: Global,
+    partial: &[Option<u16>],
+    dimension: usize,
+    segment: u16,
+) -> Result<Pending, AllocError>
+    ensures { IfOk result (λ p. p ≡ slice_set partial.now dimension (Some segment)) }
+{
+    let mut more = Vec::from_slice(alloc, partial)?;
+    if dimension < more.len() {
+        more[dimension] = Some(segment);
+        return Ok(Pending { partial: more });
+    }
+    Ok(Pending { partial: more })
+}
+
+// Adds the place with one more segment, if some machine may have it.
+fn add_segment(
+    alloc: Global,
+    groups: &[Group],
+    left: &mut Vec<Pending>,
+    partial: &[Option<u16>],
+    dimension: usize,
+    segment: u16,
+) -> Result<(), AllocError>
+    ensures kept { OnOk result ((place : List ℕ) → specs.HasPlace left.old.items place
+        → specs.HasPlace left.new.items place) }
+    ensures here { OnOk result ((place : List ℕ) → Agrees place partial.now
+        → specs.HasTuples groups.now place → slice_index place dimension ≡ segment
+        → specs.HasPlace left.new.items place) }
+{
+    let more = with_segment(alloc, partial, dimension, segment)?;
+    if !may_have(dimension, groups, &more.partial) {
+        return Ok(());
+    }
+    left.push(more)?;
+    Ok(())
+}
+
+/// The most segments of a dimension.
+const MOST_SEGMENTS: usize = 65535;
+
+// Adds the place with each segment of a dimension; the first segment is added last.
+fn split(
+    alloc: Global,
+    groups: &[Group],
+    left: &mut Vec<Pending>,
+    partial: &[Option<u16>],
+    dimension: usize,
+    segments: usize,
+) -> Result<(), AllocError>
+    requires { segments ≤ 65535 }
+    ensures kept { OnOk result ((place : List ℕ) → specs.HasPlace left.old.items place
+        → specs.HasPlace left.new.items place) }
+    ensures all { OnOk result ((place : List ℕ) → Agrees place partial.now
+        → specs.HasTuples groups.now place → slice_index place dimension < segments
+        → specs.HasPlace left.new.items place) }
+{
+    let mut segment = segments;
+    while segment > 0 {
+        segment -= 1;
+        add_segment(alloc, groups, left, partial, dimension, segment as u16)?;
+    }
+    Ok(())
+}
+
+/// Adds the place with each segment of a dimension, if there is this dimension.
+pub(crate) fn split_at(
+    alloc: Global,
+    space: &Space,
+    left: &mut Vec<Pending>,
+    pending: &Pending,
+    dimension: usize,
+) -> Result<bool, AllocError>
+    ensures { (classes : _) → IfOk result (λ done. done ≡ true → specs.LosesNoMachine space.now
+        classes (left.old.items ++ pending.now ∷ []) classes left.new.items) }
+{
+    match space.dimensions.get(dimension) {
+        None => Ok(false),
+        Some(of) => {
+            let segments = of.cells();
+            if segments > MOST_SEGMENTS {
+                return Ok(false);
+            }
+            split(
+                alloc,
+                &space.groups,
+                left,
+                &pending.partial,
+                dimension,
+                segments,
+            )?;
+            Ok(true)
+        }
+    }
+}
