@@ -1,4 +1,4 @@
--- From the empty mask of a load to bytes that need no escape.
+-- If the mask of a vector load is empty, its bytes need no escape.
 use Rattle.std.proofs.Common.{◌≡◌, ℕ, suc, ◌+◌, ◌-◌, ◌%◌, ◌^◌, ◌≤◌, eqb, ltb, leb, ◌==◌, refl, sym}
 use Rattle.std.proofs.Common.{ap, ap₂, ◌∙◌, subst, arith, Bool, true, false, cond, not, ◌||◌}
 use Rattle.std.proofs.Common.{List, [], ◌∷◌, map, length, get_or, replicate, bit_or, Fits, w8}

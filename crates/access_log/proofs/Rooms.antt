@@ -1,4 +1,4 @@
--- What is left to be computed at a place.
+-- What a loop still has to compute at a place.
 use Rattle.std.proofs.Common.{◌≡◌, ℕ, suc, ◌+◌, ◌-◌, ◌<◌, ◌≤◌, List, [], ◌∷◌, length, drop, get_or}
 use Rattle.std.proofs.Common.{Bool, true, false, sym, ap, ◌∙◌, arith, length-append, ◌++◌}
 use Rattle.std.specs.Prelude.{nat_lt, if◌then◌else◌, None, encode_utf8}

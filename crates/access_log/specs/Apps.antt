@@ -91,7 +91,7 @@ more_left_out room [] = 0
 more_left_out room (app ∷ apps) =
     without_more room (more_room app.more) + more_left_out (behind_more room app.more) apps
 
--- the number of the above, if the events and the further members share `room` bytes
+-- the member with this number, if the events and the further members share `room` bytes
 abbrev pub more_left_out_member : ℕ → List AskedApp → List Token
 more_left_out_member room apps =
     count_member (codes "more_left_out") (more_left_out (behind_events room apps) apps)

@@ -150,7 +150,8 @@ line_or_length time whole =
 abbrev pub event_line : Utc → LogEvent → List ℕ
 event_line time e = line_or_length time (line_with time (said e))
 
--- all apps of a connection are logged, or at least eleven, if they are as brief as a server's
+-- all apps of a connection are logged, or at least eleven, if they are as brief as a server makes
+-- them
 abbrev pub TellsApps : LogEvent → Type 0
 TellsApps (log.Connection connection) = TellsEnough connection.apps.now
 TellsApps e = ⊤

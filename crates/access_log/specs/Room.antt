@@ -22,7 +22,7 @@ unfoldable pub chars_room : List ℕ → ℕ
 chars_room [] = 0
 chars_room (c ∷ cs) = char_room c + chars_room cs
 
--- a text that is longer than a line fits in none
+-- for a text that is longer than a line, more bytes than a line has
 abbrev pub text_room : List ℕ → ℕ
 text_room text = if nat_lt 4096 (length text) then 4097 else chars_room (chars text)
 

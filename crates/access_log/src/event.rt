@@ -1,4 +1,4 @@
-//! What happens to a server, as its log has it.
+//! What happens to a server, as its log records it.
 
 use crate::asked::AskedApp;
 use crate::excerpt::Excerpt;
@@ -45,7 +45,7 @@ pub struct Connection<'a> {
     pub refusal: Option<&'a str>,
     /// What failed: a time-out, a reset, the clock.
     pub cause: Option<&'a str>,
-    /// The generation of the ruleset that decided for the apps; 0 if there was none.
+    /// The generation of the ruleset by which the apps were answered; 0 if there was none.
     pub generation: u64,
     /// How many bytes were written.
     pub bytes: u64,

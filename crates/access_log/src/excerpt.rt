@@ -14,7 +14,7 @@ const EXCERPT_LIMIT: usize = 512;
 /// The most bytes of a brief text in a line, escapes included.
 const BRIEF_ROOM: usize = 64;
 
-/// The most bytes of a text that is logged only if it fits, escapes included.
+/// The most bytes of a further member's text in a line, escapes included.
 const SHORT_ROOM: usize = 32;
 
 /// The beginning of a text, and how many bytes the whole text has.

@@ -14,8 +14,8 @@ use crate::utc::Utc;
 use std::alloc::{AllocError, Global};
 
 /// The line of what happened at a time, with its line feed. Returns no line if an allocation fails.
-// open: whether an allocation fails; that no line of a connection is too long, and that a line is
-// JSON, as its definition has it: tests.
+// open: whether an allocation fails; that a connection's line is never too long, and that a line,
+// as defined, is JSON: tests.
 #[tactic(auto, using(crate::proofs::Enough::tells_apps))]
 pub fn log_line(alloc: Global, time: &Utc, event: &LogEvent<'_>) -> Result<Vec<u8>, AllocError>
     ensures text { IfOk result (λ line. line.items ≡ specs.event_line time.now event.now) }
@@ -46,7 +46,7 @@ pub fn log_line_in(room: &mut LineRoom, time: &Utc, event: &LogEvent<'_>) -> Res
     Ok(())
 }
 
-// Without the limit on its length.
+// The line of an event, of any length.
 fn whole_line(room: &mut LineRoom, time: &Utc, event: &LogEvent<'_>) -> Result<(), AllocError>
     ensures { OnOk result (room.new ≡ specs.line_with time.now (specs.said event.now)) }
 {

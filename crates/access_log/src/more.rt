@@ -71,7 +71,7 @@ fn write_day(line: &mut LineRoom, installdate: Option<u64>) -> Result<(), AllocE
     }
 }
 
-/// 1 if they are left out, otherwise 0.
+/// 1 if the members are left out, otherwise 0.
 pub fn without_more(room: usize, more: &AskedMore<'_>) -> usize
     ensures value { result ≡ specs.without_more room (specs.more_room more.now) }
     ensures bound { result ≤ 1 }
@@ -79,7 +79,7 @@ pub fn without_more(room: usize, more: &AskedMore<'_>) -> usize
     if room < more_room(more) { 1 } else { 0 }
 }
 
-/// The bytes of `room` that they leave.
+/// The bytes of `room` that the members leave.
 pub fn behind_more(room: usize, more: &AskedMore<'_>) -> usize
     ensures { result ≡ specs.behind_more room more.now }
 {

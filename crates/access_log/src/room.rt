@@ -1,6 +1,6 @@
 //! How many apps a line logs, computed before any is written. The budget of each app is as many
-//! bytes as its texts may have in JSON, and a fixed number for the rest. What is left is for their
-//! events.
+//! bytes as its texts may have in JSON, and a fixed number for the rest. The bytes that all listed
+//! apps leave are for their events.
 
 ghost use Rattle.std.specs.Prelude.{◌≡◌, ◌*◌, ◌≤◌, length};
 ghost use Rattle.std.specs.Str.{chars};

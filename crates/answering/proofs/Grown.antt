@@ -20,7 +20,7 @@ use Rattle.cells.specs.declared.event.CellEvent.{CellEvent}
 use Rattle.ruleset.specs.Rules.{AppRule, Rules, IsApp, ListsApp, app_of, appid_of}
 use Rattle.omaha_json.specs.Found.{FoundApp, found_app, found_apps, found_with, known_app}
 use Rattle.answering.specs.Apps.{RunsApp, RunsApps, RunsFew, FindsApp, FindsApps}
-use Rattle.answering.specs.Apps.{unasked, unknown, ran, none, then}
+use Rattle.answering.specs.Apps.{no_updatecheck, unknown, ran, none, then}
 
 pub not_true : (b : Bool) → not b ≡ true → b ≡ false
 not_true true h = sym h
@@ -105,7 +105,8 @@ module _ (rules : Rules) (facts : RequestFacts) (moment : ℤ) where
   -- an app that requests no update
   pub finds_unasked : (app : AppFacts) (found : Option FoundApp) → app.updatecheck ≡ false
       → found ≡ found_app rules facts app None → FindsApp rules facts moment app found []
-  finds_unasked app found asks is = record { choice = None; runs = unasked asks; found_is = is }
+  finds_unasked app found asks is =
+      record { choice = None; runs = no_updatecheck asks; found_is = is }
 
 module _ {P : Type 0} (grew : P → CellEvent → P → Type 0) where
   -- nothing happened

@@ -16,7 +16,7 @@ use Rattle.omaha_json.specs.declared.fault.OmahaFault.TheVariants.{TooManyApps, 
 use Rattle.ruleset.specs.Rules.{Rules}
 use Rattle.answering.specs.Apps.{FindsApps, RunsFew}
 use Rattle.answering.specs.Answer.{RepliesToRequest, RepliesToBody, RepliesTo, RepliesByRuns}
-use Rattle.answering.specs.Answer.{IsHeard, IsHeardBody}
+use Rattle.answering.specs.Answer.{IsReceived, IsReceivedBody}
 use Rattle.answering.specs.Answer.{replied, unowned, broken_off, asked, refused, unread}
 use Rattle.answering.specs.Answer.{taken, rejected}
 use Rattle.answering.specs.Reply.{HttpReply, success, omaha_rejection}
@@ -89,7 +89,7 @@ module _ (told : Option (List ℕ)) (watcher : Beginning) (moment : ℤ) where
 module _ (told : Option (List ℕ)) where
   -- from the result of a body to that of a reader
   pub is_heard : (body slice : List ℕ) → AnswersPost told (Ok body) → slice ≡ body
-      → (read : Result Request HttpReply) → IsHeardBody slice read → IsHeard told read
+      → (read : Result Request HttpReply) → IsReceivedBody slice read → IsReceived told read
   is_heard body slice b e (Ok request) r =
       (body, b, ap request_in (sym e) ∙ r)
   is_heard body slice b e (Err reply) r = λ watcher moment.
@@ -99,7 +99,7 @@ module _ (told : Option (List ℕ)) where
 module _ {P : Type 0} (grew : P → CellEvent → P → Type 0)
     (told : Option (List ℕ)) (watcher : Beginning) (moment : ℤ) where
   -- a request was read, and has a reply
-  pub is_answered : (p q : P) (request : Request) (reply : HttpReply) → IsHeard told (Ok request)
+  pub is_answered : (p q : P) (request : Request) (reply : HttpReply) → IsReceived told (Ok request)
       → Grows grew p q (λ events. RepliesToRequest request watcher moment events reply)
       → RepliesByRuns grew told watcher moment p q reply
   is_answered p q request reply h a = record {

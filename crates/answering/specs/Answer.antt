@@ -1,6 +1,6 @@
--- Which reply a request has, and which events on counters its runs make: a constructor an outcome.
--- Those for "out of memory" are open, since it is unspecified when an allocation fails; every other
--- refusal is the one that the bytes have.
+-- Which reply a request has, and which events on counters its runs make, with a constructor for
+-- each outcome. Those for "out of memory" are open, since it is unspecified when an allocation
+-- fails; every other refusal is the one that the bytes have.
 use Rattle.std.specs.Prelude.{◌≡◌, ℕ, ℤ, List, [], Option, Some, Result, Ok, Err, Vec}
 use Rattle.cells.specs.declared.event.CellEvent.{CellEvent}
 use Rattle.hot_swap.specs.Published.{Beginning, IsLatest}
@@ -62,16 +62,16 @@ pub data RepliesTo (told : Option (List ℕ)) (watcher : Beginning) (moment : �
       → RepliesTo told watcher moment [] (rejection status (post_name fault))
 
 -- what a body is: a request, or a refusal that depends on neither ruleset nor moment
-abbrev pub IsHeardBody : List ℕ → Result Request HttpReply → Type 0
-IsHeardBody body (Ok request) = request_in body ≡ Ok request
-IsHeardBody body (Err reply) =
+abbrev pub IsReceivedBody : List ℕ → Result Request HttpReply → Type 0
+IsReceivedBody body (Ok request) = request_in body ≡ Ok request
+IsReceivedBody body (Err reply) =
     (watcher : Beginning) (moment : ℤ) → RepliesToBody body watcher moment [] reply
 
 -- and what the bytes of a reader are
-abbrev pub IsHeard : Option (List ℕ) → Result Request HttpReply → Type 0
-IsHeard told (Ok request) =
+abbrev pub IsReceived : Option (List ℕ) → Result Request HttpReply → Type 0
+IsReceived told (Ok request) =
     (body : List ℕ) × AnswersPost told (Ok body) × (request_in body ≡ Ok request)
-IsHeard told (Err reply) =
+IsReceived told (Err reply) =
     (watcher : Beginning) (moment : ℤ) → RepliesTo told watcher moment [] reply
 
 -- the faults after which nothing is written

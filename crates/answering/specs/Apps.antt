@@ -16,13 +16,13 @@ module _ (rules : Rules) (facts : RequestFacts) (moment : ℤ) where
   -- one app, with the choice of its run, if it has one, and the events that the run made
   pub data RunsApp (app : AppFacts) : Option ℕ → List CellEvent → Type 0 where
     -- no run if it requests no update
-    unasked : app.updatecheck ≡ false → RunsApp app None []
+    no_updatecheck : app.updatecheck ≡ false → RunsApp app None []
     -- nor if the ruleset doesn't have it
     unknown : app_of rules app.appid ≡ None → RunsApp app None []
-    -- otherwise one run on its attributes at the moment, to its end, of the program that the
-    -- ruleset has for attribute 0, which is its appid. It takes at most as many instructions as the
-    -- program has slots, and chooses 0 or one of the app's releases. Each reply fits its counter,
-    -- and the app's arrays allow each event
+    -- otherwise one run to its end, on its attributes at the moment, of the program that the
+    -- ruleset has for attribute 0, the appid. It takes at most as many instructions as the program
+    -- has slots, and chooses 0 or one of the app's releases. Each reply fits its counter, and the
+    -- app's arrays allow each event
     ran : {choice : ℕ} {events : List CellEvent} (known : AppRule) (count : ℕ)
         → app.updatecheck ≡ true → app_of rules app.appid ≡ Some known
         → ListsApp rules (appid_of (attributes_of app facts moment)) known

@@ -43,7 +43,8 @@ no_place = rejection status.InternalServerError (swap_text swap.NoPlace)
 abbrev pub IsRefusalStatus : Status → Type 0
 IsRefusalStatus s = s ≢ status.Success
 
--- the line that is logged of a reply by its status: all of a refusal's text, and none of Omaha's
+-- the line that is logged for a reply, by its status: a refusal's whole text, and none for Omaha's
+-- reply
 abbrev pub line_by : Status → List ℕ → List ℕ
 line_by status.Success text = []
 line_by s text = text

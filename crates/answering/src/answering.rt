@@ -8,7 +8,7 @@ use crate::room::AnswerRoom;
 use crate::sent::Sent;
 use crate::settling::answer_in;
 use crate::turn::Turn;
-use crate::witness::Nobody;
+use crate::witness::NoWitness;
 use attrs::Moment;
 use cells::CellSteps;
 use hot_swap::Watcher;
@@ -66,5 +66,13 @@ pub fn answer<R: Read, W: Write, C: CellSteps>(
         moment: &moment,
     };
     let mut room = AnswerRoom::new(alloc);
-    answer_in(&turn, &mut room, reader, writer, pass, watcher, &mut Nobody)
+    answer_in(
+        &turn,
+        &mut room,
+        reader,
+        writer,
+        pass,
+        watcher,
+        &mut NoWitness,
+    )
 }

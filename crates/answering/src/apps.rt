@@ -46,7 +46,7 @@ fn start(
     }
 }
 
-// What the ruleset has for an app, with the choice of its run to its end, if it has one. If an
+// What the ruleset has for an app, with the choice of its finished run, if it has one. If an
 // allocation fails, no run is made. An app that names no bucket is in the hashed one.
 fn run_app<'r, C: CellSteps>(
     turn: &Turn<'_, C>,

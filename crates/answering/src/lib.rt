@@ -30,4 +30,4 @@ pub use room::AnswerRoom;
 pub use sent::Sent;
 pub use settling::answer_in;
 pub use turn::Turn;
-pub use witness::{Nobody, Witness};
+pub use witness::{NoWitness, Witness};

@@ -3,7 +3,7 @@
 ghost use Rattle.std.specs.Prelude.{◌≡◌, ◌+◌, ◌-◌, ◌^◌, ◌<◌, Err, IfOk, IfErr};
 ghost use Rattle.http_front.specs.Post.{AnswersPost};
 ghost use Rattle.http_front.specs.declared.fault.PostFault.TheVariants as fault;
-ghost use Rattle.answering.specs.Answer.{IsHeard, IsHeardBody, WritesNothing};
+ghost use Rattle.answering.specs.Answer.{IsReceived, IsReceivedBody, WritesNothing};
 
 use crate::answering::AnswerFault;
 use crate::rejection::Rejection;
@@ -14,14 +14,14 @@ use std::alloc::Global;
 use std::io::Read;
 
 /// Reads a request into the buffers, and returns it, or its refusal.
-pub fn hear<R: Read, W: Witness>(
+pub fn receive_request<R: Read, W: Witness>(
     alloc: Global,
     room: &mut PostRoom,
     reader: &mut Counted<R>,
     witness: &mut W,
 ) -> Result<Result<Request, Rejection>, AnswerFault>
     requires { reader.old.failures < 2 ^ 64 - 1 }
-    ensures heard { IfOk result (IsHeard (R.remaining reader.old.inner)) }
+    ensures heard { IfOk result (IsReceived (R.remaining reader.old.inner)) }
     ensures silent { IfErr result WritesNothing }
     ensures ended { result ≡ Err AnswerFault.Ended
         → AnswersPost (R.remaining reader.old.inner) (Err fault.Ended) }
@@ -43,7 +43,7 @@ pub fn hear<R: Read, W: Witness>(
 
 // The request that a body is, or its refusal.
 fn request_of<W: Witness>(alloc: Global, body: &[u8], witness: &mut W) -> Result<Request, Rejection>
-    ensures { IsHeardBody body.now result }
+    ensures { IsReceivedBody body.now result }
 {
     match read_request(alloc, body, witness) {
         Ok(request) => Ok(request),

@@ -1,4 +1,4 @@
-//! One request at a turn: it is read into reused buffers, its reply is found, and written.
+//! One request: it is read into reused buffers, its reply is found, and written.
 
 ghost use Rattle.std.specs.Prelude.{◌≡◌, ◌+◌, ◌-◌, ◌^◌, ◌<◌, Err, IfOk};
 ghost use Rattle.hot_swap.specs.Published.{GoesOnwards};
@@ -11,7 +11,7 @@ ghost use Rattle.answering.specs.Connection.{Answers};
 ghost use Rattle.answering.specs.Reply.{message_bytes, told_line, settled_reply};
 
 use crate::answering::AnswerFault;
-use crate::reading::hear;
+use crate::reading::receive_request;
 use crate::rejection::Rejection;
 use crate::replying::reply_to;
 use crate::room::AnswerRoom;
@@ -23,8 +23,8 @@ use hot_swap::Watcher;
 use http_front::{Counted, Status, WriteFault, write_reply};
 use std::io::{Read, Write};
 
-/// Reads a request at a turn into reused buffers, writes its reply, and returns the reply that was
-/// sent. A witness observes both.
+/// Reads a request into reused buffers, writes its reply, and returns the reply that was sent. A
+/// witness observes both.
 // open: whether an allocation fails (O5, P9), or a ruleset can't have another owner (H2), each a
 // reply with status 500; which bytes a socket carries; that the moment is the clock's: a test.
 pub fn answer_in<R: Read, W: Write, C: CellSteps, N: Witness>(
@@ -74,7 +74,7 @@ fn settle<R: Read, C: CellSteps, N: Witness>(
     ensures unreadable { result ≡ Err AnswerFault.Reading
         → reader.new.failures ≡ reader.old.failures + 1 }
 {
-    match hear(turn.alloc, &mut room.post, reader, witness)? {
+    match receive_request(turn.alloc, &mut room.post, reader, witness)? {
         Ok(request) => {
             let text = room.take_text(turn.alloc);
             let outcome = reply_to(turn, text, &request, pass, watcher, witness);

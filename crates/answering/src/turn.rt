@@ -1,5 +1,5 @@
-//! A worker's turn: what one reply depends on, as well as the worker's own pass (a ghost token) and
-//! its own watcher.
+//! A worker's turn: what one reply depends on, apart from the worker's own pass (a ghost token) and
+//! watcher.
 
 use attrs::Moment;
 use std::alloc::Global;

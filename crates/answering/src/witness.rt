@@ -13,13 +13,13 @@ pub trait Witness: HearsApps {
 
 /// A witness that does nothing.
 #[derive(Clone, Copy, Debug)]
-pub struct Nobody;
+pub struct NoWitness;
 
-impl HearsApps for Nobody {
+impl HearsApps for NoWitness {
     fn hear_app(&mut self, _app: WrittenApp<'_>) {}
 }
 
-impl Witness for Nobody {
+impl Witness for NoWitness {
     fn see(
         &mut self,
         _generation: Generation,

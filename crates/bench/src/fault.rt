@@ -5,7 +5,7 @@ use std::alloc::AllocError;
 use std::{fmt, io};
 
 /// What went wrong.
-#[derive(Debug, Drop)]
+#[derive(Drop)]
 pub enum BenchFault {
     /// An allocation failed.
     Memory,

@@ -3,7 +3,7 @@
 use std::fmt;
 
 /// The instructions of a program of the benchmark.
-#[derive(Clone, Copy, Debug, PartialEq, Eq)]
+#[derive(Clone, Copy)]
 pub enum Pattern {
     /// Only arithmetic.
     Straight,

@@ -13,7 +13,7 @@ use std::alloc::Global;
 use std::sync::Arc;
 
 /// Totals of runs: their instructions, and the hash of their choices.
-#[derive(Clone, Copy, Debug, PartialEq, Eq)]
+#[derive(Clone, Copy)]
 pub struct RunTotals {
     pub instructions: u64,
     pub choices: u64,

@@ -3,7 +3,7 @@
 ghost use Rattle.std.specs.Prelude.{◌≡◌, ◌+◌, IfOk};
 ghost use Rattle.bench_answer.specs.Answered.{IsSuccess, IsReplyTally, IsTallyFromZeros, moment};
 
-use answering::{AnswerRoom, Nobody, Turn, answer_in};
+use answering::{AnswerRoom, NoWitness, Turn, answer_in};
 use anyhow::{Context, Error, Result};
 use attrs::fnv1a;
 use cells::{CellSteps, PlainCells};
@@ -17,7 +17,7 @@ use std::sync::{Arc, Wait};
 const MOMENT: i64 = 1772413200;
 
 /// Totals of replies: their bytes, and the hash of the last.
-#[derive(Clone, Copy, Debug, PartialEq, Eq)]
+#[derive(Clone, Copy)]
 pub(crate) struct ReplyTally {
     pub(crate) bytes: u64,
     pub(crate) reply: u64,
@@ -48,7 +48,7 @@ fn answer_once<C: CellSteps>(
         &mut writer,
         pass,
         watcher,
-        &mut Nobody,
+        &mut NoWitness,
     )?;
     if sent.status != 200 {
         return Err(Error::msg("the request is refused"));

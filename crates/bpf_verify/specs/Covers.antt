@@ -24,7 +24,7 @@ pub record IsCovered (p : ShapedProgram) (s : State) : Type 0 where
   pub words : HasWords s
   pub place : IsSome (at p.code s.slot)
 
--- a step is no trap, and leads forward to a covered state, or ends with 0 or one of the releases.
+-- a step doesn't trap: it leads forward to a covered state, or ends with 0 or one of the releases.
 -- Its counter operation is allowed by the shape, and each fitting reply leads forward to a covered
 -- state
 abbrev pub IsSafeOutcome : ShapedProgram → State → Outcome → Type 0

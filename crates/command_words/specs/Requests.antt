@@ -12,11 +12,11 @@ use Rattle.command_words.specs.declared.request.Command.{Command}
 abbrev pub AskFor : List Text → Command → Type 0
 AskFor words command = request.AskFor VerbMakes commands names words command
 
--- they fit the grammar, and make none
+-- the words fit the grammar, and make no command
 abbrev pub AskForNothing : List Text → Type 0
 AskForNothing words = request.AskForNothing VerbMakes commands names words
 
--- they request help
+-- the words request help
 abbrev pub AskForHelp : List Text → Type 0
 AskForHelp words = line.AskForHelp commands words
 

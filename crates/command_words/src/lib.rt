@@ -3,9 +3,8 @@
 //! See docs/PROGRAM.md, "Status".
 #![tactic(auto)]
 
-// How words are read. `command_rows` is the table of the eleven commands, by which `command_line`
-// has `clap` parse the words, or find their first fault. Of the texts that it finds, `words` makes
-// a command.
+// How words are read. `command_rows` is the table of the eleven commands. By it `command_line` has
+// `clap` parse the words, or find their first fault. `words` makes a command of the parsed texts.
 
 mod program_rows;
 mod program_words;

@@ -51,7 +51,7 @@ pub fn read_verify<'a>(alloc: Global, found: &ArgMatches<'a>) -> Result<Command<
     Ok(Command::Verify { path, shape })
 }
 
-/// The command of `run`. `--trace` is an error: it is a command of its own.
+/// The command of `run`. `--trace` is an error, since `trace` is a command of its own.
 pub fn read_run_command<'a>(alloc: Global, found: &ArgMatches<'a>) -> Result<Command<'a>, ArgsError>
     ensures made { IfOk result (VerbMakes Verb.Run (rows_of (found_of found.now))) }
     ensures none { OnWrong result (VerbMakesNone Verb.Run (rows_of (found_of found.now))) }

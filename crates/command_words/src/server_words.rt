@@ -97,7 +97,7 @@ pub fn read_stop<'a>(found: &ArgMatches<'a>) -> Result<Command<'a>, ArgsError>
     Ok(stop_or_wait(wait, port))
 }
 
-// A request to stop, which waits for the end or doesn't.
+// A request to stop, which waits for the server's end if `wait` is true.
 fn stop_or_wait<'a>(wait: bool, port: u16) -> Command<'a>
     ensures { (rows : List Row) → HasShort (codes "operator") rows port
         → HasFlag (codes "wait") rows wait → VerbMakes Verb.Stop rows result }

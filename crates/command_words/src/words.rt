@@ -37,9 +37,9 @@ pub fn read_words<'a, S: AsStr>(alloc: Global, words: &'a [S]) -> Result<Command
     }
 }
 
-// The command of the matches, if they make one. Matches by the grammar do if arrays, attributes and
-// days are well-formed, since the grammar requires each other value and checks its range. This is
-// tested, command by command.
+// The command of the matches, if they make one. Matches by the grammar make one if arrays,
+// attributes and days are well-formed, since the grammar requires all other values and checks their
+// ranges. This is tested, command by command.
 fn command_of<'a>(alloc: Global, matches: &ArgMatches<'a>) -> Result<Command<'a>, ArgsError>
     ensures made { IfOk result (FoundMakes VerbMakes
         (verb_of names (subcommand_rows_of matches.now))) }

@@ -1,6 +1,6 @@
 -- The output of each command, and why it is refused, by the bytes of the files, as far as they are
 -- known. The bytes of a device's files aren't known, so an output is one for some bytes. No
--- contract can say what a server replies, and nothing is claimed for out of memory.
+-- contract can say what a server replies, and nothing is claimed if an allocation fails.
 use Rattle.std.specs.Prelude.{◌≡◌, []}
 use Rattle.std.specs.String.{string_bytes}
 use Rattle.bounded_files.specs.Files.{KnownFiles}

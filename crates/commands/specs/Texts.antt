@@ -28,7 +28,7 @@ output_text (output.Replied text) = string_bytes text
 -- the first generation
 output_text (output.Ready server plan) = serving_line 1
 
--- the cause that a server's log has with the fault's text, if there is one
+-- the cause that a server's log adds to the fault's text, if there is one
 abbrev pub fault_cause : Fault → Option (List ℕ)
 fault_cause (fault.Serving fault) = cause_of fault
 fault_cause fault = None

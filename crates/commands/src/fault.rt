@@ -4,7 +4,7 @@ ghost use Rattle.std.specs.Prelude.{◌≡◌, Some, option_copied};
 ghost use Rattle.commands.specs.Texts.{fault_cause, fault_text};
 
 use bounded_files::ResourceFault;
-use operator::AskFault;
+use operator::RequestFault;
 use program_tools::ProgramToolFault;
 use replay::ReplayFault;
 use serving::ServingFault;
@@ -22,11 +22,11 @@ pub enum Fault {
     /// A server can't be made, or can't serve.
     Serving(ServingFault),
     /// B1, B4, B5: a request can't be sent to a server, or gets no reply; or the server's refusal.
-    Ask(AskFault),
+    Ask(RequestFault),
 }
 
 impl Fault {
-    /// The cause that a server's log has with the fault's text, if there is one.
+    /// The cause that a server's log adds to the fault's text, if there is one.
     pub fn cause(&self) -> Option<&str>
         ensures { option_copied result ≡ fault_cause self.now }
     {

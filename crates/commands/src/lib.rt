@@ -4,10 +4,10 @@
 //! See docs/PROGRAM.md, "Status".
 #![tactic(auto)]
 
-// How a command runs. `command_words` reads its words as a command, or what is wrong with them is
-// printed. The command is done: on a program or a script, by a server at its operator's port, or,
-// for `serve`, by a ready server. The output's lines are printed. A ready server prints that it
-// serves, and does so until it is stopped. The status says whether all this was done.
+// How a command runs. `command_words` makes a command of its words; if it can't, what is wrong with
+// them is printed. The command works on a program or a script, sends a request to a server, or, for
+// `serve`, makes a server ready. Then the output's lines are printed. A ready server prints that it
+// serves, and serves until it is stopped. The status says whether all this was done.
 
 mod fault;
 mod logged;

@@ -1,5 +1,5 @@
-//! A server with its log. The log's thread starts before the server, and the remaining lines are
-//! waited for after the server's end, for a while. A refused start also has a line.
+//! A server with its log. The log's thread starts before the server. After the server's end it has
+//! a while to write the remaining lines. A refused start also has a line.
 
 ghost use Rattle.std.specs.Io.KnownBytes.{Appends};
 ghost use Rattle.std.specs.Prelude.{◌⊎◌, OnOk, IfErr};
@@ -58,8 +58,7 @@ where
     outcome
 }
 
-// Logs why the server doesn't serve, if it doesn't. After a server has served, its end is logged
-// already.
+// Logs why the server didn't start, if it didn't. If it has served, its end is already logged.
 fn note_outcome<R>(
     rt: &R,
     queue: &LogQueue,
@@ -72,7 +71,7 @@ where
     let Err(fault) = outcome else {
         return;
     };
-    if !fault.is_of_end() {
+    if !fault.is_in_log() {
         note_refused_start(rt, queue, starting, fault, fault.cause());
     }
 }

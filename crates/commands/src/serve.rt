@@ -16,7 +16,7 @@ use std::net::{Net, TcpListener, TcpStream};
 use std::sync::Wait;
 use std::thread::Threads;
 use std::time::{Clock, Duration};
-use workers::Service;
+use workers::ServeOptions;
 
 /// Makes all that a server needs, and serves by the plan until the operator stops it, with its log
 /// or without one. Once all is made, `out` gets the ready line of generation 1. Returns S1, H1 or
@@ -79,11 +79,11 @@ where
 }
 
 // How connections are served by the plan.
-fn service_of<'a>(plan: &Plan, log: Option<&'a LogQueue>) -> Service<'a>
+fn service_of<'a>(plan: &Plan, log: Option<&'a LogQueue>) -> ServeOptions<'a>
     ensures timeout { as_nanos result.timeout ≡ plan.now.timeout * 1000000000 }
     ensures log { result.log ≡ log.entry }
 {
-    Service {
+    ServeOptions {
         timeout: Duration::from_secs(u64::from(plan.timeout)),
         log,
     }

@@ -24,10 +24,10 @@ use std::sync::Wait;
 use std::thread::Threads;
 use std::time::Clock;
 
-/// Does what the words request, the first of which is the program's name, with files of the disk.
-/// Results go to `out`; refusals and usage go to `err`, and nothing else does. The status is 0 if
-/// the request was done; 1 if it was refused, or a write failed; and 2 for usage. A server has
-/// served once the status is returned.
+/// Does what the words request, with files of the disk. The first word is the program's name.
+/// Results go to `out`, and only refusals and usage to `err`. The status is 0 if the request was
+/// done; 1 if it was refused, or a write failed; and 2 for usage. For `serve` it is returned after
+/// the server's end.
 // open: `clap`'s texts; that the status isn't 1, since a read or a write may fail at any time: the
 // tests compare each command's lines and status.
 pub fn command<R, D, S, O, E>(rt: &R, disk: &D, words: &[S], out: &mut O, err: &mut E) -> u8

@@ -13,7 +13,7 @@ use Rattle.bounded_files.specs.Files.{KnownFiles}
 use Rattle.cells.specs.Directory.{Declaration}
 use Rattle.cells.specs.declared.array.CellArray.{CellArray}
 use Rattle.load.specs.Digest.{digest_of}
-use Rattle.load.specs.Gathered.{AreArraysBeside, IsGathered, IsParsedBeside, IsUngathered}
+use Rattle.load.specs.Gathered.{AreArraysBeside, IsGathered, IsParsedBeside, IsGatherRefusal}
 use Rattle.load.specs.Judged.{AreJudged, IsLoadOf, RefusesFirst, apps_of}
 use Rattle.load.specs.Load.{IsLoadFault}
 use Rattle.load.specs.declared.fault.LoadFault.{LoadFault}
@@ -21,7 +21,7 @@ use Rattle.load.specs.declared.fault.LoadFault.TheVariants.{Manifest as NoManife
 use Rattle.load.specs.declared.fault.LoadFault.TheVariants.{Rule, Cells, Memory}
 use Rattle.load.specs.declared.gathering.Gathered.{Gathered}
 use Rattle.load.specs.declared.gathering.GatheredApp.{GatheredApp}
-use Rattle.load.specs.declared.gathering.Ungathered.{Ungathered}
+use Rattle.load.specs.declared.gathering.GatherRefusal.{GatherRefusal}
 use Rattle.manifest.specs.declared.refused.Parsed.TheVariants.{Nothing}
 use Rattle.ruleset.specs.Rules.{AppRule}
 use Rattle.warnings.specs.Asked.{all_room}
@@ -103,8 +103,8 @@ module _ (known : KnownFiles) (bytes : List ℕ) (g : Gathered) (is : IsGathered
     told = h.told;
   }
 
-pub fails_early : (known : KnownFiles) (bytes : List ℕ) (u : Ungathered) (r : Refused)
-    → IsUngathered [] bytes u → r.fault ≡ u.fault → TellsRefused u.parsed u.arrays.items [] 0 r
+pub fails_early : (known : KnownFiles) (bytes : List ℕ) (u : GatherRefusal) (r : Refused)
+    → IsGatherRefusal [] bytes u → r.fault ≡ u.fault → TellsRefused u.parsed u.arrays.items [] 0 r
     → FailsCheck known bytes r
 fails_early known bytes u r h is told = record {
   refused = subst (λ (f : LoadFault). IsLoadFault known [] bytes f) (sym is) (h.fault_is known);

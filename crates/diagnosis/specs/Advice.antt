@@ -1,24 +1,24 @@
 -- A hint printed with a schema error: for an unknown member, the known members; for a list of
 -- tables, how its tables begin.
 use Rattle.std.specs.Prelude.{ℕ, List, [], codes}
-use Rattle.manifest.specs.declared.misfit.AppMisfit.{AppMisfit}
-use Rattle.manifest.specs.declared.misfit.AppMisfit.TheVariants as app
-use Rattle.manifest.specs.declared.misfit.ArrayMisfit.{ArrayMisfit}
-use Rattle.manifest.specs.declared.misfit.ArrayMisfit.TheVariants as array
+use Rattle.manifest.specs.declared.misfit.AppError.{AppError}
+use Rattle.manifest.specs.declared.misfit.AppError.TheVariants as app
+use Rattle.manifest.specs.declared.misfit.ArrayError.{ArrayError}
+use Rattle.manifest.specs.declared.misfit.ArrayError.TheVariants as array
 use Rattle.manifest.specs.declared.misfit.InList.TheVariants.{Count, At}
-use Rattle.manifest.specs.declared.misfit.Misfit.{Misfit}
-use Rattle.manifest.specs.declared.misfit.Misfit.TheVariants as misfit
-use Rattle.manifest.specs.declared.misfit.PackageMisfit.{PackageMisfit}
-use Rattle.manifest.specs.declared.misfit.PackageMisfit.TheVariants as the_package
-use Rattle.manifest.specs.declared.misfit.ReleaseMisfit.{ReleaseMisfit}
-use Rattle.manifest.specs.declared.misfit.ReleaseMisfit.TheVariants as release
+use Rattle.manifest.specs.declared.misfit.SchemaError.{SchemaError}
+use Rattle.manifest.specs.declared.misfit.SchemaError.TheVariants as misfit
+use Rattle.manifest.specs.declared.misfit.PackageError.{PackageError}
+use Rattle.manifest.specs.declared.misfit.PackageError.TheVariants as the_package
+use Rattle.manifest.specs.declared.misfit.ReleaseError.{ReleaseError}
+use Rattle.manifest.specs.declared.misfit.ReleaseError.TheVariants as release
 
-abbrev pub package_advice : PackageMisfit → List ℕ
+abbrev pub package_advice : PackageError → List ℕ
 package_advice (the_package.Unknown key) =
     codes "the members of a package: name, hash_sha256, size, required\n"
 package_advice m = []
 
-abbrev pub release_advice : ReleaseMisfit → List ℕ
+abbrev pub release_advice : ReleaseError → List ℕ
 release_advice (release.Unknown key) =
     codes "the members of a release: version, codebase, package\n"
 release_advice (release.Packages Count) =
@@ -26,17 +26,17 @@ release_advice (release.Packages Count) =
 release_advice (release.Packages (At number m)) = package_advice m
 release_advice m = []
 
-abbrev pub app_advice : AppMisfit → List ℕ
+abbrev pub app_advice : AppError → List ℕ
 app_advice (app.Unknown key) = codes "the members of an app: appid, program or rule, release\n"
 app_advice (app.Releases Count) = codes "each release begins with [[app.release]]\n"
 app_advice (app.Releases (At number m)) = release_advice m
 app_advice m = []
 
-abbrev pub array_advice : ArrayMisfit → List ℕ
+abbrev pub array_advice : ArrayError → List ℕ
 array_advice (array.Unknown key) = codes "the members of an array: name, width, length, quota\n"
 array_advice m = []
 
-unfoldable pub advice : Misfit → List ℕ
+unfoldable pub advice : SchemaError → List ℕ
 advice (misfit.Unknown key) = codes "the members of a manifest: server, array, app\n"
 advice (misfit.Arrays Count) = codes "each array begins with [[array]]\n"
 advice (misfit.Arrays (At number m)) = array_advice m

@@ -11,7 +11,7 @@ use crate::accepted::{CheckedManifest, tell_accepted};
 use crate::telling::tell_refused;
 use crate::told::Refused;
 use cells::Directory;
-use load::{Files, Gathered, LoadFault, Ungathered, gather, gathered_is_loaded, judge};
+use load::{Files, GatherRefusal, Gathered, LoadFault, gather, gathered_is_loaded, judge};
 use manifest::{ManifestFault, Parsed, TomlFault};
 use std::alloc::Global;
 
@@ -123,11 +123,11 @@ fn refuse_gathered(alloc: Global, gathered: &Gathered, fault: LoadFault) -> Refu
     )
 }
 
-fn refuse_ungathered(alloc: Global, is_link: bool, ungathered: Ungathered) -> Refused
+fn refuse_ungathered(alloc: Global, is_link: bool, ungathered: GatherRefusal) -> Refused
     ensures fault { result.fault ≡ ungathered.fault }
     ensures told { TellsRefused ungathered.parsed ungathered.arrays.items [] 0 result }
 {
-    let Ungathered {
+    let GatherRefusal {
         fault,
         arrays,
         parsed,

@@ -6,7 +6,7 @@ ghost use Rattle.diagnosis.specs.Others as specs;
 ghost use Rattle.load.specs.declared.fault.LoadFault.{LoadFault};
 
 use load::LoadFault;
-use manifest::{ManifestFault, Misfit, Parsed, Twice, all_misfits, all_twice};
+use manifest::{DuplicateName, ManifestFault, Parsed, SchemaError, all_misfits, all_twice};
 use std::alloc::{AllocError, Global};
 
 /// A reason why a document isn't a manifest.
@@ -17,7 +17,7 @@ trait Unfit: Drop {
         ensures { result ≡ fault_of self };
 }
 
-impl Unfit for Misfit {
+impl Unfit for SchemaError {
     ghost fault_of = { specs.fault_of_misfit };
 
     fn fault(self) -> LoadFault {
@@ -25,7 +25,7 @@ impl Unfit for Misfit {
     }
 }
 
-impl Unfit for Twice {
+impl Unfit for DuplicateName {
     ghost fault_of = { specs.fault_of_twice };
 
     fn fault(self) -> LoadFault {

@@ -20,7 +20,7 @@ use cells::CellsFault;
 use declarations::ArrayDeclaration;
 use flow_check::FlowFault;
 use load::{GatheredApp, LoadFault};
-use manifest::{ManifestFault, Misfit, Parsed, TomlFault};
+use manifest::{ManifestFault, Parsed, SchemaError, TomlFault};
 use printing::PrintedLines;
 use rule_compile::CompileFault;
 use rule_lang::RuleFault;
@@ -83,7 +83,7 @@ fn tell_manifest(
     }
 }
 
-fn tell_misfit(alloc: Global, misfit: &Misfit) -> Option<String>
+fn tell_misfit(alloc: Global, misfit: &SchemaError) -> Option<String>
     ensures { IfSome result (λ text.
         string_bytes text ≡ line (misfit_text misfit.now) ++ advice misfit.now) }
 {
@@ -94,7 +94,7 @@ fn tell_misfit(alloc: Global, misfit: &Misfit) -> Option<String>
     }
 }
 
-fn push_misfit(text: &mut String, misfit: &Misfit) -> Result<(), AllocError>
+fn push_misfit(text: &mut String, misfit: &SchemaError) -> Result<(), AllocError>
     ensures { OnOk result
         (Puts text.old text.new (line (misfit_text misfit.now) ++ advice misfit.now)) }
 {

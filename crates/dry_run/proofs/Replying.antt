@@ -5,7 +5,7 @@ use Rattle.std.proofs.lemmas.Grind.{same_number_lists}
 use Rattle.std.specs.Prelude.{ℤ}
 use Rattle.attrs.specs.declared.facts.AppFacts.{AppFacts}
 use Rattle.attrs.specs.declared.facts.RequestFacts.{RequestFacts}
-use Rattle.answering.specs.Apps.{RunsApp, RunsApps, unasked, unknown, none, then}
+use Rattle.answering.specs.Apps.{RunsApp, RunsApps, no_updatecheck, unknown, none, then}
 use Rattle.cells.specs.Events.{AreZeros, IsEvent}
 use Rattle.cells.specs.Grown.{GrewBy}
 use Rattle.cells.specs.declared.array.CellArray.{CellArray}
@@ -54,7 +54,7 @@ module _ (rules : Rules) (known_rules : List KnownRule) (facts : RequestFacts) (
       → OneRuns app choice old new
   one_runs (not_known found is) = record { events = []; runs = unknown found; grown = refl }
   one_runs (not_asked known found asks is) =
-      record { events = []; runs = unasked asks; grown = refl }
+      record { events = []; runs = no_updatecheck asks; grown = refl }
   one_runs (was_run told) =
       let run = told.course_is.run in
       record { events = run.events; runs = told.runs; grown = run.grown }

@@ -14,7 +14,7 @@ use Rattle.ruleset.specs.Rules.{AppRule, Rules}
 use Rattle.omaha_json.specs.Reply.{reply_text}
 use Rattle.omaha_json.specs.Request.{Request}
 use Rattle.omaha_json.specs.declared.fault.OmahaFault.{OmahaFault}
-use Rattle.answering.specs.Apps.{RunsApp, RunsApps, unasked, unknown, ran, none, then}
+use Rattle.answering.specs.Apps.{RunsApp, RunsApps, no_updatecheck, unknown, ran, none, then}
 use Rattle.dry_run.specs.Reply.{RepliesOn, RepliesToBodyOn}
 use Rattle.dry_run.proofs.Courses.{cut, one_course}
 
@@ -64,19 +64,19 @@ module _ (rules : Rules) (facts : RequestFacts) (moment : ℤ) where
       → RunsApp rules facts moment app choice es → RunsApp rules facts moment app choice' es'
       → GrewBy IsEvent old es new → GrewBy IsEvent old es' new'
       → IsSameAnswer choice choice' new new'
-  one_answer app old new new' (unasked a) (unasked a') g g' =
+  one_answer app old new new' (no_updatecheck a) (no_updatecheck a') g g' =
       record { answers = refl; values = g ∙ sym g' }
-  one_answer app old new new' (unasked a) (unknown f') g g' =
+  one_answer app old new new' (no_updatecheck a) (unknown f') g g' =
       record { answers = refl; values = g ∙ sym g' }
-  one_answer app old new new' (unasked a) (ran known' count' a' f' l' e' s' c' r' w') g g' =
+  one_answer app old new new' (no_updatecheck a) (ran known' count' a' f' l' e' s' c' r' w') g g' =
       absurd cc
-  one_answer app old new new' (unknown f) (unasked a') g g' =
+  one_answer app old new new' (unknown f) (no_updatecheck a') g g' =
       record { answers = refl; values = g ∙ sym g' }
   one_answer app old new new' (unknown f) (unknown f') g g' =
       record { answers = refl; values = g ∙ sym g' }
   one_answer app old new new' (unknown f) (ran known' count' a' f' l' e' s' c' r' w') g g' =
       absurd cc
-  one_answer app old new new' (ran known count a f l e s c r w) (unasked a') g g' = absurd cc
+  one_answer app old new new' (ran known count a f l e s c r w) (no_updatecheck a') g g' = absurd cc
   one_answer app old new new' (ran known count a f l e s c r w) (unknown f') g g' = absurd cc
   one_answer app {es' = es'} old new new' (ran known count a f l e s c r w)
       (ran {choice = choice'} known' count' a' f' l' e' s' c' r' w') g g' =

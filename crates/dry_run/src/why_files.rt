@@ -11,8 +11,8 @@ use crate::kept_rules::read_rules;
 use bounded_files::{Disk, ResourceFault};
 use cells::Directory;
 use load::{
-    FolderFiles, PathFault, Ungathered, gather, gathered_is_loaded, gathered_is_made, make_ruleset,
-    manifest_bytes,
+    FolderFiles, GatherRefusal, PathFault, gather, gathered_is_loaded, gathered_is_made,
+    make_ruleset, manifest_bytes,
 };
 use rule_lang::Rule;
 use ruleset::{LoadedRuleset, Ruleset};
@@ -88,11 +88,11 @@ fn load_why<D: Disk>(alloc: Global, disk: &D, path: &str) -> Result<LoadedWhy, P
         Ok(bytes) => bytes,
         Err(fault) => return Err(fault),
     };
-    let mut files = FolderFiles::beside(alloc, disk, path);
+    let mut files = FolderFiles::in_folder_of(alloc, disk, path);
     let none = Directory::new(alloc);
     let gathered = match gather(alloc, &bytes, &mut files, &none) {
         Ok(gathered) => gathered,
-        Err(Ungathered { fault, .. }) => return Err(PathFault::Load(fault)),
+        Err(GatherRefusal { fault, .. }) => return Err(PathFault::Load(fault)),
     };
     let Ok(known_rules) = read_rules(alloc, &gathered.apps) else {
         return Err(PathFault::Resource(ResourceFault::Memory));

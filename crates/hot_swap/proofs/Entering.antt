@@ -65,8 +65,8 @@ module _ (v : List Rules) (e : Rules) (old : ℕ) where
         rw is (ap length all),
       )
 
-  -- whatever the book is, the exchange appends the ruleset to all that was known, or finds that
-  -- there is more
+  -- for any book, the exchange appends the ruleset to all that was known, or finds that the list is
+  -- longer than that
   pub enters_moves : length v ≡ old → Moves IsCounted nothing freely 0 sees exchanged finds
   enters_moves len cs log kept pre away =
       let P : List Cell → Type 0 =

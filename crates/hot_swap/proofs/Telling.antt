@@ -1,4 +1,4 @@
--- Each step on what is published keeps the rule on what its seats, which are ghost tokens, know.
+-- Each step on what is published keeps the rule on what its seats (ghost tokens) know.
 use Rattle.std.proofs.Common.{◌≡◌, ℕ, ◌≢◌, List, set, refl, ap, sym, ◌∙◌, ⊎_elim}
 use Rattle.std.proofs.Common.{Option, None, Some}
 use mathlib.Core.Option.{some}

@@ -16,7 +16,7 @@ IsCounted cells log = cells ≡ (length log, true) ∷ (0, true) ∷ []
 abbrev pub word_of : Book → Named
 word_of book = record { tracked = true; key = 0; book = book }
 
--- the ruleset was appended to all that was known; or there were more, and now all are known
+-- the ruleset was appended to all that was known; or the list was longer, and is now known in full
 abbrev pub EntersOrFinds : Step Rules → View Rules ℕ → ℕ → View Rules ℕ → Type 0
 EntersOrFinds s v found w =
     MatchBool (found == s.old) (w.0 ≡ v.0 ++ s.ask ∷ []) (length w.0 ≡ found)

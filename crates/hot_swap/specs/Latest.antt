@@ -6,7 +6,7 @@ use Rattle.hot_swap.specs.Published.{Beginning, HasLast}
 use Rattle.hot_swap.specs.declared.publisher_id.PublisherId.{PublisherId}
 use Rattle.ruleset.specs.Rules.{Rules, IsRuleset}
 
--- a ruleset and its generation, which one install published together
+-- a ruleset and its generation, both published by one install
 pub record Latest : Type 0 where
   pub generation : ℕ
   pub rules : Rules

@@ -85,8 +85,8 @@ impl Beginning {
         }
     }
 
-    /// Appends a ruleset to all that is known, and returns whether it did: it didn't if the list is
-    /// longer than what is known.
+    /// Appends a ruleset to all that is known, and returns true; or appends nothing and returns
+    /// false, if the list is longer than what is known.
     pub(crate) fn enter(&mut self, end: &ListEnd, rules: &Arc<Ruleset>) -> bool
         requires room { length self.old.rulesets < 2 ^ 64 - 1 }
         requires publisher { id_of end.now.word.book ≡ self.old.publisher }

@@ -26,7 +26,7 @@ impl Rule<Ruleset, u64> for CountsRulesets {
     ghost moves = { λ ask before after answer. Unit {0} };
 }
 
-/// The step that appends a ruleset brings nothing but the longer list.
+/// The step that appends a ruleset gives nothing but the longer list.
 pub(crate) struct Nothing;
 
 impl Gain<Ruleset, u64> for Nothing {

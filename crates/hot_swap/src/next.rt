@@ -51,8 +51,8 @@ impl NextInstall {
         })
     }
 
-    // What is known once the ruleset is appended, and whether it was: an install that a later one
-    // overtook appends nothing.
+    // What is known after the attempt to append the ruleset, and whether it was appended: if a
+    // later install has begun, it isn't.
     fn entered(&self, rules: &Arc<Ruleset>) -> (Beginning, bool)
         ensures publisher { result.0.publisher ≡ self.now.known.publisher }
         ensures listed { IsTrue result.1
@@ -66,7 +66,8 @@ impl NextInstall {
         (known, entered)
     }
 
-    // What it publishes first. It copies the Arc, which may fail, before it appends the ruleset.
+    // What the install publishes first. The Arc is copied, which may fail, before the ruleset is
+    // appended.
     fn listed(&self) -> Result<Shown, AllocError>
         ensures { IfOk result (λ x. (x.generation ≡ self.now.generation)
             × (arc_value x.rules ≡ arc_value self.now.rules)

@@ -5,7 +5,8 @@ ghost use Rattle.std.specs.Prelude.{◌≡◌};
 use crate::beginning::Beginning;
 use std::marker::Model;
 
-/// What a publisher had installed. Watchers of any thread may learn it, as often as they like.
+/// What a publisher had installed when the notice was made. Watchers in any thread may learn it,
+/// any number of times.
 #[derive(Drop)]
 pub struct Notice {
     known: Beginning,

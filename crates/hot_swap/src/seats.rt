@@ -1,5 +1,5 @@
-//! What the seats of the publisher and its watchers, which are ghost tokens, know: which publisher
-//! it is. No value of these types is made; they are names for definitions.
+//! What the seats (ghost tokens) of a publisher and its watchers know: the publisher. No value of
+//! these types is made; they are names for definitions.
 
 use crate::publisher_id::PublisherId;
 use crate::shown::Shown;
@@ -18,7 +18,7 @@ impl Protocol<Shown, Option<PublisherId>> for OnePublisher {
     ghost first = { None };
 }
 
-/// What a look, and a publish, make known.
+/// What a seat knows after a look or a publish.
 pub struct Telling;
 
 impl Outcome<Shown, Option<PublisherId>> for Telling {

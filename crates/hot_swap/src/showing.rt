@@ -58,7 +58,8 @@ pub(crate) fn show<R: Wait>(
     }
 }
 
-// Publishes the next ruleset. In the same publish it replaces what an earlier failure left waiting.
+// Publishes the next ruleset. In the same publish it replaces one that a failed install left
+// waiting.
 fn publish<R: Wait>(
     mut writer: ShownWriter,
     next: NextInstall,

@@ -8,8 +8,7 @@ use crate::beginning::{Beginning, Generation};
 use ruleset::Ruleset;
 use std::sync::Arc;
 
-/// A ruleset with its generation. If it is in the published list, it comes with the list that it
-/// ends.
+/// A ruleset with its generation. If it is in the published list, it comes with the list up to it.
 #[derive(Drop)]
 pub struct Shown {
     pub(crate) generation: Generation,
@@ -33,7 +32,8 @@ impl Shown {
         }
     }
 
-    /// All that is installed with it, if it follows all that was known.
+    /// The list up to it, which is all that was known and this ruleset; `None` if it isn't in the
+    /// list.
     pub(crate) fn grown(&self, mut known: Beginning) -> Option<Beginning>
         requires publisher { self.now.known.publisher ≡ known.publisher }
         requires next { self.now.generation ≡ length known.rulesets + 1 }

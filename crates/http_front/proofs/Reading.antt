@@ -204,7 +204,7 @@ ended_at {a = a} {b = b} {buf = buf} {filled = filled} f c more n short none g e
     let size : length seen < head_limit = omega (arith, seen_size a b buf filled f) in
     head_ended a c seen all size end h
 
--- ---- no more was taken than a head may have
+-- ---- at most as many bytes were taken as a head may have
 
 frugal : {a b : Option (List ℕ)} → TakesAtMost head_limit a b → (e : PostFault) → IsFrugal a b e
 frugal t fault.Ended = tt

@@ -45,7 +45,7 @@ abbrev pub first_of : List (List ℕ) → Option (List ℕ)
 first_of [] = None
 first_of (v ∷ vs) = Some v
 
--- the values may give one number several times, but not two; a list of numbers isn't one
+-- the values may repeat one number, but not give two; a value that is a list of numbers gives none
 abbrev pub told_length : List (List ℕ) → Result ℕ PostFault
 told_length [] = Err fault.Length
 told_length (v ∷ vs) =

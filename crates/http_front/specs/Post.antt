@@ -72,7 +72,7 @@ pub record TakesAtMost (limit : ℕ) (old new : Option (List ℕ)) : Type 0 wher
   pub consumed : Consumes old new taken
   pub short : length taken ≤ limit
 
--- if the head is refused, nothing more was read: no more was taken than a head may have
+-- if the head is refused, at most as many bytes were taken as a head may have
 abbrev pub IsFrugal : Option (List ℕ) → Option (List ℕ) → PostFault → Type 0
 IsFrugal old new fault.Ended = Unit {0}
 IsFrugal old new fault.Device = Unit {0}
@@ -95,7 +95,7 @@ pub record ReadsPost {R A : Type 0} (remaining : R → Option (List ℕ)) (old n
     (result : Result A PostFault) (body_of : A → List ℕ) : Type 0 where
   -- the result is one that the reader's bytes have
   pub answers : AnswersPost (remaining old.inner) (post_answer result body_of)
-  -- if the head is refused, no more of them was taken than a head may have
+  -- if the head is refused, at most as many bytes were taken as a head may have
   pub frugal : IfErr result (IsFrugal (remaining old.inner) (remaining new.inner))
   -- and a failure was counted if it is the result
   pub count : CountsDevice old.failures new.failures result

@@ -42,7 +42,7 @@ asked_at buf headers r =
     asked_length (span_bytes buf r.path) (span_bytes buf r.method)
     (map (header_bytes buf) (take r.headers headers))
 
--- the first n of these bytes, or they end before
+-- the body is the first n of these bytes, or there are fewer
 abbrev pub IsBody : List ℕ → ℕ → Result (List ℕ) PostFault → Type 0
 IsBody rest n (Ok body) = (n ≤ length rest) × (body ≡ take n rest)
 IsBody rest n (Err fault.Ended) = length rest < n

@@ -1,7 +1,7 @@
 //! Writes a reply. Its head is put into a fixed buffer, since a reply must be possible even if
 //! allocations fail. A body that fits another fixed buffer after the head is sent with it in one
 //! piece, since each piece is a system call; any other is sent after the head. This second buffer
-//! is a plain array, which is cleared at once; an `ArrayVec` clears itself byte by byte.
+//! is a plain array, which is cleared as a whole; an `ArrayVec` clears itself byte by byte.
 
 ghost use Rattle.std.specs.Prelude.{◌≡◌, ◌+◌, ◌-◌, ◌^◌, ◌<◌, ◌≤◌, ◌++◌, IsTrue, length, take};
 ghost use Rattle.arrayvec.specs.ArrayVec.{array_vec_len};

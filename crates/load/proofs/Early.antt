@@ -12,8 +12,8 @@ use Rattle.manifest.specs.declared.refused.RefusedManifest.{RefusedManifest}
 use Rattle.load.specs.declared.fault.LoadFault.{LoadFault}
 use Rattle.load.specs.declared.fault.LoadFault.TheVariants.{Manifest as NoManifest, File, Program}
 use Rattle.load.specs.declared.fault.LoadFault.TheVariants.{Rule, Cells, Memory}
-use Rattle.load.specs.declared.gathering.Ungathered.{Ungathered}
-use Rattle.load.specs.Gathered.{AreArraysBeside, AreArraysOf, IsParsedBeside, IsUngathered}
+use Rattle.load.specs.declared.gathering.GatherRefusal.{GatherRefusal}
+use Rattle.load.specs.Gathered.{AreArraysBeside, AreArraysOf, IsParsedBeside, IsGatherRefusal}
 use Rattle.load.specs.Gathered.{of_manifest}
 use Rattle.load.specs.Load.{IsLoadFault, RefusesArrays, RefusesManifest, of_bytes}
 
@@ -63,9 +63,9 @@ no_arrays bytes (unread.Field misfit) arrays none = none
 no_arrays bytes (unread.Duplicate twice) arrays none = none
 no_arrays bytes unread.Memory arrays none = inl none
 
-pub early : (old : List CellArray) (bytes : List ℕ) (refused : RefusedManifest) (u : Ungathered)
+pub early : (old : List CellArray) (bytes : List ℕ) (refused : RefusedManifest) (u : GatherRefusal)
     → IsNoManifest bytes refused → u.fault ≡ of_manifest refused.fault → u.arrays.items ≡ []
-    → u.parsed ≡ refused.parsed → IsUngathered old bytes u
+    → u.parsed ≡ refused.parsed → IsGatherRefusal old bytes u
 early old bytes refused u h fault arrays parsed = record {
   fault_is = λ known.
       subst (λ (f : LoadFault). IsLoadFault known old bytes f) (sym fault)

@@ -10,7 +10,7 @@ use Rattle.cells.specs.declared.array.ArrayNo.{ArrayNo}
 use Rattle.cells.specs.declared.array.CellArray.{CellArray}
 use Rattle.manifest.specs.App.{AppEntry}
 use Rattle.manifest.specs.Manifest.{Manifest, none_of, once}
-use Rattle.manifest.specs.Twice.{repeated}
+use Rattle.manifest.specs.DuplicateNames.{repeated}
 use Rattle.ruleset.specs.Rules.{AppRule, HasDuplicate, appids_of}
 use Rattle.bounded_files.specs.Files.{KnownFiles}
 use Rattle.load.specs.Apps.{AreAppsOf, none, next}

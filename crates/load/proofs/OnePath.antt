@@ -14,7 +14,7 @@ use Rattle.bounded_files.specs.declared.fault.ResourceFault.TheVariants as resou
 use Rattle.load.specs.Folder.{path_beside}
 use Rattle.load.specs.Load.{Loads}
 use Rattle.load.specs.Loaded.{LoadsFrom}
-use Rattle.load.specs.OneLoad.{HasOneLoad, IsUntroubled}
+use Rattle.load.specs.OneLoad.{HasOneLoad, IsNotOutOfMemory}
 
 abbrev LoadOf : Type 0
 LoadOf = Result (Rules × List CellArray) PathFault
@@ -38,7 +38,7 @@ module _ (files : List ℕ → Option KnownFile) (place : List ℕ) where
         → Found old (of_load c new)
 
   found : (old : List CellArray) (r : LoadOf) → LoadsFrom (Some files) place old r
-      → IsUntroubled r → Found old r
+      → IsNotOutOfMemory r → Found old r
   found old (Ok (rules, new)) h known =
       file (Ok rules) h.bytes new h.given h.loaded (λ e. absurd cc)
   found old (Err (path.Resource resource.File)) h known = no_file h
@@ -64,7 +64,7 @@ module _ (files : List ℕ → Option KnownFile) (place : List ℕ) where
 
 pub same_path : HasOneLoad → (files : List ℕ → Option KnownFile) (place : List ℕ)
     (old : List CellArray) (r s : LoadOf) → IsDirectory old → LoadsFrom (Some files) place old r
-    → LoadsFrom (Some files) place old s → IsUntroubled r → IsUntroubled s → r ≡ s
+    → LoadsFrom (Some files) place old s → IsNotOutOfMemory r → IsNotOutOfMemory s → r ≡ s
 same_path load files place old r s known h k untroubled calm =
     same_found files place load old known (found files place old r h untroubled)
     (found files place old s k calm)

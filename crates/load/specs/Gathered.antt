@@ -17,7 +17,7 @@ use Rattle.load.specs.declared.fault.LoadFault.{LoadFault}
 use Rattle.load.specs.declared.fault.LoadFault.TheVariants.{Manifest as NoManifest, Cells, Memory}
 use Rattle.load.specs.declared.gathering.Gathered.{Gathered}
 use Rattle.load.specs.declared.gathering.GatheredApp.{GatheredApp}
-use Rattle.load.specs.declared.gathering.Ungathered.{Ungathered}
+use Rattle.load.specs.declared.gathering.GatherRefusal.{GatherRefusal}
 use Rattle.load.specs.App.{IsShapeOf}
 use Rattle.load.specs.Kept.{IsKeptFrom, is_unread, long_count}
 use Rattle.load.specs.Load.{IsLoadFault}
@@ -40,8 +40,8 @@ module _ (known : KnownFiles) (directory : List CellArray) (numbers : List Array
         {app : GatheredApp} → IsGatheredApp entry app → AreGathered entries apps
         → AreGathered (entry ∷ entries) (app ∷ apps)
 
-  -- so have the entries whose files are read, after files that are too long with `long` bytes in
-  -- all; and `unread` entries follow whose files aren't read
+  -- the same for the entries whose files are read, after `long` bytes of files that are too long;
+  -- `unread` entries follow whose files aren't read
   pub data AreTaken : (long : ℕ) → List AppEntry → List GatheredApp → (unread : ℕ) → Type 0 where
     all_read : {long : ℕ} → AreTaken long [] [] 0
     not_read : {long : ℕ} {entries : List AppEntry} → most_long < long
@@ -76,8 +76,8 @@ abbrev pub AreArraysOf : List ℕ → List Declaration → Type 0
 AreArraysOf bytes arrays =
     (manifest : Manifest) × ReadsManifest bytes (Ok manifest) × (arrays ≡ manifest.arrays)
 
--- the arrays that are known with a fault that depends on no file. None if the bytes aren't a
--- manifest; the manifest's if one of them can't be declared; either if out of memory
+-- the arrays that come with a fault that depends on no file: none if the bytes aren't a manifest;
+-- the manifest's if one of them can't be declared; either if memory ran out
 abbrev pub AreArraysBeside : List ℕ → LoadFault → List Declaration → Type 0
 AreArraysBeside bytes (NoManifest fault) arrays = arrays ≡ []
 AreArraysBeside bytes (Cells number fault) arrays = AreArraysOf bytes arrays
@@ -96,7 +96,8 @@ IsParsedBeside bytes fault parsed = parsed ≡ Nothing
 
 -- why nothing is gathered, whatever the files would give; the arrays that are known then; and what
 -- the bytes were parsed as
-pub record IsUngathered (old : List CellArray) (bytes : List ℕ) (u : Ungathered) : Type 0 where
+pub record IsGatherRefusal (old : List CellArray) (bytes : List ℕ)
+    (u : GatherRefusal) : Type 0 where
   pub fault_is : (known : KnownFiles) → IsLoadFault known old bytes u.fault
   pub arrays_are : AreArraysBeside bytes u.fault u.arrays.items
   pub parsed_is : IsParsedBeside bytes u.fault u.parsed

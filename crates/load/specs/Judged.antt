@@ -54,8 +54,8 @@ RefusesFirst apps fault = ⊥
 -- ---- how the count of unreadable files changes
 
 module _ (known : KnownFiles) (directory : List CellArray) (bytes : List ℕ) (old new : ℕ) where
-  -- this is gathered, this is the fault of its first app without a program, and the count grows by
-  -- the number of its files that couldn't be read
+  -- the manifest is gathered, its first app without a program has this fault, and the count grows
+  -- by the number of its unreadable files
   pub record CountsFailures (fault : LoadFault) : Type 0 where
     pub gathered : Gathered
     pub is_gathered : IsGathered known directory bytes gathered

@@ -31,8 +31,8 @@ pub record IsMadeOver (known : KnownFiles) (old : List CellArray) (bytes : List 
   pub is_gathered : IsGathered known old bytes gathered
   pub made_of : IsMadeOf bytes gathered made
 
--- The file at a path gives these bytes, and the ruleset is made of what is gathered from them and
--- from the files of its folder, over the existing arrays.
+-- The file at a path gives these bytes. The ruleset is made of what is gathered from them and from
+-- the files of its folder, over the existing arrays.
 pub record IsMadeFrom (known : KnownFiles) (path : List ℕ) (old : List CellArray)
     (made : LoadedRuleset) : Type 0 where
   pub bytes : List ℕ

@@ -34,12 +34,12 @@ HasOneJudgement = (apps : List GatheredApp) (r s : Result (List ShapedProgram) L
     → Judges apps r → Judges apps s → r ≢ Err Memory → s ≢ Err Memory → r ≡ s
 
 -- no allocation failed for it
-abbrev pub IsUntroubled : Result (Rules × List CellArray) PathFault → Type 0
-IsUntroubled r = (r ≢ Err (path.Resource resource.Memory)) × (r ≢ Err (path.Load Memory))
+abbrev pub IsNotOutOfMemory : Result (Rules × List CellArray) PathFault → Type 0
+IsNotOutOfMemory r = (r ≢ Err (path.Resource resource.Memory)) × (r ≢ Err (path.Load Memory))
 
 -- and the manifest at a path, with the files of its folder, has one load
 abbrev pub HasOneLoadFrom : Type 0
 HasOneLoadFrom = (files : List ℕ → Option KnownFile) (place : List ℕ) (old : List CellArray)
     (r s : Result (Rules × List CellArray) PathFault) → IsDirectory old
     → LoadsFrom (Some files) place old r → LoadsFrom (Some files) place old s
-    → IsUntroubled r → IsUntroubled s → r ≡ s
+    → IsNotOutOfMemory r → IsNotOutOfMemory s → r ≡ s

@@ -13,8 +13,8 @@ use crate::kept::whole_file;
 use bpf_verify::Verified;
 use sha2::{Digest, Sha256};
 
-/// SHA-256 (FIPS 180-4) of a manifest's bytes, followed by the bytes of its apps' files in order,
-/// each piece after its length in 8 bytes, high byte first. None if not all bytes of some file are
+/// SHA-256 (FIPS 180-4) of a manifest's bytes and the bytes of its apps' files, in order. Each
+/// piece follows its length in 8 bytes, high byte first. None if not all bytes of some file are
 /// kept.
 pub fn digest_of(manifest: &[u8], apps: &[GatheredApp]) -> Option<[u8; 32]>
     ensures digest { result ≡ specs.digest_of manifest.now apps.now }

@@ -44,7 +44,7 @@ pub trait Files {
 
     /// Whether the path of a name has a symbolic link: the file itself, or a folder below the
     /// manifest's. Files in memory have none. Nothing is promised about the result.
-    fn is_behind_link(&self, _name: &str) -> bool {
+    fn is_through_link(&self, _name: &str) -> bool {
         false
     }
 

@@ -22,7 +22,7 @@ pub struct FolderFiles<'a, D> {
 
 impl<'a, D> FolderFiles<'a, D> {
     /// The files next to the manifest at this path, none read yet.
-    pub fn beside(alloc: Global, disk: &'a D, manifest: &'a str) -> FolderFiles<'a, D>
+    pub fn in_folder_of(alloc: Global, disk: &'a D, manifest: &'a str) -> FolderFiles<'a, D>
         ensures disk { result.disk.now ≡ disk.now }
         ensures manifest { result.manifest.now ≡ manifest.now }
         ensures failures { result.failures ≡ 0 }
@@ -76,7 +76,7 @@ impl<'a, D: Disk> Files for FolderFiles<'a, D> {
         self.failures
     }
 
-    fn is_behind_link(&self, name: &str) -> bool {
+    fn is_through_link(&self, name: &str) -> bool {
         for part in Path::new(name).ancestors() {
             if is_link_beside(self.alloc, self.disk, self.manifest, part.as_os_str()) {
                 return true;

@@ -5,7 +5,7 @@ ghost use Rattle.std.specs.Prelude.{All, IsTrue, IfOk, IfErr, Ok};
 ghost use mathlib.Core.List.{IsPrefix};
 ghost use Rattle.cells.specs.declared.array.CellArray.{CellArray};
 ghost use Rattle.load.specs.Gathered.{AreArraysOf, AreTaken, IsGathered, IsGatheredApp};
-ghost use Rattle.load.specs.Gathered.{IsUngathered, failures_in};
+ghost use Rattle.load.specs.Gathered.{IsGatherRefusal, failures_in};
 ghost use Rattle.load.specs.Gathered as specs;
 ghost use Rattle.load.specs.Kept.{CountsFile};
 ghost use Rattle.manifest.specs.Manifest.{ReadsManifest};
@@ -24,11 +24,11 @@ use manifest::{
 };
 use std::alloc::{AllocError, Global};
 
-/// The most bytes of files that are longer than they may be; once past it, no further file is read:
-/// 64 MiB.
+/// How many bytes files that are too long may have in all, 64 MiB. Above that no further file is
+/// read.
 const MOST_LONG: u128 = 0x400_0000;
 
-/// An app of a manifest, its shape, what is kept of its file (None if that can't be read), and
+/// An app of a manifest, its shape, and what is kept of its file (None if that can't be read). Also
 /// whether the file's path had a symbolic link just before it was read.
 #[derive(Drop)]
 pub struct GatheredApp {
@@ -47,9 +47,8 @@ pub struct Gathered {
     pub arrays: Vec<ArrayDeclaration>,
     pub directory: Directory,
     pub apps: Vec<GatheredApp>,
-    /// How many apps after these have no file read, because the files before them that are longer
-    /// than they may be have more than 64 MiB in all. If there is such an app, some app before it
-    /// has no program.
+    /// How many apps follow whose files aren't read, because earlier files that are too long have
+    /// more than 64 MiB in all. If there is one, some app before it has no program.
     pub unread: usize,
 }
 
@@ -60,27 +59,26 @@ struct ReadApps {
 }
 
 /// Why nothing is gathered: M1 to M3 and M7, for which no file is read, or M8, possibly after some
-/// were read. With M7 it has the manifest's arrays, with M8 those or none, and with M1 to M3 none,
-/// but what the bytes were parsed as.
+/// were read. With M7 it has the manifest's arrays, with M8 those or none. With M1 to M3 it has no
+/// arrays, but the result of parsing the bytes.
 #[derive(Drop)]
-pub struct Ungathered {
+pub struct GatherRefusal {
     pub fault: LoadFault,
     pub arrays: Vec<ArrayDeclaration>,
     pub parsed: Parsed,
 }
 
 /// Gathers a manifest and its files. Each file is read once, and none after more than 64 MiB of
-/// files that are longer than they may be. Also returns M8 if the count of unreadable files
-/// overflows.
-// open: whether an allocation fails (M8), and for M8 how many of the files that were read couldn't
-// be; that it asks the disk whether a file's path has a symbolic link: `bench/hostile`; what a
+/// files that are too long. Also returns M8 if the count of unreadable files overflows.
+// open: whether an allocation fails (M8), and for M8 how far the count of unreadable files grew;
+// that the disk is queried whether a file's path has a symbolic link: `bench/hostile`; what a
 // device's files contain.
 pub fn gather<F: Files>(
     alloc: Global,
     manifest: &[u8],
     files: &mut F,
     directory: &Directory,
-) -> Result<Gathered, Ungathered>
+) -> Result<Gathered, GatherRefusal>
     ensures known { F.known files.new ≡ F.known files.old }
     ensures gathered { IfOk result (IsGathered (F.known files.old) directory.now manifest.now) }
     ensures grown { IfOk result (λ g. IsPrefix directory.now g.directory) }
@@ -90,7 +88,7 @@ pub fn gather<F: Files>(
     // Nor is one counted if no file is read.
     ensures uncounted { IfErr result (λ u. u.fault ≢ LoadFault.Memory
         → F.failed files.new ≡ F.failed files.old) }
-    ensures fault { IfErr result (IsUngathered directory.now manifest.now) }
+    ensures fault { IfErr result (IsGatherRefusal directory.now manifest.now) }
 {
     let manifest = match parse(alloc, manifest) {
         Ok(manifest) => manifest,
@@ -107,7 +105,7 @@ pub fn gather<F: Files>(
     let numbers = match declare_arrays(alloc, &mut grown, &arrays) {
         Ok(numbers) => numbers,
         Err(fault) => {
-            return Err(Ungathered {
+            return Err(GatherRefusal {
                 fault,
                 arrays,
                 parsed: Parsed::Nothing,
@@ -128,9 +126,9 @@ pub fn gather<F: Files>(
 }
 
 // The manifest that bytes spell.
-fn parse(alloc: Global, bytes: &[u8]) -> Result<Manifest, Ungathered>
+fn parse(alloc: Global, bytes: &[u8]) -> Result<Manifest, GatherRefusal>
     ensures manifest { IfOk result (λ manifest. ReadsManifest bytes.now (Ok manifest)) }
-    ensures fault { IfErr result (λ u. (old : List CellArray) → IsUngathered old bytes.now u) }
+    ensures fault { IfErr result (λ u. (old : List CellArray) → IsGatherRefusal old bytes.now u) }
 {
     match parse_manifest(alloc, bytes) {
         Ok(manifest) => Ok(manifest),
@@ -138,12 +136,12 @@ fn parse(alloc: Global, bytes: &[u8]) -> Result<Manifest, Ungathered>
     }
 }
 
-fn unparsed(alloc: Global, refused: RefusedManifest) -> Ungathered
+fn unparsed(alloc: Global, refused: RefusedManifest) -> GatherRefusal
     ensures { (old : List CellArray) (bytes : List ℕ) → IsNoManifest bytes refused
-        → IsUngathered old bytes result }
+        → IsGatherRefusal old bytes result }
 {
     let RefusedManifest { fault, parsed } = refused;
-    Ungathered {
+    GatherRefusal {
         fault: of_manifest(fault),
         arrays: Vec::new(alloc),
         parsed,
@@ -161,12 +159,12 @@ fn of_manifest(fault: ManifestFault) -> LoadFault
     }
 }
 
-fn out_of_memory(arrays: Vec<ArrayDeclaration>) -> Ungathered
+fn out_of_memory(arrays: Vec<ArrayDeclaration>) -> GatherRefusal
     ensures fault { result.fault ≡ LoadFault.Memory }
     ensures ungathered { (old : List CellArray) (bytes : List ℕ) → AreArraysOf bytes arrays.items
-        → IsUngathered old bytes result }
+        → IsGatherRefusal old bytes result }
 {
-    Ungathered {
+    GatherRefusal {
         fault: LoadFault::Memory,
         arrays,
         parsed: Parsed::Nothing,
@@ -224,7 +222,7 @@ fn gather_app<F: Files>(
     let Ok(shape) = Shape::of(alloc, releases, directory, numbers) else {
         return Err(AllocError);
     };
-    let behind_link = files.is_behind_link(file_of(entry.source()));
+    let behind_link = files.is_through_link(file_of(entry.source()));
     let kept = gather_file(files, entry.source())?;
     Ok(GatheredApp {
         entry,

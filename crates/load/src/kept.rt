@@ -11,10 +11,8 @@ use bounded_files::{KeptBytes, ResourceFault};
 use manifest::ProgramSource;
 use std::alloc::AllocError;
 
-/// The most bytes of a program.
 const MOST_PROGRAM: u32 = flow_check::MOST_PROGRAM as u32;
 
-/// The most bytes of the text of a rule.
 const MOST_RULE: u32 = rule_lang::MOST_RULE as u32;
 
 /// Reads the file of an app; None if it can't be read.

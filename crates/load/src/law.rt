@@ -22,13 +22,13 @@ pub fn one_load()
     bpf_verify::one_verdict();
 }
 
-/// Law: the verdict on what is gathered of a manifest and its files is that of their load, and for
-/// each app that of its entry.
+/// Law: the verdict on a gathered manifest and its files is that of their load, and the verdict on
+/// each app that on its entry.
 pub fn gathered_is_loaded()
     ensures { GatheredIsLoaded }
 {}
 
-/// Law: the ruleset made of what was gathered of a manifest is the one that the manifest loads as.
+/// Law: the ruleset made of a gathered manifest is the one that its load gives.
 pub fn gathered_is_made()
     ensures { GatheredIsMade }
 {}

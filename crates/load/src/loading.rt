@@ -4,7 +4,7 @@ ghost use Rattle.std.specs.Prelude.{◌≡◌, ℕ, List, IfOk, IfErr, None};
 ghost use mathlib.Core.List.{IsPrefix};
 ghost use Rattle.bounded_files.specs.Files.{KnownFiles};
 ghost use Rattle.load.specs.Cause.{IsFaultWithCause};
-ghost use Rattle.load.specs.Gathered.{IsUngathered};
+ghost use Rattle.load.specs.Gathered.{IsGatherRefusal};
 ghost use Rattle.load.specs.Judged.{CountsFault, CountsLoad};
 ghost use Rattle.load.specs.Load.{IsRulesetOf, Loads, LoadsOver};
 ghost use Rattle.load.specs.Made.{IsMadeOver};
@@ -13,7 +13,7 @@ ghost use Rattle.ruleset.specs.Rules.{KnowsOnly};
 use crate::cause::cause_of;
 use crate::fault::LoadFault;
 use crate::files::Files;
-use crate::gathering::{Ungathered, gather};
+use crate::gathering::{GatherRefusal, gather};
 use crate::law::{gathered_is_loaded, gathered_is_made};
 use crate::made::make_ruleset;
 use cells::{Directory, arrays_stay};
@@ -57,8 +57,8 @@ pub fn load_ruleset<F: Files>(
 ///
 /// All files are read before the first is judged, as in `gather`. Returns M8 if an allocation fails
 /// or the count of unreadable files overflows.
-// open: whether an allocation fails (M8), and for M8 how many of the files that were read couldn't
-// be; what a device's files contain.
+// open: whether an allocation fails (M8), and for M8 how far the count of unreadable files grew;
+// what a device's files contain.
 pub fn load_over<F: Files>(
     alloc: Global,
     manifest: &[u8],
@@ -96,7 +96,7 @@ pub(crate) struct BytesRefusal {
     pub(crate) cause: Option<String>,
 }
 
-/// The load of these bytes, of a manifest, and of the files that they name.
+/// The load of a manifest with these bytes, and of the files that it names.
 pub(crate) fn load_bytes<F: Files>(
     alloc: Global,
     manifest: &[u8],
@@ -131,13 +131,13 @@ pub(crate) fn load_bytes<F: Files>(
 }
 
 // Why nothing is gathered from a manifest's bytes, with the cause.
-fn refused(alloc: Global, directory: &Directory, ungathered: Ungathered) -> BytesRefusal
+fn refused(alloc: Global, directory: &Directory, ungathered: GatherRefusal) -> BytesRefusal
     ensures fault { result.fault ≡ ungathered.fault }
     ensures cause { (known : KnownFiles) (bytes : List ℕ)
-        → IsUngathered directory.now bytes ungathered
+        → IsGatherRefusal directory.now bytes ungathered
         → IsFaultWithCause known directory.now bytes result.fault result.cause }
 {
-    let Ungathered { fault, arrays, .. } = ungathered;
+    let GatherRefusal { fault, arrays, .. } = ungathered;
     let cause = cause_of(alloc, directory, &arrays, &fault);
     BytesRefusal { fault, cause }
 }

@@ -36,7 +36,7 @@ pub fn load_path<D: Disk>(
     ensures only { IfOk result (λ loaded. KnowsOnly loaded.1 loaded.0) }
     ensures grown { IfOk result (λ loaded. IsPrefix directory.now loaded.1) }
 {
-    match load_told(alloc, disk, path, directory) {
+    match load_with_digest(alloc, disk, path, directory) {
         Ok(
             LoadedRuleset {
                 rules,
@@ -57,7 +57,7 @@ pub fn load_path<D: Disk>(
 /// judged, or a fault's cause. All files are read before the first is judged.
 // open: whether an allocation fails (M8, B4), also for a cause; what a device's files contain.
 #[tactic(auto, using(crate::proofs::Making::is_loaded))]
-pub fn load_told<D: Disk>(
+pub fn load_with_digest<D: Disk>(
     alloc: Global,
     disk: &D,
     path: &str,
@@ -73,7 +73,7 @@ pub fn load_told<D: Disk>(
         Ok(bytes) => bytes,
         Err(fault) => return Err(LoadRefusal::of(fault)),
     };
-    let mut files = FolderFiles::beside(alloc, disk, path);
+    let mut files = FolderFiles::in_folder_of(alloc, disk, path);
     match load_bytes(alloc, &bytes, &mut files, directory) {
         Ok(made) => Ok(made),
         Err(BytesRefusal { fault, cause }) => Err(LoadRefusal {

@@ -36,7 +36,7 @@ pub fn judge(alloc: Global, apps: &[GatheredApp]) -> Result<Vec<Verified>, LoadF
     Ok(programs)
 }
 
-/// The program of an app by itself, or its fault.
+/// The program of one app, or its fault.
 // open: whether an allocation fails (M8).
 pub fn judge_app(alloc: Global, app: &GatheredApp) -> Result<Verified, AppFault>
     ensures program { IfOk result (IsJudged app.now) }

@@ -9,14 +9,14 @@ use Rattle.std.specs.Str.{bytes_eq}
 use Rattle.toml.specs.Data.{Data, Members, get_member, as_str}
 use Rattle.cells.specs.Directory.{Declaration}
 use Rattle.manifest.specs.declared.kind.Kind.TheVariants as kind
-use Rattle.manifest.specs.declared.fault.Twice.{Twice}
-use Rattle.manifest.specs.declared.fault.Twice.TheVariants as twice
+use Rattle.manifest.specs.declared.fault.DuplicateName.{DuplicateName}
+use Rattle.manifest.specs.declared.fault.DuplicateName.TheVariants as twice
 use Rattle.manifest.specs.declared.misfit.InList.{InList}
 use Rattle.manifest.specs.declared.misfit.InList.TheVariants.{Count}
-use Rattle.manifest.specs.declared.misfit.AppMisfit.{AppMisfit}
-use Rattle.manifest.specs.declared.misfit.ArrayMisfit.{ArrayMisfit}
-use Rattle.manifest.specs.declared.misfit.Misfit.{Misfit}
-use Rattle.manifest.specs.declared.misfit.Misfit.TheVariants as misfit
+use Rattle.manifest.specs.declared.misfit.AppError.{AppError}
+use Rattle.manifest.specs.declared.misfit.ArrayError.{ArrayError}
+use Rattle.manifest.specs.declared.misfit.SchemaError.{SchemaError}
+use Rattle.manifest.specs.declared.misfit.SchemaError.TheVariants as misfit
 use Rattle.manifest.specs.AllTwice.{all_twice}
 use Rattle.manifest.specs.App.{AppEntry, app_of}
 use Rattle.manifest.specs.Array.{array_of}
@@ -29,7 +29,7 @@ use Rattle.manifest.specs.Misfits.{misfit_in, misfits_between, misfits_from, mis
 use Rattle.manifest.specs.Misfits.{app_misfits, array_misfits, misfits_of_rows, server_of}
 use Rattle.manifest.specs.Rows.{are_between, item_of, items_from, items_in, rows_of, some_rows}
 use Rattle.manifest.specs.Rows.{with_first}
-use Rattle.manifest.specs.Twice.{names_twice, names_without, repeated}
+use Rattle.manifest.specs.DuplicateNames.{names_twice, names_without, repeated}
 
 abbrev first : {X : Type 0} → List X → Option X
 first [] = None
@@ -95,8 +95,8 @@ module _ {X M : Type 0} (row_of : Members → Result X M) where
 -- ---- a manifest
 
 first_of_parts : (key server : Option (List ℕ))
-    (arrays : Result (List Declaration) (InList ArrayMisfit))
-    (apps : Result (List AppEntry) (InList AppMisfit))
+    (arrays : Result (List Declaration) (InList ArrayError))
+    (apps : Result (List AppEntry) (InList AppError))
     → or_else (or_else (or_else (first (map misfit.Unknown (option_to_list key)))
     (first (server_of server)))
     (option_map misfit.Arrays (fault_in arrays))) (option_map misfit.Apps (fault_in apps))
@@ -175,7 +175,7 @@ misfit_first bytes misfit tree read is =
     ∙ ap (λ t. fault_in (tables_of t)) (one_tree bytes tree read.tree is read.spelled)
     ∙ ap fault_in read.tables_are)
 
-abbrev twice_in : Result Manifest Misfit → Option Twice
+abbrev twice_in : Result Manifest SchemaError → Option DuplicateName
 twice_in (Ok manifest) = fault_in (once manifest)
 twice_in (Err misfit) = None
 

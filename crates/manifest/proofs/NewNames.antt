@@ -10,7 +10,7 @@ use Rattle.std.proofs.lemmas.Slice.Eq.{bytes_eq-Decides}
 use Rattle.std.specs.List.{All, filter, list_any}
 use Rattle.std.specs.Str.{bytes_eq}
 use Rattle.manifest.proofs.Walks.{taken, told_both}
-use Rattle.manifest.specs.Twice.{names_twice, names_without}
+use Rattle.manifest.specs.DuplicateNames.{names_twice, names_without}
 
 -- the names that didn't occur before
 abbrev pub names_new : (before names : List (List ℕ)) → List (List ℕ)

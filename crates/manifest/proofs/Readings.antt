@@ -7,18 +7,18 @@ use Rattle.manifest.specs.declared.fault.ManifestFault.{ManifestFault}
 use Rattle.manifest.specs.declared.fault.ManifestFault.TheVariants.{Toml, Field, Duplicate, Memory}
 use Rattle.manifest.specs.declared.fault.TomlFault.{TomlFault}
 use Rattle.manifest.specs.declared.fault.TomlFault.TheVariants.{TooLong, Text}
-use Rattle.manifest.specs.declared.fault.Twice.{Twice}
-use Rattle.manifest.specs.declared.misfit.Misfit.{Misfit}
+use Rattle.manifest.specs.declared.fault.DuplicateName.{DuplicateName}
+use Rattle.manifest.specs.declared.misfit.SchemaError.{SchemaError}
 use Rattle.manifest.specs.Manifest.{Manifest, IsTree, HasNoTree, ReadsManifest}
 use Rattle.manifest.specs.Manifest.{tables_of, once}
 use Rattle.manifest.specs.OneReading.{HasOneManifest}
 
 -- the result of a tree's tables
-abbrev of_names : Result Manifest Twice → Result Manifest ManifestFault
+abbrev of_names : Result Manifest DuplicateName → Result Manifest ManifestFault
 of_names (Ok manifest) = Ok manifest
 of_names (Err twice) = Err (Duplicate twice)
 
-abbrev of_tables : Result Manifest Misfit → Result Manifest ManifestFault
+abbrev of_tables : Result Manifest SchemaError → Result Manifest ManifestFault
 of_tables (Ok manifest) = of_names (once manifest)
 of_tables (Err misfit) = Err (Field misfit)
 

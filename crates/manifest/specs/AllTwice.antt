@@ -2,20 +2,20 @@
 use Rattle.std.specs.Prelude.{◌≡◌, List, ◌++◌, map, Ok}
 use Rattle.toml.specs.Data.{Members}
 use Rattle.cells.specs.Directory.{Declaration}
-use Rattle.manifest.specs.declared.fault.Twice.{Twice}
-use Rattle.manifest.specs.declared.fault.Twice.TheVariants as twice
+use Rattle.manifest.specs.declared.fault.DuplicateName.{DuplicateName}
+use Rattle.manifest.specs.declared.fault.DuplicateName.TheVariants as twice
 use Rattle.manifest.specs.App.{AppEntry}
 use Rattle.manifest.specs.Manifest.{Manifest, tables_of}
-use Rattle.manifest.specs.Twice.{names_twice}
+use Rattle.manifest.specs.DuplicateNames.{names_twice}
 
 -- in the order in which a manifest is read
-abbrev pub all_twice : Manifest → List Twice
+abbrev pub all_twice : Manifest → List DuplicateName
 all_twice manifest =
     map twice.Array (names_twice (map (λ (a : Declaration). a.name) manifest.arrays))
     ++ map twice.App (names_twice (map (λ (a : AppEntry). a.appid) manifest.apps))
 
 -- the duplicates of a document's tables, if these have no schema error
-pub record HasAllTwice (tree : Members) (twices : List Twice) : Type 0 where
+pub record HasAllTwice (tree : Members) (twices : List DuplicateName) : Type 0 where
   pub manifest : Manifest
   pub tables_are : tables_of tree ≡ Ok manifest
   pub twices_are : twices ≡ all_twice manifest

@@ -8,9 +8,9 @@ use Rattle.manifest.specs.declared.app.ProgramSource.{ProgramSource}
 use Rattle.manifest.specs.declared.app.ProgramSource.TheVariants.{Program, Rule}
 use Rattle.manifest.specs.declared.kind.Kind.TheVariants as kind
 use Rattle.manifest.specs.declared.misfit.InList.{InList}
-use Rattle.manifest.specs.declared.misfit.AppMisfit.{AppMisfit}
-use Rattle.manifest.specs.declared.misfit.AppMisfit.TheVariants as misfit
-use Rattle.manifest.specs.declared.misfit.ReleaseMisfit.{ReleaseMisfit}
+use Rattle.manifest.specs.declared.misfit.AppError.{AppError}
+use Rattle.manifest.specs.declared.misfit.AppError.TheVariants as misfit
+use Rattle.manifest.specs.declared.misfit.ReleaseError.{ReleaseError}
 use Rattle.manifest.specs.Kind.{only}
 use Rattle.manifest.specs.Member.{required, text_that, needs, fits}
 use Rattle.manifest.specs.Rows.{rows_of}
@@ -34,17 +34,17 @@ source_of None (Some rule) = option_map (λ file. Rule file) (as_str rule)
 source_of None None = None
 source_of (Some program) (Some rule) = None
 
-abbrev pub source_in : Members → Result ProgramSource AppMisfit
+abbrev pub source_in : Members → Result ProgramSource AppError
 source_in table =
     needs (source_of (get_member (codes "program") table) (get_member (codes "rule") table))
     misfit.ProgramSource (λ source. Ok source)
 
 -- at most 64 releases
-abbrev pub releases_of : Members → Result (List Release) (InList ReleaseMisfit)
+abbrev pub releases_of : Members → Result (List Release) (InList ReleaseError)
 releases_of table = rows_of release_of 0 64 (get_member (codes "release") table)
 
 -- the app of a table, or its first schema error
-abbrev pub app_of : Members → Result AppEntry AppMisfit
+abbrev pub app_of : Members → Result AppEntry AppError
 app_of table =
     only kind.App table misfit.Unknown (
     needs (required (text_that is_appid) (codes "appid") table) misfit.Appid (λ appid.

@@ -7,8 +7,8 @@ use Rattle.cells.specs.declared.array.CellWidth.TheVariants.{Bits32, Bits64}
 use Rattle.cells.specs.Directory.{Declaration, declaration}
 use Rattle.declarations.specs.Spec.{is_name}
 use Rattle.manifest.specs.declared.kind.Kind.TheVariants as kind
-use Rattle.manifest.specs.declared.misfit.ArrayMisfit.{ArrayMisfit}
-use Rattle.manifest.specs.declared.misfit.ArrayMisfit.TheVariants as misfit
+use Rattle.manifest.specs.declared.misfit.ArrayError.{ArrayError}
+use Rattle.manifest.specs.declared.misfit.ArrayError.TheVariants as misfit
 use Rattle.manifest.specs.Kind.{only}
 use Rattle.manifest.specs.Member.{required, number, text_that, needs}
 
@@ -26,7 +26,7 @@ quota_of Bits64 (Some value) = option_map (λ q. Some q) (number 1 9223372036854
 quota_of Bits32 (Some value) = None
 
 -- the array of a table, or its first schema error
-abbrev pub array_of : Members → Result Declaration ArrayMisfit
+abbrev pub array_of : Members → Result Declaration ArrayError
 array_of table =
     only kind.Array table misfit.Unknown (
     needs (required (text_that is_name) (codes "name") table) misfit.Name (λ name.

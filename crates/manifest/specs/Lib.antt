@@ -1,12 +1,12 @@
 pub mod Kind
 pub mod Member
 pub mod Rows
-pub mod Unread
+pub mod TableFault
 pub mod Package
 pub mod Release
 pub mod Array
 pub mod App
-pub mod Twice
+pub mod DuplicateNames
 pub mod Manifest
 pub mod Parsed
 pub mod Misfits

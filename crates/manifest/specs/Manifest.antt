@@ -8,20 +8,20 @@ use Rattle.manifest.specs.declared.fault.ManifestFault.{ManifestFault}
 use Rattle.manifest.specs.declared.fault.ManifestFault.TheVariants.{Toml, Field, Duplicate, Memory}
 use Rattle.manifest.specs.declared.fault.TomlFault.{TomlFault}
 use Rattle.manifest.specs.declared.fault.TomlFault.TheVariants.{TooLong, Text}
-use Rattle.manifest.specs.declared.fault.Twice.{Twice}
-use Rattle.manifest.specs.declared.fault.Twice.TheVariants as twice
+use Rattle.manifest.specs.declared.fault.DuplicateName.{DuplicateName}
+use Rattle.manifest.specs.declared.fault.DuplicateName.TheVariants as twice
 use Rattle.manifest.specs.declared.kind.Kind.TheVariants as kind
 use Rattle.manifest.specs.declared.misfit.InList.{InList}
-use Rattle.manifest.specs.declared.misfit.AppMisfit.{AppMisfit}
-use Rattle.manifest.specs.declared.misfit.ArrayMisfit.{ArrayMisfit}
-use Rattle.manifest.specs.declared.misfit.Misfit.{Misfit}
-use Rattle.manifest.specs.declared.misfit.Misfit.TheVariants as misfit
+use Rattle.manifest.specs.declared.misfit.AppError.{AppError}
+use Rattle.manifest.specs.declared.misfit.ArrayError.{ArrayError}
+use Rattle.manifest.specs.declared.misfit.SchemaError.{SchemaError}
+use Rattle.manifest.specs.declared.misfit.SchemaError.TheVariants as misfit
 use Rattle.manifest.specs.Kind.{only}
 use Rattle.manifest.specs.Member.{required, needs, fits}
 use Rattle.manifest.specs.Rows.{rows_of}
 use Rattle.manifest.specs.Array.{array_of}
 use Rattle.manifest.specs.App.{AppEntry, app_of}
-use Rattle.manifest.specs.Twice.{repeated}
+use Rattle.manifest.specs.DuplicateNames.{repeated}
 
 pub record Manifest : Type 0 where
   pub server : List ℕ
@@ -29,15 +29,15 @@ pub record Manifest : Type 0 where
   pub apps : List AppEntry
 
 -- at most 64 arrays
-abbrev pub arrays_of : Members → Result (List Declaration) (InList ArrayMisfit)
+abbrev pub arrays_of : Members → Result (List Declaration) (InList ArrayError)
 arrays_of table = rows_of array_of 0 64 (get_member (codes "array") table)
 
 -- 1 to 256 apps
-abbrev pub apps_of : Members → Result (List AppEntry) (InList AppMisfit)
+abbrev pub apps_of : Members → Result (List AppEntry) (InList AppError)
 apps_of table = rows_of app_of 1 256 (get_member (codes "app") table)
 
 -- the manifest of a document's table, or its first schema error
-abbrev pub tables_of : Members → Result Manifest Misfit
+abbrev pub tables_of : Members → Result Manifest SchemaError
 tables_of table =
     only kind.Manifest table misfit.Unknown (
     needs (required as_str (codes "server") table) misfit.Server (λ server.
@@ -45,13 +45,13 @@ tables_of table =
     fits (apps_of table) misfit.Apps (λ apps.
     Ok (record { server = server; arrays = arrays; apps = apps })))))
 
--- continues if there is nothing
+-- continues if there is nothing wrong
 abbrev pub none_of : {X Y E : Type 0} → Option X → (X → E) → Result Y E → Result Y E
 none_of None fault next = next
 none_of (Some x) fault next = Err (fault x)
 
 -- the manifest, if the names of its arrays are distinct, and so are its appids
-abbrev pub once : Manifest → Result Manifest Twice
+abbrev pub once : Manifest → Result Manifest DuplicateName
 once manifest =
     none_of (repeated (map (λ (a : Declaration). a.name) manifest.arrays)) twice.Array (
     none_of (repeated (map (λ (a : AppEntry). a.appid) manifest.apps)) twice.App (
@@ -72,7 +72,7 @@ HasNoTree bytes Text =
     (length bytes ≤ 1048576) × (IsUtf8 bytes → parse_document bytes ≡ None)
 
 -- the result of reading the tables of the bytes' tree
-pub record HasTables (bytes : List ℕ) (tables : Result Manifest Misfit) : Type 0 where
+pub record HasTables (bytes : List ℕ) (tables : Result Manifest SchemaError) : Type 0 where
   pub tree : Members
   pub spelled : IsTree bytes tree
   pub tables_are : tables_of tree ≡ tables

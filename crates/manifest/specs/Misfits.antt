@@ -5,10 +5,10 @@ use Rattle.toml.specs.Data.{Data, Members, get_member, as_str}
 use Rattle.manifest.specs.declared.kind.Kind.TheVariants as kind
 use Rattle.manifest.specs.declared.misfit.InList.{InList}
 use Rattle.manifest.specs.declared.misfit.InList.TheVariants.{Count}
-use Rattle.manifest.specs.declared.misfit.AppMisfit.{AppMisfit}
-use Rattle.manifest.specs.declared.misfit.ArrayMisfit.{ArrayMisfit}
-use Rattle.manifest.specs.declared.misfit.Misfit.{Misfit}
-use Rattle.manifest.specs.declared.misfit.Misfit.TheVariants as misfit
+use Rattle.manifest.specs.declared.misfit.AppError.{AppError}
+use Rattle.manifest.specs.declared.misfit.ArrayError.{ArrayError}
+use Rattle.manifest.specs.declared.misfit.SchemaError.{SchemaError}
+use Rattle.manifest.specs.declared.misfit.SchemaError.TheVariants as misfit
 use Rattle.manifest.specs.App.{app_of}
 use Rattle.manifest.specs.Array.{array_of}
 use Rattle.manifest.specs.Kind.{unknown_member}
@@ -36,24 +36,24 @@ module _ {X M : Type 0} (row_of : Members → Result X M) where
   misfits_of_rows from to None = if from == 0 then [] else Count ∷ []
   misfits_of_rows from to (Some value) = misfits_between from to (items_in value)
 
-abbrev pub server_of : Option (List ℕ) → List Misfit
+abbrev pub server_of : Option (List ℕ) → List SchemaError
 server_of None = misfit.Server ∷ []
 server_of (Some server) = []
 
 -- the first unknown member, and a server that isn't a text
-abbrev pub own_misfits : Members → List Misfit
+abbrev pub own_misfits : Members → List SchemaError
 own_misfits table =
     map misfit.Unknown (option_to_list (unknown_member kind.Manifest table))
     ++ server_of (required as_str (codes "server") table)
 
-abbrev pub array_misfits : Members → List (InList ArrayMisfit)
+abbrev pub array_misfits : Members → List (InList ArrayError)
 array_misfits table = misfits_of_rows array_of 0 64 (get_member (codes "array") table)
 
-abbrev pub app_misfits : Members → List (InList AppMisfit)
+abbrev pub app_misfits : Members → List (InList AppError)
 app_misfits table = misfits_of_rows app_of 1 256 (get_member (codes "app") table)
 
 -- in the order in which a manifest is read
-abbrev pub misfits_of : Members → List Misfit
+abbrev pub misfits_of : Members → List SchemaError
 misfits_of table =
     own_misfits table
     ++ map misfit.Arrays (array_misfits table) ++ map misfit.Apps (app_misfits table)

@@ -5,9 +5,9 @@ use Rattle.attrs.specs.Version.{version_of}
 use Rattle.releases.specs.Release.{Package, Release}
 use Rattle.manifest.specs.declared.kind.Kind.TheVariants as kind
 use Rattle.manifest.specs.declared.misfit.InList.{InList}
-use Rattle.manifest.specs.declared.misfit.PackageMisfit.{PackageMisfit}
-use Rattle.manifest.specs.declared.misfit.ReleaseMisfit.{ReleaseMisfit}
-use Rattle.manifest.specs.declared.misfit.ReleaseMisfit.TheVariants as misfit
+use Rattle.manifest.specs.declared.misfit.PackageError.{PackageError}
+use Rattle.manifest.specs.declared.misfit.ReleaseError.{ReleaseError}
+use Rattle.manifest.specs.declared.misfit.ReleaseError.TheVariants as misfit
 use Rattle.manifest.specs.Kind.{only}
 use Rattle.manifest.specs.Member.{required, text_that, needs, fits}
 use Rattle.manifest.specs.Rows.{rows_of}
@@ -18,11 +18,11 @@ abbrev pub is_version_text : List ℕ → Bool
 is_version_text text = is_some (version_of text)
 
 -- 1 to 16 packages
-abbrev pub packages_of : Members → Result (List Package) (InList PackageMisfit)
+abbrev pub packages_of : Members → Result (List Package) (InList PackageError)
 packages_of table = rows_of package_of 1 16 (get_member (codes "package") table)
 
 -- the release of a table, or its first schema error
-abbrev pub release_of : Members → Result Release ReleaseMisfit
+abbrev pub release_of : Members → Result Release ReleaseError
 release_of table =
     only kind.Release table misfit.Unknown (
     needs (required (text_that is_version_text) (codes "version") table) misfit.Version (λ version.

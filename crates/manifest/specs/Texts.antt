@@ -3,20 +3,20 @@
 use Rattle.std.specs.Prelude.{ℕ, List, ◌++◌, codes, decimal}
 use Rattle.manifest.specs.declared.fault.ManifestFault.{ManifestFault}
 use Rattle.manifest.specs.declared.fault.ManifestFault.TheVariants as unread
-use Rattle.manifest.specs.declared.fault.Twice.{Twice}
-use Rattle.manifest.specs.declared.fault.Twice.TheVariants as twice
+use Rattle.manifest.specs.declared.fault.DuplicateName.{DuplicateName}
+use Rattle.manifest.specs.declared.fault.DuplicateName.TheVariants as twice
 use Rattle.manifest.specs.declared.misfit.InList.{InList}
 use Rattle.manifest.specs.declared.misfit.InList.TheVariants.{Count, NoTable, At}
-use Rattle.manifest.specs.declared.misfit.AppMisfit.{AppMisfit}
-use Rattle.manifest.specs.declared.misfit.AppMisfit.TheVariants as app
-use Rattle.manifest.specs.declared.misfit.ArrayMisfit.{ArrayMisfit}
-use Rattle.manifest.specs.declared.misfit.ArrayMisfit.TheVariants as array
-use Rattle.manifest.specs.declared.misfit.Misfit.{Misfit}
-use Rattle.manifest.specs.declared.misfit.Misfit.TheVariants as misfit
-use Rattle.manifest.specs.declared.misfit.PackageMisfit.{PackageMisfit}
-use Rattle.manifest.specs.declared.misfit.PackageMisfit.TheVariants as the_package
-use Rattle.manifest.specs.declared.misfit.ReleaseMisfit.{ReleaseMisfit}
-use Rattle.manifest.specs.declared.misfit.ReleaseMisfit.TheVariants as release
+use Rattle.manifest.specs.declared.misfit.AppError.{AppError}
+use Rattle.manifest.specs.declared.misfit.AppError.TheVariants as app
+use Rattle.manifest.specs.declared.misfit.ArrayError.{ArrayError}
+use Rattle.manifest.specs.declared.misfit.ArrayError.TheVariants as array
+use Rattle.manifest.specs.declared.misfit.SchemaError.{SchemaError}
+use Rattle.manifest.specs.declared.misfit.SchemaError.TheVariants as misfit
+use Rattle.manifest.specs.declared.misfit.PackageError.{PackageError}
+use Rattle.manifest.specs.declared.misfit.PackageError.TheVariants as the_package
+use Rattle.manifest.specs.declared.misfit.ReleaseError.{ReleaseError}
+use Rattle.manifest.specs.declared.misfit.ReleaseError.TheVariants as release
 use Rattle.printing.specs.Printed.{printed}
 
 -- the path in the list with this key
@@ -27,14 +27,14 @@ list_text text_of key wanted (NoTable number) =
 list_text text_of key wanted (At number misfit) =
     key ++ codes "[" ++ decimal number ++ codes "]." ++ text_of misfit
 
-abbrev pub package_text : PackageMisfit → List ℕ
+abbrev pub package_text : PackageError → List ℕ
 package_text (the_package.Unknown key) = printed key ++ codes ": no member of a package"
 package_text the_package.Name = codes "name: a text"
 package_text the_package.Hash = codes "hash_sha256: 64 lower case hexadecimal digits"
 package_text the_package.Size = codes "size: a whole number from 0 to 9007199254740991"
 package_text the_package.Required = codes "required: true or false"
 
-abbrev pub release_text : ReleaseMisfit → List ℕ
+abbrev pub release_text : ReleaseError → List ℕ
 release_text (release.Unknown key) = printed key ++ codes ": no member of a release"
 release_text release.Version =
     codes "version: one to four numbers below 4294967296, joined by dots"
@@ -42,14 +42,14 @@ release_text release.Codebase = codes "codebase: a text"
 release_text (release.Packages list) =
     list_text package_text (codes "package") (codes "1 to 16 tables") list
 
-abbrev pub app_text : AppMisfit → List ℕ
+abbrev pub app_text : AppError → List ℕ
 app_text (app.Unknown key) = printed key ++ codes ": no member of an app"
 app_text app.Appid = codes "appid: a text of 1 to 1024 bytes"
 app_text app.ProgramSource = codes "program or rule: one of the two, the name of a file"
 app_text (app.Releases list) =
     list_text release_text (codes "release") (codes "at most 64 tables") list
 
-abbrev pub array_text : ArrayMisfit → List ℕ
+abbrev pub array_text : ArrayError → List ℕ
 array_text (array.Unknown key) = printed key ++ codes ": no member of an array"
 array_text array.Name =
     codes "name: a letter or _, then letters, digits and _, at most 32 in all"
@@ -59,7 +59,7 @@ array_text array.Quota =
     codes "quota: a whole number from 1 to 9223372036854775807, with width 64 alone"
 
 -- the path of the wrong member, and what is expected there
-abbrev pub misfit_text : Misfit → List ℕ
+abbrev pub misfit_text : SchemaError → List ℕ
 misfit_text (misfit.Unknown key) = printed key ++ codes ": no member of a manifest"
 misfit_text misfit.Server = codes "server: a text"
 misfit_text (misfit.Arrays list) =
@@ -69,7 +69,7 @@ misfit_text (misfit.Apps list) = list_text app_text (codes "app") (codes "1 to 2
 -- ---- duplicates
 
 -- a duplicate name
-abbrev pub twice_text : Twice → List ℕ
+abbrev pub twice_text : DuplicateName → List ℕ
 twice_text (twice.Array name) = codes "array " ++ printed name
 twice_text (twice.App appid) = codes "app " ++ printed appid
 

@@ -4,15 +4,15 @@ ghost use Rattle.std.specs.Prelude.{◌≡◌, ◌≤◌, length, codes, option_
 ghost use Rattle.std.specs.Prelude.{IfOk, IfSome, IsTrue};
 ghost use Rattle.toml.specs.View.{view, table_view};
 ghost use Rattle.manifest.specs.Member.{required, text_that};
-ghost use Rattle.manifest.specs.Unread.{ReadsAs, ReadsListAs};
+ghost use Rattle.manifest.specs.TableFault.{ReadsAs, ReadsListAs};
 ghost use Rattle.releases.specs.Appid.{is_appid};
 ghost use Rattle.manifest.specs.App as specs;
 
 use crate::kind::{Kind, unknown_member};
 use crate::member::{member, text};
-use crate::misfit::{AppMisfit, InList, ReleaseMisfit};
+use crate::misfit::{AppError, InList, ReleaseError};
 use crate::rows::{TableRow, read_rows};
-use crate::unread::{Unread, copy, quote};
+use crate::table_fault::{TableFault, copy, quote};
 use attrs::Text;
 use cells::Shape;
 use releases::Release;
@@ -102,29 +102,31 @@ impl AppEntry {
 }
 
 impl TableRow for AppEntry {
-    type Misfit = AppMisfit;
+    type SchemaError = AppError;
 
     ghost row_of = { specs.app_of };
 
-    fn read(alloc: Global, table: &Table) -> Result<AppEntry, Unread<AppMisfit>> {
+    fn read(alloc: Global, table: &Table) -> Result<AppEntry, TableFault<AppError>> {
         read_app(alloc, table)
     }
 }
 
-fn read_app(alloc: Global, table: &Table) -> Result<AppEntry, Unread<AppMisfit>>
+fn read_app(alloc: Global, table: &Table) -> Result<AppEntry, TableFault<AppError>>
     ensures { ReadsAs (specs.app_of (table_view table.now)) result }
 {
     if let Some(key) = unknown_member(Kind::App, table) {
-        return Err(Unread::Misfit(AppMisfit::Unknown(quote(alloc, key)?)));
+        return Err(TableFault::SchemaError(AppError::Unknown(quote(alloc, key)?)));
     }
     let Some(appid) = appid(table) else {
-        return Err(Unread::Misfit(AppMisfit::Appid));
+        return Err(TableFault::SchemaError(AppError::Appid));
     };
     let source = read_source(alloc, table)?;
     let releases = match read_releases(alloc, table) {
         Ok(releases) => releases,
-        Err(Unread::Misfit(misfit)) => return Err(Unread::Misfit(AppMisfit::Releases(misfit))),
-        Err(Unread::Memory) => return Err(Unread::Memory),
+        Err(TableFault::SchemaError(misfit)) => return Err(TableFault::SchemaError(
+            AppError::Releases(misfit),
+        )),
+        Err(TableFault::Memory) => return Err(TableFault::Memory),
     };
     Ok(AppEntry {
         appid: copy(alloc, appid)?,
@@ -145,26 +147,26 @@ fn appid(table: &Table) -> Option<&str>
 }
 
 // A table has either a program or a rule.
-fn read_source(alloc: Global, table: &Table) -> Result<ProgramSource, Unread<AppMisfit>>
+fn read_source(alloc: Global, table: &Table) -> Result<ProgramSource, TableFault<AppError>>
     ensures { ReadsAs (specs.source_in (table_view table.now)) result }
 {
     match (member(table, "program"), member(table, "rule")) {
         (Some(program), None) => match program.as_str() {
             Some(file) => Ok(ProgramSource::Program(copy(alloc, file)?)),
-            None => Err(Unread::Misfit(AppMisfit::ProgramSource)),
+            None => Err(TableFault::SchemaError(AppError::ProgramSource)),
         },
         (None, Some(rule)) => match rule.as_str() {
             Some(file) => Ok(ProgramSource::Rule(copy(alloc, file)?)),
-            None => Err(Unread::Misfit(AppMisfit::ProgramSource)),
+            None => Err(TableFault::SchemaError(AppError::ProgramSource)),
         },
-        _ => Err(Unread::Misfit(AppMisfit::ProgramSource)),
+        _ => Err(TableFault::SchemaError(AppError::ProgramSource)),
     }
 }
 
 fn read_releases(
     alloc: Global,
     table: &Table,
-) -> Result<Vec<Release>, Unread<InList<ReleaseMisfit>>>
+) -> Result<Vec<Release>, TableFault<InList<ReleaseError>>>
     ensures releases { ReadsListAs (specs.releases_of (table_view table.now)) result }
     ensures count { IfOk result (λ v. length v.items ≤ 64) }
 {

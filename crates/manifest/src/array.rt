@@ -5,49 +5,49 @@ ghost use Rattle.declarations.specs.Spec.{is_name};
 ghost use Rattle.toml.specs.Data.{get_member};
 ghost use Rattle.toml.specs.View.{view, table_view};
 ghost use Rattle.manifest.specs.Member.{required, text_that};
-ghost use Rattle.manifest.specs.Unread.{ReadsAs};
+ghost use Rattle.manifest.specs.TableFault.{ReadsAs};
 ghost use Rattle.manifest.specs.Array as specs;
 
 use crate::kind::{Kind, unknown_member};
 use crate::member::{member, number, number_of, text};
-use crate::misfit::ArrayMisfit;
+use crate::misfit::ArrayError;
 use crate::rows::TableRow;
-use crate::unread::{Unread, quote};
+use crate::table_fault::{TableFault, quote};
 use cells::{ArrayName, CellArray, CellWidth};
 use declarations::ArrayDeclaration;
 use std::alloc::Global;
 use toml::{Table, Value};
 
 impl TableRow for ArrayDeclaration {
-    type Misfit = ArrayMisfit;
+    type SchemaError = ArrayError;
 
     ghost row_of = { specs.array_of };
 
-    fn read(alloc: Global, table: &Table) -> Result<ArrayDeclaration, Unread<ArrayMisfit>> {
+    fn read(alloc: Global, table: &Table) -> Result<ArrayDeclaration, TableFault<ArrayError>> {
         read_array(alloc, table)
     }
 }
 
-fn read_array(alloc: Global, table: &Table) -> Result<ArrayDeclaration, Unread<ArrayMisfit>>
+fn read_array(alloc: Global, table: &Table) -> Result<ArrayDeclaration, TableFault<ArrayError>>
     ensures { ReadsAs (specs.array_of (table_view table.now)) result }
 {
     if let Some(key) = unknown_member(Kind::Array, table) {
-        return Err(Unread::Misfit(ArrayMisfit::Unknown(quote(alloc, key)?)));
+        return Err(TableFault::SchemaError(ArrayError::Unknown(quote(alloc, key)?)));
     }
     let Some(name) = name(table) else {
-        return Err(Unread::Misfit(ArrayMisfit::Name));
+        return Err(TableFault::SchemaError(ArrayError::Name));
     };
     let Some(width) = width(table) else {
-        return Err(Unread::Misfit(ArrayMisfit::Width));
+        return Err(TableFault::SchemaError(ArrayError::Width));
     };
     let Some(length) = number(table, "length", 1, CellWidth::CELLS as u64) else {
-        return Err(Unread::Misfit(ArrayMisfit::Length));
+        return Err(TableFault::SchemaError(ArrayError::Length));
     };
     let Some(quota) = quota(table, width) else {
-        return Err(Unread::Misfit(ArrayMisfit::Quota));
+        return Err(TableFault::SchemaError(ArrayError::Quota));
     };
     let Ok(name) = ArrayName::of(alloc, name) else {
-        return Err(Unread::Memory);
+        return Err(TableFault::Memory);
     };
     Ok(ArrayDeclaration::new(name, width, length as u16, quota))
 }

@@ -3,7 +3,7 @@
 ghost use Rattle.std.specs.Prelude.{Some};
 ghost use Rattle.manifest.specs.Texts.{manifest_fault_text, twice_text};
 
-use crate::misfit::Misfit;
+use crate::misfit::SchemaError;
 use crate::quote::Quote;
 use std::error::Error;
 use std::fmt;
@@ -16,9 +16,9 @@ pub enum ManifestFault {
     /// The bytes aren't a TOML document, or are more than 1048576.
     Toml(TomlFault),
     /// A member is wrong, missing or unknown.
-    Field(Misfit),
+    Field(SchemaError),
     /// An array's name or an appid is a duplicate.
-    Duplicate(Twice),
+    Duplicate(DuplicateName),
     /// An allocation failed.
     Memory,
 }
@@ -49,20 +49,20 @@ pub enum TomlFault {
 
 /// A duplicate name.
 #[derive(Debug, Drop)]
-pub enum Twice {
+pub enum DuplicateName {
     /// The name of an array.
     Array(Quote),
     /// An appid.
     App(Quote),
 }
 
-impl Display for Twice {
+impl Display for DuplicateName {
     ghost output = { λ twice. Some (twice_text twice) };
 
     fn fmt<W: Write>(&self, f: &mut Formatter<W>) -> fmt::Result {
         match self {
-            Twice::Array(name) => write!(f, "array {name}"),
-            Twice::App(appid) => write!(f, "app {appid}"),
+            DuplicateName::Array(name) => write!(f, "array {name}"),
+            DuplicateName::App(appid) => write!(f, "app {appid}"),
         }
     }
 }

@@ -8,7 +8,6 @@ ghost use Rattle.manifest.specs.Kind as specs;
 
 use toml::Table;
 
-/// The kinds of tables.
 #[derive(Clone, Copy, PartialEq, Eq)]
 pub(crate) enum Kind {
     Manifest,
@@ -37,7 +36,6 @@ fn is_member(kind: Kind, key: &str) -> bool
     is_among(key, members_of(kind))
 }
 
-// Whether a key is in a list.
 fn is_among(key: &str, keys: &[&str]) -> bool
     ensures { result ≡ list_any (bytes_eq key.now) (map (λ other. other.now) keys.now) }
 {

@@ -25,8 +25,8 @@
 //! required = true
 //! ```
 //!
-//! Each kind of table has a file, a definition of the same name in `specs/`, and its schema errors
-//! (a `Misfit` type). The error that counts is the first unknown member, or else the first wrong
+//! Each kind of table has a file, a definition of the same name in `specs/`, and a type of its
+//! schema errors. The error that counts is the first unknown member, or else the first wrong
 //! member in the order of this sample. So a manifest has at most one schema error, whose path says
 //! where it is.
 //!
@@ -49,14 +49,14 @@ mod refused;
 mod release;
 mod repeats;
 mod rows;
+mod table_fault;
 mod twice;
-mod unread;
 
 pub use app::{AppEntry, AppParts, ProgramSource};
-pub use fault::{ManifestFault, TomlFault, Twice};
+pub use fault::{DuplicateName, ManifestFault, TomlFault};
 pub use law::{first_misfit, first_twice, one_reading};
 pub use manifest::{Manifest, ManifestParts};
-pub use misfit::{AppMisfit, ArrayMisfit, InList, Misfit, PackageMisfit, ReleaseMisfit};
+pub use misfit::{AppError, ArrayError, InList, PackageError, ReleaseError, SchemaError};
 pub use misfits::all_misfits;
 pub use quote::Quote;
 pub use read::{MOST_MANIFEST, parse_manifest, read_manifest};

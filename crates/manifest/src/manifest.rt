@@ -2,17 +2,17 @@
 
 ghost use Rattle.std.specs.Prelude.{◌≡◌};
 ghost use Rattle.toml.specs.View.{table_view};
-ghost use Rattle.manifest.specs.Unread.{ReadsAs, ReadsListAs};
+ghost use Rattle.manifest.specs.TableFault.{ReadsAs, ReadsListAs};
 ghost use Rattle.manifest.specs.Manifest as specs;
 
 use crate::app::AppEntry;
-use crate::fault::Twice;
+use crate::fault::DuplicateName;
 use crate::kind::{Kind, unknown_member};
 use crate::member::text;
-use crate::misfit::{AppMisfit, ArrayMisfit, InList, Misfit};
+use crate::misfit::{AppError, ArrayError, InList, SchemaError};
 use crate::rows::read_rows;
+use crate::table_fault::{TableFault, copy, quote};
 use crate::twice::repeated_name;
-use crate::unread::{Unread, copy, quote};
 use attrs::Text;
 use declarations::ArrayDeclaration;
 use releases::MOST_APPS;
@@ -20,7 +20,6 @@ use std::alloc::Global;
 use std::marker::Model;
 use toml::Table;
 
-/// The most arrays.
 pub(crate) const MAX_ARRAYS: usize = 64;
 
 /// The data of a manifest: the server's name, its arrays of counters, and its apps.
@@ -90,24 +89,28 @@ impl Manifest {
 }
 
 /// The manifest of a table, which may have duplicate names.
-pub(crate) fn read_tables(alloc: Global, table: &Table) -> Result<Manifest, Unread<Misfit>>
+pub(crate) fn read_tables(alloc: Global, table: &Table) -> Result<Manifest, TableFault<SchemaError>>
     ensures { ReadsAs (specs.tables_of (table_view table.now)) result }
 {
     if let Some(key) = unknown_member(Kind::Manifest, table) {
-        return Err(Unread::Misfit(Misfit::Unknown(quote(alloc, key)?)));
+        return Err(TableFault::SchemaError(SchemaError::Unknown(quote(alloc, key)?)));
     }
     let Some(server) = text(table, "server") else {
-        return Err(Unread::Misfit(Misfit::Server));
+        return Err(TableFault::SchemaError(SchemaError::Server));
     };
     let arrays = match read_arrays(alloc, table) {
         Ok(arrays) => arrays,
-        Err(Unread::Misfit(misfit)) => return Err(Unread::Misfit(Misfit::Arrays(misfit))),
-        Err(Unread::Memory) => return Err(Unread::Memory),
+        Err(TableFault::SchemaError(misfit)) => return Err(TableFault::SchemaError(
+            SchemaError::Arrays(misfit),
+        )),
+        Err(TableFault::Memory) => return Err(TableFault::Memory),
     };
     let apps = match read_apps(alloc, table) {
         Ok(apps) => apps,
-        Err(Unread::Misfit(misfit)) => return Err(Unread::Misfit(Misfit::Apps(misfit))),
-        Err(Unread::Memory) => return Err(Unread::Memory),
+        Err(TableFault::SchemaError(misfit)) => return Err(TableFault::SchemaError(
+            SchemaError::Apps(misfit),
+        )),
+        Err(TableFault::Memory) => return Err(TableFault::Memory),
     };
     Ok(Manifest {
         server: copy(alloc, server)?,
@@ -119,27 +122,30 @@ pub(crate) fn read_tables(alloc: Global, table: &Table) -> Result<Manifest, Unre
 fn read_arrays(
     alloc: Global,
     table: &Table,
-) -> Result<Vec<ArrayDeclaration>, Unread<InList<ArrayMisfit>>>
+) -> Result<Vec<ArrayDeclaration>, TableFault<InList<ArrayError>>>
     ensures { ReadsListAs (specs.arrays_of (table_view table.now)) result }
 {
     read_rows(alloc, table, "array", 0, MAX_ARRAYS)
 }
 
-fn read_apps(alloc: Global, table: &Table) -> Result<Vec<AppEntry>, Unread<InList<AppMisfit>>>
+fn read_apps(alloc: Global, table: &Table) -> Result<Vec<AppEntry>, TableFault<InList<AppError>>>
     ensures { ReadsListAs (specs.apps_of (table_view table.now)) result }
 {
     read_rows(alloc, table, "app", 1, MOST_APPS)
 }
 
-/// A manifest without duplicate names.
-pub(crate) fn read_once(alloc: Global, manifest: Manifest) -> Result<Manifest, Unread<Twice>>
+/// The manifest, unless it has a duplicate name.
+pub(crate) fn without_duplicates(
+    alloc: Global,
+    manifest: Manifest,
+) -> Result<Manifest, TableFault<DuplicateName>>
     ensures { ReadsAs (specs.once manifest) result }
 {
     if let Some(name) = repeated_name(manifest.arrays()) {
-        return Err(Unread::Misfit(Twice::Array(quote(alloc, name)?)));
+        return Err(TableFault::SchemaError(DuplicateName::Array(quote(alloc, name)?)));
     }
     if let Some(appid) = repeated_name(manifest.apps()) {
-        return Err(Unread::Misfit(Twice::App(quote(alloc, appid)?)));
+        return Err(TableFault::SchemaError(DuplicateName::App(quote(alloc, appid)?)));
     }
     Ok(manifest)
 }

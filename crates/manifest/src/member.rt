@@ -7,14 +7,12 @@ ghost use Rattle.manifest.specs.Member.{required, number};
 
 use toml::{Table, Value};
 
-/// The value of a member.
 pub(crate) fn member<'a>(table: &'a Table, key: &str) -> Option<&'a Value>
     ensures { option_map (λ v. view v.now) result ≡ get_member key.now (table_view table.now) }
 {
     table.get(key)
 }
 
-/// The text of a member.
 pub(crate) fn text<'a>(table: &'a Table, key: &str) -> Option<&'a str>
     ensures { option_copied result ≡ required as_str key.now (table_view table.now) }
 {
@@ -34,7 +32,6 @@ pub(crate) fn number(table: &Table, key: &str, from: u64, to: u64) -> Option<u64
     }
 }
 
-/// The truth value of a member.
 pub(crate) fn truth(table: &Table, key: &str) -> Option<bool>
     ensures { result ≡ required as_bool key.now (table_view table.now) }
 {

@@ -12,11 +12,11 @@ use std::fmt::{Display, Formatter, Write};
 
 /// A schema error of a manifest.
 #[derive(Debug, Drop)]
-pub enum Misfit {
+pub enum SchemaError {
     Unknown(Quote),
     Server,
-    Arrays(InList<ArrayMisfit>),
-    Apps(InList<AppMisfit>),
+    Arrays(InList<ArrayError>),
+    Apps(InList<AppError>),
 }
 
 /// A schema error in a list of tables.
@@ -32,7 +32,7 @@ pub enum InList<M> {
 
 /// A schema error in the table of an array.
 #[derive(Debug, Drop)]
-pub enum ArrayMisfit {
+pub enum ArrayError {
     Unknown(Quote),
     Name,
     Width,
@@ -42,26 +42,26 @@ pub enum ArrayMisfit {
 
 /// A schema error in the table of an app.
 #[derive(Debug, Drop)]
-pub enum AppMisfit {
+pub enum AppError {
     Unknown(Quote),
     Appid,
     /// There is neither a program nor a rule, or both, or its file name isn't a text.
     ProgramSource,
-    Releases(InList<ReleaseMisfit>),
+    Releases(InList<ReleaseError>),
 }
 
 /// A schema error in the table of a release.
 #[derive(Debug, Drop)]
-pub enum ReleaseMisfit {
+pub enum ReleaseError {
     Unknown(Quote),
     Version,
     Codebase,
-    Packages(InList<PackageMisfit>),
+    Packages(InList<PackageError>),
 }
 
 /// A schema error in the table of a package.
 #[derive(Debug, Drop)]
-pub enum PackageMisfit {
+pub enum PackageError {
     Unknown(Quote),
     Name,
     Hash,
@@ -69,91 +69,94 @@ pub enum PackageMisfit {
     Required,
 }
 
-impl Display for Misfit {
+impl Display for SchemaError {
     ghost output = { λ misfit. Some (misfit_text misfit) };
 
     fn fmt<W: Write>(&self, f: &mut Formatter<W>) -> fmt::Result {
         match self {
-            Misfit::Unknown(key) => write!(f, "{key}: no member of a manifest"),
-            Misfit::Server => f.write_str("server: a text"),
-            Misfit::Arrays(InList::Count) => f.write_str("array: at most 64 tables"),
-            Misfit::Arrays(InList::NoTable(number)) => write!(f, "array[{number}]: a table"),
-            Misfit::Arrays(InList::At(number, misfit)) => write!(f, "array[{number}].{misfit}"),
-            Misfit::Apps(InList::Count) => f.write_str("app: 1 to 256 tables"),
-            Misfit::Apps(InList::NoTable(number)) => write!(f, "app[{number}]: a table"),
-            Misfit::Apps(InList::At(number, misfit)) => write!(f, "app[{number}].{misfit}"),
+            SchemaError::Unknown(key) => write!(f, "{key}: no member of a manifest"),
+            SchemaError::Server => f.write_str("server: a text"),
+            SchemaError::Arrays(InList::Count) => f.write_str("array: at most 64 tables"),
+            SchemaError::Arrays(InList::NoTable(number)) => write!(f, "array[{number}]: a table"),
+            SchemaError::Arrays(InList::At(number, misfit)) => write!(
+                f,
+                "array[{number}].{misfit}"
+            ),
+            SchemaError::Apps(InList::Count) => f.write_str("app: 1 to 256 tables"),
+            SchemaError::Apps(InList::NoTable(number)) => write!(f, "app[{number}]: a table"),
+            SchemaError::Apps(InList::At(number, misfit)) => write!(f, "app[{number}].{misfit}"),
         }
     }
 }
 
-impl Display for ArrayMisfit {
+impl Display for ArrayError {
     ghost output = { λ misfit. Some (array_text misfit) };
 
     fn fmt<W: Write>(&self, f: &mut Formatter<W>) -> fmt::Result {
         match self {
-            ArrayMisfit::Unknown(key) => write!(f, "{key}: no member of an array"),
-            ArrayMisfit::Name => {
+            ArrayError::Unknown(key) => write!(f, "{key}: no member of an array"),
+            ArrayError::Name => {
                 f.write_str("name: a letter or _, then letters, digits and _, at most 32 in all")
             }
-            ArrayMisfit::Width => f.write_str("width: 32 or 64"),
-            ArrayMisfit::Length => f.write_str("length: a whole number from 1 to 4096"),
-            ArrayMisfit::Quota => f.write_str(
+            ArrayError::Width => f.write_str("width: 32 or 64"),
+            ArrayError::Length => f.write_str("length: a whole number from 1 to 4096"),
+            ArrayError::Quota => f.write_str(
                 "quota: a whole number from 1 to 9223372036854775807, with width 64 alone",
             ),
         }
     }
 }
 
-impl Display for AppMisfit {
+impl Display for AppError {
     ghost output = { λ misfit. Some (app_text misfit) };
 
     fn fmt<W: Write>(&self, f: &mut Formatter<W>) -> fmt::Result {
         match self {
-            AppMisfit::Unknown(key) => write!(f, "{key}: no member of an app"),
-            AppMisfit::Appid => f.write_str("appid: a text of 1 to 1024 bytes"),
-            AppMisfit::ProgramSource => f.write_str(
+            AppError::Unknown(key) => write!(f, "{key}: no member of an app"),
+            AppError::Appid => f.write_str("appid: a text of 1 to 1024 bytes"),
+            AppError::ProgramSource => f.write_str(
                 "program or rule: one of the two, the name of a file",
             ),
-            AppMisfit::Releases(InList::Count) => f.write_str("release: at most 64 tables"),
-            AppMisfit::Releases(InList::NoTable(number)) => write!(f, "release[{number}]: a table"),
-            AppMisfit::Releases(InList::At(number, misfit)) => {
+            AppError::Releases(InList::Count) => f.write_str("release: at most 64 tables"),
+            AppError::Releases(InList::NoTable(number)) => write!(f, "release[{number}]: a table"),
+            AppError::Releases(InList::At(number, misfit)) => {
                 write!(f, "release[{number}].{misfit}")
             }
         }
     }
 }
 
-impl Display for ReleaseMisfit {
+impl Display for ReleaseError {
     ghost output = { λ misfit. Some (release_text misfit) };
 
     fn fmt<W: Write>(&self, f: &mut Formatter<W>) -> fmt::Result {
         match self {
-            ReleaseMisfit::Unknown(key) => write!(f, "{key}: no member of a release"),
-            ReleaseMisfit::Version => {
+            ReleaseError::Unknown(key) => write!(f, "{key}: no member of a release"),
+            ReleaseError::Version => {
                 f.write_str("version: one to four numbers below 4294967296, joined by dots")
             }
-            ReleaseMisfit::Codebase => f.write_str("codebase: a text"),
-            ReleaseMisfit::Packages(InList::Count) => f.write_str("package: 1 to 16 tables"),
-            ReleaseMisfit::Packages(InList::NoTable(number)) => {
+            ReleaseError::Codebase => f.write_str("codebase: a text"),
+            ReleaseError::Packages(InList::Count) => f.write_str("package: 1 to 16 tables"),
+            ReleaseError::Packages(InList::NoTable(number)) => {
                 write!(f, "package[{number}]: a table")
             }
-            ReleaseMisfit::Packages(InList::At(number, misfit)) => {
+            ReleaseError::Packages(InList::At(number, misfit)) => {
                 write!(f, "package[{number}].{misfit}")
             }
         }
     }
 }
 
-impl Display for PackageMisfit {
+impl Display for PackageError {
     ghost output = { λ misfit. Some (package_text misfit) };
 
     fn fmt<W: Write>(&self, f: &mut Formatter<W>) -> fmt::Result {
         match self {
-            PackageMisfit::Unknown(key) => write!(f, "{key}: no member of a package"),
-            PackageMisfit::Name => f.write_str("name: a text"),
-            PackageMisfit::Hash => f.write_str("hash_sha256: 64 lower case hexadecimal digits"),
-            PackageMisfit::Size => f.write_str("size: a whole number from 0 to 9007199254740991"),
-            PackageMisfit::Required => f.write_str("required: true or false"),
+            PackageError::Unknown(key) => write!(f, "{key}: no member of a package"),
+            PackageError::Name => f.write_str("name: a text"),
+            PackageError::Hash => f.write_str("hash_sha256: 64 lower case hexadecimal digits"),
+            PackageError::Size => f.write_str("size: a whole number from 0 to 9007199254740991"),
+            PackageError::Required => f.write_str("required: true or false"),
         }
     }
 }

@@ -7,17 +7,17 @@ ghost use Rattle.manifest.specs.Misfits.{misfit_in, misfits_from, misfits_of, mi
 ghost use Rattle.manifest.specs.Misfits.{own_misfits};
 ghost use Rattle.manifest.specs.Rows.{item_of};
 ghost use Rattle.manifest.specs.declared.misfit.InList.{InList};
-ghost use Rattle.manifest.specs.declared.misfit.Misfit.{Misfit};
-ghost use Rattle.manifest.specs.declared.misfit.Misfit.TheVariants as misfit;
+ghost use Rattle.manifest.specs.declared.misfit.SchemaError.{SchemaError};
+ghost use Rattle.manifest.specs.declared.misfit.SchemaError.TheVariants as misfit;
 
 use crate::app::AppEntry;
 use crate::kind::{Kind, unknown_member};
 use crate::manifest::MAX_ARRAYS;
 use crate::member::{member, text};
-use crate::misfit::{AppMisfit, ArrayMisfit, InList, Misfit};
+use crate::misfit::{AppError, ArrayError, InList, SchemaError};
 use crate::quote::Quote;
 use crate::rows::{TableRow, has_count, items_of, read_item};
-use crate::unread::Unread;
+use crate::table_fault::TableFault;
 use declarations::ArrayDeclaration;
 use releases::MOST_APPS;
 use std::alloc::{AllocError, Global};
@@ -26,7 +26,7 @@ use toml::{Table, Value};
 /// All schema errors of a manifest's document: the first unknown member, the server, and then the
 /// first error of each array and each app. So the first one is that of `read_manifest`.
 // open: whether an allocation fails.
-pub fn all_misfits(alloc: Global, document: &Table) -> Result<Vec<Misfit>, AllocError>
+pub fn all_misfits(alloc: Global, document: &Table) -> Result<Vec<SchemaError>, AllocError>
     ensures { IfOk result (λ v. v.items ≡ misfits_of (table_view document.now)) }
 {
     let mut misfits = own(alloc, document)?;
@@ -35,52 +35,52 @@ pub fn all_misfits(alloc: Global, document: &Table) -> Result<Vec<Misfit>, Alloc
     Ok(misfits)
 }
 
-fn own(alloc: Global, table: &Table) -> Result<Vec<Misfit>, AllocError>
+fn own(alloc: Global, table: &Table) -> Result<Vec<SchemaError>, AllocError>
     ensures { IfOk result (λ v. v.items ≡ own_misfits (table_view table.now)) }
 {
     let mut misfits = Vec::new(alloc);
     if let Some(key) = unknown_member(Kind::Manifest, table) {
         let key = Quote::new(String::from_str(alloc, key)?);
-        misfits.push(Misfit::Unknown(key))?;
+        misfits.push(SchemaError::Unknown(key))?;
     }
     if text(table, "server").is_none() {
-        misfits.push(Misfit::Server)?;
+        misfits.push(SchemaError::Server)?;
     }
     Ok(misfits)
 }
 
 /// A table of one of the two lists of a manifest.
 trait ManifestRow: TableRow {
-    ghost told_as: { InList Self.Misfit → Misfit };
+    ghost told_as: { InList Self.SchemaError → SchemaError };
 
-    fn told(in_list: InList<Self::Misfit>) -> Misfit
+    fn told(in_list: InList<Self::SchemaError>) -> SchemaError
         ensures { result ≡ told_as in_list };
 }
 
 impl ManifestRow for ArrayDeclaration {
     ghost told_as = { λ in_list. misfit.Arrays in_list };
 
-    fn told(in_list: InList<ArrayMisfit>) -> Misfit
+    fn told(in_list: InList<ArrayError>) -> SchemaError
         ensures { result ≡ misfit.Arrays in_list }
     {
-        Misfit::Arrays(in_list)
+        SchemaError::Arrays(in_list)
     }
 }
 
 impl ManifestRow for AppEntry {
     ghost told_as = { λ in_list. misfit.Apps in_list };
 
-    fn told(in_list: InList<AppMisfit>) -> Misfit
+    fn told(in_list: InList<AppError>) -> SchemaError
         ensures { result ≡ misfit.Apps in_list }
     {
-        Misfit::Apps(in_list)
+        SchemaError::Apps(in_list)
     }
 }
 
 // Adds the schema errors of a member that is a list of `from` to `to` tables.
 fn push_rows<R: ManifestRow>(
     alloc: Global,
-    misfits: &mut Vec<Misfit>,
+    misfits: &mut Vec<SchemaError>,
     table: &Table,
     key: &str,
     from: usize,
@@ -107,7 +107,7 @@ fn push_rows<R: ManifestRow>(
 
 fn push_items<R: ManifestRow>(
     alloc: Global,
-    misfits: &mut Vec<Misfit>,
+    misfits: &mut Vec<SchemaError>,
     items: &[Value],
 ) -> Result<(), AllocError>
     ensures { OnOk result (misfits.new.items ≡ misfits.old.items
@@ -125,7 +125,7 @@ fn push_items<R: ManifestRow>(
 
 fn push_item<R: ManifestRow>(
     alloc: Global,
-    misfits: &mut Vec<Misfit>,
+    misfits: &mut Vec<SchemaError>,
     number: usize,
     item: &Value,
 ) -> Result<(), AllocError>
@@ -134,8 +134,8 @@ fn push_item<R: ManifestRow>(
 {
     match read_item::<R>(alloc, number, item) {
         Ok(_) => Ok(()),
-        Err(Unread::Memory) => Err(AllocError),
-        Err(Unread::Misfit(misfit)) => {
+        Err(TableFault::Memory) => Err(AllocError),
+        Err(TableFault::SchemaError(misfit)) => {
             misfits.push(R::told(misfit))?;
             Ok(())
         }

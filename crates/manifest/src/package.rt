@@ -4,49 +4,49 @@ ghost use Rattle.std.specs.Prelude.{◌≡◌, codes, option_copied};
 ghost use Rattle.toml.specs.View.{table_view};
 ghost use Rattle.releases.specs.Release.{is_hash};
 ghost use Rattle.manifest.specs.Member.{required, text_that};
-ghost use Rattle.manifest.specs.Unread.{ReadsAs};
+ghost use Rattle.manifest.specs.TableFault.{ReadsAs};
 ghost use Rattle.manifest.specs.Package as specs;
 
 use crate::kind::{Kind, unknown_member};
 use crate::member::{number, text, truth};
-use crate::misfit::PackageMisfit;
+use crate::misfit::PackageError;
 use crate::rows::TableRow;
-use crate::unread::{Unread, copy, quote};
+use crate::table_fault::{TableFault, copy, quote};
 use releases::Package;
 use std::alloc::Global;
 use toml::Table;
 
-/// The most bytes of a package's file, 2^53 - 1: the greatest integer that every reader of JSON
-/// takes exactly.
+/// The most bytes of a package's file, 2^53 - 1: the greatest integer up to which every JSON reader
+/// is exact.
 const MAX_SIZE: u64 = 9007199254740991;
 
 impl TableRow for Package {
-    type Misfit = PackageMisfit;
+    type SchemaError = PackageError;
 
     ghost row_of = { specs.package_of };
 
-    fn read(alloc: Global, table: &Table) -> Result<Package, Unread<PackageMisfit>> {
+    fn read(alloc: Global, table: &Table) -> Result<Package, TableFault<PackageError>> {
         read_package(alloc, table)
     }
 }
 
-fn read_package(alloc: Global, table: &Table) -> Result<Package, Unread<PackageMisfit>>
+fn read_package(alloc: Global, table: &Table) -> Result<Package, TableFault<PackageError>>
     ensures { ReadsAs (specs.package_of (table_view table.now)) result }
 {
     if let Some(key) = unknown_member(Kind::Package, table) {
-        return Err(Unread::Misfit(PackageMisfit::Unknown(quote(alloc, key)?)));
+        return Err(TableFault::SchemaError(PackageError::Unknown(quote(alloc, key)?)));
     }
     let Some(name) = text(table, "name") else {
-        return Err(Unread::Misfit(PackageMisfit::Name));
+        return Err(TableFault::SchemaError(PackageError::Name));
     };
     let Some(hash) = hash(table) else {
-        return Err(Unread::Misfit(PackageMisfit::Hash));
+        return Err(TableFault::SchemaError(PackageError::Hash));
     };
     let Some(size) = number(table, "size", 0, MAX_SIZE) else {
-        return Err(Unread::Misfit(PackageMisfit::Size));
+        return Err(TableFault::SchemaError(PackageError::Size));
     };
     let Some(required) = truth(table, "required") else {
-        return Err(Unread::Misfit(PackageMisfit::Required));
+        return Err(TableFault::SchemaError(PackageError::Required));
     };
     let name = copy(alloc, name)?;
     let hash = copy(alloc, hash)?;

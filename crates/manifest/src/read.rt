@@ -6,9 +6,9 @@ ghost use Rattle.manifest.specs.Manifest.{IsTree, ReadsManifest};
 ghost use Rattle.manifest.specs.Parsed.{IsNoManifest};
 
 use crate::fault::{ManifestFault, TomlFault};
-use crate::manifest::{Manifest, read_once, read_tables};
+use crate::manifest::{Manifest, read_tables, without_duplicates};
 use crate::refused::{Parsed, RefusedManifest};
-use crate::unread::Unread;
+use crate::table_fault::TableFault;
 use std::alloc::Global;
 use toml::{Table, table_from_slice};
 
@@ -43,13 +43,16 @@ pub fn parse_manifest(alloc: Global, bytes: &[u8]) -> Result<Manifest, RefusedMa
     let table = parse_document(alloc, bytes)?;
     let manifest = match read_tables(alloc, &table) {
         Ok(manifest) => manifest,
-        Err(Unread::Misfit(misfit)) => return Err(unfit(ManifestFault::Field(misfit), table)),
-        Err(Unread::Memory) => return Err(unparsed(ManifestFault::Memory)),
+        Err(TableFault::SchemaError(misfit)) => return Err(unfit(
+            ManifestFault::Field(misfit),
+            table,
+        )),
+        Err(TableFault::Memory) => return Err(unparsed(ManifestFault::Memory)),
     };
-    match read_once(alloc, manifest) {
+    match without_duplicates(alloc, manifest) {
         Ok(manifest) => Ok(manifest),
-        Err(Unread::Misfit(twice)) => Err(unfit(ManifestFault::Duplicate(twice), table)),
-        Err(Unread::Memory) => Err(unparsed(ManifestFault::Memory)),
+        Err(TableFault::SchemaError(twice)) => Err(unfit(ManifestFault::Duplicate(twice), table)),
+        Err(TableFault::Memory) => Err(unparsed(ManifestFault::Memory)),
     }
 }
 

@@ -3,50 +3,49 @@
 ghost use Rattle.std.specs.Prelude.{◌≡◌, ◌≤◌, length, codes, option_copied, IfOk};
 ghost use Rattle.toml.specs.View.{table_view};
 ghost use Rattle.manifest.specs.Member.{required, text_that};
-ghost use Rattle.manifest.specs.Unread.{ReadsAs, ReadsListAs};
+ghost use Rattle.manifest.specs.TableFault.{ReadsAs, ReadsListAs};
 ghost use Rattle.manifest.specs.Release as specs;
 
 use crate::kind::{Kind, unknown_member};
 use crate::member::text;
-use crate::misfit::{InList, PackageMisfit, ReleaseMisfit};
+use crate::misfit::{InList, PackageError, ReleaseError};
 use crate::rows::{TableRow, read_rows};
-use crate::unread::{Unread, copy, quote};
+use crate::table_fault::{TableFault, copy, quote};
 use attrs::read_version;
 use releases::{Package, Release};
 use std::alloc::Global;
 use toml::Table;
 
-/// The most packages of a release.
 const MAX_PACKAGES: usize = 16;
 
 impl TableRow for Release {
-    type Misfit = ReleaseMisfit;
+    type SchemaError = ReleaseError;
 
     ghost row_of = { specs.release_of };
 
-    fn read(alloc: Global, table: &Table) -> Result<Release, Unread<ReleaseMisfit>> {
+    fn read(alloc: Global, table: &Table) -> Result<Release, TableFault<ReleaseError>> {
         read_release(alloc, table)
     }
 }
 
-fn read_release(alloc: Global, table: &Table) -> Result<Release, Unread<ReleaseMisfit>>
+fn read_release(alloc: Global, table: &Table) -> Result<Release, TableFault<ReleaseError>>
     ensures { ReadsAs (specs.release_of (table_view table.now)) result }
 {
     if let Some(key) = unknown_member(Kind::Release, table) {
-        return Err(Unread::Misfit(ReleaseMisfit::Unknown(quote(alloc, key)?)));
+        return Err(TableFault::SchemaError(ReleaseError::Unknown(quote(alloc, key)?)));
     }
     let Some(version) = version(table) else {
-        return Err(Unread::Misfit(ReleaseMisfit::Version));
+        return Err(TableFault::SchemaError(ReleaseError::Version));
     };
     let Some(codebase) = text(table, "codebase") else {
-        return Err(Unread::Misfit(ReleaseMisfit::Codebase));
+        return Err(TableFault::SchemaError(ReleaseError::Codebase));
     };
     let packages = match read_packages(alloc, table) {
         Ok(packages) => packages,
-        Err(Unread::Misfit(misfit)) => {
-            return Err(Unread::Misfit(ReleaseMisfit::Packages(misfit)));
+        Err(TableFault::SchemaError(misfit)) => {
+            return Err(TableFault::SchemaError(ReleaseError::Packages(misfit)));
         }
-        Err(Unread::Memory) => return Err(Unread::Memory),
+        Err(TableFault::Memory) => return Err(TableFault::Memory),
     };
     let version = copy(alloc, version)?;
     let codebase = copy(alloc, codebase)?;
@@ -56,7 +55,7 @@ fn read_release(alloc: Global, table: &Table) -> Result<Release, Unread<ReleaseM
 fn read_packages(
     alloc: Global,
     table: &Table,
-) -> Result<Vec<Package>, Unread<InList<PackageMisfit>>>
+) -> Result<Vec<Package>, TableFault<InList<PackageError>>>
     ensures packages { ReadsListAs (specs.packages_of (table_view table.now)) result }
     ensures some { IfOk result (λ v. 1 ≤ length v.items) }
     ensures few { IfOk result (λ v. length v.items ≤ 16) }

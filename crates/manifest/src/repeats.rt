@@ -5,7 +5,7 @@ ghost use Rattle.toml.specs.View.{table_view};
 ghost use Rattle.manifest.specs.AllTwice.{HasAllTwice};
 ghost use Rattle.manifest.specs.AllTwice as specs;
 
-use crate::fault::Twice;
+use crate::fault::DuplicateName;
 use crate::manifest::{Manifest, read_tables};
 use crate::twice::push_names_twice;
 use std::alloc::{AllocError, Global};
@@ -15,7 +15,7 @@ use toml::Table;
 /// the first one is that of `read_manifest`. Returns `None` if an allocation fails, or if there is
 /// a schema error.
 // open: when the result is None: if an allocation fails, or the document has a schema error.
-pub fn all_twice(alloc: Global, document: &Table) -> Option<Vec<Twice>>
+pub fn all_twice(alloc: Global, document: &Table) -> Option<Vec<DuplicateName>>
     ensures { IfSome result (λ v. HasAllTwice (table_view document.now) v.items) }
 {
     let Ok(manifest) = read_tables(alloc, document) else {
@@ -27,7 +27,7 @@ pub fn all_twice(alloc: Global, document: &Table) -> Option<Vec<Twice>>
     }
 }
 
-fn twices_of(alloc: Global, manifest: &Manifest) -> Result<Vec<Twice>, AllocError>
+fn twices_of(alloc: Global, manifest: &Manifest) -> Result<Vec<DuplicateName>, AllocError>
     ensures { IfOk result (λ v. v.items ≡ specs.all_twice manifest.now) }
 {
     let mut twices = Vec::new(alloc);

@@ -4,21 +4,21 @@ ghost use Rattle.std.specs.Prelude.{◌≡◌, ◌≤◌, map, length, option_ma
 ghost use Rattle.toml.specs.Data.{Members, get_member};
 ghost use Rattle.toml.specs.View.{view, table_view};
 ghost use Rattle.manifest.specs.Rows.{rows_of, items_in, are_between, items_from, item_of};
-ghost use Rattle.manifest.specs.Unread.{ReadsAs, ReadsListAs};
+ghost use Rattle.manifest.specs.TableFault.{ReadsAs, ReadsListAs};
 
 use crate::member::member;
 use crate::misfit::InList;
-use crate::unread::Unread;
+use crate::table_fault::TableFault;
 use std::alloc::Global;
 use toml::{Table, Value};
 
 /// A table of a list, and how it is read.
 pub(crate) trait TableRow: Drop {
-    type Misfit: Drop;
+    type SchemaError: Drop;
 
-    ghost row_of: { Members → Result Self Self.Misfit };
+    ghost row_of: { Members → Result Self Self.SchemaError };
 
-    fn read(alloc: Global, table: &Table) -> Result<Self, Unread<Self::Misfit>>
+    fn read(alloc: Global, table: &Table) -> Result<Self, TableFault<Self::SchemaError>>
         ensures { ReadsAs (row_of (table_view table.now)) result };
 }
 
@@ -29,7 +29,7 @@ pub(crate) fn read_rows<R: TableRow>(
     key: &str,
     from: usize,
     to: usize,
-) -> Result<Vec<R>, Unread<InList<R::Misfit>>>
+) -> Result<Vec<R>, TableFault<InList<R::SchemaError>>>
     ensures rows { ReadsListAs
         (rows_of R.row_of from to (get_member key.now (table_view table.now))) result }
     ensures from { IfOk result (λ v. from ≤ length v.items) }
@@ -39,15 +39,14 @@ pub(crate) fn read_rows<R: TableRow>(
         if from == 0 {
             return Ok(Vec::new(alloc));
         }
-        return Err(Unread::Misfit(InList::Count));
+        return Err(TableFault::SchemaError(InList::Count));
     };
     match items_of(list) {
         Some(items) if has_count(items, from, to) => read_items(alloc, items),
-        _ => Err(Unread::Misfit(InList::Count)),
+        _ => Err(TableFault::SchemaError(InList::Count)),
     }
 }
 
-/// The items of a list.
 pub(crate) fn items_of(list: &Value) -> Option<&[Value]>
     ensures { option_map (λ v. map view v.now) result ≡ items_in (view list.now) }
 {
@@ -68,18 +67,18 @@ pub(crate) fn has_count(items: &[Value], from: usize, to: usize) -> bool
 fn read_items<R: TableRow>(
     alloc: Global,
     items: &[Value],
-) -> Result<Vec<R>, Unread<InList<R::Misfit>>>
+) -> Result<Vec<R>, TableFault<InList<R::SchemaError>>>
     ensures rows { ReadsListAs (items_from R.row_of 1 (map view items.now)) result }
     ensures count { IfOk result (λ v. length v.items ≡ length items.now) }
 {
     let Ok(mut rows) = Vec::with_capacity(alloc, items.len()) else {
-        return Err(Unread::Memory);
+        return Err(TableFault::Memory);
     };
     let mut rest = items;
     while let [item, after @ ..] = rest {
         let row = read_item(alloc, rows.len() + 1, item)?;
         let Ok(()) = rows.push(row) else {
-            return Err(Unread::Memory);
+            return Err(TableFault::Memory);
         };
         rest = after;
     }
@@ -91,15 +90,17 @@ pub(crate) fn read_item<R: TableRow>(
     alloc: Global,
     number: usize,
     item: &Value,
-) -> Result<R, Unread<InList<R::Misfit>>>
+) -> Result<R, TableFault<InList<R::SchemaError>>>
     ensures { ReadsAs (item_of R.row_of number (view item.now)) result }
 {
     let Some(table) = item.as_table() else {
-        return Err(Unread::Misfit(InList::NoTable(number)));
+        return Err(TableFault::SchemaError(InList::NoTable(number)));
     };
     match R::read(alloc, table) {
         Ok(row) => Ok(row),
-        Err(Unread::Misfit(misfit)) => Err(Unread::Misfit(InList::At(number, misfit))),
-        Err(Unread::Memory) => Err(Unread::Memory),
+        Err(TableFault::SchemaError(misfit)) => Err(TableFault::SchemaError(InList::At(
+            number, misfit,
+        ))),
+        Err(TableFault::Memory) => Err(TableFault::Memory),
     }
 }

@@ -4,12 +4,12 @@ ghost use Rattle.std.specs.Prelude.{◌≡◌, ◌++◌, List, [], ◌∷◌, �
 ghost use Rattle.std.specs.Prelude.{if◌then◌else◌, not, ◌&&◌};
 ghost use Rattle.std.specs.List.{list_any};
 ghost use Rattle.std.specs.Str.{bytes_eq};
-ghost use Rattle.manifest.specs.Twice.{names_twice, repeated};
-ghost use Rattle.manifest.specs.declared.fault.Twice.{Twice};
-ghost use Rattle.manifest.specs.declared.fault.Twice.TheVariants as twice;
+ghost use Rattle.manifest.specs.DuplicateNames.{names_twice, repeated};
+ghost use Rattle.manifest.specs.declared.fault.DuplicateName.{DuplicateName};
+ghost use Rattle.manifest.specs.declared.fault.DuplicateName.TheVariants as twice;
 
 use crate::app::AppEntry;
-use crate::fault::Twice;
+use crate::fault::DuplicateName;
 use crate::quote::Quote;
 use declarations::ArrayDeclaration;
 use std::alloc::{AllocError, Global};
@@ -18,12 +18,12 @@ use std::alloc::{AllocError, Global};
 pub(crate) trait Named {
     ghost name_of: { Self → List ℕ };
 
-    ghost told_as: { List ℕ → Twice };
+    ghost told_as: { List ℕ → DuplicateName };
 
     fn name(&self) -> &str
         ensures { result.now ≡ name_of self.now };
 
-    fn told(name: Quote) -> Twice
+    fn told(name: Quote) -> DuplicateName
         ensures { result ≡ told_as name };
 }
 
@@ -36,8 +36,8 @@ impl Named for ArrayDeclaration {
         ArrayDeclaration::name(self)
     }
 
-    fn told(name: Quote) -> Twice {
-        Twice::Array(name)
+    fn told(name: Quote) -> DuplicateName {
+        DuplicateName::Array(name)
     }
 }
 
@@ -50,8 +50,8 @@ impl Named for AppEntry {
         self.appid()
     }
 
-    fn told(appid: Quote) -> Twice {
-        Twice::App(appid)
+    fn told(appid: Quote) -> DuplicateName {
+        DuplicateName::App(appid)
     }
 }
 
@@ -72,7 +72,7 @@ pub(crate) fn repeated_name<N: Named>(list: &[N]) -> Option<&str>
 /// Adds each duplicate name, in the order of first occurrences.
 pub(crate) fn push_names_twice<N: Named>(
     alloc: Global,
-    twices: &mut Vec<Twice>,
+    twices: &mut Vec<DuplicateName>,
     list: &[N],
 ) -> Result<(), AllocError>
     ensures { OnOk result (twices.new.items ≡ twices.old.items
@@ -92,7 +92,7 @@ pub(crate) fn push_names_twice<N: Named>(
 // Adds the name of an item, if it is in `after` but not in `before`.
 fn push_twice<N: Named>(
     alloc: Global,
-    twices: &mut Vec<Twice>,
+    twices: &mut Vec<DuplicateName>,
     before: &[N],
     item: &N,
     after: &[N],

@@ -3,12 +3,12 @@ use Rattle.std.specs.Prelude.{◌≡◌, ℕ, ◌+◌, ◌≤◌, List, length, 
 use Rattle.std.specs.Io.KnownBytes.{Appends}
 use Rattle.net_io.specs.declared.counted.WriteFault.{WriteFault}
 
--- an error is one failure, and without one there was none
+-- an error counts as one failure, and a success as none
 abbrev pub CountsFailure : {A E : Type 0} → ℕ → ℕ → Result A E → Type 0
 CountsFailure old new (Ok a) = new ≡ old
 CountsFailure old new (Err e) = new ≡ old + 1
 
--- all bytes were taken, or the prefix of the length that the fault says
+-- all bytes were taken, or a prefix whose length the fault has
 abbrev pub WritesBeginning :
     {A : Type 0} → Option (List ℕ) → Option (List ℕ) → List ℕ → Result A WriteFault → Type 0
 WritesBeginning old new bytes (Ok a) = Appends old new bytes

@@ -36,7 +36,7 @@ pub struct Timed<'a, R: Clock> {
 }
 
 impl<'a, R: Clock> Timed<'a, R> {
-    /// A direction that ends at the time `until`. From then on the stream doesn't block.
+    /// A direction that ends at the time `until`. The stream is made non-blocking.
     // open: that it counts the bytes of each call, and keeps to its time: tests.
     pub fn new(stream: &'a TcpStream, clock: &'a R, until: Instant) -> Timed<'a, R>
         ensures until { result.until ≡ until }
@@ -155,7 +155,7 @@ fn millis(left: Duration) -> i32
     left.as_nanos().div_ceil(1_000_000).min(i32::MAX as u128) as i32
 }
 
-/// Reads what a client sends after its reply, for at most a second.
+/// Reads and drops what a client still sends after the reply, for at most a second.
 // open: what is read at a connection's end: tests.
 pub fn drain<R: Clock>(stream: &TcpStream, clock: &R) -> io::Result<()> {
     stream.shutdown(Shutdown::Write)?;

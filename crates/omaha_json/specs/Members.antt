@@ -51,7 +51,7 @@ app_with (Some app.Ping) d m = record m { ping = is_value (Some d) }
 app_with (Some app.Event) d m = record m { event = is_value (Some d) }
 app_with None d m = m
 
--- all of them
+-- what is found in all members of an app
 abbrev pub app_members : Members → AppMembers
 app_members members = record {
   appid = text_in (codes "appid") (object members);
@@ -104,7 +104,7 @@ request_with (Some request.Os) v m =
     record m { platform = text_in (codes "platform") (view v) }
 request_with None v m = m
 
--- all of them
+-- what is found in all members of a request
 pub record AreMembersOf (members : Members) (m : RequestMembers) : Type 0 where
   pub is_version_3_1 : m.is_version_3_1 ≡ is_protocol (text_in (codes "protocol") (object members))
   pub apps : option_map view m.apps ≡ get (codes "app") (object members)

@@ -14,7 +14,7 @@ use Rattle.omaha_json.specs.Found.{FoundApp, found_apps}
 use Rattle.omaha_json.specs.Request.{Request}
 use Rattle.omaha_json.specs.Update.{only, told_status, update_value, release_at}
 
--- that the app is known, and, if a run was made, the reply to its `updatecheck`
+-- the `status` of a known app and, if a run was made, the reply to its `updatecheck`
 abbrev pub answered : List Release → Option ℕ → Members
 answered releases (Some choice) =
     member (codes "status") (string (codes "ok")) (
@@ -22,7 +22,7 @@ answered releases (Some choice) =
     no_members)
 answered releases None = member (codes "status") (string (codes "ok")) no_members
 
--- before it the reply to `ping`, if the request had one
+-- these members, after the reply to `ping` if the request had one
 abbrev pub pinged : Bool → Members → Members
 pinged true rest = member (codes "ping") (told_status (codes "ok")) rest
 pinged false rest = rest
@@ -76,12 +76,12 @@ reply_value server apps found moment =
 abbrev pub guard : List ℕ
 guard = codes ")]}'" ++ 10 ∷ []
 
--- by what was found for each app
+-- the bytes of a reply, by what was found for each app
 unfoldable pub found_text : List ℕ → List AppFacts → List (Option FoundApp) → ℤ → List ℕ
 found_text server apps found moment =
     guard ++ compact_text (reply_value server apps found moment)
 
--- under a ruleset. Each app's choice is that of its run, if one was made.
+-- the bytes of a reply under a ruleset. Each app's choice is that of its run, if one was made.
 abbrev pub reply_text : Request → Rules → List (Option ℕ) → ℤ → List ℕ
 reply_text request rules choices moment =
     found_text rules.server request.apps

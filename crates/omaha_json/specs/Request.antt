@@ -30,7 +30,7 @@ abbrev pub is_value : Option Data → Bool
 is_value (Some d) = is_none (as_null d)
 is_value None = false
 
--- it exists, and isn't null
+-- the member of this name exists, and isn't null
 abbrev pub has_value : List ℕ → Data → Bool
 has_value name d = is_value (get name d)
 
@@ -90,7 +90,7 @@ abbrev pub is_protocol : Option (List ℕ) → Bool
 is_protocol (Some text) = bytes_eq text (codes "3.1")
 is_protocol None = false
 
--- for the member `request`
+-- the request that the member `request` is, or its fault
 abbrev pub of_request : Data → Result Request OmahaFault
 of_request request =
     if is_protocol (text_in (codes "protocol") request)

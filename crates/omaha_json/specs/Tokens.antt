@@ -10,11 +10,11 @@ use Rattle.serde_json.specs.Written.{outline, items_outline, members_outline}
 abbrev pub tokens_of : Data → List Token
 tokens_of d = json_tokens (outline d)
 
--- those of the items, and the bracket that closes them
+-- the tokens of the items, and the bracket that closes them
 abbrev pub item_tokens : Items → List Token
 item_tokens ds = items_tokens (items_outline ds)
 
--- those of the members, and the brace that closes them
+-- the tokens of the members, and the brace that closes them
 abbrev pub member_tokens : Members → List Token
 member_tokens ms = members_tokens (members_outline ms)
 

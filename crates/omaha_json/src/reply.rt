@@ -49,8 +49,8 @@ pub fn reply_text(
     }
 }
 
-/// The reply by what was found for each app, in the buffer of an earlier text. `None` is an app
-/// that isn't in the ruleset; the name is the server's.
+/// The reply by what was found for each app, written into the buffer `text`, whose old contents are
+/// dropped. `None` is an app that isn't in the ruleset; `server` is the server's name.
 // open: whether an allocation fails (O5).
 pub fn found_text(
     mut text: Vec<u8>,

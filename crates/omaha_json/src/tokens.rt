@@ -8,7 +8,7 @@ ghost use Rattle.omaha_json.specs.Tokens.{Adds, AreWritable};
 use json::{Token, Writer};
 use std::alloc::AllocError;
 
-/// These tokens, in their order.
+/// Writes these tokens, in their order.
 pub fn write_tokens(writer: &mut Writer, tokens: &[Token<'_>]) -> Result<(), AllocError>
     requires { AreWritable (map token_of tokens.now) }
     ensures { OnOk result (Adds writer.old writer.new (map token_of tokens.now)) }
@@ -19,7 +19,7 @@ pub fn write_tokens(writer: &mut Writer, tokens: &[Token<'_>]) -> Result<(), All
     Ok(())
 }
 
-/// A member that is a number.
+/// Writes a member that is a number.
 pub fn write_number(writer: &mut Writer, name: &str, value: u64) -> Result<(), AllocError>
     ensures { OnOk result (Adds writer.old writer.new
         (key name.now ∷ number (decimal value) ∷ [])) }

@@ -1,8 +1,8 @@
 -- What a reply says to the operator's client: the request was done, or why it wasn't.
 use Rattle.std.specs.Prelude.{ℕ, List, IsTrue}
 use Rattle.operator.specs.Replies.{is_answer}
-use Rattle.operator.specs.declared.asking.AskFault.{AskFault}
-use Rattle.operator.specs.declared.asking.AskFault.TheVariants.{Word}
+use Rattle.operator.specs.declared.asking.RequestFault.{RequestFault}
+use Rattle.operator.specs.declared.asking.RequestFault.TheVariants.{Word}
 use Rattle.operator_request.specs.Requests.{IsSendable}
 use Rattle.operator_request.specs.declared.request.OperatorRequest.{OperatorRequest}
 
@@ -12,6 +12,6 @@ pub record IsDoneAs (request : OperatorRequest) (bytes : List ℕ) : Type 0 wher
   pub answered : IsTrue (is_answer request bytes)
 
 -- no line can request this; otherwise the server refuses, no server replies, or memory runs out
-abbrev pub IsAskRefusal : OperatorRequest → AskFault → Type 0
+abbrev pub IsAskRefusal : OperatorRequest → RequestFault → Type 0
 IsAskRefusal request Word = ¬ IsSendable request
 IsAskRefusal request fault = Unit {0}

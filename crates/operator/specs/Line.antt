@@ -12,13 +12,13 @@ abbrev pub line_of : List ℕ → List ℕ
 line_of sent = before_first is_line_feed sent
 
 -- what a line requests, if anything
-abbrev pub IsAskedBy : List ℕ → Option OperatorRequest → Type 0
-IsAskedBy line None = SpellsNoRequest line
-IsAskedBy line (Some request) = SpellsRequest line request
+abbrev pub IsRequestOfLine : List ℕ → Option OperatorRequest → Type 0
+IsRequestOfLine line None = SpellsNoRequest line
+IsRequestOfLine line (Some request) = SpellsRequest line request
 
 -- the request of the first line of the bytes, if these are known
 abbrev pub IsFirstRequest : Option (List ℕ) → Option OperatorRequest → Type 0
-IsFirstRequest told asked = IfSome told (λ sent. IsAskedBy (line_of sent) asked)
+IsFirstRequest told asked = IfSome told (λ sent. IsRequestOfLine (line_of sent) asked)
 
 -- the line of the reader's bytes is this
 abbrev pub IsWhole : Option (List ℕ) → List ℕ → Type 0

@@ -33,10 +33,10 @@ module _ {F : Type 0} (loads : Loading F) where
         → Performs (Some (sent.Load path)) old [] (reply.Refused refused) old
     shown : {old : Controlled} (lines : String Global)
         → string_bytes lines ≡ ruleset_text old.publishing.latest
-        → Performs (Some sent.Show) old [] (reply.Told lines) old
+        → Performs (Some sent.Show) old [] (reply.Lines lines) old
     counted : {old : Controlled} {events : List CellEvent} (lines : String Global)
         → ReadsArrays old.arrays events (string_bytes lines)
-        → Performs (Some sent.Cells) old events (reply.Told lines) old
+        → Performs (Some sent.Cells) old events (reply.Lines lines) old
     stopped : {old : Controlled}
         → Performs (Some sent.Stop) old [] reply.Stopping (stopping old)
     -- out of memory for the lines; some cells were read

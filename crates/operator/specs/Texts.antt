@@ -9,8 +9,8 @@ use Rattle.bounded_files.specs.declared.fault.ResourceFault.TheVariants as resou
 use Rattle.cells.specs.declared.array.CellArray.{CellArray}
 use Rattle.hot_swap.specs.Latest.{Latest}
 use Rattle.hot_swap.specs.Texts.{swap_text}
-use Rattle.operator.specs.declared.asking.AskFault.{AskFault}
-use Rattle.operator.specs.declared.asking.AskFault.TheVariants as ask
+use Rattle.operator.specs.declared.asking.RequestFault.{RequestFault}
+use Rattle.operator.specs.declared.asking.RequestFault.TheVariants as ask
 use Rattle.operator.specs.declared.reply.OperatorRefusal.{OperatorRefusal}
 use Rattle.operator.specs.declared.reply.OperatorRefusal.TheVariants as refusal
 use Rattle.operator.specs.declared.reply.OperatorReply.{OperatorReply}
@@ -34,7 +34,7 @@ cell_text array index value =
 
 -- ---- replies
 
-abbrev pub ask_text : AskFault → List ℕ
+abbrev pub ask_text : RequestFault → List ℕ
 ask_text ask.Word = codes "B1 Word"
 ask_text ask.Memory = resource_text resource.Memory
 ask_text ask.Connect = codes "B5 Connect"
@@ -52,7 +52,7 @@ module _ {F : Type 0} (fault_text : F → Option (List ℕ)) where
   -- the lines of a reply
   abbrev pub reply_text : OperatorReply F → Option (List ℕ)
   reply_text (reply.Loaded generation) = Some (generation_line generation)
-  reply_text (reply.Told lines) = Some (string_bytes lines)
+  reply_text (reply.Lines lines) = Some (string_bytes lines)
   reply_text reply.Stopping = Some (line (codes "stopping"))
   reply_text (reply.Refused refused) =
       option_map (λ text. line (codes "refused " ++ text)) (refusal_text refused)

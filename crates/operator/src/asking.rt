@@ -6,7 +6,7 @@ ghost use Rattle.operator.specs.Replies as specs;
 ghost use Rattle.operator.specs.Texts.{ask_text};
 ghost use Rattle.operator_request.specs.Requests.{IsSendable};
 
-use crate::told::{are_cells, begins_with_generation, is_loaded};
+use crate::reply_forms::{are_cells, begins_with_generation, is_loaded};
 use bounded_files::ResourceFault;
 use operator_request::OperatorRequest;
 use printing::Printed;
@@ -28,7 +28,7 @@ pub(crate) const WORD_NAME: &str = "B1 Word";
 
 /// Why a request isn't done.
 #[derive(Debug, Drop)]
-pub enum AskFault {
+pub enum RequestFault {
     /// B1: no line can request this.
     Word,
     /// B4: out of memory.
@@ -40,15 +40,15 @@ pub enum AskFault {
     Refused(String),
 }
 
-impl fmt::Display for AskFault {
+impl fmt::Display for RequestFault {
     ghost output = { λ fault. Some (ask_text fault) };
 
     fn fmt<W: fmt::Write>(&self, f: &mut fmt::Formatter<W>) -> fmt::Result {
         match self {
-            AskFault::Word => f.write_str(WORD_NAME),
-            AskFault::Memory => f.write_str(ResourceFault::Memory.name()),
-            AskFault::Connect => f.write_str("B5 Connect"),
-            AskFault::Refused(words) => {
+            RequestFault::Word => f.write_str(WORD_NAME),
+            RequestFault::Memory => f.write_str(ResourceFault::Memory.name()),
+            RequestFault::Connect => f.write_str("B5 Connect"),
+            RequestFault::Refused(words) => {
                 let words = Printed(words.as_str());
                 write!(f, "{words}")
             }
@@ -56,28 +56,32 @@ impl fmt::Display for AskFault {
     }
 }
 
-impl std::error::Error for AskFault {}
+impl std::error::Error for RequestFault {}
 
 // Sends a request to the operator's port of a server on this machine, and returns the lines of its
 // reply, at most 1 MiB; a refusal begins with `refused `. It returns B5 for anything else. It waits
 // ten minutes for each piece of the reply.
-pub(crate) fn ask<H>(rt: &H, port: u16, request: OperatorRequest<'_>) -> Result<Vec<u8>, AskFault>
+pub(crate) fn ask<H>(
+    rt: &H,
+    port: u16,
+    request: OperatorRequest<'_>,
+) -> Result<Vec<u8>, RequestFault>
 where
     H: Net<Stream = TcpStream> + AllocGlobal,
     ensures replied { IfOk result (λ reply. specs.IsReplyTo request.entry reply.items) }
     ensures short { IfOk result (λ reply. length reply.items ≤ 2 ^ 20) }
-    ensures word { result ≡ Err AskFault.Word ↔ (¬ IsSendable request.entry) }
+    ensures word { result ≡ Err RequestFault.Word ↔ (¬ IsSendable request.entry) }
 {
     if !request.is_sendable() {
-        return Err(AskFault::Word);
+        return Err(RequestFault::Word);
     }
     let Ok(stream) = TcpStream::connect(rt, (Ipv4Addr::LOCALHOST, port)) else {
-        return Err(AskFault::Connect);
+        return Err(RequestFault::Connect);
     };
     match exchange(rt.alloc(), &stream, request) {
         Ok(reply) if is_reply(request, &reply) => Ok(reply),
-        Err(error) if error.kind() == ErrorKind::OutOfMemory => Err(AskFault::Memory),
-        _ => Err(AskFault::Connect),
+        Err(error) if error.kind() == ErrorKind::OutOfMemory => Err(RequestFault::Memory),
+        _ => Err(RequestFault::Connect),
     }
 }
 

@@ -8,7 +8,7 @@ ghost use Rattle.operator.specs.Replies.{IsReplyTo};
 ghost use Rattle.operator_request.specs.Requests.{IsSendable};
 ghost use Rattle.operator_request.specs.declared.request.OperatorRequest as request;
 
-use crate::asking::{AskFault, ask};
+use crate::asking::{RequestFault, ask};
 use operator_request::OperatorRequest;
 use std::alloc::Global;
 use std::io::ErrorKind;
@@ -25,15 +25,19 @@ const LOOK_SECONDS: u64 = 1;
 /// The lines of a server's reply, at most 1 MiB, if the request was done; an empty reply to `cells`
 /// means that all counters are 0. It waits ten minutes for each piece of the reply; after B5 a load
 /// or a stop may still have been done.
-// open: that a server replies, and which of B4 and B5 is returned: tests; its ten minutes, which
-// nothing tests.
-pub fn ask_server<R>(rt: &R, request: OperatorRequest<'_>, port: u16) -> Result<String, AskFault>
+// open: that a server replies, and which of B4 and B5 is returned: tests. Nothing tests the ten
+// minutes.
+pub fn ask_server<R>(
+    rt: &R,
+    request: OperatorRequest<'_>,
+    port: u16,
+) -> Result<String, RequestFault>
 where
     R: Net<Stream = TcpStream> + AllocGlobal,
     ensures done { IfOk result (λ t. IsDoneAs request.entry (string_bytes t)) }
     ensures short { IfOk result (λ t. length (string_bytes t) ≤ 2 ^ 20) }
     ensures fault { IfErr result (IsAskRefusal request.entry) }
-    ensures word { result ≡ Err AskFault.Word ↔ (¬ IsSendable request.entry) }
+    ensures word { result ≡ Err RequestFault.Word ↔ (¬ IsSendable request.entry) }
 {
     let reply = match ask(rt, port, request) {
         Ok(reply) => reply,
@@ -48,7 +52,7 @@ where
 /// The reply to a stop, once the server has ended: a connection to its operator's port is refused.
 /// It checks ten times a second, as long as anything listens at the port, even another server.
 // open: that a server replies, and when it has ended: tests.
-pub fn stop_and_wait<R>(rt: &R, port: u16) -> Result<String, AskFault>
+pub fn stop_and_wait<R>(rt: &R, port: u16) -> Result<String, RequestFault>
 where
     R: Net<Stream = TcpStream> + AllocGlobal + Clock,
     ensures done { IfOk result (λ t. IsDoneAs OperatorRequest.Stop (string_bytes t)) }
@@ -79,7 +83,7 @@ where
 }
 
 // The lines of a reply, or the words of its refusal.
-fn read_reply(alloc: Global, reply: &[u8]) -> Result<String, AskFault>
+fn read_reply(alloc: Global, reply: &[u8]) -> Result<String, RequestFault>
     ensures done { IfOk result (λ t. (request : request.OperatorRequest)
         → IsReplyTo request reply.now → IsDoneAs request (string_bytes t)) }
     ensures same { IfOk result (λ t. string_bytes t ≡ reply.now) }
@@ -87,24 +91,24 @@ fn read_reply(alloc: Global, reply: &[u8]) -> Result<String, AskFault>
         (λ e. (request : request.OperatorRequest) → IsAskRefusal request e) }
 {
     let Ok(text) = str::from_utf8(reply) else {
-        return Err(AskFault::Connect);
+        return Err(RequestFault::Connect);
     };
     if let Some(refusal) = text.strip_prefix("refused ") {
         return Err(refused(alloc, refusal));
     }
     match String::from_str(alloc, text) {
         Ok(text) => Ok(text),
-        Err(_) => Err(AskFault::Memory),
+        Err(_) => Err(RequestFault::Memory),
     }
 }
 
 // The words of a refusal, without their line feed.
-fn refused(alloc: Global, refusal: &str) -> AskFault
+fn refused(alloc: Global, refusal: &str) -> RequestFault
     ensures { (request : request.OperatorRequest) → IsAskRefusal request result }
 {
     let words = refusal.strip_suffix('\n').unwrap_or(refusal);
     match String::from_str(alloc, words) {
-        Ok(words) => AskFault::Refused(words),
-        Err(_) => AskFault::Memory,
+        Ok(words) => RequestFault::Refused(words),
+        Err(_) => RequestFault::Memory,
     }
 }

@@ -95,7 +95,7 @@ impl Control {
         self.is_stopping
     }
 
-    /// Keeps that a stop was requested.
+    /// Notes that a stop was requested.
     pub(crate) fn stop(&mut self)
         ensures { self.new ≡ stopping self.old }
     {

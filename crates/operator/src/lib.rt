@@ -20,11 +20,11 @@ mod line;
 mod loader;
 mod performing;
 mod reply;
+mod reply_forms;
 mod telling;
-mod told;
 
 pub use answering::{answer, write_reply};
-pub use asking::AskFault;
+pub use asking::RequestFault;
 pub use client::{ask_server, stop_and_wait};
 pub use control::Control;
 pub use law::loads_go_on;

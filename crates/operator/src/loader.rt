@@ -23,8 +23,8 @@ pub trait Loader {
     /// The causes that may be logged with a fault.
     ghost has_cause: { Self.Fault → Option (List ℕ) → Type 0 };
 
-    /// The ruleset of a manifest, and a directory of the arrays before the load and the ruleset's
-    /// own. Its programs know only these.
+    /// The ruleset of a manifest, and a directory with the earlier arrays and the ruleset's own.
+    /// Its programs know only these.
     fn load(
         &self,
         alloc: Global,

@@ -7,7 +7,7 @@ ghost use Rattle.cells.specs.Grown.{Grows};
 use crate::control::Control;
 use crate::loader::Loader;
 use crate::reply::{OperatorRefusal, OperatorReply};
-use crate::telling::{tell_counters, tell_ruleset};
+use crate::telling::{counter_lines, ruleset_lines};
 use cells::CellSteps;
 use operator_request::OperatorRequest;
 use std::alloc::Global;
@@ -38,13 +38,13 @@ pub(crate) fn perform<R: Wait, L: Loader, C: CellSteps>(
             Err(refusal) => OperatorReply::Refused(refusal),
         },
         OperatorRequest::Show => {
-            match tell_ruleset(alloc, control.generation(), control.ruleset()) {
-                Ok(lines) => OperatorReply::Told(lines),
+            match ruleset_lines(alloc, control.generation(), control.ruleset()) {
+                Ok(lines) => OperatorReply::Lines(lines),
                 Err(_) => OperatorReply::Refused(OperatorRefusal::Memory),
             }
         }
-        OperatorRequest::Cells => match tell_counters(alloc, control.arrays(), cells, pass) {
-            Ok(lines) => OperatorReply::Told(lines),
+        OperatorRequest::Cells => match counter_lines(alloc, control.arrays(), cells, pass) {
+            Ok(lines) => OperatorReply::Lines(lines),
             Err(_) => OperatorReply::Refused(OperatorRefusal::Memory),
         },
         OperatorRequest::Stop => {

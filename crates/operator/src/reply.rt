@@ -27,7 +27,7 @@ pub enum OperatorReply<F> {
     /// A ruleset was loaded and installed as this generation.
     Loaded(Generation),
     /// The requested lines.
-    Told(String),
+    Lines(String),
     /// The server ends.
     Stopping,
     /// Nothing was done.
@@ -53,7 +53,7 @@ impl<F: Display> Display for OperatorReply<F> {
     fn fmt<W: fmt::Write>(&self, f: &mut fmt::Formatter<W>) -> fmt::Result {
         match self {
             OperatorReply::Loaded(generation) => writeln!(f, "generation {generation}"),
-            OperatorReply::Told(lines) => f.write_str(lines),
+            OperatorReply::Lines(lines) => f.write_str(lines),
             OperatorReply::Stopping => f.write_str("stopping\n"),
             OperatorReply::Refused(refusal) => writeln!(f, "refused {refusal}"),
         }

@@ -16,7 +16,7 @@ use std::alloc::{AllocError, Global};
 use std::fmt::Write;
 
 /// The generation, and a line for each app.
-pub fn tell_ruleset(
+pub fn ruleset_lines(
     alloc: Global,
     generation: Generation,
     rules: &Ruleset,
@@ -30,7 +30,7 @@ pub fn tell_ruleset(
 }
 
 /// A line for each cell of the arrays that isn't 0. If an allocation fails, some cells were read.
-pub fn tell_counters<C: CellSteps>(
+pub fn counter_lines<C: CellSteps>(
     alloc: Global,
     arrays: &[CellArray],
     cells: &C,

@@ -98,7 +98,7 @@ found_again app rest again found =
           ∙ listed.1);
     }
 
--- a duplicate among the others is one
+-- a duplicate among the others is one of the whole list
 pub duplicate_later : (app : AppRule) (rest : List AppRule)
     → HasDuplicate (appids_of rest) → HasDuplicate (appids_of (app ∷ rest))
 duplicate_later app rest d = record {
@@ -109,7 +109,7 @@ duplicate_later app rest d = record {
   same = d.same;
 }
 
--- if neither, there is none
+-- if the appid isn't found again and the others have no duplicate, the list has none
 pub no_duplicate : (app : AppRule) (rest : List AppRule) → app_in rest app.appid ≡ None
     → ¬ HasDuplicate (appids_of rest) → ¬ HasDuplicate (appids_of (app ∷ rest))
 no_duplicate app rest none apart d = by d.first d.second d.apart d.within d.same

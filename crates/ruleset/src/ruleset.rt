@@ -29,7 +29,7 @@ impl Ruleset {
     ghost use Rattle.ruleset.specs.Rules.{IsRuleset, ListsApp, OffersNone, app_of};
 
     /// A ruleset of these apps, for a server with this name; `None` exactly if an appid is a
-    /// duplicate. It allocates nothing, and compares each appid with each other one.
+    /// duplicate. It allocates nothing, and compares each pair of appids.
     pub fn new(server: String, apps: Vec<App>) -> Option<Ruleset>
         ensures apps { IfSome result (λ r. r.apps ≡ apps.items) }
         ensures server { IfSome result (λ r. r.server ≡ string_bytes server) }

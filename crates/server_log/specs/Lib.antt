@@ -1,3 +1,3 @@
 pub mod Loads
-pub mod Seen
+pub mod ConnectionRecord
 pub mod Starts

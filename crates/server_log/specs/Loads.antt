@@ -71,6 +71,6 @@ module _ {F : Type 0} (has_cause : F → Option (List ℕ) → Type 0)
       (TellsInstalledLoad path generation (option_map encode_lower digest)) line
   IsLineOfReply time path digest (reply.Refused refused) (Some line) =
       IsLoadLine time (TellsReplyRefusal path refused) line
-  IsLineOfReply time path digest (reply.Told lines) None = Unit {0}
+  IsLineOfReply time path digest (reply.Lines lines) None = Unit {0}
   IsLineOfReply time path digest reply.Stopping None = Unit {0}
   IsLineOfReply time path digest other line = ⊥

@@ -3,9 +3,9 @@
 ghost use Rattle.std.specs.Prelude.{◌≡◌, IfNone};
 
 use crate::clock::micros_since;
+use crate::connection_record::ConnectionRecord;
 use crate::log::Log;
 use crate::log_queue::LogQueue;
-use crate::seen::Seen;
 use access_log::{AskedApp, Connection, LogEvent};
 use answering::{AnswerFault, Sent};
 use http_front::PostFault;
@@ -15,11 +15,11 @@ use std::sync::Wait;
 use std::time::{Clock, Instant};
 use std::{io, slice, str};
 
-/// Appends the line of a connection to a worker's log, if lines are kept. It has the microseconds
-/// that the connection waited and those that it took from `begun` on (0 if unknown), the outcome,
-/// and the contents of `seen`. The line is lost if an allocation fails.
-// open: the contents of a connection's line, that apps which the server has come first, and when
-// the line is flushed: tests.
+/// Appends the line of a connection to a worker's log, if lines are kept. It has the outcome, the
+/// contents of `seen`, and the microseconds that the connection waited and then took from `begun`
+/// on (0 if unknown). The line is lost if an allocation fails.
+// open: the contents of a connection's line, that known apps come first, and when the line is
+// flushed: tests.
 pub fn note_connection<H>(
     rt: &H,
     log: &mut Log<'_>,
@@ -27,7 +27,7 @@ pub fn note_connection<H>(
     waited: u64,
     begun: Option<Instant>,
     outcome: &Result<Sent, AnswerFault>,
-    seen: &mut Seen,
+    seen: &mut ConnectionRecord,
 )
 where
     H: Wait + AllocGlobal + Clock,
@@ -42,9 +42,9 @@ where
         waited,
     };
     if note_kept(rt, log, peer, times, outcome, seen).is_err() {
-        log.lose();
+        log.count_lost();
     }
-    seen.let_go();
+    seen.drop_apps();
 }
 
 // How long a connection took, and how long it waited before, in microseconds.
@@ -60,7 +60,7 @@ fn note_kept<H>(
     peer: SocketAddr,
     times: Times,
     outcome: &Result<Sent, AnswerFault>,
-    seen: &mut Seen,
+    seen: &mut ConnectionRecord,
 ) -> Result<(), AllocError>
 where
     H: Wait + AllocGlobal + Clock,
@@ -136,7 +136,7 @@ fn refusal_of(outcome: &Result<Sent, AnswerFault>) -> Option<&'static str> {
 }
 
 // How the device failed, if it did.
-fn cause_of(outcome: &Result<Sent, AnswerFault>, seen: &Seen) -> Option<&'static str> {
+fn cause_of(outcome: &Result<Sent, AnswerFault>, seen: &ConnectionRecord) -> Option<&'static str> {
     match outcome {
         Ok(_) | Err(AnswerFault::Ended) => None,
         Err(_) => seen.cause,
@@ -158,6 +158,6 @@ where
 {
     match error.to_string(rt.alloc()) {
         Ok(reason) => queue.note(rt, &LogEvent::Unaccepted(&reason)),
-        Err(_) => queue.lose(1),
+        Err(_) => queue.count_lost(1),
     }
 }

@@ -6,8 +6,8 @@ ghost use Rattle.server_log.specs.Loads.{IsExcerptOf, IsLineOfReply, IsLoadLine,
 ghost use Rattle.server_log.specs.Loads.{TellsInstalledLoad, TellsReplyRefusal, TellsRefusedLoad};
 
 use crate::clock::{seconds_from_now, utc_now};
-use crate::heard::Heard;
 use crate::log_queue::{LogPiece, LogQueue};
+use crate::recorder::Recorder;
 use access_log::{Excerpt, Load, LogEvent, Utc, log_line};
 use hex::encode;
 use hot_swap::Generation;
@@ -19,8 +19,8 @@ use std::time::Clock;
 /// How long the line of a load waits for a place in the queue.
 const LOAD_SECONDS: u64 = 2;
 
-/// Puts the line that the server is ready, and serves the ruleset of this generation, into the
-/// queue, if there is one. The line is lost if an allocation fails.
+/// Queues the line that the server is ready and serves this generation, if there is a queue. The
+/// line is lost if an allocation fails.
 // open: all but the line of an event: tests.
 pub fn note_serving<H>(rt: &H, log: Option<&LogQueue>, generation: Generation)
 where
@@ -35,11 +35,11 @@ where
 /// has the digest of an installed load, or the refusal and the loader's cause. It is lost if an
 /// allocation fails, or if no place becomes free in time.
 // open: that what is queued is the piece of `load_line`, that its path is the requested one, and
-// that it comes out: no contract knows the contents of a queue. Tests.
+// that it is written: no contract knows the contents of a queue. Tests.
 pub fn note_load<H, R, L>(
     rt: &H,
     log: Option<&LogQueue>,
-    heard: Heard<R>,
+    heard: Recorder<R>,
     loader: &L,
     control: &Control,
     reply: &OperatorReply<L::Fault>,
@@ -54,7 +54,7 @@ where
     };
     let Some(path) = heard.load_path() else {
         if let OperatorReply::Loaded(_) = reply {
-            queue.lose(1);
+            queue.count_lost(1);
         }
         return;
     };
@@ -64,7 +64,7 @@ where
             let _put = queue.put_until(rt, piece, until);
         }
         Ok(None) => (),
-        Err(_) => queue.lose(1),
+        Err(_) => queue.count_lost(1),
     }
 }
 
@@ -96,7 +96,6 @@ fn load_line<L: Loader>(
     }
 }
 
-// The line of an installed load.
 fn installed_line(
     alloc: Global,
     time: &Utc,
@@ -112,7 +111,6 @@ fn installed_line(
     log_line(alloc, time, &LogEvent::Load(load))
 }
 
-// The line of a refused load.
 fn refused_line<L: Loader>(
     alloc: Global,
     time: &Utc,
@@ -176,7 +174,6 @@ fn refused<'x>(path: &'x str, refusal: &'x str, cause: Option<&'x str>) -> Load<
     }
 }
 
-/// The excerpt of a text, if there is one.
 pub(crate) fn excerpt_of<'x>(cause: Option<&'x str>) -> Option<Excerpt<'x>>
     ensures { IsExcerptOf (option_copied cause.entry) result }
 {

@@ -66,17 +66,17 @@ impl<'a> Log<'a> {
     {
         match log_line_in(&mut self.line, &utc_now(rt), event) {
             Ok(()) => self.add(),
-            Err(_) => self.lose(),
+            Err(_) => self.count_lost(),
         }
         if self.text.len() >= ENOUGH {
-            self.hand_on(rt);
+            self.send_queued(rt);
         }
     }
 
     /// Counts a lost line.
-    pub(crate) fn lose(&self) {
+    pub(crate) fn count_lost(&self) {
         if let Some(queue) = self.queue {
-            queue.lose(1);
+            queue.count_lost(1);
         }
     }
 
@@ -86,7 +86,7 @@ impl<'a> Log<'a> {
         if self.text.extend_from_slice(self.line.bytes()).is_ok() {
             self.lines = self.lines.saturating_add(1);
         } else {
-            self.lose();
+            self.count_lost();
         }
     }
 
@@ -108,13 +108,13 @@ impl<'a> Log<'a> {
         ensures moment { self.new.moment ≡ moment }
     {
         if self.moment != moment {
-            self.hand_on(rt);
+            self.send_queued(rt);
             self.moment = moment;
         }
     }
 
     /// Flushes all lines to the queue.
-    pub fn hand_on<H>(&mut self, rt: &H)
+    pub fn send_queued<H>(&mut self, rt: &H)
     where
         H: Wait + AllocGlobal + Clock,
         ensures queue { self.new.queue ≡ self.old.queue }

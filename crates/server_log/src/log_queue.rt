@@ -76,7 +76,7 @@ impl LogQueue {
 
     /// Puts the line of an event into the queue. The line is lost if the queue is full or an
     /// allocation fails.
-    // open: that lines come out whole, that nothing waits for a log that nobody reads, and that
+    // open: that lines are written whole, that nothing waits for a log that nobody reads, and that
     // lost lines are counted: tests, and `bench/hostile`.
     pub fn note<H>(&self, rt: &H, event: &LogEvent<'_>)
     where
@@ -94,14 +94,14 @@ impl LogQueue {
         match log_line(rt.alloc(), &utc_now(rt), event) {
             Ok(text) => self.put_until(rt, LogPiece { text, lines: 1 }, until),
             Err(_) => {
-                self.lose(1);
+                self.count_lost(1);
                 false
             }
         }
     }
 
     /// Counts lost lines.
-    pub(crate) fn lose(&self, lines: u64) {
+    pub(crate) fn count_lost(&self, lines: u64) {
         let _before = self.lost.fetch_add(lines, Ordering::SeqCst);
     }
 
@@ -114,7 +114,7 @@ impl LogQueue {
     {
         let lost = self.lost.swap(0, Ordering::SeqCst);
         if lost != 0 && !self.note_lost(rt, lost, until) {
-            self.lose(piece.lines);
+            self.count_lost(piece.lines);
             return false;
         }
         self.send(rt, piece, until)
@@ -127,7 +127,7 @@ impl LogQueue {
         match log_line(rt.alloc(), &utc_now(rt), &LogEvent::Lost(lost)) {
             Ok(text) => self.send(rt, LogPiece { text, lines: lost }, until),
             Err(_) => {
-                self.lose(lost);
+                self.count_lost(lost);
                 false
             }
         }
@@ -143,7 +143,7 @@ impl LogQueue {
             None => self.pieces.try_send(rt, piece).is_ok(),
         };
         if !is_sent {
-            self.lose(lines);
+            self.count_lost(lines);
         }
         is_sent
     }

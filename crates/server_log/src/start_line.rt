@@ -27,8 +27,8 @@ pub struct Starting<'a> {
 }
 
 /// Puts the line of a server that starts into the queue, with the digest of what it serves. If an
-/// allocation fails the digest is left out, or else the line is lost.
-// open: that what is queued is the line of `start_line`, and that it comes out: no contract knows
+/// allocation fails, the digest is left out, or the line is lost.
+// open: that what is queued is the line of `start_line`, and that it is written: no contract knows
 // the contents of a queue. Tests.
 pub fn note_start<H>(rt: &H, queue: &LogQueue, server: Starting<'_>, serves: &LoadedRuleset)
 where
@@ -41,14 +41,14 @@ where
     };
     match piece {
         Ok(piece) => queue.put(rt, piece),
-        Err(_) => queue.lose(1),
+        Err(_) => queue.count_lost(1),
     }
 }
 
 /// Puts the line of a refused start into the queue, with the fault's text and its cause. The line
 /// is lost if an allocation fails.
 // open: that what is queued is the line of `refused_start_line` with this fault and cause, and that
-// it comes out: no contract knows the contents of a queue. Tests.
+// it is written: no contract knows the contents of a queue. Tests.
 pub fn note_refused_start<H, F>(
     rt: &H,
     queue: &LogQueue,
@@ -62,7 +62,7 @@ where
 {
     match refused_start_line(rt.alloc(), &utc_now(rt), server, fault, cause) {
         Ok(text) => queue.put(rt, LogPiece { text, lines: 1 }),
-        Err(_) => queue.lose(1),
+        Err(_) => queue.count_lost(1),
     }
 }
 
@@ -98,7 +98,6 @@ fn start_line(
     Ok(LogPiece { text, lines: 1 })
 }
 
-// The digest of a loaded ruleset, if there is one.
 fn digest_of(serves: Option<&LoadedRuleset>) -> Option<[u8; 32]>
     ensures { result ≡ digest_in (option_copied serves.entry) }
 {

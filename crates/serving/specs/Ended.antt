@@ -19,9 +19,8 @@ use Rattle.workers.specs.Runs.{runs_in_turn}
 -- What threads did to closed counters, given the runs of each pass. There is one legal history (a
 -- linearization) of all passes, which leaves these values and has the events of each pass. The
 -- first pass only read counters. Each other pass did its runs, one after the other, under the
--- rulesets. Each run came to its end in time, with 0 or a release. Without the reads of the first
--- pass, that history is the one of a world that does these runs. On each counter a quota is granted
--- exactly.
+-- rulesets. Each run ended in time, with 0 or a release. Without the reads of the first pass, that
+-- history is the one of a world that does these runs. On each counter a quota is granted exactly.
 pub record AreLeftByOneWorld (published : List Rules) (runs : List (List AppRun))
     (closed : ClosedView) : Type 0 where
   pub left : AreLeftBy closed.passes closed.values
@@ -34,10 +33,10 @@ pub record AreLeftByOneWorld (published : List Rules) (runs : List (List AppRun)
 abbrev pub runs_by_pass : List (List WorkerAnswer) → List (List AppRun)
 runs_by_pass by_worker = [] ∷ map runs_in_turn by_worker
 
--- What a server leaves that began to serve with these cells and this control. The counters are its
--- own, closed with all passes to them. Answered lines of the operator, and nothing else, led from
--- that control to the one at its end. Each worker has answers, one after the other, none under an
--- older ruleset than the one before. Each is under a published ruleset, or a refusal. What the
+-- What remains of a server that began to serve with these cells and this control. The counters are
+-- its own, closed with all passes to them. Answered lines of the operator, and nothing else, led
+-- from that control to the one at its end. Each worker has answers, one after the other, none under
+-- an older ruleset than the one before. Each is under a published ruleset, or a refusal. What the
 -- worker did to the counters is what the runs of these answers did, and the operator only read
 -- counters. The published rulesets are sound and know only the arrays that the server has at its
 -- end. Each quota of these arrays is granted.

@@ -28,7 +28,7 @@ pub enum ServingFault {
 impl ServingFault {
     /// Whether it is the fault of a server that has served: its log already has it, with the
     /// counters.
-    pub fn is_of_end(&self) -> bool
+    pub fn is_in_log(&self) -> bool
         ensures { IsTrue result ↔ (self.now ≡ ServingFault.Publisher SwapFault.NoPlace) }
     {
         matches!(self, ServingFault::Publisher(SwapFault::NoPlace))

@@ -3,7 +3,7 @@
 ghost use Rattle.std.specs.Prelude.{◌≡◌};
 
 use cells::Directory;
-use load::{Disk, LoadRefusal, load_told};
+use load::{Disk, LoadRefusal, load_with_digest};
 use operator::Loader;
 use ruleset::LoadedRuleset;
 use std::alloc::Global;
@@ -40,7 +40,7 @@ impl<'a, D: Disk> Loader for Manifests<'a, D> {
         path: &str,
         directory: &Directory,
     ) -> Result<LoadedRuleset, LoadRefusal> {
-        load_told(alloc, self.disk, path, directory)
+        load_with_digest(alloc, self.disk, path, directory)
     }
 
     fn cause<'x>(&self, fault: &'x LoadRefusal) -> Option<&'x str> {

@@ -11,7 +11,7 @@ ghost use Rattle.serving.specs.Staffed.{IsStaffFault};
 use crate::fault::ServingFault;
 use crate::staffed::{StaffedServer, staff};
 use cells::Directory;
-use load::{Disk, load_told};
+use load::{Disk, load_with_digest};
 use ruleset::LoadedRuleset;
 use std::net::{Net, TcpListener, TcpStream};
 use std::sync::Wait;
@@ -46,7 +46,7 @@ where
     ensures refused { IfErr result (RefusesToServe (D.known disk.now) path.now) }
 {
     let alloc = rt.alloc();
-    let loaded = match load_told(alloc, disk, path, &Directory::new(alloc)) {
+    let loaded = match load_with_digest(alloc, disk, path, &Directory::new(alloc)) {
         Ok(loaded) => loaded,
         Err(refusal) => return Err(ServingFault::Manifest(refusal)),
     };

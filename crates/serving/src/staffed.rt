@@ -27,7 +27,7 @@ use std::sync::{Arc, Wait};
 use std::thread::Threads;
 use std::time::Clock;
 use thread_laws::{threads_are_one_world, threads_grant_quotas};
-use workers::{Open, OperatorSeat, Ports, Service, answers_are_runs, run};
+use workers::{NoGate, OperatorSeat, Ports, ServeOptions, answers_are_runs, run};
 
 /// A server that has its counters, its publisher and its workers. `serve` or `close` ends it; it
 /// isn't dropped otherwise.
@@ -124,7 +124,7 @@ impl StaffedServer {
         self,
         rt: &H,
         loader: &L,
-        service: Service<'_>,
+        service: ServeOptions<'_>,
         out: &mut O,
     ) -> Result<Closed, ServingFault>
     where
@@ -137,8 +137,7 @@ impl StaffedServer {
         // The counters are this server's. What all threads did to them is one legal history, that
         // of one world, under rulesets that the operator's lines loaded one after the other. Its
         // runs are those of answers, one list for each worker, in turn, under rulesets that never
-        // went back. Each run came to its end in time, with 0 or a release, and each quota is
-        // granted.
+        // went back. Each run ended in time, with 0 or a release, and each quota is granted.
         ensures world { IfOk result
             (LeavesOneWorld (L.loads loader.now) self.cells self.control) }
         ensures said { OnOk result (Appends (O.contents out.old) (O.contents out.new)
@@ -163,7 +162,16 @@ impl StaffedServer {
             cells: &cells,
             pass,
         };
-        let back = match run(rt, &Open, ports, seat, &mut control, workers, service, out) {
+        let back = match run(
+            rt,
+            &NoGate,
+            ports,
+            seat,
+            &mut control,
+            workers,
+            service,
+            out,
+        ) {
             Ok(back) => back,
             Err(fault) => {
                 control.close(rt);

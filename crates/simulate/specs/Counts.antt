@@ -23,7 +23,7 @@ abbrev pub buckets_moving : (now next : List ℕ) → (from to : ℕ) → ℕ
 buckets_moving now next from to =
     count_by (λ move. (move.0 == from) && (move.1 == to)) (zip now next)
 
--- the count of a move in a table, which has 65 numbers for each release that a bucket has
+-- the count of a move in a table, which has 65 numbers for each release that buckets move from
 abbrev pub moves_in : List ℕ → (from to : ℕ) → ℕ
 moves_in table from to = slice_index table (65 * from + to)
 

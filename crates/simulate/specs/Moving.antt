@@ -85,7 +85,7 @@ abbrev pub move_row : MoveWidths → (from to : List ℕ) → (count : ℕ) → 
 move_row widths from to count lost =
     move_columns widths [] from to ++ at_right 7 (decimal count) ++ mark_if lost
 
--- the row for a count that may be 0, which has no row
+-- the row for a count; a count of 0 has none
 unfoldable pub move_if_any : MoveWidths → (from to : List ℕ) → (count : ℕ) → (lost : Bool)
     → List ℕ
 move_if_any widths from to count lost =

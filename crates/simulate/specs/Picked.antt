@@ -18,8 +18,7 @@ pub record IsPlaceOf (apps : List AppRule) (appid : List ℕ) (place : ℕ) : Ty
   pub stands : slice_get apps place ≡ Some app
   pub within : place < length apps
 
--- the choices for the app with an appid in a simulation of all apps; no app if there is none with
--- it
+-- only the app with an appid, from a simulation of all apps; without such an app no app
 pub data HasPicked (client : Client) (apps : List AppRule) (appid : List ℕ) (s : Simulation)
     : Type 0 where
   nothing : app_in apps appid ≡ None → s.apps ≡ [] → s.chosen ≡ []

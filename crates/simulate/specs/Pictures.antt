@@ -1,6 +1,6 @@
 -- The picture of a simulation, in SVG 1.1. Each app has a square of 100 by 100 buckets, row by row
--- from the first, with a colour for each release, and a legend with counts. Lengths and places are
--- in pixels; a bucket has 4 by 4. Heights grow downwards; those in a legend are measured from its
+-- from the first. Each release has a colour, and a legend has the counts. Lengths and places are in
+-- pixels; a bucket has 4 by 4. Heights grow downwards; those in a legend are measured from its
 -- app's top. Choices are 0 to 64, buckets 0 to 9999, and counts 0 to 10000.
 use Rattle.std.specs.Prelude.{ℕ, ◌+◌, ◌*◌, ◌/◌, ◌%◌, List, [], ◌∷◌, ◌++◌, codes, decimal, length}
 use Rattle.std.specs.Prelude.{max}
@@ -60,8 +60,8 @@ square versions choices =
 
 -- ---- the legend
 
--- a row from this height on, 32 to 1312. It has a patch of the colour, 12 by 12 at 430 from the
--- left, the label at 450, and the count and the percent, which end at 740 and 840
+-- a row from this height on, 32 to 1312. Its patch of the colour is 12 by 12, at 430 from the left,
+-- and its label at 450. The count and the percent end at 740 and 840
 unfoldable pub patch_opens : List ℕ
 patch_opens = codes "<rect width=\"12\" height=\"12\" x=\"430\" y=\""
 

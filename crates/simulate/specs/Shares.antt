@@ -34,7 +34,7 @@ abbrev pub share_row : ℕ → List ℕ → ℕ → List ℕ
 share_row width label count =
     label_part width label ++ count_part count ++ codes " %  " ++ bar count ++ codes "\n"
 
--- the row for a count that may be 0, which has no row
+-- the row for a count; a count of 0 has none
 unfoldable pub row_if_any : ℕ → List ℕ → ℕ → List ℕ
 row_if_any width label count = if count == 0 then [] else share_row width label count
 

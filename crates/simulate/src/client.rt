@@ -6,8 +6,8 @@ ghost use Rattle.attrs.specs.Bucket as specs;
 use attrs::{AppFacts, Attrs, Moment, RequestFacts, Text};
 use std::alloc::{AllocError, Global};
 
-/// What every client sends alike: about the app, about itself, and when. The appid and the cohort
-/// are replaced for each app and each bucket.
+/// What all clients send: about the app, about themselves, and when. For each app the appid is
+/// replaced, and for each bucket the cohort.
 #[derive(Drop)]
 pub struct Client {
     pub app: AppFacts,

@@ -58,7 +58,7 @@ pub fn push_number_right(text: &mut String, width: usize, number: u32) -> Result
     push_right(text, width, digits.as_str())
 }
 
-/// Appends a count of 10000 in percent.
+/// Appends a count out of 10000, in percent.
 pub fn push_percent(text: &mut String, count: u32) -> Result<(), AllocError>
     ensures { OnOk result (Puts text.old text.new (specs.percent count)) }
 {
@@ -77,7 +77,7 @@ pub fn push_percent_right(text: &mut String, width: usize, count: u32) -> Result
     push_right(text, width, percent.as_str())
 }
 
-/// Appends the bar of a count of 10000.
+/// Appends the bar of a count out of 10000.
 pub fn push_bar(text: &mut String, count: u32) -> Result<(), AllocError>
     requires { count ≤ 10000 }
     ensures { OnOk result (Puts text.old text.new (specs.bar count)) }

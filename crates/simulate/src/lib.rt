@@ -1,5 +1,5 @@
-//! Simulation: what a ruleset chooses for a client in each bucket, how many get which release, and
-//! reports of both as tables of text, as JSON and as a picture.
+//! Simulation: what a ruleset chooses for a client in each bucket, and how many get which release.
+//! Both are reported as tables of text, as JSON and as a picture.
 //!
 //! See docs/PROGRAM.md, "simulate".
 #![tactic(auto)]

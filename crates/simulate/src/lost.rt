@@ -73,8 +73,8 @@ fn loses_of(now: &Simulated, next: &Simulated, none: &Choices, appid: &str) -> b
     some_lose(now.offer(none, appid), next.offer(none, appid))
 }
 
-/// Whether some bucket loses the release that it has of an app: the next ruleset gives it none, or
-/// a release with a lower version. The tables of `push_moves` mark such a move as lost.
+/// Whether some bucket loses its release of an app: the next ruleset gives it none, or one with a
+/// lower version. The tables of `push_moves` mark such a move as lost.
 // open: whether an allocation fails.
 pub fn is_lossy(alloc: Global, now: &Simulated, next: &Simulated) -> Result<bool, AllocError>
     ensures { IfOk result (λ lossy. lossy ≡ specs.is_lossy now.now next.now) }

@@ -32,9 +32,9 @@ fn simulation_object(alloc: Global, simulated: &Simulated) -> Result<Value, Allo
     json!(in alloc; {"apps": apps})
 }
 
-/// The next simulation in the same form, followed by whether some bucket loses its release
-/// (`lost`), and by `moves`, with an object for each app that one of the two rulesets has. Each has
-/// an object for each move that some bucket makes, such as
+/// The next simulation in the same form, followed by `lost` (whether some bucket loses its release)
+/// and `moves`. That has an object for each app of either ruleset, and each of these one for each
+/// move that some bucket makes, such as
 /// `{"buckets":9493,"lost":false,"next":{"release":1,"version":"3.0.0"},"now":null}`.
 // open: whether an allocation fails.
 pub fn moves_json(alloc: Global, now: &Simulated, next: &Simulated) -> Result<String, AllocError>

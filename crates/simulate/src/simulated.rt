@@ -68,8 +68,8 @@ impl Simulated {
         })
     }
 
-    /// The simulation of only the app with an appid. All apps are run, as above, and the choices
-    /// for this app are kept; none if the ruleset doesn't have it.
+    /// The simulation of only the app with an appid. All apps are run, as above, and only the
+    /// choices for this app are kept. If the ruleset doesn't have the app, the result has no app.
     // open: whether an allocation fails.
     pub fn of_app<O: Onlooker>(
         alloc: Global,

@@ -13,7 +13,7 @@ use std::test::Fail;
 use std::thread::Threads;
 use std::time::Clock;
 use std::{io, thread};
-use workers::{Gate, Service, serve};
+use workers::{Gate, ServeOptions, serve};
 
 /// Serves with these 1 to 64 workers until the server is stopped. Returns whether it could.
 pub(crate) fn serves<H, G>(
@@ -22,7 +22,7 @@ pub(crate) fn serves<H, G>(
     listener: TcpListener,
     crew: Crew,
     stop: &AtomicBool,
-    service: Service<'_>,
+    service: ServeOptions<'_>,
 ) -> bool
 where
     H: Threads + Wait + AllocGlobal + Clock + Sync,

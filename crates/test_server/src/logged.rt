@@ -18,7 +18,7 @@ use std::sync::atomic::AtomicBool;
 use std::test::Fail;
 use std::thread::{self, Threads};
 use std::time::{Clock, Duration};
-use workers::{Open, Service};
+use workers::{NoGate, ServeOptions};
 
 /// A runtime at one moment after 1970 began, if its clock can be read.
 #[derive(Drop)]
@@ -295,7 +295,7 @@ where
     let still = still_at(rt, time);
     let (ended, received) = thread::join(
         rt,
-        || serves(&still, &Open, listener, crew, &stop, logging_to(queue)),
+        || serves(&still, &NoGate, listener, crew, &stop, logging_to(queue)),
         || received(rt, place, rows, &stop, pieces),
     );
     let mut lines = received?;
@@ -316,8 +316,8 @@ fn still_at<'a, R>(rt: &'a R, time: &str) -> Still<'a, R> {
 }
 
 /// Each connection may last half a minute, and the log goes to a queue.
-pub(crate) fn logging_to<'a>(queue: &'a LogQueue) -> Service<'a> {
-    Service {
+pub(crate) fn logging_to<'a>(queue: &'a LogQueue) -> ServeOptions<'a> {
+    ServeOptions {
         timeout: Duration::from_secs(30),
         log: Some(queue),
     }

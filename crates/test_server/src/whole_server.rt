@@ -15,7 +15,7 @@ use std::sync::Wait;
 use std::test::Fail;
 use std::thread::{self, Threads};
 use std::time::{Clock, Duration};
-use workers::{Ports, Service};
+use workers::{Ports, ServeOptions};
 
 /// What is done at a server's ports.
 #[derive(Clone, Copy)]
@@ -45,8 +45,8 @@ impl PortTask {
 }
 
 /// A connection may last this number of seconds, and there is no log.
-pub(crate) fn service_of(seconds: u64) -> Service<'static> {
-    Service {
+pub(crate) fn service_of(seconds: u64) -> ServeOptions<'static> {
+    ServeOptions {
         timeout: Duration::from_secs(seconds),
         log: None,
     }
@@ -80,7 +80,7 @@ pub(crate) fn served<H>(
     ports: Ports,
     path: &str,
     workers: usize,
-    service: Service<'_>,
+    service: ServeOptions<'_>,
     shelf: &Shelf,
 ) -> Result<(), ServingFault>
 where
@@ -156,7 +156,7 @@ pub(crate) fn wrong_by<H>(
     rt: &H,
     path: &'static str,
     workers: usize,
-    service: Service<'_>,
+    service: ServeOptions<'_>,
     work: PortTask,
 ) -> Result<Option<&'static str>, Fail>
 where

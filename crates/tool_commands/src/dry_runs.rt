@@ -14,7 +14,7 @@ use crate::whys::why_of;
 use attrs::Moment;
 use bounded_files::{Disk, ResourceFault};
 use dry_run::{Opened, open_files, reply_as_told};
-use operator::{AskFault, ask_server};
+use operator::{RequestFault, ask_server};
 use operator_request::OperatorRequest;
 use std::net::{Net, TcpStream};
 use std::time::{Clock, SystemTime, UNIX_EPOCH};
@@ -88,7 +88,7 @@ where
 }
 
 /// The lines of a server's counters; empty without a port.
-pub(crate) fn served_reply<R>(rt: &R, port: Option<u16>) -> Result<String, AskFault>
+pub(crate) fn served_reply<R>(rt: &R, port: Option<u16>) -> Result<String, RequestFault>
 where
     R: AllocGlobal + Net<Stream = TcpStream>,
     ensures served { IfOk result (λ t. specs.AreServed port (told_by (lines (string_bytes t)))) }

@@ -7,7 +7,7 @@ use bounded_files::ResourceFault;
 use bpf_verify::Refusal;
 use dry_run::DryRunFault;
 use manifest_tools::ManifestToolFault;
-use operator::AskFault;
+use operator::RequestFault;
 use program_tools::ProgramToolFault;
 use std::fmt;
 
@@ -25,7 +25,7 @@ pub(crate) enum Fault {
     /// B3, B4, B7, M1 to M8, O1 to O5, P5: a request gets no reply.
     DryRun(DryRunFault),
     /// B4, B5, or a refusal in the server's words: a server's counters can't be had.
-    Ask(AskFault),
+    Ask(RequestFault),
 }
 
 impl Fault {

@@ -8,7 +8,7 @@ ghost use Rattle.warnings.specs.Runs.{WhensAreSo};
 /// Law: no run of a rule, for any client and any counter replies, does what a warning on a `when`
 /// or on a release denies. Some run does what a warning on a version says. A test holds for the
 /// part of the buckets that the warning on it names.
-// open: that counters can reply so: for a cell that a rule takes from in two places, 0 both times.
+// open: that counters can reply as assumed: 0 each time, also if a rule takes twice from one cell.
 pub fn warnings_are_so()
     ensures whens { WhensAreSo }
     ensures releases { ReleasesAreSo }

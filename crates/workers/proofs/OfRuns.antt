@@ -9,7 +9,7 @@ use Rattle.std.proofs.lemmas.Bool.Decides.{nat_tests}
 use Rattle.std.proofs.lemmas.List.Elements.{All-cons, All-nil, All-from_recursion}
 use Rattle.answering.specs.Answer.{RepliesTo, RepliesToBody, RepliesToRequest, taken, rejected}
 use Rattle.answering.specs.Answer.{replied, unowned, broken_off, asked, refused, unread}
-use Rattle.answering.specs.Apps.{RunsApp, RunsApps, unasked, unknown, ran, none}
+use Rattle.answering.specs.Apps.{RunsApp, RunsApps, no_updatecheck, unknown, ran, none}
 use Rattle.answering.specs.Apps as apps
 use Rattle.answering.specs.Reply.{HttpReply}
 use Rattle.attrs.specs.Attributes.{AreShort, kept_text}
@@ -83,7 +83,7 @@ module _ (law : Laws) (published : List Rules) (number : ℕ) (rules : Rules)
   of_app : (app : AppFacts) (choice : Option ℕ) (events : List CellEvent)
       (one : RunsApp rules facts moment app choice events)
       → AreOfRuns published (runs_of_app number facts moment app one) events
-  of_app app choice events (unasked is) = law.nothing published
+  of_app app choice events (no_updatecheck is) = law.nothing published
   of_app app choice events (unknown is) = law.nothing published
   of_app app choice events (ran {choice = chosen} known count
       asks found knows ends short few fits lawful) =

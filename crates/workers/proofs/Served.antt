@@ -23,8 +23,8 @@ use Rattle.workers.specs.Answers.{WorkerAnswer, made_in_turn}
 use Rattle.workers.specs.Back.{WorkerBack, ConnectionBack, ConnectionsBack, MomentBack}
 use Rattle.workers.specs.Back.{WorkersBack}
 use Rattle.workers.specs.Promised.{IsPromiseOf, ArePromised}
-use Rattle.workers.specs.declared.promise.OfWorker.{OfWorker}
-use Rattle.workers.specs.declared.promise.OfWorkers.{OfWorkers}
+use Rattle.workers.specs.declared.promise.WorkerPromise.{WorkerPromise}
+use Rattle.workers.specs.declared.promise.WorkerPromises.{WorkerPromises}
 
 -- ---- one connection
 
@@ -158,7 +158,7 @@ one_on belongs grew join first later same calls more counts a b c old one =
 -- ---- workers whose threads promised to return them
 
 abbrev WorkerThread : (X P : Type 0) → Type 0
-WorkerThread X P = PromisedHandle (P × Beginning) (OfWorker X P)
+WorkerThread X P = PromisedHandle (P × Beginning) (WorkerPromise X P)
 
 -- what is kept for a promise's own cells and worker is kept for the equal ones
 kept_of : {X W : Type 0} (Kept : X → W → Type 0) (cells x : X) (given w : W) → x ≡ cells
@@ -168,7 +168,7 @@ kept_of Kept cells x given w over is kept =
 
 module _ {X P : Type 0} (belongs : X → P → Type 0) (grew : P → CellEvent → P → Type 0)
     (cells : X) where
-  is_back : (worker : P × Beginning) (promise : OfWorker X P) (back : P × Beginning)
+  is_back : (worker : P × Beginning) (promise : WorkerPromise X P) (back : P × Beginning)
       → IsPromiseOf cells worker promise
       → WorkerBack (belongs promise.cells.value) grew promise.given.value back
       → WorkerBack (belongs cells) grew worker back
@@ -193,7 +193,7 @@ module _ {X P : Type 0} (belongs : X → P → Type 0) (grew : P → CellEvent �
       (λ worker thread new is kept. is_back worker thread.promise new is kept)
 
   -- all workers of the thread that serves clients
-  pub are_back : (workers : Vec (P × Beginning) Global) (promise : OfWorkers X P)
+  pub are_back : (workers : Vec (P × Beginning) Global) (promise : WorkerPromises X P)
       (back : List (P × Beginning)) → ArePromised cells workers promise
       → WorkersBack (belongs promise.cells.value) grew promise.given.value.items back
       → WorkersBack (belongs cells) grew workers.items back

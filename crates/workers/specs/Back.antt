@@ -38,8 +38,8 @@ module _ {P : Type 0} (belongs : P → Type 0) (grew : P → CellEvent → P →
     pub connection : ConnectionBack old new
     pub moments_are : All (λ answer. answer.moment ≡ moment) connection.back.answers
 
-  -- the same for as many connections as were taken: there are no more answers, unless there were
-  -- more connections than the number can count
+  -- the same for the connections that were taken: there are no more answers than these, unless they
+  -- overflow their count
   pub record ConnectionsBack (taken : ℕ) (old new : P × Beginning) : Type 0 where
     pub back : WorkerBack old new
     pub at_most_one : taken < 2 ^ 64 - 1 → length back.answers ≤ taken
@@ -50,9 +50,9 @@ module _ {P : Type 0} (belongs : P → Type 0) (grew : P → CellEvent → P →
 
   module _ {F : Type 0} (loads : Loading F) where
     -- The operator's thread, with its pass and its control, which ended so. It answered lines, one
-    -- after the other, at most one for each connection that it accepted, unless there were more of
-    -- these than the number can count. Its pass belongs to the cells, and grew only by what the
-    -- lines read. Its end says whether a stop was requested.
+    -- after the other: at most one for each accepted connection, unless these overflow their count.
+    -- Its pass belongs to the cells, and grew only by what the lines read. Its end says whether a
+    -- stop was requested.
     pub record OperatorBack (end : OperatorEnd) (old new : P × Controlled) : Type 0 where
       pub belongs_yet : belongs new.0
       pub lines : List (AnsweredLine F)

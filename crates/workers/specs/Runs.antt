@@ -3,7 +3,7 @@ use Rattle.std.specs.Prelude.{ℕ, ℤ, List, [], ◌∷◌, ◌++◌, Option, f
 use Rattle.answering.specs.Answer.{RepliesTo, taken, rejected}
 use Rattle.answering.specs.Answer.{RepliesToBody, asked, refused, unread}
 use Rattle.answering.specs.Answer.{RepliesToRequest, replied, unowned, broken_off}
-use Rattle.answering.specs.Apps.{RunsApp, RunsApps, unasked, unknown, ran, none}
+use Rattle.answering.specs.Apps.{RunsApp, RunsApps, no_updatecheck, unknown, ran, none}
 use Rattle.answering.specs.Apps as apps
 use Rattle.answering.specs.Reply.{HttpReply}
 use Rattle.attrs.specs.Facts.{attributes_of}
@@ -22,7 +22,7 @@ module _ (number : ℕ) (facts : RequestFacts) (moment : ℤ) where
   -- then
   abbrev pub runs_of_app : {rules : Rules} (app : AppFacts) {choice : Option ℕ}
       {events : List CellEvent} → RunsApp rules facts moment app choice events → List AppRun
-  runs_of_app app (unasked is) = []
+  runs_of_app app (no_updatecheck is) = []
   runs_of_app app (unknown is) = []
   runs_of_app app (ran {choice = chosen} {events = made} known count
       asks found knows ends short below fits lawful) =
@@ -73,8 +73,8 @@ runs_in_turn = flat_map (λ answer. runs_of_reply answer.replies)
 
 -- ---- the law
 
--- what answers in turn did to the counters is what their runs did; each run came to its end, under
--- a ruleset that the watcher knows after them
+-- what answers in turn did to the counters is what their runs did; each run ended, under a ruleset
+-- that the watcher knows after them
 abbrev pub AnswersAreOfRuns : Type 0
 AnswersAreOfRuns = (from to : Beginning) (answers : List WorkerAnswer) → AreInTurn from answers to
     → AreOfRuns to.rulesets (runs_in_turn answers) (made_in_turn answers)

@@ -65,8 +65,8 @@ impl<'a> Port<'a> {
         }
     }
 
-    /// The next connection; `None` once the flag is set, and the connection that was accepted then
-    /// isn't answered. A connection that can't be accepted is skipped.
+    /// The next connection. Returns `None` once the flag is set; the connection that was then
+    /// accepted isn't answered. A connection that can't be accepted is skipped.
     pub(crate) fn accept<H>(&mut self, rt: &H) -> Option<Call>
     where
         H: Wait + AllocGlobal + Clock,

@@ -8,8 +8,8 @@ ghost use Rattle.workers.specs.Promised.{ArePromised};
 use crate::clients::serve_returning;
 use crate::fault::ServeFault;
 use crate::gate::Gate;
-use crate::promise::OfWorkers;
-use crate::worker::Service;
+use crate::promise::WorkerPromises;
+use crate::worker::ServeOptions;
 use cells::CellSteps;
 use crossbeam_channel::Sender;
 use hot_swap::Watcher;
@@ -23,14 +23,14 @@ use std::time::Clock;
 /// The flags that end the two sides of a server. The operator's side sets the clients' flag. The
 /// clients' side sets the operator's flag once it has ended.
 #[derive(Drop)]
-pub(crate) struct Ends {
+pub(crate) struct StopFlags {
     pub(crate) clients: AtomicBool,
     pub(crate) operator: AtomicBool,
 }
 
-impl Ends {
-    pub(crate) fn new() -> Ends {
-        Ends {
+impl StopFlags {
+    pub(crate) fn new() -> StopFlags {
+        StopFlags {
             clients: AtomicBool::new(false),
             operator: AtomicBool::new(false),
         }
@@ -46,9 +46,12 @@ pub(crate) fn start_serving<'s, E, H, G, C>(
     listener: TcpListener,
     cells: &'s C,
     workers: Vec<(C::Pass, Watcher)>,
-    ends: &'s Ends,
-    service: Service<'s>,
-) -> Result<PromisedHandle<Result<Vec<(C::Pass, Watcher)>, ServeFault>, OfWorkers<C>>, ServeFault>
+    ends: &'s StopFlags,
+    service: ServeOptions<'s>,
+) -> Result<
+    PromisedHandle<Result<Vec<(C::Pass, Watcher)>, ServeFault>, WorkerPromises<C>>,
+    ServeFault,
+>
 where
     H: Threads + Wait + AllocGlobal + Clock + Sync,
     G: Gate + Sync,
@@ -62,7 +65,7 @@ where
     let Ok((started, starts)) = crossbeam_channel::bounded::<(), _>(rt.alloc(), 1) else {
         return Err(ServeFault::Memory);
     };
-    let promise = OfWorkers {
+    let promise = WorkerPromises {
         cells: Snapshot::of(cells),
         given: Snapshot::of(&workers),
     };
@@ -89,8 +92,8 @@ fn serve_beside<H, G, C>(
     listener: TcpListener,
     cells: &C,
     workers: Vec<(C::Pass, Watcher)>,
-    ends: &Ends,
-    service: Service<'_>,
+    ends: &StopFlags,
+    service: ServeOptions<'_>,
     started: Sender<()>,
 ) -> Result<Vec<(C::Pass, Watcher)>, ServeFault>
 where

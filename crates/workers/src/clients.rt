@@ -9,7 +9,7 @@ use crate::crew::{joined, start_workers};
 use crate::fault::ServeFault;
 use crate::gate::Gate;
 use crate::queue::{WAITING, fill};
-use crate::worker::Service;
+use crate::worker::ServeOptions;
 use cells::CellSteps;
 use crossbeam_channel::Sender;
 use hot_swap::Watcher;
@@ -31,7 +31,7 @@ pub fn serve<H, G, C>(
     cells: &C,
     workers: Vec<(C::Pass, Watcher)>,
     stop: &AtomicBool,
-    service: Service<'_>,
+    service: ServeOptions<'_>,
 ) -> Result<(), ServeFault>
 where
     H: Threads + Wait + AllocGlobal + Clock + Sync,
@@ -59,7 +59,7 @@ pub fn serve_returning<H, G, C>(
     cells: &C,
     workers: Vec<(C::Pass, Watcher)>,
     stop: &AtomicBool,
-    service: Service<'_>,
+    service: ServeOptions<'_>,
     started: Option<Sender<()>>,
 ) -> Result<Vec<(C::Pass, Watcher)>, ServeFault>
 where

@@ -8,8 +8,8 @@ ghost use Rattle.workers.specs.Promised.{IsPromiseOf};
 use crate::accept::Call;
 use crate::fault::ServeFault;
 use crate::gate::Gate;
-use crate::promise::OfWorker;
-use crate::worker::{Service, work};
+use crate::promise::WorkerPromise;
+use crate::worker::{ServeOptions, work};
 use cells::CellSteps;
 use core::thread::Stack;
 use crossbeam_channel::Receiver;
@@ -32,8 +32,8 @@ pub(crate) fn start_workers<'s, E, H, G, C>(
     queue: Receiver<Call>,
     cells: &'s C,
     workers: Vec<(C::Pass, Watcher)>,
-    service: Service<'s>,
-) -> Result<Vec<PromisedHandle<(C::Pass, Watcher), OfWorker<C>>>, ServeFault>
+    service: ServeOptions<'s>,
+) -> Result<Vec<PromisedHandle<(C::Pass, Watcher), WorkerPromise<C>>>, ServeFault>
 where
     H: Wait + AllocGlobal + Clock + Sync,
     G: Gate + Sync,
@@ -66,8 +66,8 @@ fn start_worker<'s, E, H, G, C>(
     queue: Receiver<Call>,
     cells: &'s C,
     worker: (C::Pass, Watcher),
-    service: Service<'s>,
-) -> Result<PromisedHandle<(C::Pass, Watcher), OfWorker<C>>, ServeFault>
+    service: ServeOptions<'s>,
+) -> Result<PromisedHandle<(C::Pass, Watcher), WorkerPromise<C>>, ServeFault>
 where
     H: Wait + AllocGlobal + Clock + Sync,
     G: Gate + Sync,
@@ -76,7 +76,7 @@ where
     requires { C.belongs cells.now worker.0 }
     ensures { IfOk result (λ thread. IsPromiseOf cells.now worker thread.promise) }
 {
-    let promise = OfWorker {
+    let promise = WorkerPromise {
         cells: Snapshot::of(cells),
         given: Snapshot::of(&worker),
     };

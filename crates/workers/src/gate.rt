@@ -12,9 +12,9 @@ pub trait Gate {
 
 /// The program's gate, which does nothing.
 #[derive(Clone, Copy, Debug, PartialEq, Eq)]
-pub struct Open;
+pub struct NoGate;
 
-impl Gate for Open {
+impl Gate for NoGate {
     fn before(&self, _call: u64) {}
 
     fn after(&self, _call: u64) {}

@@ -40,13 +40,13 @@ mod worker;
 pub use accept::OperatorEnd;
 pub use clients::{serve, serve_returning};
 pub use fault::ServeFault;
-pub use gate::{Gate, Open};
+pub use gate::{Gate, NoGate};
 pub use laws::answers_are_runs;
 pub use operating::{OperatorSeat, operate};
 pub use ports::{Ports, bind};
 pub use returned::Returned;
 pub use running::run;
-pub use worker::Service;
+pub use worker::ServeOptions;
 
 // The names in the contracts here are exported with them.
 pub use answering::{AnswerFault, Sent, answer};

@@ -8,11 +8,11 @@ ghost use Rattle.workers.specs.Back.{OperatorBack};
 
 use crate::accept::{OperatorEnd, Port};
 use crate::clock::Limits;
-use crate::worker::Service;
+use crate::worker::ServeOptions;
 use cells::{CellSteps, growth};
 use net_io::{Counted, Timed, drain};
 use operator::{Control, Loader, OperatorReply, answer, write_reply};
-use server_log::{Heard, note_load};
+use server_log::{Recorder, note_load};
 use std::fmt::Display;
 use std::io;
 use std::net::{TcpListener, TcpStream};
@@ -36,20 +36,20 @@ where
     pub pass: C::Pass,
 }
 
-/// Answers connections, whose loads change the control, until one requests a stop, or until `stop`
-/// is set and one more is accepted, which isn't answered; the caller has to end the server. The
-/// line of a connection has to arrive within 5 seconds. Its reply has to be read within 5 more,
-/// since a load may last. If the time limit of `service` is shorter, it holds instead. A connection
-/// that fails, or can't be accepted, is skipped.
-// open: which bytes a socket carries; that requests are answered one after another, and that the
-// flag was set if no stop was requested: tests.
+/// Answers connections until one requests a stop, or until `stop` is set and one more is accepted,
+/// which isn't answered. Loads change the control. The caller has to end the server. The line of a
+/// connection has to arrive within 5 seconds. Its reply has to be read within 5 seconds of being
+/// ready, since a load may take long. If the time limit of `service` is shorter, it holds instead.
+/// A connection that fails, or can't be accepted, is skipped.
+// open: which bytes a socket carries; that requests are answered one after another, and that it
+// returns only after a requested stop, or if the flag was set: tests.
 pub fn operate<'x, H, L, C>(
     rt: &H,
     listener: &'x TcpListener,
     seat: &mut OperatorSeat<'_, L, C>,
     control: &mut Control,
     stop: &'x AtomicBool,
-    service: Service<'_>,
+    service: ServeOptions<'_>,
 ) -> OperatorEnd
 where
     H: Wait + AllocGlobal + Clock,
@@ -62,7 +62,7 @@ where
 {
     growth::<C>();
     let limit = service.timeout.min(Duration::from_secs(OPERATOR_SECONDS));
-    let service = Service {
+    let service = ServeOptions {
         timeout: limit,
         log: service.log,
     };
@@ -91,7 +91,7 @@ fn attend<'x, H, L, C>(
     control: &mut Control,
     cells: &C,
     pass: &mut C::Pass,
-    service: Service<'_>,
+    service: ServeOptions<'_>,
 ) -> Option<OperatorReply<L::Fault>>
 where
     H: Wait + AllocGlobal + Clock,
@@ -109,7 +109,7 @@ where
         return None;
     };
     let timed = Timed::new(stream, rt, limits.until());
-    let mut reader = Counted::new(Heard::new(rt.alloc(), timed, service.log.is_some()));
+    let mut reader = Counted::new(Recorder::new(rt.alloc(), timed, service.log.is_some()));
     let Some(reply) = answer(rt, rt.alloc(), &mut reader, loader, control, cells, pass) else {
         return None;
     };

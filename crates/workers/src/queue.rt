@@ -81,7 +81,7 @@ where
         if let Ok(call) = queue.recv_timeout(rt, linger) {
             return Some(call);
         }
-        log.hand_on(rt);
+        log.send_queued(rt);
     }
     queue.recv(rt).ok()
 }

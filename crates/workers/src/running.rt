@@ -12,14 +12,14 @@ ghost use Rattle.workers.specs.Back.{IsPublished, OperatorBack, ServerBack};
 ghost use Rattle.workers.specs.Texts.{serving_line};
 
 use crate::accept::OperatorEnd;
-use crate::beside::{Ends, start_serving};
+use crate::beside::{StopFlags, start_serving};
 use crate::gate::Gate;
 use crate::operating::{OperatorSeat, operate};
 use crate::ports::{PortEnd, Ports};
 use crate::ready::{Ready, ReadyLine, take_back};
 use crate::returned::Returned;
 use crate::stopping::tell_stopping;
-use crate::worker::Service;
+use crate::worker::ServeOptions;
 use bounded_files::ResourceFault;
 use cells::CellSteps;
 use hot_swap::Watcher;
@@ -40,8 +40,8 @@ fn operate_beside<H, L, C>(
     mut seat: OperatorSeat<'_, L, C>,
     control: &mut Control,
     clients: PortEnd,
-    ends: &Ends,
-    service: Service<'_>,
+    ends: &StopFlags,
+    service: ServeOptions<'_>,
 ) -> (C::Pass, OperatorEnd)
 where
     H: Wait + AllocGlobal + Clock,
@@ -96,7 +96,7 @@ fn run_saying<H, G, L, C, S>(
     seat: OperatorSeat<'_, L, C>,
     control: &mut Control,
     workers: Vec<(C::Pass, Watcher)>,
-    service: Service<'_>,
+    service: ServeOptions<'_>,
     ready: S,
 ) -> Result<(Returned<C::Pass>, S::Said), ResourceFault>
 where
@@ -116,7 +116,7 @@ where
     ensures said { IfOk result
         (λ r. S.says ready control.old.publishing.latest.generation r.1) }
 {
-    let ends = Ends::new();
+    let ends = StopFlags::new();
     let OperatorSeat {
         loader,
         cells,
@@ -166,12 +166,12 @@ where
 /// generation that is served is written to `out`, by one write of the whole line. If nothing fails,
 /// all passes and watchers are returned. Returns B4 if an allocation or a thread fails, before any
 /// client is answered and before anything is written; B3 if `out` can't be written.
-// open: when B4 and when B3 is returned: `bench/refused`, and a test. B4 would also be returned if
-// the clients' side failed after its start, which it doesn't: by reading. Which bytes a socket
-// carries, and which moment a clock gives: nothing shows that. That connections are answered in
-// parallel, or the operator's one after another; their time limits, the log; that all threads end
-// after a stop, even if the server can't connect to its own port; and that the line takes one
-// write, of whose number std says nothing: tests.
+// open: when B4 and when B3 is returned: `bench/refused`, and a test. If the clients' side failed
+// after its start, B4 would be returned; only reading the code shows that it doesn't fail then.
+// Nothing shows which bytes a socket carries, and which moment a clock gives. Tests show that
+// connections are answered in parallel, and the operator's one after another; their time limits,
+// and the log; that all threads end after a stop, even if the server can't connect to its own port;
+// and that the line takes one write (std says nothing about the number of writes).
 pub fn run<H, G, L, C, O>(
     rt: &H,
     gate: &G,
@@ -179,7 +179,7 @@ pub fn run<H, G, L, C, O>(
     seat: OperatorSeat<'_, L, C>,
     control: &mut Control,
     workers: Vec<(C::Pass, Watcher)>,
-    service: Service<'_>,
+    service: ServeOptions<'_>,
     out: &mut O,
 ) -> Result<Returned<C::Pass>, ResourceFault>
 where

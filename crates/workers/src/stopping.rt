@@ -3,7 +3,7 @@
 
 use crate::accept::Port;
 use crate::operating::send;
-use operator::{AskFault, OperatorReply};
+use operator::{OperatorReply, RequestFault};
 use std::net::TcpListener;
 use std::sync::Wait;
 use std::sync::atomic::AtomicBool;
@@ -24,7 +24,7 @@ where
         return;
     }
     let limit = Duration::from_secs(TELL_SECONDS);
-    let stopping = OperatorReply::<AskFault>::Stopping;
+    let stopping = OperatorReply::<RequestFault>::Stopping;
     let mut port = Port::new(listener, ended, None);
     for _ in rt.forever() {
         let Some(call) = port.accept(rt) else {

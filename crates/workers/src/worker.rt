@@ -12,7 +12,7 @@ use cells::{CellSteps, growth};
 use crossbeam_channel::Receiver;
 use hot_swap::Watcher;
 use net_io::{Counted, Timed, drain, take_rest};
-use server_log::{Heard, Log, LogQueue, Seen, count_begun, count_ended, note_connection};
+use server_log::{ConnectionRecord, Log, LogQueue, Recorder, count_begun, count_ended};
 use std::io;
 use std::net::TcpStream;
 use std::sync::Wait;
@@ -20,7 +20,7 @@ use std::time::{Clock, Duration};
 
 /// How a server serves: its time limit and its log.
 #[derive(Clone, Copy)]
-pub struct Service<'a> {
+pub struct ServeOptions<'a> {
     /// How long a connection may last.
     pub timeout: Duration,
     /// The log, with a line for each connection, even if it couldn't be accepted, and for each
@@ -48,7 +48,7 @@ pub(crate) fn work<H, G, C>(
     queue: Receiver<Call>,
     cells: &C,
     worker: (C::Pass, Watcher),
-    service: Service<'_>,
+    service: ServeOptions<'_>,
 ) -> (C::Pass, Watcher)
 where
     H: Wait + AllocGlobal + Clock,
@@ -82,7 +82,7 @@ fn attend_all<H, G, C>(
     gate: &G,
     calls: &mut Calls,
     seat: &mut WorkerSeat<'_, C>,
-    service: Service<'_>,
+    service: ServeOptions<'_>,
 )
 where
     H: Wait + AllocGlobal + Clock,
@@ -97,7 +97,7 @@ where
 {
     growth::<C>();
     let mut log = Log::new(rt.alloc(), service.log);
-    let mut seen = Seen::new(rt.alloc(), log.is_kept());
+    let mut seen = ConnectionRecord::new(rt.alloc(), log.is_kept());
     for _ in rt.forever() {
         let Some(call) = calls.take(rt, &mut log) else {
             return;
@@ -113,9 +113,9 @@ fn attend<H, C>(
     rt: &H,
     call: &Call,
     seat: &mut WorkerSeat<'_, C>,
-    service: Service<'_>,
+    service: ServeOptions<'_>,
     log: &mut Log<'_>,
-    seen: &mut Seen,
+    seen: &mut ConnectionRecord,
 ) -> io::Result<()>
 where
     H: Wait + AllocGlobal + Clock,
@@ -133,7 +133,7 @@ where
     count_begun(service.log, waited);
     seen.begin();
     let outcome = answer_within(rt, &call.stream, seat, moment, limits, seen);
-    note_connection(rt, log, call.peer, waited, begun(limits), &outcome, seen);
+    server_log::note_connection(rt, log, call.peer, waited, begun(limits), &outcome, seen);
     let finished = finish(rt, &call.stream, &outcome);
     count_ended(service.log, &outcome);
     finished
@@ -147,7 +147,7 @@ fn answer_within<'x, H, C>(
     seat: &mut WorkerSeat<'_, C>,
     moment: i64,
     limits: Option<Limits>,
-    seen: &mut Seen,
+    seen: &mut ConnectionRecord,
 ) -> Result<Sent, AnswerFault>
 where
     H: AllocGlobal + Clock,
@@ -165,8 +165,8 @@ where
     let alloc = rt.alloc();
     let from = Timed::new(stream, rt, limits.until());
     let into = from.opposite();
-    let mut reader = Counted::new(seen.heard(from));
-    let mut writer = Counted::new(Heard::new(alloc, into, false));
+    let mut reader = Counted::new(seen.recorder_of(from));
+    let mut writer = Counted::new(Recorder::new(alloc, into, false));
     let turn = Turn {
         alloc,
         cells: seat.cells,

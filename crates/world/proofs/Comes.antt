@@ -21,7 +21,7 @@ use Rattle.world.proofs.Workers.{same_worker, within, get_set_same, stays_other,
 use Rattle.world.proofs.During.{made_by_other, made_idle, later_end, goes_during, ends_during}
 use Rattle.world.proofs.During.{RestsDuring, later_rest}
 
--- as `ComesTo`, and a run that has ended makes no more events
+-- the same as `ComesTo`; also, a run that has ended makes no more events
 abbrev pub Comes : WorldState → ℕ → Worker → List Event → List Answer → ℕ → ℕ
     → ℕ → Type 0
 Comes w k Idle es rs number choice instructions = ⊥

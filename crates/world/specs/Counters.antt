@@ -14,14 +14,14 @@ asked cells (Going t) = []
 asked cells (Done choice) = []
 asked cells Trap = []
 
--- with that reply the step continues
+-- the outcome of the step when its access got that reply
 abbrev pub answered : List ℕ → Outcome → Outcome
 answered cells (Asks cell op next) = Going (next (reply_of (slice_index cells cell) op))
 answered cells (Going t) = Going t
 answered cells (Done choice) = Done choice
 answered cells Trap = Trap
 
--- and the counter has its new value
+-- the counters after the step
 abbrev pub cells_after : List ℕ → Outcome → List ℕ
 cells_after cells (Asks cell op next) =
     slice_set cells cell (after (limit cell) (slice_index cells cell) op)

@@ -27,7 +27,7 @@ pub record IsOnTheWay (parts : Parts) (events : List Event) (u : WorldState) : T
   pub plays : Plays opening (take count events) answers u
 
 -- in no world on the way does a run trap, take more instructions than its program has slots, or
--- choose what isn't a release of its app in its own ruleset
+-- choose anything but none or a release of its app in its own ruleset
 abbrev pub AllWorldsAreSafe : Parts → List Event → Type 0
 AllWorldsAreSafe parts events = (u : WorldState) → IsOnTheWay parts events u → IsSafeWorld u
 

@@ -26,7 +26,7 @@ made_at k w (Start j attrs) = []
 made_at k w (Finish j) = []
 made_at k w (Swap rules) = []
 
--- and all events of a run of the world, in their order
+-- the counter accesses of all events of a run of the world for a worker, in their order
 abbrev pub made_by : (k : ℕ) (w v : WorldState) (events : List Event) (answers : List Answer)
     → Plays w events answers v → List CellEvent
 made_by k w v [] [] plays = []

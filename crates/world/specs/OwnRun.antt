@@ -68,7 +68,8 @@ ComesTo w k (Running n program s) events answers number choice instructions =
 ComesTo w k (Ended n program a c m) events answers number choice instructions =
     (number ≡ n) × (choice ≡ c) × (instructions ≡ m)
 
--- they are those of the run that the worker has before the events: none is started before the place
+-- the number, the choice and the instructions are those of the run that the worker has before the
+-- events: no run of the worker is started before the place
 pub record IsEarlierRun (w : WorldState) (k : ℕ) (events : List Event) (answers : List Answer)
     (place number choice instructions : ℕ) : Type 0 where
   pub worker : Worker
@@ -85,7 +86,7 @@ FinishesItsRun = (w v : WorldState) (k place number choice instructions : ℕ)
     → IsOwnRun w k events answers place number choice instructions
     ⊎ IsEarlierRun w k events answers place number choice instructions
 
--- so of the latest Start, if the worker is idle before the events
+-- if the worker is idle before the events, that is the run of the latest Start
 abbrev pub FinishesStartedRun : Type 0
 FinishesStartedRun = (w v : WorldState) (k place number choice instructions : ℕ)
     (events : List Event) (answers : List Answer)
@@ -93,7 +94,7 @@ FinishesStartedRun = (w v : WorldState) (k place number choice instructions : �
     → IsFinished k events answers place number choice instructions
     → IsOwnRun w k events answers place number choice instructions
 
--- and it chose 0, or a number up to the releases of the app that its ruleset has, in time
+-- in a safe world this run chose, in time, 0 or a number up to the releases of its ruleset's app
 abbrev pub ChoosesItsRelease : Type 0
 ChoosesItsRelease = (w : WorldState) (k place number choice instructions : ℕ)
     (events : List Event) (answers : List Answer)

@@ -18,14 +18,14 @@ use Rattle.world.specs.declared.event.Effect.TheVariants as effect
 use Rattle.world.specs.declared.event.WorldFault.{WorldFault}
 use Rattle.world.specs.declared.event.WorldFault.TheVariants as fault
 
--- a seat's run represents a worker's that continues
+-- a seat's run represents a worker's run that continues
 pub record GoesAs (run : Held) (held number : ℕ) (program : ShapedProgram)
     (s : State) : Type 0 where
   pub number_is : held ≡ number
   pub program_is : run.program ≡ program
   pub stands : machine.RunStandsFor run s
 
--- a seat's run, and its choice, represent a worker's that has ended; the last instruction also
+-- a seat's run and its choice represent a worker's run that has ended; its last instruction also
 -- counts
 pub record EndedAs (run : Held) (held chosen number : ℕ) (program : ShapedProgram) (a : Attributes)
     (choice instructions : ℕ) : Type 0 where

@@ -48,8 +48,8 @@ pub fn batches_compose()
     ensures part { BatchesPart }
 {}
 
-/// Law: events with their results lead from a safe world to only one world. Neither programs nor
-/// replies are left to choose.
+/// Law: events with their results lead from a safe world to only one world. They determine the
+/// programs and the replies.
 pub fn one_course()
     ensures { HasOneCourse }
 {

@@ -1,5 +1,5 @@
-//! The seat of a worker: empty, or taken by a run. The contracts say what a step and a finish do
-//! for every worker that the seat represents.
+//! The seat of a worker: empty, or with a run. The contracts say what a step and a finish do for
+//! every worker that the seat represents.
 
 ghost use Rattle.std.specs.Prelude.{◌≡◌, IfErr, IsTrue, IsFalse};
 

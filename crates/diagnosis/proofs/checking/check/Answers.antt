@@ -1,6 +1,6 @@
 use Rattle.std.proofs.Common.{[], List, subst}
 use Rattle.cells.specs.declared.array.CellArray.{CellArray}
-use Rattle.load.specs.Gathered.{IsGathered, IsUngathered}
+use Rattle.load.specs.Gathered.{IsGathered, IsGatherRefusal}
 use Rattle.diagnosis.proofs.Passing.{err_by, fails, fails_early, ok_by, passes}
 use Rattle.diagnosis.proofs.checking.check.Goals as goal
 
@@ -27,6 +27,6 @@ returns-in-Ok-clause-fails g c =
 pub returns-clause-fails : goal.returns-clause-fails
 returns-clause-fails g c =
     fails_early _ _ c.in-Err.ungathered _
-    (subst (λ (old : List CellArray). IsUngathered old c.args.manifest.now c.in-Err.ungathered)
+    (subst (λ (old : List CellArray). IsGatherRefusal old c.args.manifest.now c.in-Err.ungathered)
     c.new-directory.ensures c.in-Err.ensures.fault) c.refuse_ungathered.ensures.fault
     c.refuse_ungathered.ensures.told

@@ -1,5 +1,5 @@
 use Rattle.std.proofs.Common.{rules, arith, ap, ◌≡◌, ◌++◌, ◌∷◌, ◌-◌, length, map, take, drop}
-use Rattle.manifest.specs.Twice.{names_twice}
+use Rattle.manifest.specs.DuplicateNames.{names_twice}
 use Rattle.manifest.proofs.NewNames.{names_new-none, next_told}
 use Rattle.manifest.proofs.Walks.{opened, whole_next, within_next}
 use Rattle.manifest.proofs.twice.push_names_twice.Goals as goal

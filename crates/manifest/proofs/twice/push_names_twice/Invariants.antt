@@ -1,5 +1,5 @@
 use Rattle.std.proofs.Common.{◌≡◌, ◌+◌, ◌++◌, length, map, take}
-use Rattle.manifest.specs.Twice.{names_twice}
+use Rattle.manifest.specs.DuplicateNames.{names_twice}
 use Rattle.manifest.proofs.NewNames.{names_new}
 use Rattle.manifest.proofs.twice.push_names_twice.Given as goal
 

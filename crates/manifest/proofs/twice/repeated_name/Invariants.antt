@@ -1,5 +1,5 @@
 use Rattle.std.proofs.Common.{◌≡◌, map, length}
-use Rattle.manifest.specs.Twice.{repeated}
+use Rattle.manifest.specs.DuplicateNames.{repeated}
 use Rattle.manifest.proofs.twice.repeated_name.Given as goal
 
 -- no name so far occurs again

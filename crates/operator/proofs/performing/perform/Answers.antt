@@ -22,34 +22,34 @@ returns-in-Err-clause-performs g c =
     grows_none (g.C.CellSteps.grew) _ _ (rw (c.in-Some.is, c.in-Load.is, c.in-Err.ensures.same)
     (not_loaded c.in-Load.path c.in-Err.ensures.fault))
 
-pub returns-in-Ok-tell_ruleset-clause-performs : goal.returns-in-Ok-tell_ruleset-clause-performs
-returns-in-Ok-tell_ruleset-clause-performs g c =
-    let text = c.in-Ok-tell_ruleset.ensures in
+pub returns-in-Ok-ruleset_lines-clause-performs : goal.returns-in-Ok-ruleset_lines-clause-performs
+returns-in-Ok-ruleset_lines-clause-performs g c =
+    let text = c.in-Ok-ruleset_lines.ensures in
     let generation = c.generation.ensures in
     let rules = c.ruleset.ensures in
-    let told : string_bytes c.in-Ok-tell_ruleset.lines
+    let told : string_bytes c.in-Ok-ruleset_lines.lines
     ≡ ruleset_text c.args.control.now.publishing.latest = cc in
     grows_none (g.C.CellSteps.grew) _ _ (rw (c.in-Some.is, c.in-Show.is) (shown _ told))
 
-pub returns-in-Err-tell_ruleset-clause-performs : goal.returns-in-Err-tell_ruleset-clause-performs
-returns-in-Err-tell_ruleset-clause-performs g c =
+pub returns-in-Err-ruleset_lines-clause-performs : goal.returns-in-Err-ruleset_lines-clause-performs
+returns-in-Err-ruleset_lines-clause-performs g c =
     grows_none (g.C.CellSteps.grew) _ _ (rw (c.in-Some.is, c.in-Show.is) unshown)
 
-pub returns-in-Ok-tell_counters-clause-performs : goal.returns-in-Ok-tell_counters-clause-performs
-returns-in-Ok-tell_counters-clause-performs g c =
-    let a = c.in-Ok-tell_counters.ensures.told in
+pub returns-in-Ok-counter_lines-clause-performs : goal.returns-in-Ok-counter_lines-clause-performs
+returns-in-Ok-counter_lines-clause-performs g c =
+    let a = c.in-Ok-counter_lines.ensures.told in
     let Read : List CellArray → Type 0 = λ arrays.
-    ReadsArrays arrays a.events (string_bytes c.in-Ok-tell_counters.lines) in
+    ReadsArrays arrays a.events (string_bytes c.in-Ok-counter_lines.lines) in
     let read = subst Read c.arrays.ensures.arrays a.of in record {
       events = a.events;
       grown = a.grown;
       of = rw (c.in-Some.is, c.in-Cells.is) (counted _ read);
     }
 
-pub returns-in-Err-tell_counters-clause-performs :
-    goal.returns-in-Err-tell_counters-clause-performs
-returns-in-Err-tell_counters-clause-performs g c =
-    let a = c.in-Err-tell_counters.ensures.untold in record {
+pub returns-in-Err-counter_lines-clause-performs :
+    goal.returns-in-Err-counter_lines-clause-performs
+returns-in-Err-counter_lines-clause-performs g c =
+    let a = c.in-Err-counter_lines.ensures.untold in record {
       events = a.events;
       grown = a.grown;
       of = rw (c.in-Some.is, c.in-Cells.is) (uncounted a.of);

@@ -1,4 +1,4 @@
-/* A census, and a quota: array 0 counts the machines that ask by their first number, and those from
+/* A census, and a quota: array 0 counts requests by the first number of the version, and those from
    16 on together. The first hundred below 3.0 whose platform is "win" get the second release, and all
    others below 2.0 the first.
    --releases 2 --arrays seen:32:17,early:64:1:100 */

@@ -99,8 +99,8 @@ void *host_cell(unsigned array, unsigned index);
         attr_is(attribute, text_, sizeof text_ - 1);                                           \
     })
 
-/* Takes one of so many from a 64-bit cell: whether there was one left. The old value is made opaque,
-   since a compiler that doesn't need it uses an addition that gives none (V14). */
+/* Takes one from a 64-bit cell with this quota; true if one was left. The old value is made opaque,
+   since a compiler that doesn't need it uses an addition that returns none (V14). */
 #define TAKE(array, index, quota)                                                              \
     (OPAQUE(__sync_fetch_and_add((uint64_t *)CELL(array, index), 1)) < (quota))
 

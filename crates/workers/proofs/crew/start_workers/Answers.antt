@@ -4,7 +4,7 @@ use Rattle.std.specs.declared.thread.PromisedHandle.{PromisedHandle}
 use Rattle.std.proofs.lemmas.List.Elements.{All-rest}
 use Rattle.hot_swap.specs.Published.{Beginning}
 use Rattle.workers.specs.Promised.{IsPromiseOf}
-use Rattle.workers.specs.declared.promise.OfWorker.{OfWorker}
+use Rattle.workers.specs.declared.promise.WorkerPromise.{WorkerPromise}
 use Rattle.workers.proofs.InPlace.{all_have, one_more}
 use Rattle.workers.proofs.crew.start_workers.Goals as goal
 
@@ -26,7 +26,7 @@ loop-worker-preserved g c =
 pub returns : goal.returns
 returns g c =
     let P = g.row.C-Pass.Denot in
-    let K = PromisedHandle (P × Beginning) (OfWorker g.row.C.Denot P) in
+    let K = PromisedHandle (P × Beginning) (WorkerPromise g.row.C.Denot P) in
     let i = c.loop-worker.invariant in
     let gives = c.into_iter-worker-iterator.ensures.into_iter_gives in
     subst (λ (ws : List (P × Beginning)). AllZip (λ (w : P × Beginning) (thread : K).

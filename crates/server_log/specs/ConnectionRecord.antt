@@ -1,9 +1,9 @@
 -- What the log keeps of a connection.
 use Rattle.std.specs.Prelude.{◌≡◌, [], None}
-use Rattle.server_log.specs.declared.seen.Seen.{Seen}
+use Rattle.server_log.specs.declared.connection_record.ConnectionRecord.{ConnectionRecord}
 
 -- nothing yet
-pub record IsUnseen (seen : Seen) : Type 0 where
+pub record IsUnseen (seen : ConnectionRecord) : Type 0 where
   pub generation : seen.generation ≡ 0
   pub forwarded : seen.forwarded ≡ None
   pub cause : seen.cause ≡ None
@@ -12,7 +12,7 @@ pub record IsUnseen (seen : Seen) : Type 0 where
   pub apps : seen.apps.items ≡ []
 
 -- the two agree on the request, its results, and whether they are kept
-pub record IsSameRequest (old new : Seen) : Type 0 where
+pub record IsSameRequest (old new : ConnectionRecord) : Type 0 where
   pub is_kept : new.is_kept ≡ old.is_kept
   pub generation : new.generation ≡ old.generation
   pub texts : new.texts ≡ old.texts

@@ -16,7 +16,7 @@ const FORWARDED: &[u8] = b"x-forwarded-for";
 
 /// A reader or a writer, with the first bytes that were read, if they are wanted.
 #[derive(Drop)]
-pub struct Heard<T> {
+pub struct Recorder<T> {
     inner: T,
     /// Whether `bytes` has the first bytes read; false if they aren't wanted or an allocation
     /// failed.
@@ -25,26 +25,26 @@ pub struct Heard<T> {
     failure: Option<ErrorKind>,
 }
 
-impl<T> Heard<T> {
+impl<T> Recorder<T> {
     /// A device from which nothing is read yet.
-    pub fn new(alloc: Global, inner: T, is_kept: bool) -> Heard<T>
+    pub fn new(alloc: Global, inner: T, is_kept: bool) -> Recorder<T>
         ensures inner { result.inner ≡ inner }
         ensures kept { result.is_kept ≡ is_kept }
         ensures bytes { result.bytes.items ≡ [] }
         ensures failure { result.failure ≡ None }
     {
-        Heard::in_room(Vec::new(alloc), inner, is_kept)
+        Recorder::in_room(Vec::new(alloc), inner, is_kept)
     }
 
     /// A device from which nothing is read yet, with a buffer for what is read.
-    pub(crate) fn in_room(mut room: Vec<u8>, inner: T, is_kept: bool) -> Heard<T>
+    pub(crate) fn in_room(mut room: Vec<u8>, inner: T, is_kept: bool) -> Recorder<T>
         ensures inner { result.inner ≡ inner }
         ensures kept { result.is_kept ≡ is_kept }
         ensures bytes { result.bytes.items ≡ [] }
         ensures failure { result.failure ≡ None }
     {
         room.clear();
-        Heard {
+        Recorder {
             inner,
             is_kept,
             bytes: room,
@@ -171,7 +171,7 @@ fn forwarded_value(line: &[u8]) -> Option<&[u8]> {
     }
 }
 
-impl<R: Read> Read for Heard<R> {
+impl<R: Read> Read for Recorder<R> {
     ghost remaining = { λ d. R.remaining d.inner };
 
     fn read(&mut self, buf: &mut [u8]) -> io::Result<usize> {
@@ -188,7 +188,7 @@ impl<R: Read> Read for Heard<R> {
     }
 }
 
-impl<W: Write> Write for Heard<W> {
+impl<W: Write> Write for Recorder<W> {
     ghost contents = { λ d. W.contents d.inner };
 
     fn write(&mut self, buf: &[u8]) -> io::Result<usize> {

@@ -1,6 +1,6 @@
 use Rattle.operator.proofs.Counted.{grows_none, next_array, loaded_array, within_cells}
 use Rattle.operator.specs.Counters.{no_array}
-use Rattle.operator.proofs.telling.tell_counters.Goals as goal
+use Rattle.operator.proofs.telling.counter_lines.Goals as goal
 
 pub loop-array-init : goal.loop-array-init
 loop-array-init g c =

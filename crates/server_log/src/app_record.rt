@@ -1,7 +1,7 @@
 //! An app of a request, as the log keeps it: its facts, what was found for it, and the places of
 //! its other texts.
 
-use crate::heard_app::HeardApp;
+use crate::app_details::AppDetails;
 use crate::kept_texts::{KeptTexts, TextPlace};
 use access_log::{AskedApp, AskedMore, Excerpt, Outcome};
 use attrs::{Bucket, SharedFacts, Text, cohort_bucket, named_or_hashed};
@@ -10,20 +10,20 @@ use std::alloc::AllocError;
 
 /// An app, with what was found for it.
 #[derive(Drop)]
-pub(crate) struct SeenApp {
+pub(crate) struct AppRecord {
     said: SharedFacts,
     bucket: Bucket,
     /// Whether the server has such an app.
     pub(crate) is_known: bool,
     choice: Option<u8>,
     release: Option<TextPlace>,
-    beside: Beside,
+    beside: AppExtras,
 }
 
 /// The details of an app that its facts don't have.
 #[derive(Clone, Copy)]
-pub(crate) struct Beside {
-    pub(crate) heard: HeardApp,
+pub(crate) struct AppExtras {
+    pub(crate) heard: AppDetails,
     /// The request's platform.
     pub(crate) platform: Option<KeptExcerpt>,
 }
@@ -56,20 +56,20 @@ impl KeptExcerpt {
     }
 }
 
-impl SeenApp {
+impl AppRecord {
     /// Keeps an app, what was found for it, and its other details.
     pub(crate) fn of(
         texts: &mut KeptTexts,
         said: SharedFacts,
         found: &Option<FoundApp<'_>>,
         hashed: Bucket,
-        beside: Beside,
-    ) -> Result<SeenApp, AllocError> {
+        beside: AppExtras,
+    ) -> Result<AppRecord, AllocError> {
         let (bucket, choice, release) = match found {
             Some(found) => (found.bucket(), found.choice(), release_of(texts, found)?),
             None => (named_or_hashed(said.facts(), hashed), None, None),
         };
-        Ok(SeenApp {
+        Ok(AppRecord {
             said,
             bucket,
             is_known: found.is_some(),

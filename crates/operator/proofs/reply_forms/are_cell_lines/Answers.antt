@@ -3,7 +3,7 @@ use Rattle.std.proofs.lemmas.Iterator.Search.{all_from_yields_List}
 use Rattle.std.proofs.lemmas.Iterator.Splits.{YieldsList-from_slice_split}
 use Rattle.operator_request.specs.Requests.{is_line_feed}
 use Rattle.operator.specs.Replies.{is_cell_line}
-use Rattle.operator.proofs.told.are_cell_lines.Goals as goal
+use Rattle.operator.proofs.reply_forms.are_cell_lines.Goals as goal
 
 pub returns : goal.returns
 returns c =

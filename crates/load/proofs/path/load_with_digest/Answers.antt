@@ -3,7 +3,7 @@ use Rattle.load.specs.Folder.{known_beside}
 use Rattle.load.specs.Made.{IsMadeOver}
 use Rattle.load.proofs.Causes.{untold}
 use Rattle.load.proofs.Making.{from_path}
-use Rattle.load.proofs.path.load_told.Goals as goal
+use Rattle.load.proofs.path.load_with_digest.Goals as goal
 
 pub returns-in-Err-clause-loads : goal.returns-in-Err-clause-loads
 returns-in-Err-clause-loads g c =

@@ -1,7 +1,7 @@
 use Rattle.std.proofs.Common.{sym}
 use Rattle.answering.specs.Answer.{rejected}
 use Rattle.answering.proofs.Replies.{is_heard}
-use Rattle.answering.proofs.reading.hear.Goals as goal
+use Rattle.answering.proofs.reading.receive_request.Goals as goal
 
 pub returns-in-Ok-clause-heard : goal.returns-in-Ok-clause-heard
 returns-in-Ok-clause-heard g c =

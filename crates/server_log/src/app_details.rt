@@ -1,7 +1,7 @@
 //! What the log keeps of an app as its client wrote it: its event, and which members are ignored.
 
+use crate::app_record::KeptExcerpt;
 use crate::kept_texts::{KeptTexts, TextPlace};
-use crate::seen_app::KeptExcerpt;
 use access_log::Excerpt;
 use omaha_json::WrittenApp;
 use std::alloc::{AllocError, Global};
@@ -11,15 +11,15 @@ const TEXTS: [&str; 5] = ["ap", "brand", "cohort", "lang", "version"];
 
 /// The details of an app that its facts don't have.
 #[derive(Clone, Copy)]
-pub(crate) struct HeardApp {
+pub(crate) struct AppDetails {
     pub(crate) event: Option<KeptExcerpt>,
     /// The names of members that are ignored.
     pub(crate) ignored: Option<TextPlace>,
 }
 
-impl HeardApp {
+impl AppDetails {
     /// An app without details.
-    pub(crate) const NONE: HeardApp = HeardApp {
+    pub(crate) const NONE: AppDetails = AppDetails {
         event: None,
         ignored: None,
     };
@@ -29,7 +29,7 @@ impl HeardApp {
         alloc: Global,
         texts: &mut KeptTexts,
         app: WrittenApp<'_>,
-    ) -> Result<HeardApp, AllocError> {
+    ) -> Result<AppDetails, AllocError> {
         let event = match app.event_text(alloc)? {
             Some(text) => Some(KeptExcerpt::of(texts, Excerpt::of(&text))?),
             None => None,
@@ -43,6 +43,6 @@ impl HeardApp {
         if app.ignores_installdate() {
             ignored = Some(texts.keep_name(ignored, "installdate")?);
         }
-        Ok(HeardApp { event, ignored })
+        Ok(AppDetails { event, ignored })
     }
 }

@@ -3,7 +3,7 @@ use Rattle.std.proofs.Common.{length-drop}
 use Rattle.std.specs.Prelude.{◌==◌}
 use Rattle.std.proofs.lemmas.List.{drop_all}
 use Rattle.operator.proofs.Positions.{found, not_found}
-use Rattle.operator.proofs.told.parts_at.Goals as goal
+use Rattle.operator.proofs.reply_forms.parts_at.Goals as goal
 
 pub returns-in-Some-clause-before : goal.returns-in-Some-clause-before
 returns-in-Some-clause-before c =

@@ -3,12 +3,12 @@
 //! and other texts are copied. A worker reuses the buffers for its next connection.
 
 ghost use Rattle.std.specs.Prelude.{◌≡◌, [], None, Some};
-ghost use Rattle.server_log.specs.Seen.{IsUnseen, IsSameRequest};
+ghost use Rattle.server_log.specs.ConnectionRecord.{IsUnseen, IsSameRequest};
 
-use crate::heard::Heard;
-use crate::heard_app::HeardApp;
+use crate::app_details::AppDetails;
+use crate::app_record::{AppExtras, AppRecord, KeptExcerpt};
 use crate::kept_texts::{KeptTexts, TextPlace};
-use crate::seen_app::{Beside, KeptExcerpt, SeenApp};
+use crate::recorder::Recorder;
 use access_log::{AskedApp, Excerpt};
 use answering::Witness;
 use attrs::{Bucket, hashed_bucket};
@@ -22,7 +22,7 @@ use std::time::Clock;
 
 /// The contents of a connection's line, if the log keeps them.
 #[derive(Drop)]
-pub struct Seen {
+pub struct ConnectionRecord {
     alloc: Global,
     is_kept: bool,
     /// 0 if no request was answered.
@@ -37,8 +37,8 @@ pub struct Seen {
     room: Vec<u8>,
     texts: KeptTexts,
     /// The details of each app, in the request's order.
-    events: Vec<HeardApp>,
-    apps: Vec<SeenApp>,
+    events: Vec<AppDetails>,
+    apps: Vec<AppRecord>,
     /// Whether an allocation failed for some of it.
     is_cut: bool,
 }
@@ -50,13 +50,13 @@ pub(crate) struct Addresses {
     forwarded: Option<TextPlace>,
 }
 
-impl Seen {
+impl ConnectionRecord {
     /// Starts with nothing.
-    pub fn new(alloc: Global, is_kept: bool) -> Seen
+    pub fn new(alloc: Global, is_kept: bool) -> ConnectionRecord
         ensures unseen { IsUnseen result }
         ensures kept { result.is_kept ≡ is_kept }
     {
-        Seen {
+        ConnectionRecord {
             alloc,
             is_kept,
             generation: 0,
@@ -88,7 +88,7 @@ impl Seen {
 
     /// Wraps a reader so that it keeps what is read, if that is wanted, in the buffer. `remember`
     /// returns the buffer.
-    pub fn heard<R>(&mut self, reader: R) -> Heard<R>
+    pub fn recorder_of<R>(&mut self, reader: R) -> Recorder<R>
         ensures reader { result.inner ≡ reader }
         ensures kept { result.is_kept ≡ self.old.is_kept }
         ensures bytes { result.bytes.items ≡ [] }
@@ -96,15 +96,15 @@ impl Seen {
         ensures same { IsSameRequest self.old self.new }
     {
         let room = mem::replace(&mut self.room, Vec::new(self.alloc));
-        Heard::in_room(room, reader, self.is_kept)
+        Recorder::in_room(room, reader, self.is_kept)
     }
 
     /// Takes the details of a connection from its devices: the address that a proxy names, how the
     /// reader failed or else the writer, and the number of bytes written.
     pub fn remember<'x, H: Clock>(
         &mut self,
-        reader: Heard<Timed<'x, H>>,
-        writer: Heard<Timed<'x, H>>,
+        reader: Recorder<Timed<'x, H>>,
+        writer: Recorder<Timed<'x, H>>,
     )
         ensures bytes { self.new.bytes ≡ writer.entry.inner.bytes }
         ensures same { IsSameRequest self.old self.new }
@@ -190,35 +190,35 @@ impl Seen {
                 return Ok(());
             };
             let heard = self.heard_at(place, platform);
-            let seen = SeenApp::of(&mut self.texts, app.share()?, found, hashed, heard)?;
+            let seen = AppRecord::of(&mut self.texts, app.share()?, found, hashed, heard)?;
             self.apps.push(seen)?;
         }
         Ok(())
     }
 
     // The details of the app at a place, with the request's platform.
-    fn heard_at(&self, place: usize, platform: Option<KeptExcerpt>) -> Beside {
+    fn heard_at(&self, place: usize, platform: Option<KeptExcerpt>) -> AppExtras {
         let heard = match self.events.get(place) {
             Some(heard) => *heard,
-            None => HeardApp::NONE,
+            None => AppDetails::NONE,
         };
-        Beside { heard, platform }
+        AppExtras { heard, platform }
     }
 
     // Keeps the details of the next app.
     fn keep_heard(&mut self, app: WrittenApp<'_>) -> Result<(), AllocError> {
-        let heard = HeardApp::of(self.alloc, &mut self.texts, app)?;
+        let heard = AppDetails::of(self.alloc, &mut self.texts, app)?;
         self.events.push(heard)?;
         Ok(())
     }
 
     /// Drops the apps, once their line is written.
-    pub(crate) fn let_go(&mut self) {
+    pub(crate) fn drop_apps(&mut self) {
         self.apps.clear();
     }
 }
 
-impl HearsApps for Seen {
+impl HearsApps for ConnectionRecord {
     fn hear_app(&mut self, app: WrittenApp<'_>) {
         if self.is_kept {
             let is_kept = self.keep_heard(app).is_ok();
@@ -227,7 +227,7 @@ impl HearsApps for Seen {
     }
 }
 
-impl Witness for Seen {
+impl Witness for ConnectionRecord {
     fn see(&mut self, generation: Generation, request: &Request, found: &[Option<FoundApp<'_>>]) {
         self.generation = generation;
         if self.is_kept {

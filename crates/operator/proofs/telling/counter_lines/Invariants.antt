@@ -1,7 +1,7 @@
 use Rattle.std.proofs.Common.{take}
 use Rattle.std.specs.String.{string_bytes}
 use Rattle.operator.specs.Counters.{ReadsArrays}
-use Rattle.operator.proofs.telling.tell_counters.Given as goal
+use Rattle.operator.proofs.telling.counter_lines.Given as goal
 use Rattle.cells.specs.Grown.{Grows}
 
 -- the arrays so far, with their lines
