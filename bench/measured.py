@@ -162,3 +162,15 @@ def build_server_peer(out):
         print(f"no peer in plain Rust: {error}", file=sys.stderr)
         return None
     return out / "target" / "release" / "server_peer"
+
+
+def build_bare(out):
+    """Builds bench/bare.c, the least server, or prints why it can't."""
+    program = out / "bare"
+    words = ["gcc", "-O2", "-Wall", "-Wextra", "-pthread", "-o", program, HERE / "bare.c"]
+    try:
+        subprocess.run(words, check=True)
+    except (OSError, subprocess.CalledProcessError) as error:
+        print(f"no bare loop in C: {error}", file=sys.stderr)
+        return None
+    return program

@@ -11,7 +11,8 @@ from functools import partial
 from pathlib import Path
 from typing import NamedTuple
 
-PORT, OPERATOR, PEER_PORT, NGINX_PORT = 18080, 18081, 18082, 18083
+PORT, OPERATOR, PEER_PORT, NGINX_PORT, BARE_PORT = 18080, 18081, 18082, 18083, 18084
+NGINX_NAME, BARE_NAME = "nginx, static", "bare loop in C"
 
 BODY = (
     '{"request":{"protocol":"3.1","requestid":"a","sessionid":"","app":'
@@ -70,15 +71,15 @@ def write_texts(folder):
 
 def nginx_words(program, folder, workers):
     """nginx with a static reply: the text of rollout's reply."""
-    text = (folder / "reply").read_text().replace("'", "\\'").replace("$", "")
+    text = (folder / "body").read_text().replace("'", "\\'").replace("$", "")
     names = [str(folder / f"t{n}") for n in range(5)]
     path = folder / "nginx.conf"
     path.write_text(NGINX % (workers, folder, *names, NGINX_PORT, text))
     return [program, "-c", str(path)]
 
 
-def kinds(program, peer, folder):
-    """The available servers. rollout is before nginx, because its reply is used there."""
+def kinds(program, peer, bare, folder):
+    """The available servers. rollout comes first, because others send its reply."""
     rollout = [str(program), "serve", str(folder / "x.toml"), "--port", str(PORT)]
     rollout += ["--operator", str(OPERATOR), "--workers"]
     found = [
@@ -89,7 +90,11 @@ def kinds(program, peer, folder):
         words = [str(peer), "serve", str(PEER_PORT)]
         found.append(Kind("plain Rust", PEER_PORT, lambda workers: [*words, str(workers)]))
     if nginx := shutil.which("nginx", path=f"{os.environ['PATH']}:/usr/sbin"):
-        found.append(Kind("nginx, static", NGINX_PORT, partial(nginx_words, nginx, folder)))
+        found.append(Kind(NGINX_NAME, NGINX_PORT, partial(nginx_words, nginx, folder)))
+    if bare:
+        loop = [str(bare), str(BARE_PORT)]
+        reply = str(folder / "reply")
+        found.append(Kind(BARE_NAME, BARE_PORT, lambda workers: [*loop, str(workers), reply]))
     return found
 
 
@@ -159,7 +164,8 @@ class Running:
             time.sleep(0.05)
         reply = ask(self.kind.port)
         if self.kind.name == "rollout":
-            (self.folder / "reply").write_bytes(reply.split(b"\r\n\r\n", 1)[1])
+            (self.folder / "reply").write_bytes(reply)
+            (self.folder / "body").write_bytes(reply.split(b"\r\n\r\n", 1)[1])
         time.sleep(0.3)  # time for nginx to start all its workers
         return self
 
