@@ -29,6 +29,10 @@ class Skipped(Exception):
     """Why a check can't be made here."""
 
 
+class Wrong(Exception):
+    """A failed check, with the reason."""
+
+
 def needs(*commands):
     for command in commands:
         if not shutil.which(command):
