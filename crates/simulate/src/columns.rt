@@ -28,6 +28,7 @@ pub fn push_blanks(text: &mut String, count: usize) -> Result<(), AllocError>
 }
 
 /// Appends a text, followed by the blanks that fill it up to a width.
+// open: whether an allocation fails.
 pub fn push_left(text: &mut String, width: usize, more: &str) -> Result<(), AllocError>
     ensures { OnOk result (Puts text.old text.new (specs.at_left width more.now)) }
 {

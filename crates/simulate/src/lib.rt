@@ -32,6 +32,7 @@ mod simulated;
 
 pub use choices::Choices;
 pub use client::Client;
+pub use columns::{push_left, width_of};
 pub use counts::{count_buckets, count_moves};
 pub use course::{Onlooker, simulate};
 pub use lost::is_lossy;

@@ -1,0 +1,7 @@
+pub mod Kinds
+pub mod Conditions
+pub mod Grants
+pub mod Tables
+pub mod Shown
+pub mod Lines
+pub mod Objects

@@ -1,0 +1,152 @@
+-- Truth tables: how a condition is read back. A table says for each segment of a dimension whether a
+-- part of the condition holds. No public clause uses this: the promise is in Conditions.antt.
+use Rattle.std.specs.Prelude.{◌≡◌, ℕ, ◌+◌, ◌<◌, List, [], ◌∷◌, Option, Some, None, map, length, All}
+use Rattle.std.specs.Prelude.{Bool, true, false, not, ◌==◌, ◌&&◌, ◌||◌, slice_get, slice_index}
+use Rattle.std.specs.Prelude.{slice_index_or, if◌then◌else◌}
+use Rattle.std.specs.List.{AllZip, list_all}
+use Rattle.std.specs.Ordering.{nat_cmp}
+use Rattle.attrs.specs.Attributes.{Attributes}
+use Rattle.cells.specs.Arrays.{AppShape}
+use Rattle.rule_lang.specs.Meaning.{Behaviour, allows, decide, decide_steps}
+use Rattle.rule_lang.specs.Trees.{Tree, trees_from}
+use Rattle.rule_lang.specs.declared.condition.Step.{Step}
+use Rattle.rule_lang.specs.declared.condition.Step.TheVariants as step
+use Rattle.rule_lang.specs.declared.test.Comparison.TheVariants.{Ge, Le}
+use Rattle.rule_lang.specs.declared.test.Test.{Test}
+use Rattle.rule_space.specs.Coordinates.{Dimension, place_of}
+use Rattle.rule_space.specs.Machines.{State}
+use Rattle.rule_space.specs.Numbers.{decides}
+use Rattle.rule_space.specs.Scopes.{IsWithin, Scope}
+use Rattle.rule_space.specs.Tests.{IsAgainstAt}
+use Rattle.rule_space.specs.declared.test_line.Against.{Against}
+use Rattle.rule_diff.specs.Rows.{SegmentSet, has_segment}
+use Rattle.diff_text.specs.declared.left_ranges.LeftRange.{LeftRange}
+use Rattle.diff_text.specs.Conditions.{is_grant}
+
+-- ---- tables
+
+-- the place of a dimension, and a truth for each of its segments
+pub record Table : Type 0 where
+  pub dimension : ℕ
+  pub holds : List Bool
+
+abbrev pub holds_at : Table → (place : List ℕ) → Bool
+holds_at t place = slice_index_or t.holds (slice_index place t.dimension) false
+
+-- a part of a condition: tables that all hold
+abbrev pub all_hold : List Table → (place : List ℕ) → Bool
+all_hold tables place = list_all (λ t. holds_at t place) tables
+
+-- the truths of a comparison, by the numbers at which the segments begin
+abbrev pub truths : Against → (ends : List ℕ) → List Bool
+truths by ends = map (λ end. allows by.comparison (nat_cmp end by.number)) ends
+
+abbrev pub join_by : (is_and : Bool) → Bool → Bool → Bool
+join_by true a b = a && b
+join_by false a b = a || b
+
+-- the truths of two tables of one dimension, segment by segment
+abbrev pub pairwise : (Bool → Bool → Bool) → List Bool → List Bool → List Bool
+pairwise op [] bs = []
+pairwise op (a ∷ hs) [] = []
+pairwise op (a ∷ hs) (b ∷ bs) = op a b ∷ pairwise op hs bs
+
+-- ---- tables of a list of dimensions
+
+module _ (ds : List Dimension) where
+  -- a truth for each segment of a dimension that is there
+  pub record IsTable (t : Table) : Type 0 where
+    pub dimension : Dimension
+    pub is_at : slice_get ds t.dimension ≡ Some dimension
+    pub each : length t.holds ≡ length dimension.ends
+
+  -- a segment of each dimension
+  abbrev pub IsPlace : List ℕ → Type 0
+  IsPlace place = (at : ℕ) (d : Dimension) → slice_get ds at ≡ Some d
+      → slice_index place at < length d.ends
+
+  -- the truths of a test by the numbers of its dimension
+  pub record IsTestTable (test : Test) (t : Table) : Type 0 where
+    pub by : Against
+    pub against : IsAgainstAt ds t.dimension test by
+    pub is : t.holds ≡ truths by against.dimension.ends
+
+  -- it holds as an operator of two others says
+  pub record IsJoined (op : Bool → Bool → Bool) (first second joined : List Table) : Type 0 where
+    pub tables : All IsTable joined
+    pub holds : (place : List ℕ) → IsPlace place
+        → all_hold joined place ≡ op (all_hold first place) (all_hold second place)
+
+  pub record IsNegated (first negated : List Table) : Type 0 where
+    pub tables : All IsTable negated
+    pub holds : (place : List ℕ) → IsPlace place
+        → all_hold negated place ≡ not (all_hold first place)
+
+-- ---- what a part means
+
+module _ (x : Scope) (ds : List Dimension) where
+  -- the condition of a tree holds for a machine in a state exactly if the tables hold at its place
+  pub record IsPartOf (c : Tree) (tables : List Table) : Type 0 where
+    pub tables_are : All (IsTable ds) tables
+    pub means : (s : AppShape) (a : Attributes) (g : State) → IsWithin x a g
+        → (met unmet : Behaviour) → decide a s c met unmet
+        ≡ (if all_hold tables (place_of ds a g) then met else unmet)
+
+  -- the steps up to those that are left make trees, the newest first, and the parts are theirs
+  pub record HaveMade (all left : List Step) (parts : List (List Table)) : Type 0 where
+    pub trees : List Tree
+    pub same : trees_from trees left ≡ trees_from [] all
+    pub each : AllZip IsPartOf trees parts
+
+  -- the steps are a condition that holds exactly if the tables do
+  pub record IsWhole (steps : List Step) (tables : List Table) : Type 0 where
+    pub tables_are : All (IsTable ds) tables
+    pub means : (s : AppShape) (a : Attributes) (g : State) → IsWithin x a g
+        → (met unmet : Behaviour) → decide_steps a s steps met unmet
+        ≡ (if all_hold tables (place_of ds a g) then met else unmet)
+
+-- a part, if one was made, is pushed
+abbrev pub IsPushed : Option (List Table) → (old new : List (List Table)) → Type 0
+IsPushed (Some part) old new = new ≡ part ∷ old
+IsPushed None old new = ⊥
+
+abbrev pub join_step : (is_and : Bool) → Step
+join_step true = step.And
+join_step false = step.Or
+
+-- ---- comparing ranges and tables with sets
+
+-- no segment has numbers in the range and others
+abbrev pub is_cut : Dimension → LeftRange → Bool
+is_cut d r = decides d.ends d.last Ge r.low && decides d.ends d.last Le r.high
+
+abbrev pub agrees_at : (segments : List ℕ) → (segment : ℕ) → (holds : Bool) → Bool
+agrees_at segments segment true = has_segment segments segment
+agrees_at segments segment false = not (has_segment segments segment)
+
+-- the table holds at exactly these segments, of which the first one is `from`
+abbrev pub agrees : (segments : List ℕ) → (from : ℕ) → (holds : List Bool) → Bool
+agrees segments from [] = true
+agrees segments from (h ∷ hs) = agrees_at segments from h && agrees segments (from + 1) hs
+
+abbrev pub is_table_of : SegmentSet → Table → Bool
+is_table_of set t = (set.dimension == t.dimension) && agrees set.segments 0 t.holds
+
+abbrev pub first_is_table_of : SegmentSet → List Table → Bool
+first_is_table_of set [] = false
+first_is_table_of set (t ∷ ts) = is_table_of set t
+
+abbrev pub later_tables : List Table → List Table
+later_tables [] = []
+later_tables (t ∷ ts) = ts
+
+abbrev pub no_table : List Table → Bool
+no_table [] = true
+no_table (t ∷ ts) = false
+
+-- the tables are those of these sets in order, but for those of cells that grant takes
+abbrev pub are_tables_of : List Dimension → List SegmentSet → List Table → Bool
+are_tables_of ds [] tables = no_table tables
+are_tables_of ds (set ∷ sets) tables =
+    if is_grant (slice_get ds set.dimension) then are_tables_of ds sets tables
+    else first_is_table_of set tables && are_tables_of ds sets (later_tables tables)

@@ -1,0 +1,193 @@
+//! Parts of a condition, as tables that all hold.
+
+ghost use Rattle.std.specs.Prelude.{◌≡◌, ◌∷◌, [], All, IfOk, IfSome, map, not, true, false};
+ghost use Rattle.rule_lang.specs.Trees.{Asked};
+ghost use Rattle.rule_space.specs.Lines.{IsLine};
+ghost use Rattle.rule_space.specs.Scopes.{Scope};
+ghost use Rattle.diff_text.specs.Tables as specs;
+
+use crate::truth_table::{Table, joined_truths, negated_truths, table_of};
+use rule_lang::Test;
+use rule_space::Dimension;
+use std::alloc::{AllocError, Global};
+use std::marker::Model;
+
+/// A part of a condition: tables that all hold.
+#[derive(Drop)]
+pub(crate) struct Part {
+    pub tables: Vec<Table>,
+}
+
+impl Model for Part {
+    ghost use Rattle.std.specs.Prelude.{List};
+    ghost use Rattle.diff_text.specs.Tables as specs;
+
+    ghost Value = { List specs.Table };
+
+    ghost view = { λ p. p.tables.items };
+}
+
+// ---- one part out of others
+
+fn part_of(alloc: Global, table: Table) -> Result<Part, AllocError>
+    ensures { IfOk result (λ p. p ≡ table ∷ []) }
+{
+    let mut tables = Vec::new(alloc);
+    tables.push(table)?;
+    Ok(Part { tables })
+}
+
+// The table of a part that has only one.
+fn only_table(part: Part) -> Option<Table>
+    ensures { IfSome result (λ t. part ≡ t ∷ []) }
+{
+    let mut tables = part.tables;
+    let Some(table) = tables.pop() else {
+        return None;
+    };
+    if !tables.is_empty() {
+        return None;
+    }
+    Some(table)
+}
+
+/// The part of a test; none if it isn't about a dimension whose segments decide it.
+pub(crate) fn tested(
+    alloc: Global,
+    dimensions: &[Dimension],
+    test: &Test,
+) -> Result<Option<Part>, AllocError>
+    ensures { (x : Scope) (line : _) → All (IsLine x) dimensions.now → IfOk result
+        (λ o. IfSome o (specs.IsPartOf x dimensions.now (Asked line test.now))) }
+{
+    let Some(table) = table_of(alloc, dimensions, test)? else {
+        return Ok(None);
+    };
+    let part = part_of(alloc, table)?;
+    Ok(Some(part))
+}
+
+fn negated_table(alloc: Global, table: &Table) -> Result<Table, AllocError>
+    ensures { IfOk result (λ t. t ≡ record {
+      dimension = table.now.dimension;
+      holds = map not table.now.holds;
+    }) }
+{
+    let holds = negated_truths(alloc, &table.holds)?;
+    Ok(Table {
+        dimension: table.dimension,
+        holds,
+    })
+}
+
+/// A part under `not`; none if it has several tables.
+pub(crate) fn negated(alloc: Global, part: Part) -> Result<Option<Part>, AllocError>
+    ensures { (ds : _) → All (specs.IsTable ds) part → IfOk result
+        (λ o. IfSome o (specs.IsNegated ds part)) }
+{
+    let Some(table) = only_table(part) else {
+        return Ok(None);
+    };
+    let other = negated_table(alloc, &table)?;
+    let made = part_of(alloc, other)?;
+    Ok(Some(made))
+}
+
+fn table_by(alloc: Global, is_and: bool, first: &Table, second: &Table) -> Result<Table, AllocError>
+    ensures { IfOk result (λ t. t ≡ record {
+      dimension = first.now.dimension;
+      holds = specs.pairwise (specs.join_by is_and) first.now.holds second.now.holds;
+    }) }
+{
+    let holds = joined_truths(alloc, is_and, &first.holds, &second.holds)?;
+    Ok(Table {
+        dimension: first.dimension,
+        holds,
+    })
+}
+
+fn joined_table(
+    alloc: Global,
+    is_and: bool,
+    first: &Table,
+    second: &Table,
+) -> Result<Option<Table>, AllocError>
+    ensures { (ds : _) → specs.IsTable ds first.now → specs.IsTable ds second.now → IfOk result
+        (λ o. IfSome o (λ t. specs.IsJoined ds (specs.join_by is_and) (first.now ∷ [])
+        (second.now ∷ []) (t ∷ []))) }
+{
+    if first.dimension != second.dimension {
+        return Ok(None);
+    }
+    let table = table_by(alloc, is_and, first, second)?;
+    Ok(Some(table))
+}
+
+fn either(alloc: Global, first: Part, second: Part) -> Result<Option<Part>, AllocError>
+    ensures { (ds : _) → All (specs.IsTable ds) first → All (specs.IsTable ds) second
+        → IfOk result (λ o. IfSome o (specs.IsJoined ds (specs.join_by false) first second)) }
+{
+    let Some(one) = only_table(first) else {
+        return Ok(None);
+    };
+    let Some(other) = only_table(second) else {
+        return Ok(None);
+    };
+    match joined_table(alloc, false, &one, &other)? {
+        Some(table) => {
+            let part = part_of(alloc, table)?;
+            Ok(Some(part))
+        }
+        None => Ok(None),
+    }
+}
+
+// A table more: it is joined with the last one, if both are of one dimension.
+fn with_table(alloc: Global, first: Part, second: Table) -> Result<Part, AllocError>
+    ensures { (ds : _) → All (specs.IsTable ds) first → specs.IsTable ds second → IfOk result
+        (λ p. specs.IsJoined ds (specs.join_by true) first (second ∷ []) p) }
+{
+    let mut tables = first.tables;
+    let Some(last) = tables.pop() else {
+        return part_of(alloc, second);
+    };
+    match joined_table(alloc, true, &last, &second)? {
+        Some(table) => {
+            tables.push(table)?;
+            Ok(Part { tables })
+        }
+        None => {
+            tables.push(last)?;
+            tables.push(second)?;
+            Ok(Part { tables })
+        }
+    }
+}
+
+fn both(alloc: Global, first: Part, second: Part) -> Result<Option<Part>, AllocError>
+    ensures { (ds : _) → All (specs.IsTable ds) first → All (specs.IsTable ds) second
+        → IfOk result (λ o. IfSome o (specs.IsJoined ds (specs.join_by true) first second)) }
+{
+    let Some(table) = only_table(second) else {
+        return Ok(None);
+    };
+    let part = with_table(alloc, first, table)?;
+    Ok(Some(part))
+}
+
+/// Two parts that both hold, or of which one holds; none if that isn't a list of tables.
+pub(crate) fn joined(
+    alloc: Global,
+    is_and: bool,
+    first: Part,
+    second: Part,
+) -> Result<Option<Part>, AllocError>
+    ensures { (ds : _) → All (specs.IsTable ds) first → All (specs.IsTable ds) second
+        → IfOk result (λ o. IfSome o (specs.IsJoined ds (specs.join_by is_and) first second)) }
+{
+    if is_and {
+        both(alloc, first, second)
+    } else {
+        either(alloc, first, second)
+    }
+}
