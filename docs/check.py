@@ -25,8 +25,9 @@ from pathlib import Path
 from checking import (
     commands, crates_page, left_open, plain, quotes, reference, rows, weight
 )
+from checking.edits import lost_edits
 from checking.exports import lost_comments
-from checking.names import contracts, false_clauses, lost_edits, strangers, unknown_names
+from checking.names import contracts, false_clauses, strangers, unknown_names
 from checking.pages import (
     dead_links, other_help, other_logic, other_versions, tell_long, too_long, too_many_long
 )

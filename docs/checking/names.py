@@ -1,5 +1,4 @@
-"""What pages cite from the sources: clauses, definitions in their files, and names. Also the texts
-that wrong bodies replace."""
+"""What pages cite from the sources: clauses, definitions in their files, and names."""
 import re
 
 from checking.places import CRATES, crates
@@ -10,7 +9,6 @@ FUNCTION = re.compile(r"\bfn (\w+)\b(.*?)(?:\s\{\}?|;)\s*\n", re.S)
 CLAUSES = re.compile(r"`([\w:]+)` \(((?:`\w+`(?:, )?)+)\)")
 CITED = re.compile(r"`((?:\w+::)?[A-Za-z]\w*)`")
 SPEC = re.compile(r"\[[^]]*\]\(\.\./crates/([^)]+\.antt)\)")
-EDIT = re.compile(r"^(file|old|new): ?(.*)$", re.M)
 
 
 def contracts():
@@ -54,22 +52,3 @@ def unknown_names(text):
     for name in sorted({*CITED.findall(QUOTE.sub("", text))}):
         if name.split("::")[-1] not in known:
             yield f"{name} is no name of any crate"
-
-
-def lost_edits():
-    """Wrong bodies whose `old` text doesn't occur once in its file, or that have none."""
-    for edit in sorted([*CRATES.glob("*/must-fail/*.edit"), *CRATES.glob("*/wrong/*.edit")]):
-        name, texts, file, old = edit.relative_to(CRATES), {}, "", None
-        for word, rest in EDIT.findall(edit.read_text()):
-            if word == "file":
-                file = rest
-                path = edit.parent.parent / file
-                texts.setdefault(file, path.read_text() if path.is_file() else "")
-            elif word == "old":
-                old = rest
-                if texts.get(file, "").count(old) != 1:
-                    yield f"{name}: not once in {file}: {old}"
-            elif old is not None:
-                texts[file] = texts.get(file, "").replace(old, rest)
-        if old is None:
-            yield f"{name}: it has no old text"
