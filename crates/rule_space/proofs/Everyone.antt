@@ -1,5 +1,5 @@
 -- A group has a tuple with the cells of each machine.
-use Rattle.std.proofs.Common.{◌≡◌, ℕ, ◌+◌, ◌^◌, ◌<◌, ◌≤◌, List, [], All, length, Option, Some, None}
+use Rattle.std.proofs.Common.{◌≡◌, ℕ, ◌+◌, ◌^◌, ◌<◌, ◌≤◌, List, All, length, Option, Some, None}
 use Rattle.std.proofs.Common.{Bool, true, not, refl, sym, ap, ap₂, subst, ◌∙◌, arith, add-one}
 use Rattle.std.proofs.Common.{slice_get, is_some, unwrap_or, replicate}
 use Rattle.std.specs.Prelude.{option_and_then, if◌then◌else◌}

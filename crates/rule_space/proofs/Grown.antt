@@ -33,6 +33,13 @@ pub rest_has : (t : Tuple) (ts : List Tuple) (cells : List ℕ) → Contains (al
     → Contains (all_cells (t ∷ ts)) cells
 rest_has t ts cells h = (suc h.0, (let below = h.1 in omega arith), h.2)
 
+pub has_at : (ts : List Tuple) (k : ℕ) (t d : Tuple) → k < length ts → t ≡ get_or ts k d
+    → Contains (all_cells ts) t.cells
+has_at [] k t d within is = absurd (omega arith)
+has_at (u ∷ us) zero t d within is = first_has u us t.cells (sym (ap (λ (v : Tuple). v.cells) is))
+has_at (u ∷ us) (suc k) t d within is =
+    rest_has u us t.cells (has_at us k t d (omega arith) is)
+
 -- a tuple gets a bucket, and keeps its cells
 pub noted : (tuples : List Tuple) (k : ℕ) (t d : Tuple) → k < length tuples
     → t.cells ≡ (get_or tuples k d).cells → all_cells (set tuples k t) ≡ all_cells tuples

@@ -1,7 +1,7 @@
 //! Groups of dimensions that depend on each other. A group lists the tuples of cells that a machine
 //! can have in them.
 
-ghost use Rattle.std.specs.Prelude.{◌≡◌, Contains, IfOk, IfSome, OnOk, true};
+ghost use Rattle.std.specs.Prelude.{◌≡◌, Contains, IfOk, IfSome, true};
 ghost use Rattle.rule_space.specs.Groups.{all_cells};
 ghost use Rattle.rule_space.specs.Families.{HasAdded};
 
@@ -29,6 +29,8 @@ impl Model for Tuple {
 pub struct Group {
     pub dimensions: Vec<usize>,
     pub tuples: Vec<Tuple>,
+    // The place after the tuple that was added last: buckets add tuples in much the same order.
+    next: usize,
 }
 
 impl Model for Group {
@@ -43,6 +45,17 @@ fn are_same(cells: &[u16], others: &[u16]) -> bool
     ensures { result ≡ true → cells.now ≡ others.now }
 {
     cells == others
+}
+
+// Whether the tuple at a place has these cells.
+fn is_tuple_at(tuples: &[Tuple], place: usize, cells: &[u16]) -> bool
+    ensures { result ≡ true → Contains (all_cells tuples.now) cells.now }
+{
+    if place >= tuples.len() {
+        return false;
+    }
+    let tuple = &tuples[place];
+    are_same(&tuple.cells, cells)
 }
 
 // The place of the tuple with these cells.
@@ -61,10 +74,19 @@ fn find_tuple(tuples: &[Tuple], cells: &[u16]) -> Option<usize>
     None
 }
 
-// The place of the tuple with these cells; it is added unless it is there.
-fn add_tuple(alloc: Global, tuples: &mut Vec<Tuple>, cells: Vec<u16>) -> Result<usize, AllocError>
+// The place of the tuple with these cells; it is added unless it is there. The place `next` is tried
+// first.
+fn add_tuple(
+    alloc: Global,
+    tuples: &mut Vec<Tuple>,
+    next: usize,
+    cells: Vec<u16>,
+) -> Result<usize, AllocError>
     ensures { IfOk result (λ place. HasAdded tuples.old.items tuples.new.items cells.items) }
 {
+    if is_tuple_at(tuples, next, &cells) {
+        return Ok(next);
+    }
     if let Some(place) = find_tuple(tuples, &cells) {
         return Ok(place);
     }
@@ -96,29 +118,41 @@ fn add_bucket(tuples: &mut Vec<Tuple>, place: usize, bucket: u16) -> Result<(), 
     Ok(())
 }
 
-// Adds a tuple, unless it is there, and its bucket, if there is one.
+// Adds a tuple, unless it is there, and its bucket, if there is one. Returns the tuple's place.
 fn add_cells(
     alloc: Global,
     tuples: &mut Vec<Tuple>,
+    next: usize,
     cells: Vec<u16>,
     bucket: Option<u16>,
-) -> Result<(), AllocError>
-    ensures { OnOk result (HasAdded tuples.old.items tuples.new.items cells.items) }
+) -> Result<usize, AllocError>
+    ensures { IfOk result (λ place. HasAdded tuples.old.items tuples.new.items cells.items) }
 {
-    let place = add_tuple(alloc, tuples, cells)?;
+    let place = add_tuple(alloc, tuples, next, cells)?;
     match bucket {
         Some(bucket) => {
             add_bucket(tuples, place, bucket)?;
-            Ok(())
+            Ok(place)
         }
-        None => Ok(()),
+        None => Ok(place),
     }
 }
 
 impl Group {
     ghost use Rattle.rule_space.specs.Groups.{HasTuple};
     ghost use Rattle.rule_space.specs.Families.{GrowsTo};
-    ghost use Rattle.std.specs.Prelude.{OnOk};
+    ghost use Rattle.std.specs.Prelude.{[], OnOk};
+
+    /// A group of these dimensions without tuples.
+    pub(crate) fn new(alloc: Global, dimensions: Vec<usize>) -> Group
+        ensures { result ≡ record { dimensions = dimensions.items; tuples = [] } }
+    {
+        Group {
+            dimensions,
+            tuples: Vec::new(alloc),
+            next: 0,
+        }
+    }
 
     /// The indices of its dimensions.
     pub(crate) fn members(&self) -> &[usize]
@@ -137,7 +171,8 @@ impl Group {
         ensures grows { OnOk result (GrowsTo self.old self.new) }
         ensures has { OnOk result (HasTuple self.new cells.items) }
     {
-        add_cells(alloc, &mut self.tuples, cells, bucket)?;
+        let place = add_cells(alloc, &mut self.tuples, self.next, cells, bucket)?;
+        self.next = place.saturating_add(1);
         Ok(())
     }
 }

@@ -114,10 +114,7 @@ fn make_group(
         (slice_get dimensions.now place) ≡ true) members.items }
     ensures { AreFew dimensions.now → IfOk result (IsMadeOf family dimensions.now) }
 {
-    let mut group = Group {
-        dimensions: members,
-        tuples: Vec::new(alloc),
-    };
+    let mut group = Group::new(alloc, members);
     for number in 0..count_of(dimensions, family) {
         add_number(alloc, dimensions, family, &mut group, number)?;
     }
