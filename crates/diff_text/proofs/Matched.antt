@@ -32,7 +32,8 @@ agreed : (segments : List ℕ) (segment : ℕ) (h : Bool) → agrees_at segments
 agreed segments segment true is = sym is
 agreed segments segment false is = not_false (has_segment segments segment) is
 
-pub agrees_all : (segments : List ℕ) (from : ℕ) (hs : List Bool) (k : ℕ) → agrees segments from hs ≡ true
+pub agrees_all : (segments : List ℕ) (from : ℕ) (hs : List Bool) (k : ℕ)
+    → agrees segments from hs ≡ true
     → k < length hs → slice_index_or hs k false ≡ has_segment segments (from + k)
 agrees_all segments from [] k is within = absurd (omega (arith, within))
 agrees_all segments from (h ∷ hs) zero is within =

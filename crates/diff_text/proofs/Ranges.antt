@@ -1,4 +1,4 @@
--- Ranges that match the segments of a set have the numbers of the machines in states that are in it.
+-- Ranges that match the segments of a set have the numbers of the machines in states in it.
 use Rattle.std.proofs.Common.{◌≡◌, ◌∙◌, ℕ, ◌+◌, ◌<◌, List, [], ◌∷◌, length, map, inl, inr}
 use Rattle.std.proofs.Common.{refl, sym, ap, ap₂, subst, arith, Less, Equal, Greater}
 use Rattle.std.specs.Prelude.{Bool, true, false, ◌&&◌, ◌||◌, nat_le, slice_index_or}

@@ -211,7 +211,10 @@ module _ (ds : List Dimension) where
   test_table test place by d holds there h is = record {
     by = by;
     against = h;
-    is = is ∙ ap (λ (e : Dimension). truths by e.ends) (same_Some d h.dimension (sym there ∙ h.is_at));
+    is =
+        is
+        ∙ ap (λ (e : Dimension). truths by e.ends)
+        (same_Some d h.dimension (sym there ∙ h.is_at));
   }
 
   pub either_is : (op : Bool → Bool → Bool) (first second new : List Table) (t u v : Table)

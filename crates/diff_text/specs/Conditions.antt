@@ -1,6 +1,7 @@
 -- The condition of a row as a text of the rule language.
 use Rattle.std.specs.Prelude.{◌≡◌, ◌⊎◌, ℕ, List, [], ◌∷◌, ◌++◌, codes, Option, Some, None, Ok}
-use Rattle.std.specs.Prelude.{Bool, true, false, not, ◌&&◌, ◌||◌, ◌==◌, nat_lt, slice_get, slice_index}
+use Rattle.std.specs.Prelude.{Bool, true, false, not, ◌&&◌, ◌||◌, ◌==◌, nat_lt, slice_get}
+use Rattle.std.specs.Prelude.{slice_index}
 use Rattle.std.specs.Prelude.{if◌then◌else◌}
 use Rattle.std.specs.List.{filter, list_all}
 use Rattle.attrs.specs.Attributes.{Attributes}
@@ -86,8 +87,8 @@ abbrev pub has_comment : (quoted : Bool) → (text : List ℕ) → Bool
 has_comment quoted [] = false
 has_comment quoted (c ∷ cs) = starts_comment quoted c || has_comment (quoted_after quoted c) cs
 
--- read by the grammar of rules, the text is a condition that means these sets. It has no comment, so
--- no part of the text is left out, and the rule's own words after it aren't.
+-- read by the grammar of rules, the text is a condition that means these sets. It has no comment,
+-- so no part of the text is left out, and the rule's own words after it aren't.
 pub record ReadsBack (x : Scope) (ds : List Dimension) (sets : List SegmentSet) (text : List ℕ)
     : Type 0 where
   pub plain : has_comment false text ≡ false

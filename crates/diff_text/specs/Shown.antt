@@ -1,6 +1,7 @@
 -- Rows as they are shown.
 use Rattle.std.specs.Prelude.{◌≡◌, ℕ, ◌+◌, List, length, Option, option_map}
-use Rattle.std.specs.Prelude.{Bool, true, ◌==◌, ◌&&◌, ◌||◌, nat_le, nat_lt, slice_get, IsPermutation}
+use Rattle.std.specs.Prelude.{Bool, true, ◌==◌, ◌&&◌, ◌||◌, nat_le, nat_lt, slice_get}
+use Rattle.std.specs.Prelude.{IsPermutation}
 use Rattle.std.specs.List.{AllZip, list_all, list_any, position_or_len}
 use Rattle.cells.specs.declared.array.CellArray.{CellArray}
 use Rattle.releases.specs.Release.{Release}

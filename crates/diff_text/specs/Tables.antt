@@ -1,5 +1,5 @@
--- Truth tables: how a condition is read back. A table says for each segment of a dimension whether a
--- part of the condition holds. No public clause uses this: the promise is in Conditions.antt.
+-- Truth tables: how a condition is read back. A table says for each segment of a dimension whether
+-- a part of the condition holds. No public clause uses this: the promise is in Conditions.antt.
 use Rattle.std.specs.Prelude.{◌≡◌, ℕ, ◌+◌, ◌<◌, List, [], ◌∷◌, Option, Some, None, map, length, All}
 use Rattle.std.specs.Prelude.{Bool, true, false, not, ◌==◌, ◌&&◌, ◌||◌, slice_get, slice_index}
 use Rattle.std.specs.Prelude.{slice_index_or, if◌then◌else◌}

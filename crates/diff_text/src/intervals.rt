@@ -3,8 +3,8 @@
 use rule_space::Dimension;
 use std::alloc::{AllocError, Global};
 
-/// The numbers from `low` to `high`, both included; and whether these are the least and the greatest
-/// number of the dimension.
+/// The numbers from `low` to `high`, both included, and whether these are the least and the
+/// greatest number of the dimension.
 #[derive(Clone, Copy)]
 pub(crate) struct Interval {
     pub low: u128,

@@ -1,5 +1,5 @@
-//! How many takes a cell grants, as ranges of numbers. They are compared with the set of segments that
-//! they were made from.
+//! How many takes a cell grants, as ranges of numbers. They are compared with the set that they
+//! were made from.
 
 ghost use Rattle.std.specs.Prelude.{◌≡◌, All, IfOk, IfSome, map, true};
 ghost use Rattle.std.specs.List.{list_all};

@@ -28,6 +28,7 @@ mod parts;
 mod read_back;
 mod showing;
 mod shown;
+mod sources;
 mod steps;
 mod truth_table;
 

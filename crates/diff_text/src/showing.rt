@@ -1,8 +1,7 @@
 //! The rows of an app as they are shown: each with its kind, its releases and its condition.
 
-ghost use Rattle.std.specs.Prelude.{◌≡◌, ◌==◌, ◌++◌, All, IfOk, IfSome, OnOk, IsPermutation};
-ghost use Rattle.std.specs.Prelude.{◌≤◌, length, nat_le, option_copied, option_map, slice_get};
-ghost use Rattle.std.specs.List.{AllZip, position_or_len};
+ghost use Rattle.std.specs.Prelude.{◌≡◌, ◌++◌, All, IfOk, IfSome, OnOk, IsPermutation};
+ghost use Rattle.std.specs.List.{AllZip};
 ghost use Rattle.rule_space.specs.Lines.{IsLine};
 ghost use Rattle.rule_space.specs.Scopes.{Scope};
 ghost use Rattle.diff_text.specs.Kinds as kinds;
@@ -11,153 +10,13 @@ ghost use Rattle.diff_text.specs.Shown as specs;
 use crate::condition::tests_of;
 use crate::days::days_of;
 use crate::grants::grants_of;
-use crate::kind::RowKind;
 use crate::shown::{AppRows, ShownRelease, ShownRow};
+use crate::sources::{Sources, has_releases, kind_of, shown_current, shown_next, sources_of};
 use cells::CellArray;
 use releases::Release;
 use rule_diff::{Contents, Diff, Row};
 use rule_space::Dimension;
 use std::alloc::{AllocError, Global};
-use std::marker::Model;
-
-// ---- releases
-
-// The element at a place of two lists together.
-fn release_at<'a>(old: &'a [Release], new: &'a [Release], place: usize) -> Option<&'a Release>
-    ensures { option_copied result ≡ slice_get (old.now ++ new.now) place }
-{
-    if place < old.len() {
-        return old.get(place);
-    }
-    new.get(place - old.len())
-}
-
-fn release_of<'a>(old: &'a [Release], new: &'a [Release], content: u8) -> Option<&'a Release>
-    ensures { option_copied result ≡ kinds.release_of (old.now ++ new.now) content }
-{
-    if content == 0 {
-        return None;
-    }
-    release_at(old, new, content as usize - 1)
-}
-
-fn is_within(old: &[Release], new: &[Release], content: u8) -> bool
-    ensures { result ≡ nat_le content (length (old.now ++ new.now)) }
-{
-    let number = content as usize;
-    number <= old.len() || number - old.len() <= new.len()
-}
-
-// The position of the first release with this content, or their number.
-fn position_of(contents: &[u8], content: u8) -> usize
-    ensures position { result ≡ position_or_len (λ c. c == content) contents.now }
-    ensures within { result ≤ length contents.now }
-{
-    let mut place = 0;
-    let mut left = contents;
-    while let [first, others @ ..] = left {
-        if *first == content {
-            return place;
-        }
-        place += 1;
-        left = others;
-    }
-    place
-}
-
-fn shown_release(
-    alloc: Global,
-    contents: &[u8],
-    content: u8,
-    release: Option<&Release>,
-) -> Result<Option<ShownRelease>, AllocError>
-    ensures { IfOk result (λ shown. shown
-        ≡ option_map (specs.shown_by contents.now content) (option_copied release.entry)) }
-{
-    let Some(release) = release else {
-        return Ok(None);
-    };
-    let number = position_of(contents, content) + 1;
-    let version = String::from_str(alloc, release.version())?;
-    Ok(Some(ShownRelease { number, version }))
-}
-
-// ---- rows
-
-/// What is shown of rows: the releases of both manifests, their contents and their arrays.
-#[derive(Drop)]
-struct Sources<'a> {
-    old: &'a [Release],
-    new: &'a [Release],
-    contents: &'a Contents,
-    old_arrays: &'a [CellArray],
-    new_arrays: &'a [CellArray],
-}
-
-impl<'a> Model for Sources<'a> {
-    ghost use Rattle.std.specs.Prelude.{◌++◌};
-    ghost use Rattle.diff_text.specs.Shown as specs;
-
-    ghost Value = { specs.Sources };
-
-    ghost view = { λ s. record {
-      all = s.old.now ++ s.new.now;
-      old_contents = s.contents.now.old.items;
-      new_contents = s.contents.now.new.items;
-      old_arrays = s.old_arrays.now;
-      new_arrays = s.new_arrays.now;
-    } };
-}
-
-fn has_content(contents: &[u8], from: &Sources<'_>, content: u8) -> bool
-    ensures { result ≡ specs.has_content contents.now from.now.all content }
-{
-    content == 0
-        || (position_of(contents, content) < contents.len()
-            && is_within(from.old, from.new, content))
-}
-
-// Whether both contents of a row are those of a release.
-fn has_releases(from: &Sources<'_>, row: &Row) -> bool
-    ensures { result ≡ specs.has_releases from.now row.now }
-{
-    has_content(&from.contents.old, from, row.current)
-        && has_content(&from.contents.new, from, row.next)
-}
-
-fn kind_of(from: &Sources<'_>, row: &Row) -> RowKind
-    ensures { result ≡ kinds.kind_in from.now.all row.now }
-{
-    let release = release_of(from.old, from.new, row.current);
-    let other = release_of(from.old, from.new, row.next);
-    RowKind::of(release, other)
-}
-
-fn shown_current(
-    alloc: Global,
-    from: &Sources<'_>,
-    row: &Row,
-) -> Result<Option<ShownRelease>, AllocError>
-    ensures { IfOk result (λ shown. shown
-        ≡ specs.shown_of from.now.all from.now.old_contents row.now.current) }
-{
-    let release = release_of(from.old, from.new, row.current);
-    let shown = shown_release(alloc, &from.contents.old, row.current, release)?;
-    Ok(shown)
-}
-
-fn shown_next(
-    alloc: Global,
-    from: &Sources<'_>,
-    row: &Row,
-) -> Result<Option<ShownRelease>, AllocError>
-    ensures { IfOk result (λ shown. shown
-        ≡ specs.shown_of from.now.all from.now.new_contents row.now.next) }
-{
-    let release = release_of(from.old, from.new, row.next);
-    let shown = shown_release(alloc, &from.contents.new, row.next, release)?;
-    Ok(shown)
-}
 
 fn shown_row(
     alloc: Global,
@@ -238,30 +97,6 @@ fn sort(rows: &mut Vec<ShownRow>) -> Result<(), AllocError>
     ensures { OnOk result (IsPermutation rows.old.items rows.new.items) }
 {
     rows.sort_by_key(|row| key_of(row))
-}
-
-fn sources_of<'x>(
-    contents: &'x Contents,
-    old: &'x [Release],
-    new: &'x [Release],
-    old_arrays: &'x [CellArray],
-    new_arrays: &'x [CellArray],
-) -> Sources<'x>
-    ensures { result ≡ record {
-      all = old.now ++ new.now;
-      old_contents = contents.now.old.items;
-      new_contents = contents.now.new.items;
-      old_arrays = old_arrays.now;
-      new_arrays = new_arrays.now;
-    } }
-{
-    Sources {
-        old,
-        new,
-        contents,
-        old_arrays,
-        new_arrays,
-    }
 }
 
 fn rows_of(

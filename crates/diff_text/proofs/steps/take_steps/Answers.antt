@@ -1,4 +1,5 @@
-use Rattle.std.proofs.Common.{◌≡◌, ◌-◌, List, arith, drop, length, reverse, rules, subst, take, true}
+use Rattle.std.proofs.Common.{◌≡◌, ◌-◌, List, arith, drop, length, reverse, rules, subst, take}
+use Rattle.std.proofs.Common.{true}
 use Rattle.rule_lang.specs.declared.condition.Step.{Step}
 use Rattle.rule_space.proofs.Planned.{none_left, opened}
 use Rattle.diff_text.specs.Tables.{HaveMade}

@@ -1,7 +1,7 @@
 use Rattle.std.proofs.Common.{◌≡◌, ◌+◌, length}
 use Rattle.std.specs.Prelude.{◌==◌}
 use Rattle.std.specs.List.{position_or_len}
-use Rattle.diff_text.proofs.showing.position_of.Given as goal
+use Rattle.diff_text.proofs.sources.position_of.Given as goal
 
 -- the position in the remaining ones, after those that were looked at
 abbrev pub invariant-loop-left : goal.invariant-loop-left
