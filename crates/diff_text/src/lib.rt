@@ -1,7 +1,7 @@
 //! Prints what a change of a rule changes: each row's condition in the words of rules, a table, and
 //! objects of JSON.
 //!
-//! See docs/RULES.md.
+//! docs/RULES.md describes rules.
 #![tactic(auto)]
 
 // The condition of a row is made without a contract (`conjuncts.rt`). Then it is read back: the

@@ -1,6 +1,6 @@
 //! What a changed rule changes: rows of machines and states that get another release by it.
 //!
-//! See docs/RULES.md.
+//! docs/RULES.md describes rules.
 #![tactic(auto)]
 
 // A dimension is cut into segments. Both rules are run with the segments of some dimensions known

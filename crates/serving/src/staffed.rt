@@ -118,6 +118,11 @@ impl StaffedServer {
     /// an allocation or a thread fails, before any client is answered and before anything is
     /// written. Returns B3 if `out` can't be written, and H2 if a worker's watcher can't be read at
     /// the end: the log then has this fault and the counters.
+    ///
+    /// By `world` the counters are this server's. What all threads did to them is one legal history,
+    /// that of one world, under rulesets that the operator's lines loaded one after the other. Its
+    /// runs are those of answers, one list for each worker, in turn, under rulesets that never went
+    /// back. Each run ended in time, with 0 or a release, and each quota is granted.
     // open: when B4, B3 or H2 is returned; that the log has the last values, and that the line
     // takes one write: tests.
     pub fn serve<H, L, O>(
@@ -134,10 +139,6 @@ impl StaffedServer {
         O: Write,
         requires some { 1 ≤ length self.workers.items }
         requires few { length self.workers.items ≤ 64 }
-        // The counters are this server's. What all threads did to them is one legal history, that
-        // of one world, under rulesets that the operator's lines loaded one after the other. Its
-        // runs are those of answers, one list for each worker, in turn, under rulesets that never
-        // went back. Each run ended in time, with 0 or a release, and each quota is granted.
         ensures world { IfOk result
             (LeavesOneWorld (L.loads loader.now) self.cells self.control) }
         ensures said { OnOk result (Appends (O.contents out.old) (O.contents out.new)
