@@ -8,14 +8,14 @@ use Rattle.access_log.specs.Line.{begun_at, object_at, line_with}
 use Rattle.access_log.specs.Members.{text_member, flag_member}
 use Rattle.access_log.specs.Plain.{is_plain_text, named}
 use Rattle.access_log.specs.Spelled.{spelled, spelled_from, spelled_quoted, spelled_token}
-use Rattle.access_log.specs.Tokens.{AddsTokens, ends_behind}
+use Rattle.access_log.specs.Tokens.{AddsTokens, ends_after}
 use Rattle.access_log.specs.Utc.{utc_text}
 use Rattle.access_log.specs.declared.utc.Utc.{Utc}
 use Rattle.access_log.proofs.Escaped.{plain_spelled, time_stands}
 
 pub spelled_from-append : (before : Bool) (ts us : List Token)
     → spelled_from before (ts ++ us)
-    ≡ spelled_from before ts ++ spelled_from (ends_behind before ts) us
+    ≡ spelled_from before ts ++ spelled_from (ends_after before ts) us
 unfolding spelled_from
 spelled_from-append before [] us = refl
 spelled_from-append before (t ∷ ts) us =
@@ -29,7 +29,7 @@ adds_nothing before line = record { text = sym (append-nil line); ended = refl }
 
 -- whether two lists, one after the other, end with the end of a value
 pub ends_joined : (before : Bool) (xs ys : List Token)
-    → ends_behind before (xs ++ ys) ≡ ends_behind (ends_behind before xs) ys
+    → ends_after before (xs ++ ys) ≡ ends_after (ends_after before xs) ys
 ends_joined before [] ys = refl
 ends_joined before (t ∷ xs) ys = ends_joined (ends t) xs ys
 
@@ -41,7 +41,7 @@ then_adds {p} {q} {r} {a} {b} {c} {xs} {ys} first last = record {
       ∙ append_assoc a (spelled_from p xs) (spelled_from q ys)
       ∙ ap (λ s. a ++ (spelled_from p xs ++ spelled_from s ys)) (sym first.ended)
       ∙ ap (λ l. a ++ l) (sym (spelled_from-append p xs ys));
-  ended = ends_joined p xs ys ∙ ap (λ s. ends_behind s ys) first.ended ∙ last.ended;
+  ended = ends_joined p xs ys ∙ ap (λ s. ends_after s ys) first.ended ∙ last.ended;
 }
 
 -- ---- members
@@ -102,7 +102,7 @@ begun_line {empty} {a} {b} {c} {text} t none first is next last =
     ∙ ap (λ l. codes "{\"time\":\"" ++ l) is)
     ∙ begun_of (utc_text t) (time_stands t)
 
-whole : (t : Utc) (members : List Token) → ends_behind true members ≡ true
+whole : (t : Utc) (members : List Token) → ends_after true members ≡ true
     → spelled (object_at t members)
     ≡ (spelled (begun_at t) ++ spelled_from true members) ++ 125 ∷ []
 unfolding spelled_from
@@ -113,10 +113,10 @@ whole t members ended =
     (ends_joined false begun members ∙ ended)
     ∙ ap (λ l. l ++ 125 ∷ []) (spelled_from-append false begun members)
 
-pub adds_line : {begun said line : List ℕ} (t : Utc) (members : List Token)
-    → begun ≡ spelled (begun_at t) → AddsTokens true true begun said members
-    → line ≡ said ++ 125 ∷ 10 ∷ [] → line ≡ line_with t members
-adds_line {begun} {said} {line} t members first adds last =
+pub adds_line : {begun members_of line : List ℕ} (t : Utc) (members : List Token)
+    → begun ≡ spelled (begun_at t) → AddsTokens true true begun members_of members
+    → line ≡ members_of ++ 125 ∷ 10 ∷ [] → line ≡ line_with t members
+adds_line {begun} {members_of} {line} t members first adds last =
     let before = spelled (begun_at t) ++ spelled_from true members in
     last
     ∙ ap (λ l. l ++ 125 ∷ 10 ∷ []) (adds.text ∙ ap (λ l. l ++ spelled_from true members) first)

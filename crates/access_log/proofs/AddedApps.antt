@@ -9,16 +9,16 @@ use Rattle.std.specs.Str.{chars}
 use Rattle.json.specs.Print.{escape_byte}
 use Rattle.json.specs.Token.{end_object, end_array}
 use Rattle.access_log.specs.Apps.{app_object, app_objects, head_of, list_of}
-use Rattle.access_log.specs.Apps.{told_event, offers_in, unknown_in, left_out_members}
+use Rattle.access_log.specs.Apps.{fitted_event, offers_in, unknown_in, left_out_members}
 use Rattle.access_log.specs.Apps.{more_left_out_member, first_apps}
 use Rattle.access_log.specs.Members.{count_member, excerpt_members}
-use Rattle.access_log.specs.More.{behind_more, told_more, more_members}
-use Rattle.access_log.specs.Room.{behind_event, behind_events}
+use Rattle.access_log.specs.More.{left_after_more, fitted_more, more_members}
+use Rattle.access_log.specs.Sizes.{left_after_event, left_after_events}
 use Rattle.access_log.specs.Spelled.{spelled_from, spelled_quoted}
-use Rattle.access_log.specs.Tokens.{AddsTokens, ends_behind}
-use Rattle.access_log.specs.declared.asked.AskedApp.{AskedApp}
+use Rattle.access_log.specs.Tokens.{AddsTokens, ends_after}
+use Rattle.access_log.specs.declared.logged_app.LoggedApp.{LoggedApp}
 use Rattle.access_log.specs.declared.excerpt.Excerpt.{Excerpt}
-use Rattle.access_log.specs.declared.more.AskedMore.{AskedMore}
+use Rattle.access_log.specs.declared.further_members.FurtherMembers.{FurtherMembers}
 use Rattle.access_log.proofs.Added.{spelled_from-append, ends_joined, then_adds, adds_nothing}
 
 three_texts : (a x y z : List ℕ) → ((a ++ x) ++ y) ++ z ≡ a ++ (x ++ (y ++ (z ++ [])))
@@ -52,10 +52,10 @@ unfolding spelled_from
 adds_end is = record { text = is; ended = refl }
 
 -- the app at place i after earlier ones, and what it leaves for later ones
-pub one_more : {all line new : List ℕ} {comma : Bool} (apps : List AskedApp)
-    (i room left more beside : ℕ) (d : AskedApp)
-    → i < length apps → left ≡ behind_event room (get_or apps i d).event
-    → beside ≡ behind_more more (get_or apps i d).more
+pub one_more : {all line new : List ℕ} {comma : Bool} (apps : List LoggedApp)
+    (i room left more beside : ℕ) (d : LoggedApp)
+    → i < length apps → left ≡ left_after_event room (get_or apps i d).event
+    → beside ≡ left_after_more more (get_or apps i d).more
     → AddsTokens comma true line new (app_object room more (get_or apps i d))
     → line ++ spelled_from comma (app_objects room more (drop i apps)) ≡ all
     → new ++ spelled_from true (app_objects left beside (drop (i + 1) apps)) ≡ all
@@ -65,9 +65,9 @@ one_more {all} {line} {new} {comma} apps i room left more beside d within behind
     let app = get_or apps i d in
     let after = drop (i + 1) apps in
     let one = app_object room more app in
-    let rest = app_objects (behind_event room app.event) (behind_more more app.more) after in
+    let rest = app_objects (left_after_event room app.event) (left_after_more more app.more) after in
     ap (λ (n : ℕ). new ++ spelled_from true (app_objects n beside after)) behind
-    ∙ ap (λ (n : ℕ). new ++ spelled_from true (app_objects (behind_event room app.event) n after))
+    ∙ ap (λ (n : ℕ). new ++ spelled_from true (app_objects (left_after_event room app.event) n after))
     other
     ∙ ap (λ l. l ++ spelled_from true rest) adds.text
     ∙ append_assoc line (spelled_from comma one) (spelled_from true rest)
@@ -77,7 +77,7 @@ one_more {all} {line} {new} {comma} apps i room left more beside d within behind
     (sym (drop_more apps i d within))
     ∙ before
 
-pub no_more : {all line : List ℕ} (comma : Bool) (apps : List AskedApp) (i room more : ℕ)
+pub no_more : {all line : List ℕ} (comma : Bool) (apps : List LoggedApp) (i room more : ℕ)
     → length apps ≤ i
     → line ++ spelled_from comma (app_objects room more (drop i apps)) ≡ all
     → line ≡ all
@@ -92,14 +92,14 @@ unfolding spelled_from
 closed true = refl
 closed false = refl
 
-pub adds_list : {a b c d : List ℕ} (room more : ℕ) (apps : List AskedApp)
-    → more ≡ behind_events room apps
+pub adds_list : {a b c d : List ℕ} (room more : ℕ) (apps : List LoggedApp)
+    → more ≡ left_after_events room apps
     → b ≡ a ++ codes ",\"apps\":["
     → c ≡ b ++ spelled_from false (app_objects room more apps) → d ≡ c ++ 93 ∷ []
     → AddsTokens true true a d (list_of room apps)
 unfolding spelled_from escape_byte chars
 adds_list {a} {b} {c} {d} room more apps beside first next last =
-    let objects = app_objects room (behind_events room apps) apps in
+    let objects = app_objects room (left_after_events room apps) apps in
     let name = codes ",\"apps\":[" in
     let shown = spelled_from false objects in
     let same = ap (λ (n : ℕ). b ++ spelled_from false (app_objects room n apps)) beside in
@@ -108,14 +108,14 @@ adds_list {a} {b} {c} {d} room more apps beside first next last =
           last ∙ ap (λ l. l ++ 93 ∷ []) (next ∙ same ∙ ap (λ l. l ++ shown) first)
           ∙ append_assoc (a ++ name) shown (93 ∷ []) ∙ append_assoc a name (shown ++ 93 ∷ [])
           ∙ ap (λ l. a ++ (name ++ (shown ++ l)))
-          (sym (closed (ends_behind false objects)))
+          (sym (closed (ends_after false objects)))
           ∙ ap (λ l. a ++ (name ++ l)) (sym (spelled_from-append false objects (end_array ∷ [])));
       ended = ends_joined false objects (end_array ∷ []);
     }
 
 pub adds_no_event : {a b : List ℕ} (room size : ℕ) (e : Excerpt) → room < size
     → AddsTokens true true a b (count_member (codes "event_left_out") e.length)
-    → AddsTokens true true a b (told_event room size e)
+    → AddsTokens true true a b (fitted_event room size e)
 adds_no_event {a} {b} room size e less adds =
     subst
     (λ (full : Bool). AddsTokens true true a b
@@ -125,7 +125,7 @@ adds_no_event {a} {b} room size e less adds =
 
 pub adds_event : {a b : List ℕ} (room size : ℕ) (e : Excerpt) → size ≤ room
     → AddsTokens true true a b (excerpt_members (codes "event") (codes "event_left_out") e)
-    → AddsTokens true true a b (told_event room size e)
+    → AddsTokens true true a b (fitted_event room size e)
 adds_event {a} {b} room size e enough adds =
     subst
     (λ (full : Bool). AddsTokens true true a b
@@ -133,20 +133,20 @@ adds_event {a} {b} room size e enough adds =
     else excerpt_members (codes "event") (codes "event_left_out") e))
     (sym (le-ltb room size enough)) adds
 
-pub adds_no_more : {a : List ℕ} (room size : ℕ) (m : AskedMore) → room < size
-    → AddsTokens true true a a (told_more room size m)
+pub adds_no_more : {a : List ℕ} (room size : ℕ) (m : FurtherMembers) → room < size
+    → AddsTokens true true a a (fitted_more room size m)
 adds_no_more {a} room size m less =
     subst (λ (full : Bool). AddsTokens true true a a (if full then [] else more_members m))
     (sym (lt-ltb room size less)) (adds_nothing true a)
 
-pub adds_more : {a b : List ℕ} (room size : ℕ) (m : AskedMore) → size ≤ room
+pub adds_more : {a b : List ℕ} (room size : ℕ) (m : FurtherMembers) → size ≤ room
     → AddsTokens true true a b (more_members m)
-    → AddsTokens true true a b (told_more room size m)
+    → AddsTokens true true a b (fitted_more room size m)
 adds_more {a} {b} room size m enough adds =
     subst (λ (full : Bool). AddsTokens true true a b (if full then [] else more_members m))
     (sym (le-ltb room size enough)) adds
 
-pub adds_others : {a b c d : List ℕ} {offers unknown : ℕ} (apps : List AskedApp)
+pub adds_others : {a b c d : List ℕ} {offers unknown : ℕ} (apps : List LoggedApp)
     → offers ≡ offers_in apps → unknown ≡ unknown_in apps
     → AddsTokens true true a b (count_member (codes "left_out") (length apps))
     → AddsTokens true true b c (count_member (codes "offers_left_out") offers)
@@ -160,15 +160,15 @@ adds_others {a} {b} {c} {d} apps is also first next last =
     (subst
     (λ (n : ℕ). AddsTokens true true c d (count_member (codes "unknown_left_out") n)) also last)
 
-pub adds_first : {a b c d : List ℕ} {front back : List AskedApp} (n room : ℕ)
-    (apps : List AskedApp) → front ≡ take n apps → back ≡ drop n apps
+pub adds_first : {a b c d : List ℕ} {front back : List LoggedApp} (n room : ℕ)
+    (apps : List LoggedApp) → front ≡ take n apps → back ≡ drop n apps
     → AddsTokens true true a b (list_of room front)
     → AddsTokens true true b c (more_left_out_member room front)
     → AddsTokens true true c d (left_out_members back)
     → AddsTokens true true a d (first_apps n room apps)
 adds_first {a} {b} {c} {d} n room apps is also first next last =
     then_adds
-    (then_adds (subst (λ (xs : List AskedApp). AddsTokens true true a b (list_of room xs)) is first)
-    (subst (λ (xs : List AskedApp). AddsTokens true true b c (more_left_out_member room xs))
+    (then_adds (subst (λ (xs : List LoggedApp). AddsTokens true true a b (list_of room xs)) is first)
+    (subst (λ (xs : List LoggedApp). AddsTokens true true b c (more_left_out_member room xs))
     is next))
-    (subst (λ (xs : List AskedApp). AddsTokens true true c d (left_out_members xs)) also last)
+    (subst (λ (xs : List LoggedApp). AddsTokens true true c d (left_out_members xs)) also last)

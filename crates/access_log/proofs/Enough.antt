@@ -3,14 +3,14 @@ use Rattle.std.proofs.Common.{◌≡◌, ℕ, zero, suc, ◌-◌, ◌*◌, ◌�
 use Rattle.std.proofs.Common.{List, [], ◌∷◌, length, Bool, true, false, ap, arith}
 use Rattle.std.specs.Prelude.{◌==◌, IfSome, Option, Some, None, if◌then◌else◌}
 use Rattle.std.proofs.lemmas.Bool.{le-ltb}
-use Rattle.access_log.specs.Line.{TellsApps}
+use Rattle.access_log.specs.Line.{ListsApps}
 use Rattle.access_log.specs.Members.{left_out}
-use Rattle.access_log.specs.Room.{text_room, excerpt_room, version_room, outcome_room}
-use Rattle.access_log.specs.Room.{event_count_room, app_room, count_fitting}
-use Rattle.access_log.specs.Room.{HasBriefRelease, IsBrief, AreBrief, TellsEnough}
-use Rattle.access_log.specs.declared.asked.AskedApp.{AskedApp}
-use Rattle.access_log.specs.declared.asked.Outcome.{Outcome}
-use Rattle.access_log.specs.declared.asked.Outcome.TheVariants.{Unknown, Unasked, NoUpdate, Offered}
+use Rattle.access_log.specs.Sizes.{text_size, excerpt_size, version_size, outcome_size}
+use Rattle.access_log.specs.Sizes.{event_count_size, app_size, count_fitting}
+use Rattle.access_log.specs.Sizes.{HasBriefRelease, IsBrief, AreBrief, ListsEnough}
+use Rattle.access_log.specs.declared.logged_app.LoggedApp.{LoggedApp}
+use Rattle.access_log.specs.declared.logged_app.Outcome.{Outcome}
+use Rattle.access_log.specs.declared.logged_app.Outcome.TheVariants.{Unknown, NotRequested, NoUpdate, Offered}
 use Rattle.access_log.specs.declared.event.LogEvent.{LogEvent}
 use Rattle.access_log.specs.declared.event.LogEvent.TheVariants as log
 use Rattle.access_log.specs.declared.excerpt.Excerpt.{Excerpt}
@@ -21,25 +21,25 @@ counted : (b : Bool) → (if b then 0 else 27) ≤ 27
 counted true = omega arith
 counted false = omega arith
 
-brief_excerpt : (e : Excerpt) → text_room e.text.now ≤ 64 → excerpt_room e ≤ 91
+brief_excerpt : (e : Excerpt) → text_size e.text.now ≤ 64 → excerpt_size e ≤ 91
 brief_excerpt e is = omega (arith, is, counted (left_out e == 0))
 
-brief_version : (v : Option Excerpt) → IfSome v (λ e. text_room e.text.now ≤ 64)
-    → version_room v ≤ 104
+brief_version : (v : Option Excerpt) → IfSome v (λ e. text_size e.text.now ≤ 64)
+    → version_size v ≤ 104
 brief_version (Some e) is = omega (arith, brief_excerpt e is)
 brief_version None is = omega arith
 
-brief_outcome : (o : Outcome) → HasBriefRelease o → outcome_room o ≤ 69
+brief_outcome : (o : Outcome) → HasBriefRelease o → outcome_size o ≤ 69
 brief_outcome (Offered choice version) is = omega (arith, is)
-brief_outcome Unasked is = omega arith
+brief_outcome NotRequested is = omega arith
 brief_outcome Unknown is = omega arith
 brief_outcome NoUpdate is = omega arith
 
-any_event : (e : Option Excerpt) → event_count_room e ≤ 27
+any_event : (e : Option Excerpt) → event_count_size e ≤ 27
 any_event (Some e) = omega arith
 any_event None = omega arith
 
-brief_app : (app : AskedApp) → IsBrief app → app_room app ≤ 332
+brief_app : (app : LoggedApp) → IsBrief app → app_size app ≤ 332
 brief_app app is =
     omega (
       arith,
@@ -51,12 +51,12 @@ brief_app app is =
 
 -- ---- how many fit
 
-one_more : (room : ℕ) (app : AskedApp) (apps : List AskedApp) → app_room app ≤ room
-    → count_fitting room (app ∷ apps) ≡ suc (count_fitting (room - app_room app) apps)
+one_more : (room : ℕ) (app : LoggedApp) (apps : List LoggedApp) → app_size app ≤ room
+    → count_fitting room (app ∷ apps) ≡ suc (count_fitting (room - app_size app) apps)
 unfolding count_fitting
 one_more room app apps fits =
-    ap (λ (b : Bool). if b then 0 else suc (count_fitting (room - app_room app) apps))
-    (le-ltb room (app_room app) fits)
+    ap (λ (b : Bool). if b then 0 else suc (count_fitting (room - app_size app) apps))
+    (le-ltb room (app_size app) fits)
 
 none_at_all : (room : ℕ) → count_fitting room [] ≡ 0
 unfolding count_fitting
@@ -67,26 +67,26 @@ or_more : (n few all total : ℕ) → all ≡ suc few → (few ≡ total) ⊎ (n
 or_more n few all total is (inl every) = inl (omega (arith, is, every))
 or_more n few all total is (inr some) = inr (omega (arith, is, some))
 
-so_many : (n room : ℕ) (apps : List AskedApp) → n * 332 ≤ room → AreBrief apps
+so_many : (n room : ℕ) (apps : List LoggedApp) → n * 332 ≤ room → AreBrief apps
     → (count_fitting room apps ≡ length apps) ⊎ (n ≤ count_fitting room apps)
 so_many zero room apps fits are = inr (omega arith)
 so_many (suc n) room [] fits are = inl (none_at_all room)
 so_many (suc n) room (app ∷ apps) fits are =
     let size = brief_app app are.0 in
-    or_more n (count_fitting (room - app_room app) apps) (count_fitting room (app ∷ apps))
+    or_more n (count_fitting (room - app_size app) apps) (count_fitting room (app ∷ apps))
     (length apps) (one_more room app apps (omega (arith, fits, size)))
-    (so_many n (room - app_room app) apps (omega (arith, fits, size)) are.1)
+    (so_many n (room - app_size app) apps (omega (arith, fits, size)) are.1)
 
-pub tells_enough : (apps : List AskedApp) → TellsEnough apps
-tells_enough apps are = so_many 11 3660 apps (omega arith) are
+pub lists_enough : (apps : List LoggedApp) → ListsEnough apps
+lists_enough apps are = so_many 11 3660 apps (omega arith) are
 
-pub tells_apps : (e : LogEvent) → TellsApps e
-tells_apps (log.Start s) = tt
-tells_apps (log.Serving generation) = tt
-tells_apps (log.Load l) = tt
-tells_apps (log.Connection a) = tells_enough a.apps.now
-tells_apps (log.Unaccepted reason) = tt
-tells_apps (log.Lost lines) = tt
-tells_apps (log.Totals t) = tt
-tells_apps (log.Stop refusal) = tt
-tells_apps (log.Counter a) = tt
+pub lists_apps : (e : LogEvent) → ListsApps e
+lists_apps (log.Start s) = tt
+lists_apps (log.Serving generation) = tt
+lists_apps (log.Load l) = tt
+lists_apps (log.Connection a) = lists_enough a.apps.now
+lists_apps (log.Unaccepted reason) = tt
+lists_apps (log.Lost lines) = tt
+lists_apps (log.Totals t) = tt
+lists_apps (log.Stop refusal) = tt
+lists_apps (log.Counter a) = tt

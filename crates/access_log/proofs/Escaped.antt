@@ -10,7 +10,7 @@ use Rattle.std.proofs.lemmas.Bool.Decides.{nat_tests}
 use Rattle.std.proofs.lemmas.Str.{chars-IsAscii, chars-nil}
 use Rattle.json.specs.Print.{escape_byte}
 use Rattle.access_log.specs.Plain.{is_escaped, is_plain_text}
-use Rattle.access_log.specs.Room.{char_room, chars_room}
+use Rattle.access_log.specs.Sizes.{char_size, chars_size}
 use Rattle.access_log.specs.Spelled.{spelled_char, spelled_text, spelled_quoted}
 use Rattle.access_log.specs.Utc.{digit, two_digits, date_text, clock_text, utc_text}
 use Rattle.access_log.specs.declared.utc.Utc.{Utc}
@@ -20,12 +20,12 @@ as_spelled : (b : ℕ) → is_escaped b ≡ false → spelled_char b ≡ b ∷ [
 unfolding escape_byte
 as_spelled b is = grind (arith, nat_tests)
 
-room_of_1 : (b : ℕ) → is_escaped b ≡ false → char_room b ≡ 1
+room_of_1 : (b : ℕ) → is_escaped b ≡ false → char_size b ≡ 1
 room_of_1 b is = grind (arith, nat_tests)
 
-pub told : {P : Type 0} (b : Bool) → OnTrue b P → b ≡ true → P
-told true is holds = is
-told false is holds = absurd cc
+pub listed_before : {P : Type 0} (b : Bool) → OnTrue b P → b ≡ true → P
+listed_before true is holds = is
+listed_before false is holds = absurd cc
 
 parts : (escaped plain : Bool) → cond escaped false plain ≡ true
     → (escaped ≡ false) × (plain ≡ true)
@@ -52,8 +52,8 @@ each_spelled (b ∷ text) is =
     ap (λ l. l ++ flat_map spelled_char text) (as_spelled b both.0)
     ∙ ap (λ l. b ∷ l) (each_spelled text both.1)
 
-each_has_1 : (text : List ℕ) → is_plain_text text ≡ true → chars_room text ≡ length text
-unfolding chars_room
+each_has_1 : (text : List ℕ) → is_plain_text text ≡ true → chars_size text ≡ length text
+unfolding chars_size
 each_has_1 [] is = refl
 each_has_1 (b ∷ text) is =
     let both = parts (is_escaped b) (is_plain_text text) is in
@@ -62,9 +62,9 @@ each_has_1 (b ∷ text) is =
 pub plain_spelled : (text : List ℕ) → is_plain_text text ≡ true → spelled_text text ≡ text
 plain_spelled text is = ap (flat_map spelled_char) (plain_chars text is) ∙ each_spelled text is
 
-pub plain_room : (text : List ℕ) → is_plain_text text ≡ true
-    → chars_room (chars text) ≡ length text
-plain_room text is = ap chars_room (plain_chars text is) ∙ each_has_1 text is
+pub plain_size : (text : List ℕ) → is_plain_text text ≡ true
+    → chars_size (chars text) ≡ length text
+plain_size text is = ap chars_size (plain_chars text is) ∙ each_has_1 text is
 
 -- ---- characters one by one
 

@@ -9,7 +9,7 @@ use Rattle.std.proofs.lemmas.Bool.Decides.{nat_tests}
 use Rattle.std.proofs.lemmas.Str.{length-encode}
 use Rattle.json.specs.Print.{escape_letter, escape_byte}
 use Rattle.printing.specs.Printed.{is_control}
-use Rattle.access_log.specs.Room.{char_room, chars_room, text_room}
+use Rattle.access_log.specs.Sizes.{char_size, chars_size, text_size}
 use Rattle.access_log.specs.Spelled.{spelled_char, spelled_text}
 
 either : {A : Type 0} (P : A → Type 0) (b : Bool) (x y : A)
@@ -21,7 +21,7 @@ either P false x y first other = other refl
 abbrev room_if : Bool → ℕ → ℕ
 room_if b c = if b then 6 else (if (c == 34) || (c == 92) then 2 else len_utf8 c)
 
-room_is : (c : ℕ) (b : Bool) → is_control c ≡ b → char_room c ≡ room_if b c
+room_is : (c : ℕ) (b : Bool) → is_control c ≡ b → char_size c ≡ room_if b c
 room_is c b is = ap (λ (b : Bool). room_if b c) is
 
 -- below U+007F the controls are those below U+0020
@@ -46,16 +46,16 @@ escape_fits c =
 high_fits : (c : ℕ) → nat_lt c 127 ≡ false → len_utf8 c ≤ room_if false c
 high_fits c high = grind (arith, nat_tests)
 
-char_fits : (c : ℕ) → length (spelled_char c) ≤ char_room c
+char_fits : (c : ℕ) → length (spelled_char c) ≤ char_size c
 char_fits c =
-    let P = λ (l : List ℕ). length l ≤ char_room c in
+    let P = λ (l : List ℕ). length l ≤ char_size c in
     either P (nat_lt c 127) _ _
     (λ e. omega (arith, room_is c (nat_lt c 32) (low_control c e), escape_fits c))
     (λ e. either P (is_control c) _ _ (λ f. omega (arith, room_is c true f))
     (λ f. omega (arith, room_is c false f, length-encode c, high_fits c e)))
 
-chars_fit : (cs : List ℕ) → length (flat_map spelled_char cs) ≤ chars_room cs
-unfolding chars_room
+chars_fit : (cs : List ℕ) → length (flat_map spelled_char cs) ≤ chars_size cs
+unfolding chars_size
 chars_fit [] = omega arith
 chars_fit (c ∷ cs) =
     omega (
@@ -66,7 +66,7 @@ chars_fit (c ∷ cs) =
     )
 
 -- for a text of at most 64 bytes
-pub brief_fits : (text : List ℕ) → text_room text ≤ 64 → length (spelled_text text) ≤ 64
+pub brief_fits : (text : List ℕ) → text_size text ≤ 64 → length (spelled_text text) ≤ 64
 brief_fits text few =
     either (λ (n : ℕ). n ≤ 64 → length (spelled_text text) ≤ 64) (nat_lt 4096 (length text)) _ _
     (λ e much. absurd (omega (arith, much)))

@@ -9,7 +9,7 @@ use Rattle.std.proofs.lemmas.Simd.{leading_from_mask_l, zip2_splat, zip2_splat_l
 use Rattle.std.proofs.lemmas.List.{length-map}
 use Rattle.std.proofs.lemmas.List.Sums.{prefix_len_passes}
 use lib.Lanes.{chunk, mask_l, zip2, top}
-use Rattle.access_log.specs.Plain.{is_escaped, is_plain_text, StandBetween}
+use Rattle.access_log.specs.Plain.{is_escaped, is_plain_text, ArePlainBetween}
 
 abbrev stands : ℕ → Bool
 stands b = not (is_escaped b)
@@ -38,7 +38,7 @@ either f g v p q = ap₂ (zip2 bit_or) p q ∙ zip2-map f g v
 all_stand : (d : List ℕ) (i n : ℕ) (z : List ℕ) → i + n ≤ length d → n ≤ 64
     → ((k : ℕ) → Fits w8 (get_or d k 0)) → eqb (mask_l (map (top 7) z) % 2 ^ 64) 0 ≡ true
     → (f : ℕ → ℕ) → z ≡ map f (chunk i n d)
-    → agree_below (λ x. top 7 (f x) || stands x) (λ _. true) 256 ≡ true → StandBetween d i (i + n)
+    → agree_below (λ x. top 7 (f x) || stands x) (λ _. true) 256 ≡ true → ArePlainBetween d i (i + n)
 all_stand d i n z room few fits none f lanes all k from to =
     let v = chunk i n d in
     let long = length-chunk i n d room in
@@ -73,7 +73,7 @@ pub stand_from_lanes : (d : List ℕ) (i n : ℕ) → i + n ≤ length d → n �
     (zip2 hit (chunk i n d) (replicate n 92)))
     (zip2 below (chunk i n d) (replicate n 32)))
     (zip2 at_most (replicate n 127) (chunk i n d)))) % 2 ^ 64 == 0)
-    (StandBetween d i (i + n))
+    (ArePlainBetween d i (i + n))
 stand_from_lanes d i n room few fits =
     let v = chunk i n d in
     let long = length-chunk i n d room in
@@ -84,14 +84,14 @@ stand_from_lanes d i n room few fits =
     (either _ _ v (zip2_splat hit v n 34 long) (zip2_splat hit v n 92 long))
     (zip2_splat below v n 32 long)) (zip2_splat_left at_most 127 n v long)) refl)
 
-plain_from : (d : List ℕ) → StandBetween d 0 (length d) → is_plain_text d ≡ true
+plain_from : (d : List ℕ) → ArePlainBetween d 0 (length d) → is_plain_text d ≡ true
 plain_from [] h = refl
 plain_from (x ∷ xs) h =
     let first = not-true (is_escaped x) (h 0 (omega arith) (omega arith)) in
     ap (λ (b : Bool). cond b false (is_plain_text xs)) first
     ∙ plain_from xs (λ k p q. h (suc k) (omega arith) (omega arith))
 
-pub plain_if : (b : Bool) (d : List ℕ) → OnTrue b (StandBetween d 0 (length d))
+pub plain_if : (b : Bool) (d : List ℕ) → OnTrue b (ArePlainBetween d 0 (length d))
     → OnTrue b (is_plain_text d ≡ true)
 plain_if true d h = plain_from d h
 plain_if false d h = tt

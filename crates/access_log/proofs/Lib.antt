@@ -7,8 +7,8 @@ pub mod Fits
 pub mod Harmless
 pub mod Lanes
 pub mod ReadBack
-pub mod Rooms
-pub mod Said
+pub mod SizesFrom
+pub mod MembersAdded
 pub mod Short
-pub mod Told
+pub mod Listed
 pub mod Years

@@ -4,7 +4,7 @@ pub mod More
 pub mod Plain
 pub mod Tokens
 pub mod Utc
-pub mod Room
+pub mod Sizes
 pub mod Excerpt
 pub mod Apps
 pub mod Line

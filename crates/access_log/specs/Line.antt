@@ -9,7 +9,7 @@ use Rattle.printing.specs.Printed.{is_control}
 use Rattle.access_log.specs.Apps.{apps_members}
 use Rattle.access_log.specs.Members.{text_member, number_member, optional_member}
 use Rattle.access_log.specs.Members.{count_member, excerpt_members, optional_excerpt}
-use Rattle.access_log.specs.Room.{TellsEnough}
+use Rattle.access_log.specs.Sizes.{ListsEnough}
 use Rattle.access_log.specs.Spelled.{spelled}
 use Rattle.access_log.specs.Utc.{utc_text}
 use Rattle.access_log.specs.declared.event.Connection.{Connection}
@@ -109,16 +109,16 @@ counter_members counter =
     ++ number_member (codes "index") counter.index
     ++ number_member (codes "value") counter.value
 
-abbrev pub said : LogEvent → List Token
-said (log.Start start) = start_members start
-said (log.Serving generation) = serving_members generation
-said (log.Load load) = load_members load
-said (log.Connection connection) = connection_members connection
-said (log.Unaccepted reason) = unaccepted_members reason.now
-said (log.Lost lines) = lost_members lines
-said (log.Totals totals) = totals_members totals
-said (log.Stop refusal) = stop_members refusal
-said (log.Counter counter) = counter_members counter
+abbrev pub members_of : LogEvent → List Token
+members_of (log.Start start) = start_members start
+members_of (log.Serving generation) = serving_members generation
+members_of (log.Load load) = load_members load
+members_of (log.Connection connection) = connection_members connection
+members_of (log.Unaccepted reason) = unaccepted_members reason.now
+members_of (log.Lost lines) = lost_members lines
+members_of (log.Totals totals) = totals_members totals
+members_of (log.Stop refusal) = stop_members refusal
+members_of (log.Counter counter) = counter_members counter
 
 -- ---- the line
 
@@ -148,13 +148,13 @@ line_or_length time whole =
 
 -- the line of an event
 abbrev pub event_line : Utc → LogEvent → List ℕ
-event_line time e = line_or_length time (line_with time (said e))
+event_line time e = line_or_length time (line_with time (members_of e))
 
 -- all apps of a connection are logged, or at least eleven, if they are as brief as a server makes
 -- them
-abbrev pub TellsApps : LogEvent → Type 0
-TellsApps (log.Connection connection) = TellsEnough connection.apps.now
-TellsApps e = ⊤
+abbrev pub ListsApps : LogEvent → Type 0
+ListsApps (log.Connection connection) = ListsEnough connection.apps.now
+ListsApps e = ⊤
 
 -- one line: a text without a control, which is UTF-8, and a line feed
 abbrev pub IsOneLine : List ℕ → Type 0

@@ -13,8 +13,8 @@ is_plain_text [] = true
 is_plain_text (b ∷ bytes) = cond (is_escaped b) false (is_plain_text bytes)
 
 -- the bytes of a text from i up to j need no escape
-abbrev pub StandBetween : List ℕ → ℕ → ℕ → Type 0
-StandBetween text i j = (k : ℕ) → i ≤ k → k < j → not (is_escaped (get_or text k 0)) ≡ true
+abbrev pub ArePlainBetween : List ℕ → ℕ → ℕ → Type 0
+ArePlainBetween text i j = (k : ℕ) → i ≤ k → k < j → not (is_escaped (get_or text k 0)) ≡ true
 
 -- a comma, a name that needs no escape, and a colon
 abbrev pub named : List ℕ → List ℕ

@@ -4,59 +4,59 @@ ghost use Rattle.std.specs.Prelude.{◌≡◌, ◌≤◌, [], ◌∷◌, ◌++�
 ghost use Rattle.access_log.specs.Spelled.{spelled_from};
 ghost use Rattle.access_log.specs.Tokens.{AddsTokens, AddsMembers};
 ghost use Rattle.access_log.specs.Apps as specs;
-ghost use Rattle.access_log.specs.Room.{event_room};
+ghost use Rattle.access_log.specs.Sizes.{event_size};
 
-use crate::asked::{AskedApp, Outcome};
 use crate::excerpt::Excerpt;
 use crate::left_out::{write_left_out, write_more_left_out};
-use crate::line_room::LineRoom;
+use crate::line_buffer::LineBuffer;
+use crate::logged_app::{LoggedApp, Outcome};
 use crate::member::{
     write_count, write_excerpt, write_flag, write_left_out_of, write_number,
     write_optional_excerpt, write_text,
 };
-use crate::more::{behind_more, write_more};
-use crate::room::{Told, behind_event, behind_events, event_room, told_apps};
-use crate::text::write_quoted;
+use crate::further_members::{left_after_more, write_more};
+use crate::json_text::write_quoted;
+use crate::sizes::{Listed, event_size, left_after_event, left_after_events, listed_apps};
 use std::alloc::AllocError;
 
 /// The member `apps`, if there is one, and what is left out of it.
 #[tactic(auto, using(crate::proofs::Added::adds_nothing))]
-pub fn write_apps(line: &mut LineRoom, apps: &[AskedApp<'_>]) -> Result<(), AllocError>
+pub fn write_apps(line: &mut LineBuffer, apps: &[LoggedApp<'_>]) -> Result<(), AllocError>
     ensures { OnOk result (AddsMembers line.old line.new (specs.apps_members apps.now)) }
 {
     if apps.len() == 0 {
         return Ok(());
     }
-    write_first(line, apps, told_apps(apps))
+    write_first(line, apps, listed_apps(apps))
 }
 
-// The first `told.count` apps, and what is left out.
-fn write_first(line: &mut LineRoom, apps: &[AskedApp<'_>], told: Told) -> Result<(), AllocError>
-    requires { told.count ≤ length apps.now }
+// The first `listed_before.count` apps, and what is left out.
+fn write_first(line: &mut LineBuffer, apps: &[LoggedApp<'_>], listed_before: Listed) -> Result<(), AllocError>
+    requires { listed_before.count ≤ length apps.now }
     ensures { OnOk result (AddsMembers line.old line.new
-        (specs.first_apps told.count told.room apps.now)) }
+        (specs.first_apps listed_before.count listed_before.room apps.now)) }
 {
-    let (first, others) = apps.split_at(told.count);
-    write_list(line, first, told.room)?;
-    write_more_left_out(line, first, told.room)?;
+    let (first, others) = apps.split_at(listed_before.count);
+    write_list(line, first, listed_before.room)?;
+    write_more_left_out(line, first, listed_before.room)?;
     write_left_out(line, others)?;
     Ok(())
 }
 
 // Apps, with `room` bytes for their events.
-fn write_list(line: &mut LineRoom, apps: &[AskedApp<'_>], room: usize) -> Result<(), AllocError>
+fn write_list(line: &mut LineBuffer, apps: &[LoggedApp<'_>], room: usize) -> Result<(), AllocError>
     ensures { OnOk result (AddsMembers line.old line.new (specs.list_of room apps.now)) }
 {
     line.put(b",\"apps\":[")?;
-    write_each(line, apps, room, behind_events(room, apps))?;
+    write_each(line, apps, room, left_after_events(room, apps))?;
     line.put(b"]")?;
     Ok(())
 }
 
 // These apps: `room` bytes for their events, `more` for their other members.
 fn write_each(
-    line: &mut LineRoom,
-    apps: &[AskedApp<'_>],
+    line: &mut LineBuffer,
+    apps: &[LoggedApp<'_>],
     room: usize,
     more: usize,
 ) -> Result<(), AllocError>
@@ -68,8 +68,8 @@ fn write_each(
     let mut beside = more;
     for app in apps {
         write_app(line, comma, app, left, beside)?;
-        left = behind_event(left, &app.event);
-        beside = behind_more(beside, &app.more);
+        left = left_after_event(left, &app.event);
+        beside = left_after_more(beside, &app.more);
         comma = true;
     }
     Ok(())
@@ -77,9 +77,9 @@ fn write_each(
 
 // An app, after a comma or not.
 fn write_app(
-    line: &mut LineRoom,
+    line: &mut LineBuffer,
     comma: bool,
-    app: &AskedApp<'_>,
+    app: &LoggedApp<'_>,
     room: usize,
     more: usize,
 ) -> Result<(), AllocError>
@@ -100,7 +100,7 @@ fn write_app(
 
 // The brace that opens an app, and its first member.
 #[tactic(auto, using(crate::proofs::AddedApps::adds_head))]
-fn write_head(line: &mut LineRoom, comma: bool, appid: &str) -> Result<(), AllocError>
+fn write_head(line: &mut LineBuffer, comma: bool, appid: &str) -> Result<(), AllocError>
     ensures { OnOk result (AddsTokens comma true line.old line.new
         (specs.head_of appid.now)) }
 {
@@ -110,7 +110,7 @@ fn write_head(line: &mut LineRoom, comma: bool, appid: &str) -> Result<(), Alloc
     Ok(())
 }
 
-fn write_comma(line: &mut LineRoom, comma: bool) -> Result<(), AllocError>
+fn write_comma(line: &mut LineBuffer, comma: bool) -> Result<(), AllocError>
     ensures { OnOk result (line.new ≡ line.old ++ cond comma (44 ∷ []) []) }
 {
     if comma {
@@ -120,18 +120,18 @@ fn write_comma(line: &mut LineRoom, comma: bool) -> Result<(), AllocError>
 }
 
 #[tactic(auto, using(crate::proofs::Added::adds_nothing))]
-fn write_outcome(line: &mut LineRoom, outcome: &Outcome<'_>) -> Result<(), AllocError>
+fn write_outcome(line: &mut LineBuffer, outcome: &Outcome<'_>) -> Result<(), AllocError>
     ensures { OnOk result (AddsMembers line.old line.new (specs.outcome_members outcome.now)) }
 {
     match outcome {
         Outcome::Unknown => write_flag(line, "unknown", true),
-        Outcome::Unasked => Ok(()),
+        Outcome::NotRequested => Ok(()),
         Outcome::NoUpdate => write_number(line, "choice", 0),
         Outcome::Offered(choice, version) => write_offer(line, *choice, version),
     }
 }
 
-fn write_offer(line: &mut LineRoom, choice: u8, version: &str) -> Result<(), AllocError>
+fn write_offer(line: &mut LineBuffer, choice: u8, version: &str) -> Result<(), AllocError>
     ensures { OnOk result (AddsMembers line.old line.new
         (specs.offer_members choice version.now)) }
 {
@@ -142,35 +142,35 @@ fn write_offer(line: &mut LineRoom, choice: u8, version: &str) -> Result<(), All
 
 #[tactic(auto, using(crate::proofs::Added::adds_nothing))]
 fn write_event(
-    line: &mut LineRoom,
+    line: &mut LineBuffer,
     event: &Option<Excerpt<'_>>,
     room: usize,
 ) -> Result<(), AllocError>
     ensures { OnOk result (AddsMembers line.old line.new (specs.event_members room event.now)) }
 {
     match event {
-        Some(event) => write_told_event(line, event, room),
+        Some(event) => write_fitted_event(line, event, room),
         None => Ok(()),
     }
 }
 
 // An event; if it doesn't fit, only how many bytes it has.
-fn write_told_event(line: &mut LineRoom, event: &Excerpt<'_>, room: usize) -> Result<(), AllocError>
+fn write_fitted_event(line: &mut LineBuffer, event: &Excerpt<'_>, room: usize) -> Result<(), AllocError>
     ensures { OnOk result (AddsMembers line.old line.new
-        (specs.told_event room (event_room event.now) event.now)) }
+        (specs.fitted_event room (event_size event.now) event.now)) }
 {
-    write_sized_event(line, event, room, event_room(event))
+    write_sized_event(line, event, room, event_size(event))
 }
 
 // As above, for an event of `size` bytes.
 fn write_sized_event(
-    line: &mut LineRoom,
+    line: &mut LineBuffer,
     event: &Excerpt<'_>,
     room: usize,
     size: usize,
 ) -> Result<(), AllocError>
     ensures { OnOk result (AddsMembers line.old line.new
-        (specs.told_event room size event.now)) }
+        (specs.fitted_event room size event.now)) }
 {
     if room < size {
         return write_count(line, "event_left_out", event.length);

@@ -1,7 +1,7 @@
 //! What happens to a server, as its log records it.
 
-use crate::asked::AskedApp;
 use crate::excerpt::Excerpt;
+use crate::logged_app::LoggedApp;
 
 /// A server's start, or why it doesn't start.
 #[derive(Clone, Copy)]
@@ -53,7 +53,7 @@ pub struct Connection<'a> {
     pub micros: u64,
     /// How long it had waited for a worker, in microseconds; 0 if that isn't known.
     pub waited: u64,
-    pub apps: &'a [AskedApp<'a>],
+    pub apps: &'a [LoggedApp<'a>],
 }
 
 /// Totals of connections, by the statuses of their replies.

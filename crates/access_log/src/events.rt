@@ -8,7 +8,7 @@ ghost use Rattle.access_log.specs.Plain.{is_plain_text};
 use crate::apps::write_apps;
 use crate::event::{Connection, Counter, Load, LogEvent, Start, Totals};
 use crate::excerpt::Excerpt;
-use crate::line_room::LineRoom;
+use crate::line_buffer::LineBuffer;
 use crate::member::{
     write_count, write_excerpt, write_number, write_optional, write_optional_excerpt, write_text,
     write_word,
@@ -16,8 +16,8 @@ use crate::member::{
 use std::alloc::AllocError;
 
 /// The members of an event.
-pub fn write_said(line: &mut LineRoom, event: &LogEvent<'_>) -> Result<(), AllocError>
-    ensures { OnOk result (AddsMembers line.old line.new (specs.said event.now)) }
+pub fn write_members(line: &mut LineBuffer, event: &LogEvent<'_>) -> Result<(), AllocError>
+    ensures { OnOk result (AddsMembers line.old line.new (specs.members_of event.now)) }
 {
     match event {
         LogEvent::Start(start) => write_start(line, start),
@@ -32,7 +32,7 @@ pub fn write_said(line: &mut LineRoom, event: &LogEvent<'_>) -> Result<(), Alloc
     }
 }
 
-fn write_start(line: &mut LineRoom, start: &Start<'_>) -> Result<(), AllocError>
+fn write_start(line: &mut LineBuffer, start: &Start<'_>) -> Result<(), AllocError>
     ensures { OnOk result (AddsMembers line.old line.new (specs.start_members start.now)) }
 {
     write_kind(line, "start")?;
@@ -45,7 +45,7 @@ fn write_start(line: &mut LineRoom, start: &Start<'_>) -> Result<(), AllocError>
     Ok(())
 }
 
-fn write_serving(line: &mut LineRoom, generation: u64) -> Result<(), AllocError>
+fn write_serving(line: &mut LineBuffer, generation: u64) -> Result<(), AllocError>
     ensures { OnOk result (AddsMembers line.old line.new (specs.serving_members generation)) }
 {
     write_kind(line, "serving")?;
@@ -53,7 +53,7 @@ fn write_serving(line: &mut LineRoom, generation: u64) -> Result<(), AllocError>
     Ok(())
 }
 
-fn write_load(line: &mut LineRoom, load: &Load<'_>) -> Result<(), AllocError>
+fn write_load(line: &mut LineBuffer, load: &Load<'_>) -> Result<(), AllocError>
     ensures { OnOk result (AddsMembers line.old line.new (specs.load_members load.now)) }
 {
     write_kind(line, "load")?;
@@ -65,7 +65,7 @@ fn write_load(line: &mut LineRoom, load: &Load<'_>) -> Result<(), AllocError>
     Ok(())
 }
 
-fn write_connection(line: &mut LineRoom, connection: &Connection<'_>) -> Result<(), AllocError>
+fn write_connection(line: &mut LineBuffer, connection: &Connection<'_>) -> Result<(), AllocError>
     ensures { OnOk result (AddsMembers line.old line.new
         (specs.connection_members connection.now)) }
 {
@@ -78,7 +78,7 @@ fn write_connection(line: &mut LineRoom, connection: &Connection<'_>) -> Result<
 }
 
 // The reply, if there was one.
-fn write_reply(line: &mut LineRoom, connection: &Connection<'_>) -> Result<(), AllocError>
+fn write_reply(line: &mut LineBuffer, connection: &Connection<'_>) -> Result<(), AllocError>
     ensures { OnOk result (AddsMembers line.old line.new (specs.reply_members connection.now)) }
 {
     write_count(line, "status", connection.status as u64)?;
@@ -91,7 +91,7 @@ fn write_reply(line: &mut LineRoom, connection: &Connection<'_>) -> Result<(), A
     Ok(())
 }
 
-fn write_unaccepted(line: &mut LineRoom, reason: &str) -> Result<(), AllocError>
+fn write_unaccepted(line: &mut LineBuffer, reason: &str) -> Result<(), AllocError>
     ensures { OnOk result (AddsMembers line.old line.new (specs.unaccepted_members reason.now)) }
 {
     write_kind(line, "unaccepted")?;
@@ -99,7 +99,7 @@ fn write_unaccepted(line: &mut LineRoom, reason: &str) -> Result<(), AllocError>
     Ok(())
 }
 
-fn write_lost(line: &mut LineRoom, lines: u64) -> Result<(), AllocError>
+fn write_lost(line: &mut LineBuffer, lines: u64) -> Result<(), AllocError>
     ensures { OnOk result (AddsMembers line.old line.new (specs.lost_members lines)) }
 {
     write_kind(line, "lost")?;
@@ -107,7 +107,7 @@ fn write_lost(line: &mut LineRoom, lines: u64) -> Result<(), AllocError>
     Ok(())
 }
 
-fn write_totals(line: &mut LineRoom, totals: &Totals) -> Result<(), AllocError>
+fn write_totals(line: &mut LineBuffer, totals: &Totals) -> Result<(), AllocError>
     ensures { OnOk result (AddsMembers line.old line.new (specs.totals_members totals.now)) }
 {
     write_kind(line, "totals")?;
@@ -119,7 +119,7 @@ fn write_totals(line: &mut LineRoom, totals: &Totals) -> Result<(), AllocError>
 }
 
 // The number of replies of each status.
-fn write_statuses(line: &mut LineRoom, totals: &Totals) -> Result<(), AllocError>
+fn write_statuses(line: &mut LineBuffer, totals: &Totals) -> Result<(), AllocError>
     ensures { OnOk result (AddsMembers line.old line.new (specs.status_members totals.now)) }
 {
     write_number(line, "status_200", totals.success)?;
@@ -133,7 +133,7 @@ fn write_statuses(line: &mut LineRoom, totals: &Totals) -> Result<(), AllocError
     Ok(())
 }
 
-fn write_stop(line: &mut LineRoom, refusal: Option<&str>) -> Result<(), AllocError>
+fn write_stop(line: &mut LineBuffer, refusal: Option<&str>) -> Result<(), AllocError>
     ensures { OnOk result (AddsMembers line.old line.new (specs.stop_members refusal.entry)) }
 {
     write_kind(line, "stop")?;
@@ -141,7 +141,7 @@ fn write_stop(line: &mut LineRoom, refusal: Option<&str>) -> Result<(), AllocErr
     Ok(())
 }
 
-fn write_counter(line: &mut LineRoom, counter: &Counter<'_>) -> Result<(), AllocError>
+fn write_counter(line: &mut LineBuffer, counter: &Counter<'_>) -> Result<(), AllocError>
     ensures { OnOk result (AddsMembers line.old line.new (specs.counter_members counter.now)) }
 {
     write_kind(line, "counter")?;
@@ -152,14 +152,14 @@ fn write_counter(line: &mut LineRoom, counter: &Counter<'_>) -> Result<(), Alloc
 }
 
 /// The member that names the kind of event.
-pub fn write_kind(line: &mut LineRoom, kind: &str) -> Result<(), AllocError>
+pub fn write_kind(line: &mut LineBuffer, kind: &str) -> Result<(), AllocError>
     requires { is_plain_text kind.now ≡ true }
     ensures { OnOk result (AddsMembers line.old line.new (specs.kind_member kind.now)) }
 {
     write_word(line, "kind", kind)
 }
 
-fn write_path(line: &mut LineRoom, path: &Excerpt<'_>) -> Result<(), AllocError>
+fn write_path(line: &mut LineBuffer, path: &Excerpt<'_>) -> Result<(), AllocError>
     ensures { OnOk result (AddsMembers line.old line.new (specs.path_members path.now)) }
 {
     write_excerpt(line, "path", "path_left_out", path)

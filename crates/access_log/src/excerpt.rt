@@ -4,18 +4,18 @@ ghost use Rattle.std.specs.Prelude.{◌≡◌, ◌≤◌, ◌<◌, ℕ, take};
 ghost use Rattle.std.specs.Str.{IsCharBoundary};
 ghost use Rattle.access_log.specs.Excerpt.{IsExcerpt, IsBriefExcerpt};
 ghost use Rattle.access_log.specs.Members as members;
-ghost use Rattle.access_log.specs.Room.{text_room};
+ghost use Rattle.access_log.specs.Sizes.{text_size};
 
-use crate::room::text_room;
+use crate::sizes::text_size;
 
 /// The most bytes of a text that a line logs.
 const EXCERPT_LIMIT: usize = 512;
 
 /// The most bytes of a brief text in a line, escapes included.
-const BRIEF_ROOM: usize = 64;
+const BRIEF_LIMIT: usize = 64;
 
 /// The most bytes of a further member's text in a line, escapes included.
-const SHORT_ROOM: usize = 32;
+const SHORT_LIMIT: usize = 32;
 
 /// The beginning of a text, and how many bytes the whole text has.
 #[derive(Clone, Copy)]
@@ -42,7 +42,7 @@ impl<'a> Excerpt<'a> {
         ensures { IsBriefExcerpt 64 text.now result }
     {
         Excerpt {
-            text: &text[..brief_end(text, BRIEF_ROOM)],
+            text: &text[..brief_end(text, BRIEF_LIMIT)],
             length: text.len() as u64,
         }
     }
@@ -52,7 +52,7 @@ impl<'a> Excerpt<'a> {
         ensures { IsBriefExcerpt 32 text.now result }
     {
         Excerpt {
-            text: &text[..brief_end(text, SHORT_ROOM)],
+            text: &text[..brief_end(text, SHORT_LIMIT)],
             length: text.len() as u64,
         }
     }
@@ -68,12 +68,12 @@ impl<'a> Excerpt<'a> {
 // The end of the longest prefix that takes at most `most` bytes.
 fn brief_end(text: &str, most: usize) -> usize
     ensures boundary { IsCharBoundary text.now result }
-    ensures brief { text_room (take result text.now) ≤ most }
+    ensures brief { text_size (take result text.now) ≤ most }
     ensures longest { (i : ℕ) → result < i → i ≤ most → IsCharBoundary text.now i
-        → most < text_room (take i text.now) }
+        → most < text_size (take i text.now) }
 {
     let mut end = text.floor_char_boundary(most);
-    while text_room(&text[..end]) > most {
+    while text_size(&text[..end]) > most {
         end = text.floor_char_boundary(end - 1);
     }
     end

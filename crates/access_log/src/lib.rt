@@ -11,24 +11,24 @@
 #![tactic(auto)]
 
 mod apps;
-mod asked;
 mod event;
+mod event_line;
 mod events;
 mod excerpt;
+mod further_members;
+mod json_text;
 mod left_out;
-mod line;
-mod line_room;
+mod line_buffer;
+mod logged_app;
 mod member;
-mod more;
-mod room;
-mod text;
+mod sizes;
 mod unescaped;
 mod utc;
 
-pub use asked::{AskedApp, Outcome};
 pub use event::{Connection, Counter, Load, LogEvent, Start, Totals};
+pub use event_line::{log_line, log_line_in};
 pub use excerpt::Excerpt;
-pub use line::{log_line, log_line_in};
-pub use line_room::LineRoom;
-pub use more::AskedMore;
+pub use further_members::FurtherMembers;
+pub use line_buffer::LineBuffer;
+pub use logged_app::{LoggedApp, Outcome};
 pub use utc::Utc;

@@ -8,14 +8,14 @@ ghost use Rattle.access_log.specs.Plain.{is_plain_text};
 ghost use Rattle.access_log.specs.Spelled.{spelled_token};
 
 use crate::excerpt::Excerpt;
-use crate::line_room::LineRoom;
-use crate::text::{write_digits, write_name, write_plain, write_quoted};
+use crate::json_text::{write_digits, write_name, write_plain, write_quoted};
+use crate::line_buffer::LineBuffer;
 use std::alloc::AllocError;
 
 /// A member that is a text.
 #[inline(always)]
 #[tactic(auto, using(crate::proofs::Added::adds_text))]
-pub fn write_text(line: &mut LineRoom, name: &str, text: &str) -> Result<(), AllocError>
+pub fn write_text(line: &mut LineBuffer, name: &str, text: &str) -> Result<(), AllocError>
     requires { is_plain_text name.now ≡ true }
     ensures { OnOk result (AddsMembers line.old line.new
         (specs.text_member name.now text.now)) }
@@ -28,7 +28,7 @@ pub fn write_text(line: &mut LineRoom, name: &str, text: &str) -> Result<(), All
 /// A member that is a text without characters to escape.
 #[inline(always)]
 #[tactic(auto, using(crate::proofs::Added::adds_text))]
-pub fn write_word(line: &mut LineRoom, name: &str, word: &str) -> Result<(), AllocError>
+pub fn write_word(line: &mut LineBuffer, name: &str, word: &str) -> Result<(), AllocError>
     requires name { is_plain_text name.now ≡ true }
     requires word { is_plain_text word.now ≡ true }
     ensures { OnOk result (AddsMembers line.old line.new (specs.text_member name.now word.now)) }
@@ -41,7 +41,7 @@ pub fn write_word(line: &mut LineRoom, name: &str, word: &str) -> Result<(), All
 /// A member that is a number.
 #[inline(always)]
 #[tactic(auto, using(crate::proofs::Added::adds_number))]
-pub fn write_number(line: &mut LineRoom, name: &str, n: u64) -> Result<(), AllocError>
+pub fn write_number(line: &mut LineBuffer, name: &str, n: u64) -> Result<(), AllocError>
     requires { is_plain_text name.now ≡ true }
     ensures { OnOk result (AddsMembers line.old line.new
         (specs.number_member name.now n)) }
@@ -54,7 +54,7 @@ pub fn write_number(line: &mut LineRoom, name: &str, n: u64) -> Result<(), Alloc
 /// A member that is true or false.
 #[inline(always)]
 #[tactic(auto, using(crate::proofs::Added::adds_flag))]
-pub fn write_flag(line: &mut LineRoom, name: &str, holds: bool) -> Result<(), AllocError>
+pub fn write_flag(line: &mut LineBuffer, name: &str, holds: bool) -> Result<(), AllocError>
     requires { is_plain_text name.now ≡ true }
     ensures { OnOk result (AddsMembers line.old line.new
         (specs.flag_member name.now holds)) }
@@ -66,7 +66,7 @@ pub fn write_flag(line: &mut LineRoom, name: &str, holds: bool) -> Result<(), Al
 
 // true or false
 #[inline(always)]
-fn write_bool(line: &mut LineRoom, holds: bool) -> Result<(), AllocError>
+fn write_bool(line: &mut LineBuffer, holds: bool) -> Result<(), AllocError>
     ensures { OnOk result (line.new ≡ line.old ++ spelled_token (boolean holds)) }
 {
     if holds {
@@ -79,7 +79,7 @@ fn write_bool(line: &mut LineRoom, holds: bool) -> Result<(), AllocError>
 /// A member that is a text, if there is one.
 #[inline(always)]
 #[tactic(auto, using(crate::proofs::Added::adds_nothing))]
-pub fn write_optional(line: &mut LineRoom, name: &str, text: Option<&str>) -> Result<(), AllocError>
+pub fn write_optional(line: &mut LineBuffer, name: &str, text: Option<&str>) -> Result<(), AllocError>
     requires { is_plain_text name.now ≡ true }
     ensures { OnOk result (AddsMembers line.old line.new
         (specs.optional_member name.now (option_copied text.entry))) }
@@ -93,7 +93,7 @@ pub fn write_optional(line: &mut LineRoom, name: &str, text: Option<&str>) -> Re
 /// A member that is a number, unless it is 0.
 #[inline(always)]
 #[tactic(auto, using(crate::proofs::Added::adds_nothing))]
-pub fn write_count(line: &mut LineRoom, name: &str, n: u64) -> Result<(), AllocError>
+pub fn write_count(line: &mut LineBuffer, name: &str, n: u64) -> Result<(), AllocError>
     requires { is_plain_text name.now ≡ true }
     ensures { OnOk result (AddsMembers line.old line.new
         (specs.count_member name.now n)) }
@@ -106,7 +106,7 @@ pub fn write_count(line: &mut LineRoom, name: &str, n: u64) -> Result<(), AllocE
 
 /// How many bytes are left out of a text, if any are.
 pub fn write_left_out_of(
-    line: &mut LineRoom,
+    line: &mut LineBuffer,
     name: &str,
     excerpt: &Excerpt<'_>,
 ) -> Result<(), AllocError>
@@ -119,7 +119,7 @@ pub fn write_left_out_of(
 
 /// A member that is a text which may be cut, followed by the number of bytes left out, if any are.
 pub fn write_excerpt(
-    line: &mut LineRoom,
+    line: &mut LineBuffer,
     name: &str,
     left_out: &str,
     excerpt: &Excerpt<'_>,
@@ -137,7 +137,7 @@ pub fn write_excerpt(
 /// Writes the member of an excerpt, if there is one.
 #[tactic(auto, using(crate::proofs::Added::adds_nothing))]
 pub fn write_optional_excerpt(
-    line: &mut LineRoom,
+    line: &mut LineBuffer,
     name: &str,
     left_out: &str,
     excerpt: &Option<Excerpt<'_>>,

@@ -3,7 +3,7 @@
 
 ghost use Rattle.std.specs.Prelude.{◌≡◌, ◌+◌, ◌≤◌, ◌<◌, length, true};
 ghost use Rattle.std.specs.Bool.{OnTrue};
-ghost use Rattle.access_log.specs.Plain.{is_plain_text, StandBetween};
+ghost use Rattle.access_log.specs.Plain.{is_plain_text, ArePlainBetween};
 
 use std::simd::prelude::*;
 
@@ -17,7 +17,7 @@ pub fn is_plain(text: &[u8]) -> bool
 
 #[inline(always)]
 fn all_plain(text: &[u8]) -> bool
-    ensures { OnTrue result (StandBetween text.now 0 (length text.now)) }
+    ensures { OnTrue result (ArePlainBetween text.now 0 (length text.now)) }
 {
     let len = text.len();
     if len >= 16 {
@@ -32,7 +32,7 @@ fn all_plain(text: &[u8]) -> bool
 #[inline(always)]
 fn long_plain(text: &[u8]) -> bool
     requires { 16 ≤ length text.now }
-    ensures { OnTrue result (StandBetween text.now 0 (length text.now)) }
+    ensures { OnTrue result (ArePlainBetween text.now 0 (length text.now)) }
 {
     let mut at = 0;
     while text.len() - at > 16 {
@@ -47,7 +47,7 @@ fn long_plain(text: &[u8]) -> bool
 #[inline(always)]
 fn plain_16(text: &[u8], at: usize) -> bool
     requires { at + 16 ≤ length text.now }
-    ensures { OnTrue result (StandBetween text.now at (at + 16)) }
+    ensures { OnTrue result (ArePlainBetween text.now at (at + 16)) }
 {
     let v = u8x16::from_slice(&text[at..]);
     (v.simd_eq(u8x16::splat(b'"'))
@@ -60,7 +60,7 @@ fn plain_16(text: &[u8], at: usize) -> bool
 #[inline(always)]
 fn plain_8(text: &[u8], at: usize) -> bool
     requires { at + 8 ≤ length text.now }
-    ensures { OnTrue result (StandBetween text.now at (at + 8)) }
+    ensures { OnTrue result (ArePlainBetween text.now at (at + 8)) }
 {
     let v = u8x8::from_slice(&text[at..]);
     (v.simd_eq(u8x8::splat(b'"'))
@@ -72,7 +72,7 @@ fn plain_8(text: &[u8], at: usize) -> bool
 
 #[inline(always)]
 fn few_plain(text: &[u8]) -> bool
-    ensures { OnTrue result (StandBetween text.now 0 (length text.now)) }
+    ensures { OnTrue result (ArePlainBetween text.now 0 (length text.now)) }
 {
     for &byte in text {
         if byte == b'"' || byte == b'\\' || byte < 0x20 || byte >= 0x7f {

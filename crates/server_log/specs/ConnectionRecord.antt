@@ -3,13 +3,13 @@ use Rattle.std.specs.Prelude.{◌≡◌, [], None}
 use Rattle.server_log.specs.declared.connection_record.ConnectionRecord.{ConnectionRecord}
 
 -- nothing yet
-pub record IsUnseen (seen : ConnectionRecord) : Type 0 where
-  pub generation : seen.generation ≡ 0
-  pub forwarded : seen.forwarded ≡ None
-  pub cause : seen.cause ≡ None
-  pub bytes : seen.bytes ≡ 0
-  pub events : seen.events.items ≡ []
-  pub apps : seen.apps.items ≡ []
+pub record IsEmptyRecord (recorded : ConnectionRecord) : Type 0 where
+  pub generation : recorded.generation ≡ 0
+  pub forwarded : recorded.forwarded ≡ None
+  pub cause : recorded.cause ≡ None
+  pub bytes : recorded.bytes ≡ 0
+  pub events : recorded.events.items ≡ []
+  pub apps : recorded.apps.items ≡ []
 
 -- the two agree on the request, its results, and whether they are kept
 pub record IsSameRequest (old new : ConnectionRecord) : Type 0 where

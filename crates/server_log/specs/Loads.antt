@@ -15,10 +15,10 @@ use Rattle.operator.specs.declared.reply.OperatorReply.{OperatorReply}
 use Rattle.operator.specs.declared.reply.OperatorReply.TheVariants as reply
 
 -- the cause of a refusal: the loader's cause of its fault, and none for any other refusal
-abbrev pub IsToldBeside : {F : Type 0} → (F → Option (List ℕ) → Type 0) → OperatorRefusal F
+abbrev pub IsCauseOf : {F : Type 0} → (F → Option (List ℕ) → Type 0) → OperatorRefusal F
     → Option (List ℕ) → Type 0
-IsToldBeside has_cause (refusal.Load fault) cause = has_cause fault cause
-IsToldBeside has_cause other cause = cause ≡ None
+IsCauseOf has_cause (refusal.Load fault) cause = has_cause fault cause
+IsCauseOf has_cause other cause = cause ≡ None
 
 -- the excerpt of a text, if there is one
 abbrev pub IsExcerptOf : Option (List ℕ) → Option Excerpt → Type 0
@@ -59,7 +59,7 @@ module _ {F : Type 0} (has_cause : F → Option (List ℕ) → Type 0)
     pub text : List ℕ
     pub cause : Option (List ℕ)
     pub text_is : IfSome (refusal_text fault_text refused) (λ known. text ≡ known)
-    pub cause_is : IsToldBeside has_cause refused cause
+    pub cause_is : IsCauseOf has_cause refused cause
     pub tells : TellsRefusedLoad path text cause load
 
   -- the line of an operator's request for a load, by the reply: its generation and digest if it is

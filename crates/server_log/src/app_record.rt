@@ -3,7 +3,7 @@
 
 use crate::app_details::AppDetails;
 use crate::kept_texts::{KeptTexts, TextPlace};
-use access_log::{AskedApp, AskedMore, Excerpt, Outcome};
+use access_log::{Excerpt, FurtherMembers, LoggedApp, Outcome};
 use attrs::{Bucket, SharedFacts, Text, cohort_bucket, named_or_hashed};
 use omaha_json::{FoundApp, release_at};
 use std::alloc::AllocError;
@@ -23,7 +23,7 @@ pub(crate) struct AppRecord {
 /// The details of an app that its facts don't have.
 #[derive(Clone, Copy)]
 pub(crate) struct AppExtras {
-    pub(crate) heard: AppDetails,
+    pub(crate) details: AppDetails,
     /// The request's platform.
     pub(crate) platform: Option<KeptExcerpt>,
 }
@@ -80,29 +80,29 @@ impl AppRecord {
     }
 
     /// The app, for the line.
-    pub(crate) fn asked<'x>(&'x self, texts: &'x KeptTexts) -> AskedApp<'x> {
+    pub(crate) fn logged<'x>(&'x self, texts: &'x KeptTexts) -> LoggedApp<'x> {
         let said = self.said.facts();
-        AskedApp {
+        LoggedApp {
             appid: Excerpt::brief(said.appid.as_str()),
             version: brief_of(&said.version),
             bucket: self.bucket.number(),
             named: is_named(&said.cohort),
             outcome: self.outcome(texts),
-            event: excerpt_of(texts, self.beside.heard.event),
+            event: excerpt_of(texts, self.beside.details.event),
             more: self.more(texts),
         }
     }
 
     // Its members other than its id and version.
-    fn more<'x>(&'x self, texts: &'x KeptTexts) -> AskedMore<'x> {
+    fn more<'x>(&'x self, texts: &'x KeptTexts) -> FurtherMembers<'x> {
         let said = self.said.facts();
-        AskedMore {
+        FurtherMembers {
             ap: short_of(&said.ap),
             lang: short_of(&said.lang),
             brand: short_of(&said.brand),
             platform: excerpt_of(texts, self.beside.platform),
             installdate: said.installdate,
-            ignored: texts.at_some(self.beside.heard.ignored),
+            ignored: texts.at_some(self.beside.details.ignored),
         }
     }
 
@@ -111,7 +111,7 @@ impl AppRecord {
             return Outcome::Unknown;
         }
         match (self.choice, self.release) {
-            (None, _) => Outcome::Unasked,
+            (None, _) => Outcome::NotRequested,
             (Some(choice), Some(release)) => Outcome::Offered(choice, texts.at(release)),
             (Some(_), None) => Outcome::NoUpdate,
         }

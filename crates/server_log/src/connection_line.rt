@@ -6,7 +6,7 @@ use crate::clock::micros_since;
 use crate::connection_record::ConnectionRecord;
 use crate::log::Log;
 use crate::log_queue::LogQueue;
-use access_log::{AskedApp, Connection, LogEvent};
+use access_log::{Connection, LogEvent, LoggedApp};
 use answering::{AnswerFault, Sent};
 use http_front::PostFault;
 use std::alloc::AllocError;
@@ -16,8 +16,8 @@ use std::time::{Clock, Instant};
 use std::{io, slice, str};
 
 /// Appends the line of a connection to a worker's log, if lines are kept. It has the outcome, the
-/// contents of `seen`, and the microseconds that the connection waited and then took from `begun`
-/// on (0 if unknown). The line is lost if an allocation fails.
+/// contents of `recorded`, and the microseconds that the connection waited and then took from
+/// `begun` on (0 if unknown). The line is lost if an allocation fails.
 // open: the contents of a connection's line, that known apps come first, and when the line is
 // flushed: tests.
 pub fn note_connection<H>(
@@ -27,12 +27,12 @@ pub fn note_connection<H>(
     waited: u64,
     begun: Option<Instant>,
     outcome: &Result<Sent, AnswerFault>,
-    seen: &mut ConnectionRecord,
+    recorded: &mut ConnectionRecord,
 )
 where
     H: Wait + AllocGlobal + Clock,
     ensures queue { log.new.queue ≡ log.old.queue }
-    ensures unkept { IfNone log.old.queue ((log.new ≡ log.old) × (seen.new ≡ seen.old)) }
+    ensures unkept { IfNone log.old.queue ((log.new ≡ log.old) × (recorded.new ≡ recorded.old)) }
 {
     if !log.is_kept() {
         return;
@@ -41,10 +41,10 @@ where
         micros: micros_since(rt, begun),
         waited,
     };
-    if note_kept(rt, log, peer, times, outcome, seen).is_err() {
+    if note_kept(rt, log, peer, times, outcome, recorded).is_err() {
         log.count_lost();
     }
-    seen.drop_apps();
+    recorded.drop_apps();
 }
 
 // How long a connection took, and how long it waited before, in microseconds.
@@ -60,28 +60,28 @@ fn note_kept<H>(
     peer: SocketAddr,
     times: Times,
     outcome: &Result<Sent, AnswerFault>,
-    seen: &mut ConnectionRecord,
+    recorded: &mut ConnectionRecord,
 ) -> Result<(), AllocError>
 where
     H: Wait + AllocGlobal + Clock,
     ensures { log.new.queue ≡ log.old.queue }
 {
-    let addresses = seen.keep_addresses(peer)?;
+    let addresses = recorded.keep_addresses(peer)?;
     let connection = Connection {
         status: status_of(outcome),
-        generation: seen.generation,
-        bytes: seen.bytes,
+        generation: recorded.generation,
+        bytes: recorded.bytes,
         micros: times.micros,
         waited: times.waited,
-        ..without_texts(refusal_of(outcome), cause_of(outcome, seen))
+        ..without_texts(refusal_of(outcome), cause_of(outcome, recorded))
     };
-    let (peer, forwarded) = (seen.peer(addresses), seen.forwarded_text(addresses));
+    let (peer, forwarded) = (recorded.peer(addresses), recorded.forwarded_text(addresses));
     // Most requests have one app, and a list of one needs no allocation.
-    if let Some(app) = seen.only_app() {
+    if let Some(app) = recorded.only_app() {
         let apps = slice::from_ref(&app);
         log.note(rt, &connection_event(peer, forwarded, apps, connection));
     } else {
-        let apps = seen.asked()?;
+        let apps = recorded.logged_apps()?;
         log.note(rt, &connection_event(peer, forwarded, &apps, connection));
     }
     Ok(())
@@ -107,7 +107,7 @@ fn without_texts<'x>(refusal: Option<&'x str>, cause: Option<&'x str>) -> Connec
 fn connection_event<'x>(
     peer: &'x str,
     forwarded: Option<&'x str>,
-    apps: &'x [AskedApp<'x>],
+    apps: &'x [LoggedApp<'x>],
     connection: Connection<'x>,
 ) -> LogEvent<'x> {
     LogEvent::Connection(Connection {
@@ -136,10 +136,10 @@ fn refusal_of(outcome: &Result<Sent, AnswerFault>) -> Option<&'static str> {
 }
 
 // How the device failed, if it did.
-fn cause_of(outcome: &Result<Sent, AnswerFault>, seen: &ConnectionRecord) -> Option<&'static str> {
+fn cause_of(outcome: &Result<Sent, AnswerFault>, recorded: &ConnectionRecord) -> Option<&'static str> {
     match outcome {
         Ok(_) | Err(AnswerFault::Ended) => None,
-        Err(_) => seen.cause,
+        Err(_) => recorded.cause,
     }
 }
 

@@ -3,13 +3,13 @@
 //! and other texts are copied. A worker reuses the buffers for its next connection.
 
 ghost use Rattle.std.specs.Prelude.{◌≡◌, [], None, Some};
-ghost use Rattle.server_log.specs.ConnectionRecord.{IsUnseen, IsSameRequest};
+ghost use Rattle.server_log.specs.ConnectionRecord.{IsEmptyRecord, IsSameRequest};
 
 use crate::app_details::AppDetails;
 use crate::app_record::{AppExtras, AppRecord, KeptExcerpt};
 use crate::kept_texts::{KeptTexts, TextPlace};
 use crate::recorder::Recorder;
-use access_log::{AskedApp, Excerpt};
+use access_log::{Excerpt, LoggedApp};
 use answering::Witness;
 use attrs::{Bucket, hashed_bucket};
 use hot_swap::Generation;
@@ -53,7 +53,7 @@ pub(crate) struct Addresses {
 impl ConnectionRecord {
     /// Starts with nothing.
     pub fn new(alloc: Global, is_kept: bool) -> ConnectionRecord
-        ensures unseen { IsUnseen result }
+        ensures empty_record { IsEmptyRecord result }
         ensures kept { result.is_kept ≡ is_kept }
     {
         ConnectionRecord {
@@ -73,7 +73,7 @@ impl ConnectionRecord {
 
     /// Clears everything for the next connection.
     pub fn begin(&mut self)
-        ensures unseen { IsUnseen self.new }
+        ensures empty_record { IsEmptyRecord self.new }
         ensures kept { self.new.is_kept ≡ self.old.is_kept }
     {
         self.generation = 0;
@@ -96,7 +96,7 @@ impl ConnectionRecord {
         ensures same { IsSameRequest self.old self.new }
     {
         let room = mem::replace(&mut self.room, Vec::new(self.alloc));
-        Recorder::in_room(room, reader, self.is_kept)
+        Recorder::with_buffer(room, reader, self.is_kept)
     }
 
     /// Takes the details of a connection from its devices: the address that a proxy names, how the
@@ -115,7 +115,7 @@ impl ConnectionRecord {
             None => writer.cause(),
         };
         self.bytes = writer.into_inner().bytes();
-        self.room = reader.into_room();
+        self.room = reader.into_buffer();
     }
 
     /// Sets why the connection failed, if its devices don't know.
@@ -147,31 +147,31 @@ impl ConnectionRecord {
     }
 
     /// The app for the line, if there is exactly one and it was kept.
-    pub(crate) fn only_app(&self) -> Option<AskedApp<'_>> {
+    pub(crate) fn only_app(&self) -> Option<LoggedApp<'_>> {
         match self.apps.as_slice() {
-            [app] if !self.is_cut => Some(app.asked(&self.texts)),
+            [app] if !self.is_cut => Some(app.logged(&self.texts)),
             _ => None,
         }
     }
 
     /// The apps for the line: those that the server has before the others, so that an unknown app
     /// takes no space from them. Fails if an allocation failed for some app.
-    pub(crate) fn asked(&self) -> Result<Vec<AskedApp<'_>>, AllocError> {
+    pub(crate) fn logged_apps(&self) -> Result<Vec<LoggedApp<'_>>, AllocError> {
         if self.is_cut {
             return Err(AllocError);
         }
-        let mut asked = Vec::with_capacity(self.alloc, self.apps.len())?;
+        let mut logged = Vec::with_capacity(self.alloc, self.apps.len())?;
         for app in self.apps.iter() {
             if app.is_known {
-                asked.push(app.asked(&self.texts))?;
+                logged.push(app.logged(&self.texts))?;
             }
         }
         for app in self.apps.iter() {
             if !app.is_known {
-                asked.push(app.asked(&self.texts))?;
+                logged.push(app.logged(&self.texts))?;
             }
         }
-        Ok(asked)
+        Ok(logged)
     }
 
     // Keeps the apps, with what was found for them.
@@ -189,26 +189,26 @@ impl ConnectionRecord {
             let Some(found) = found.get(place) else {
                 return Ok(());
             };
-            let heard = self.heard_at(place, platform);
-            let seen = AppRecord::of(&mut self.texts, app.share()?, found, hashed, heard)?;
-            self.apps.push(seen)?;
+            let details = self.extras_at(place, platform);
+            let recorded = AppRecord::of(&mut self.texts, app.share()?, found, hashed, details)?;
+            self.apps.push(recorded)?;
         }
         Ok(())
     }
 
     // The details of the app at a place, with the request's platform.
-    fn heard_at(&self, place: usize, platform: Option<KeptExcerpt>) -> AppExtras {
-        let heard = match self.events.get(place) {
-            Some(heard) => *heard,
+    fn extras_at(&self, place: usize, platform: Option<KeptExcerpt>) -> AppExtras {
+        let details = match self.events.get(place) {
+            Some(details) => *details,
             None => AppDetails::NONE,
         };
-        AppExtras { heard, platform }
+        AppExtras { details, platform }
     }
 
     // Keeps the details of the next app.
-    fn keep_heard(&mut self, app: WrittenApp<'_>) -> Result<(), AllocError> {
-        let heard = AppDetails::of(self.alloc, &mut self.texts, app)?;
-        self.events.push(heard)?;
+    fn keep_details(&mut self, app: WrittenApp<'_>) -> Result<(), AllocError> {
+        let details = AppDetails::of(self.alloc, &mut self.texts, app)?;
+        self.events.push(details)?;
         Ok(())
     }
 
@@ -221,14 +221,14 @@ impl ConnectionRecord {
 impl HearsApps for ConnectionRecord {
     fn hear_app(&mut self, app: WrittenApp<'_>) {
         if self.is_kept {
-            let is_kept = self.keep_heard(app).is_ok();
+            let is_kept = self.keep_details(app).is_ok();
             self.is_cut = self.is_cut || !is_kept;
         }
     }
 }
 
 impl Witness for ConnectionRecord {
-    fn see(&mut self, generation: Generation, request: &Request, found: &[Option<FoundApp<'_>>]) {
+    fn observe(&mut self, generation: Generation, request: &Request, found: &[Option<FoundApp<'_>>]) {
         self.generation = generation;
         if self.is_kept {
             let is_kept = self.keep(request, found).is_ok();

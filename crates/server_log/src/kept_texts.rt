@@ -7,7 +7,7 @@ use std::fmt::Write;
 use std::net::{IpAddr, Ipv4Addr, SocketAddr};
 
 /// The largest capacity that is kept for the next request.
-const KEPT_ROOM: usize = 65536;
+const KEPT_CAPACITY: usize = 65536;
 
 /// The range of a text in the buffer.
 #[derive(Clone, Copy)]
@@ -32,9 +32,9 @@ impl KeptTexts {
         }
     }
 
-    /// Drops all texts, and keeps a buffer of at most `KEPT_ROOM` bytes.
+    /// Drops all texts, and keeps a buffer of at most `KEPT_CAPACITY` bytes.
     pub(crate) fn clear(&mut self) {
-        if self.all.capacity() > KEPT_ROOM {
+        if self.all.capacity() > KEPT_CAPACITY {
             self.all = String::new(self.alloc);
         }
         self.all.clear();

@@ -2,7 +2,7 @@
 
 ghost use Rattle.std.specs.Prelude.{◌≡◌, IfOk, IfSome, option_copied, option_map, string_bytes};
 ghost use Rattle.hex.specs.Hex.{encode_lower};
-ghost use Rattle.server_log.specs.Loads.{IsExcerptOf, IsLineOfReply, IsLoadLine, IsToldBeside};
+ghost use Rattle.server_log.specs.Loads.{IsCauseOf, IsExcerptOf, IsLineOfReply, IsLoadLine};
 ghost use Rattle.server_log.specs.Loads.{TellsInstalledLoad, TellsReplyRefusal, TellsRefusedLoad};
 
 use crate::clock::{seconds_from_now, utc_now};
@@ -39,7 +39,7 @@ where
 pub fn note_load<H, R, L>(
     rt: &H,
     log: Option<&LogQueue>,
-    heard: Recorder<R>,
+    recorder: Recorder<R>,
     loader: &L,
     control: &Control,
     reply: &OperatorReply<L::Fault>,
@@ -52,7 +52,7 @@ where
     let Some(queue) = log else {
         return;
     };
-    let Some(path) = heard.load_path() else {
+    let Some(path) = recorder.load_path() else {
         if let OperatorReply::Loaded(_) = reply {
             queue.count_lost(1);
         }
@@ -128,7 +128,7 @@ fn refused_line<L: Loader>(
 
 // The loader's cause of a refused load.
 fn cause_of<'x, L: Loader>(loader: &L, refusal: &'x OperatorRefusal<L::Fault>) -> Option<&'x str>
-    ensures { IsToldBeside L.has_cause refusal.now (option_copied result) }
+    ensures { IsCauseOf L.has_cause refusal.now (option_copied result) }
 {
     match refusal {
         OperatorRefusal::Load(fault) => loader.cause(fault),

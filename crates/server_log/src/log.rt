@@ -5,7 +5,7 @@ ghost use Rattle.std.specs.Prelude.{◌≡◌, ◌==◌, [], IfSome, is_none, is
 
 use crate::clock::utc_now;
 use crate::log_queue::{LogPiece, LogQueue};
-use access_log::{LineRoom, LogEvent, log_line_in};
+use access_log::{LineBuffer, LogEvent, log_line_in};
 use std::alloc::Global;
 use std::mem;
 use std::sync::Wait;
@@ -15,7 +15,7 @@ use std::time::{Clock, Duration};
 const ENOUGH: usize = 4096;
 
 /// The capacity for fewer than `ENOUGH` bytes of lines and the longest line after them.
-const PIECE_ROOM: usize = 8192;
+const PIECE_LIMIT: usize = 8192;
 
 /// How long lines wait for more before they are flushed.
 const LINGER_MILLIS: u64 = 10;
@@ -28,7 +28,7 @@ const LINGER_MILLIS: u64 = 10;
 pub struct Log<'a> {
     queue: Option<&'a LogQueue>,
     /// The buffer for a line.
-    line: LineRoom,
+    line: LineBuffer,
     text: Vec<u8>,
     lines: u64,
     /// The second in which these lines were made.
@@ -44,7 +44,7 @@ impl<'a> Log<'a> {
     {
         Log {
             queue,
-            line: LineRoom::new(alloc),
+            line: LineBuffer::new(alloc),
             text: Vec::new(alloc),
             lines: 0,
             moment: 0,
@@ -126,7 +126,7 @@ impl<'a> Log<'a> {
         if self.lines == 0 {
             return;
         }
-        let room = room_behind(rt.alloc(), self.text.len());
+        let room = buffer_for(rt.alloc(), self.text.len());
         let text = mem::replace(&mut self.text, room);
         let lines = self.lines;
         self.lines = 0;
@@ -134,10 +134,10 @@ impl<'a> Log<'a> {
     }
 }
 
-// The next buffer after a piece of `bytes` bytes: of `PIECE_ROOM` bytes if the piece was full, and
+// The next buffer after a piece of `bytes` bytes: of `PIECE_LIMIT` bytes if the piece was full, and
 // otherwise empty until there is a line.
-fn room_behind(alloc: Global, bytes: usize) -> Vec<u8> {
-    let room = if bytes < ENOUGH { 0 } else { PIECE_ROOM };
+fn buffer_for(alloc: Global, bytes: usize) -> Vec<u8> {
+    let room = if bytes < ENOUGH { 0 } else { PIECE_LIMIT };
     match Vec::with_capacity(alloc, room) {
         Ok(room) => room,
         Err(_) => Vec::new(alloc),

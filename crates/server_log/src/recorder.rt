@@ -33,11 +33,11 @@ impl<T> Recorder<T> {
         ensures bytes { result.bytes.items ≡ [] }
         ensures failure { result.failure ≡ None }
     {
-        Recorder::in_room(Vec::new(alloc), inner, is_kept)
+        Recorder::with_buffer(Vec::new(alloc), inner, is_kept)
     }
 
     /// A device from which nothing is read yet, with a buffer for what is read.
-    pub(crate) fn in_room(mut room: Vec<u8>, inner: T, is_kept: bool) -> Recorder<T>
+    pub(crate) fn with_buffer(mut room: Vec<u8>, inner: T, is_kept: bool) -> Recorder<T>
         ensures inner { result.inner ≡ inner }
         ensures kept { result.is_kept ≡ is_kept }
         ensures bytes { result.bytes.items ≡ [] }
@@ -99,7 +99,7 @@ impl<T> Recorder<T> {
     }
 
     /// The buffer with what was read.
-    pub(crate) fn into_room(self) -> Vec<u8>
+    pub(crate) fn into_buffer(self) -> Vec<u8>
     where
         T: Drop,
     {

@@ -1,7 +1,7 @@
 //! Requests of many apps: how many apps are in a line, what is left out, and which events fit.
 
 use crate::given::{AT, NO_MORE, NOTES, answered, line_at, repeated};
-use access_log::{AskedApp, AskedMore, Excerpt, Outcome};
+use access_log::{Excerpt, FurtherMembers, LoggedApp, Outcome};
 use std::alloc::{AllocError, Global};
 use std::io;
 use std::test::Fail;
@@ -148,8 +148,8 @@ const ROWS: &[Row] = &[
 ];
 
 /// The further members of an app, which take 145 bytes.
-pub(crate) fn beside(text: &str) -> AskedMore<'_> {
-    AskedMore {
+pub(crate) fn beside(text: &str) -> FurtherMembers<'_> {
+    FurtherMembers {
         ap: Some(Excerpt::short(text)),
         lang: Some(Excerpt::short("de\u{9b}")),
         installdate: Some(0),
@@ -163,9 +163,9 @@ const BESIDE: &str = "\"release\":\"1.1\",\"ap\":\"aaaaaaaaaaaaaaaaaaaaaaaaaaaaa
     \"ap_left_out\":8,\"lang\":\"de\\u009b\",\"installdate\":0,\"ignored\":\"brand cohort\"}";
 
 pub(crate) fn push_apps<'a>(
-    apps: &mut Vec<AskedApp<'a>>,
+    apps: &mut Vec<LoggedApp<'a>>,
     count: usize,
-    app: AskedApp<'a>,
+    app: LoggedApp<'a>,
 ) -> Result<(), AllocError> {
     for _ in 0..count {
         apps.push(app)?;
@@ -179,9 +179,9 @@ pub(crate) fn first(text: &str, count: usize) -> &str {
 }
 
 // The app of a row, each of whose texts is a prefix of a text of `a`.
-fn app_of<'a>(row: &Row, text: &'a str) -> AskedApp<'a> {
+fn app_of<'a>(row: &Row, text: &'a str) -> LoggedApp<'a> {
     let appid = Excerpt::brief(first(text, row.appid));
-    AskedApp {
+    LoggedApp {
         appid,
         version: if row.is_long {
             Some(appid)

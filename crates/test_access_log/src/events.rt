@@ -1,7 +1,7 @@
 //! Each kind of event, and its line.
 
 use crate::given::{AT, NO_MORE, NOTES, answered, line_at};
-use access_log::{AskedApp, Connection, Counter, Excerpt, Load, LogEvent, Outcome, Start, Totals};
+use access_log::{Connection, Counter, Excerpt, Load, LogEvent, LoggedApp, Outcome, Start, Totals};
 use std::alloc::Global;
 use std::test::Fail;
 
@@ -181,8 +181,8 @@ fn app(
     bucket: u16,
     outcome: Outcome<'static>,
     event: Option<Excerpt<'static>>,
-) -> AskedApp<'static> {
-    AskedApp {
+) -> LoggedApp<'static> {
+    LoggedApp {
         appid: whole(appid),
         version: version.map(whole),
         bucket,
@@ -283,7 +283,7 @@ fn push_strange(alloc: Global, lines: &mut String) -> Result<(), Fail> {
             Outcome::Unknown,
             Some(whole("[{\"a\":\"\\n\"}]")),
         ),
-        app("editor", Some(""), 7, Outcome::Unasked, None),
+        app("editor", Some(""), 7, Outcome::NotRequested, None),
         app(
             "\u{1}\n/",
             None,
@@ -293,11 +293,11 @@ fn push_strange(alloc: Global, lines: &mut String) -> Result<(), Fail> {
         ),
     ];
     let strange = [
-        AskedApp {
+        LoggedApp {
             appid: cut("\u{9b}31m", 3300),
             ..app("", Some("\u{202e}1"), 1, Outcome::Unknown, None)
         },
-        AskedApp {
+        LoggedApp {
             version: Some(cut("1\u{7f}", 1)),
             ..app("\u{2028}", None, 2, Outcome::Offered(64, "2.0"), None)
         },

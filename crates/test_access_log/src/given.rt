@@ -1,6 +1,6 @@
 //! What the tests use: a time, an app, a connection, and the line of an event.
 
-use access_log::{AskedApp, AskedMore, Connection, Excerpt, LogEvent, Outcome, Utc, log_line};
+use access_log::{Connection, Excerpt, FurtherMembers, LogEvent, LoggedApp, Outcome, Utc, log_line};
 use std::alloc::{AllocError, Global};
 use std::io::{self, ErrorKind};
 
@@ -16,7 +16,7 @@ pub(crate) const AT: Utc = Utc {
 };
 
 /// No members except an id and a version.
-pub(crate) const NO_MORE: AskedMore<'static> = AskedMore {
+pub(crate) const NO_MORE: FurtherMembers<'static> = FurtherMembers {
     ap: None,
     lang: None,
     brand: None,
@@ -26,7 +26,7 @@ pub(crate) const NO_MORE: AskedMore<'static> = AskedMore {
 };
 
 /// An app that is offered a release.
-pub(crate) const NOTES: AskedApp<'static> = AskedApp {
+pub(crate) const NOTES: LoggedApp<'static> = LoggedApp {
     appid: Excerpt {
         text: "notes",
         length: 5,
@@ -43,7 +43,7 @@ pub(crate) const NOTES: AskedApp<'static> = AskedApp {
 };
 
 /// A connection through a proxy, whose request got a reply.
-pub(crate) fn answered<'a>(apps: &'a [AskedApp<'a>]) -> LogEvent<'a> {
+pub(crate) fn answered<'a>(apps: &'a [LoggedApp<'a>]) -> LogEvent<'a> {
     LogEvent::Connection(Connection {
         peer: "127.0.0.1:41248",
         forwarded: Some("203.0.113.7"),

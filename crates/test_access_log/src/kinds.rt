@@ -3,7 +3,7 @@
 
 use crate::apps::{beside, first, push_apps};
 use crate::given::{AT, NOTES, answered, line_at};
-use access_log::{AskedApp, Connection, Excerpt, LogEvent, Outcome};
+use access_log::{Connection, Excerpt, LogEvent, LoggedApp, Outcome};
 use std::alloc::Global;
 use std::io;
 use std::test::Fail;
@@ -26,8 +26,8 @@ const KINDS: &[(usize, usize, usize, &str)] = &[
 ];
 
 // An app with this appid and this outcome.
-fn kind(appid: &'static str, outcome: Outcome<'static>) -> AskedApp<'static> {
-    AskedApp {
+fn kind(appid: &'static str, outcome: Outcome<'static>) -> LoggedApp<'static> {
+    LoggedApp {
         appid: Excerpt::brief(appid),
         outcome,
         ..NOTES
@@ -43,7 +43,7 @@ fn line_of_kinds(
 ) -> io::Result<String> {
     let mut apps = Vec::new(alloc);
     push_apps(&mut apps, offers, kind("x", Outcome::Offered(2, "1.1")))?;
-    push_apps(&mut apps, others, kind("x", Outcome::Unasked))?;
+    push_apps(&mut apps, others, kind("x", Outcome::NotRequested))?;
     push_apps(&mut apps, unknown, kind("x", Outcome::Unknown))?;
     line_at(alloc, &AT, &answered(&apps))
 }
@@ -59,7 +59,7 @@ fn what_is_left_out_is_counted_by_kind(rt: HostRuntime) -> Result<(), Fail> {
 
 /// The longest line around the apps of a connection. It has a peer with a scope, the longest
 /// address of a proxy, a refusal with a cause, and numbers of twenty digits.
-fn long<'a>(apps: &'a [AskedApp<'a>]) -> LogEvent<'a> {
+fn long<'a>(apps: &'a [LoggedApp<'a>]) -> LogEvent<'a> {
     LogEvent::Connection(Connection {
         peer: "[ffff:ffff:ffff:ffff:ffff:ffff:ffff:ffff%4294967295]:65535",
         forwarded: Some("ffff:ffff:ffff:ffff:ffff:ffff:ffff:ffff"),
@@ -78,8 +78,8 @@ fn long<'a>(apps: &'a [AskedApp<'a>]) -> LogEvent<'a> {
 const WIDE: &str = "aaaaaaaaaaaaaaaaaaaaaaaaaaaaaaaaaaaaaaaaaaaaaaaaaaaaaaaaaaaaaaaa";
 
 // An app with this appid and the further members, which isn't named.
-fn full(appid: &'static str, outcome: Outcome<'static>) -> AskedApp<'static> {
-    AskedApp {
+fn full(appid: &'static str, outcome: Outcome<'static>) -> LoggedApp<'static> {
+    LoggedApp {
         named: false,
         more: beside("x"),
         ..kind(appid, outcome)

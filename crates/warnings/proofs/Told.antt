@@ -50,18 +50,18 @@ module _ (app : ℕ) (r : RuleOfApp) (spots : List Spot) (first : List Warning) 
   }
 
   pub next_told : (left others : List Statement) (st : Statement)
-      (reached ends reached_behind ends_behind : List Bool) (reach end : Bool)
+      (reached ends reached_behind ends_after : List Bool) (reach end : Bool)
       (text new : List Warning) → left ≡ st ∷ others → reached ≡ reach ∷ reached_behind
-      → ends ≡ end ∷ ends_behind → new ≡ text ++ marked_warning app end reach st
-      → AreTold left reached ends text → AreTold others reached_behind ends_behind new
-  next_told left others st reached ends reached_behind ends_behind reach end text new stands
+      → ends ≡ end ∷ ends_after → new ≡ text ++ marked_warning app end reach st
+      → AreTold left reached ends text → AreTold others reached_behind ends_after new
+  next_told left others st reached ends reached_behind ends_after reach end text new stands
       reached_stand ends_stand is h =
       let of_reached = is_reached r (someone r spots) in
       let of_ends = is_ended r (someone r spots) in
       let reaches : reach ∷ reached_behind ≡ each_by of_reached h.before (st ∷ others) =
       sym reached_stand ∙ h.reached_are
       ∙ ap (λ (l : List Statement). each_by of_reached h.before l) stands in
-      let ending : end ∷ ends_behind ≡ each_by of_ends h.before (st ∷ others) =
+      let ending : end ∷ ends_after ≡ each_by of_ends h.before (st ∷ others) =
       sym ends_stand ∙ h.ends_are
       ∙ ap (λ (l : List Statement). each_by of_ends h.before l) stands in
       let more = statements_from app r spots (h.before ++ st ∷ []) others in

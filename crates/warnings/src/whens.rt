@@ -83,13 +83,13 @@ pub(crate) fn tell_statements(
         let [is_reached, reached_behind @ ..] = reached else {
             return Err(AllocError);
         };
-        let [is_ended, ends_behind @ ..] = ends else {
+        let [is_ended, ends_after @ ..] = ends else {
             return Err(AllocError);
         };
         tell_when(warnings, app, *is_ended, *is_reached, statement)?;
         left = others;
         reached = reached_behind;
-        ends = ends_behind;
+        ends = ends_after;
     }
     Ok(())
 }

@@ -11,8 +11,8 @@ pub loop-end-preserved : goal.loop-end-preserved
 loop-end-preserved c =
     let cut = c.floor_char_boundary-end-in-loop-end.ensures in
     let over =
-    over_at c.args.most c.args.text.now c.loop-end.end c.text_room.result c.range.ensures.value
-    c.text_room.ensures.value c.loop-end-test.true in (
+    over_at c.args.most c.args.text.now c.loop-end.end c.text_size.result c.range.ensures.value
+    c.text_size.ensures.value c.loop-end-test.true in (
       omega (arith, cut.bound, c.loop-end.invariant.0),
       cut.boundary,
       further c.args.most c.args.text.now c.loop-end.end

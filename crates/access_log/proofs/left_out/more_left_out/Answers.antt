@@ -1,5 +1,5 @@
 use Rattle.std.proofs.Common.{◌<◌, length, arith}
-use Rattle.access_log.proofs.Rooms.{nobody, more_from, no_more_from}
+use Rattle.access_log.proofs.SizesFrom.{nobody, more_from, no_more_from}
 use Rattle.access_log.proofs.left_out.more_left_out.Goals as goal
 
 pub loop-app-preserved : goal.loop-app-preserved
@@ -7,7 +7,7 @@ loop-app-preserved c =
     let i = c.loop-app.app-index in
     let below : i < length c.args.apps.now = c.loop-app-test.true in
     let step = more_from c.args.apps.now i c.loop-app.left nobody below in (
-      rw c.behind_more-left.ensures
+      rw c.left_after_more-left.ensures
           (omega (arith, step, c.loop-app.invariant.0, c.without_more-count.ensures.value)),
       omega (arith, c.loop-app.invariant.1, c.without_more-count.ensures.bound),
     )

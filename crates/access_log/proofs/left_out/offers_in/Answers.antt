@@ -1,5 +1,5 @@
 use Rattle.std.proofs.Common.{◌<◌, length, arith}
-use Rattle.access_log.proofs.Rooms.{nobody, offers_from, no_offers_from}
+use Rattle.access_log.proofs.SizesFrom.{nobody, offers_from, no_offers_from}
 use Rattle.access_log.proofs.left_out.offers_in.Goals as goal
 
 pub loop-app-preserved : goal.loop-app-preserved

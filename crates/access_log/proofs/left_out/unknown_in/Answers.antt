@@ -1,5 +1,5 @@
 use Rattle.std.proofs.Common.{◌<◌, length, arith}
-use Rattle.access_log.proofs.Rooms.{nobody, unknown_from, no_unknown_from}
+use Rattle.access_log.proofs.SizesFrom.{nobody, unknown_from, no_unknown_from}
 use Rattle.access_log.proofs.left_out.unknown_in.Goals as goal
 
 pub loop-app-preserved : goal.loop-app-preserved

@@ -9,7 +9,7 @@ pub returns : goal.returns
 returns c =
     let is =
     c.more_left_out-count.ensures
-    ∙ ap (λ (n : ℕ). more_left_out n c.args.apps.now) c.behind_events.ensures in
+    ∙ ap (λ (n : ℕ). more_left_out n c.args.apps.now) c.left_after_events.ensures in
     on_ok_weaker c.write_count.result
     (λ adds. subst
     (λ (n : ℕ). AddsTokens true true c.args.line.now c.write_count.new.line

@@ -1,0 +1,16 @@
+use Rattle.std.proofs.lemmas.Str.{IsUtf8-past_char, chars_past_char}
+use Rattle.access_log.proofs.Escaped.{one_further, none_further}
+use Rattle.access_log.specs.Spelled.{spelled_char}
+use Rattle.access_log.proofs.json_text.write_each_char.Goals as goal
+
+pub loop-c-preserved : goal.loop-c-preserved
+loop-c-preserved c =
+    let held = c.loop-c.invariant in
+    let parts = c.in-Some.ensures.steps.0 in
+    let next = chars_past_char _ _ c.in-Some.c held.0 parts in (
+      IsUtf8-past_char _ _ c.in-Some.c held.0 parts,
+      one_further _ (spelled_char c.in-Some.c) _ _ _ c.in_ok-write_char.ensures (rw next at held.1),
+    )
+
+pub returns : goal.returns
+returns c = none_further _ _ _ c.in-None.ensures.steps.0.0 c.loop-c.invariant.1

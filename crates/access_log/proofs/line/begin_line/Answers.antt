@@ -1,8 +1,0 @@
-use Rattle.access_log.proofs.Added.{begun_line}
-use Rattle.access_log.proofs.line.begin_line.Goals as goal
-
-pub returns : goal.returns
-returns c =
-    begun_line c.args.time.now c.clear.ensures
-    c.in_ok-put.ensures c.text.ensures c.in_ok-put-2.ensures
-    c.in_ok-put-3.ensures

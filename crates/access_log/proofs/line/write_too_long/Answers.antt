@@ -1,6 +1,0 @@
-use Rattle.access_log.proofs.Added.{then_adds}
-use Rattle.access_log.proofs.line.write_too_long.Goals as goal
-
-pub returns : goal.returns
-returns c =
-    then_adds c.in_ok-write_kind.ensures c.in_ok-write_number.ensures
