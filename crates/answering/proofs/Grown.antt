@@ -103,9 +103,9 @@ module _ (rules : Rules) (facts : RequestFacts) (moment : ℤ) where
   }
 
   -- an app that requests no update
-  pub finds_unasked : (app : AppFacts) (found : Option FoundApp) → app.updatecheck ≡ false
+  pub finds_unrequested : (app : AppFacts) (found : Option FoundApp) → app.updatecheck ≡ false
       → found ≡ found_app rules facts app None → FindsApp rules facts moment app found []
-  finds_unasked app found asks is =
+  finds_unrequested app found asks is =
       record { choice = None; runs = no_updatecheck asks; found_is = is }
 
 module _ {P : Type 0} (grew : P → CellEvent → P → Type 0) where

@@ -17,7 +17,7 @@ use Rattle.ruleset.specs.Rules.{Rules}
 use Rattle.answering.specs.Apps.{FindsApps, RunsFew}
 use Rattle.answering.specs.Answer.{RepliesToRequest, RepliesToBody, RepliesTo, RepliesByRuns}
 use Rattle.answering.specs.Answer.{IsReceived, IsReceivedBody}
-use Rattle.answering.specs.Answer.{replied, unowned, broken_off, asked, refused, unread}
+use Rattle.answering.specs.Answer.{replied, unowned, broken_off, accepted, refused, unread}
 use Rattle.answering.specs.Answer.{taken, rejected}
 use Rattle.answering.specs.Reply.{HttpReply, success, omaha_rejection}
 
@@ -75,7 +75,7 @@ module _ (body : List ℕ) (watcher : Beginning) (moment : ℤ) where
   pub idle_body : {events : List CellEvent} {reply : HttpReply}
       → RepliesToBody body watcher moment events reply
       → code_of reply.status ≢ 200 → code_of reply.status ≢ 500 → events ≡ []
-  idle_body (asked e j) h k = idle_request _ watcher moment j h k
+  idle_body (accepted e j) h k = idle_request _ watcher moment j h k
   idle_body (refused fault e) h k = refl
   idle_body unread h k = refl
 
@@ -88,11 +88,11 @@ module _ (told : Option (List ℕ)) (watcher : Beginning) (moment : ℤ) where
 
 module _ (told : Option (List ℕ)) where
   -- from the result of a body to that of a reader
-  pub is_heard : (body slice : List ℕ) → AnswersPost told (Ok body) → slice ≡ body
+  pub is_received : (body slice : List ℕ) → AnswersPost told (Ok body) → slice ≡ body
       → (read : Result Request HttpReply) → IsReceivedBody slice read → IsReceived told read
-  is_heard body slice b e (Ok request) r =
+  is_received body slice b e (Ok request) r =
       (body, b, ap request_in (sym e) ∙ r)
-  is_heard body slice b e (Err reply) r = λ watcher moment.
+  is_received body slice b e (Err reply) r = λ watcher moment.
       let J : List ℕ → Type 0 = λ z. RepliesToBody z watcher moment [] reply in
       taken body b (subst J e (r watcher moment))
 
@@ -105,7 +105,7 @@ module _ {P : Type 0} (grew : P → CellEvent → P → Type 0)
   is_answered p q request reply h a = record {
     events = a.events;
     grown = a.grown;
-    of = taken h.0 h.1 (asked h.2 a.of);
+    of = taken h.0 h.1 (accepted h.2 a.of);
   }
 
   -- no run was made if the status is neither 200 nor 500

@@ -41,7 +41,7 @@ pub data RepliesToRequest (request : Request) (watcher : Beginning) (moment : �
 -- to a body
 pub data RepliesToBody (body : List ℕ) (watcher : Beginning) (moment : ℤ)
     : List CellEvent → HttpReply → Type 0 where
-  asked : {request : Request} {events : List CellEvent} {reply : HttpReply}
+  accepted : {request : Request} {events : List CellEvent} {reply : HttpReply}
       → request_in body ≡ Ok request → RepliesToRequest request watcher moment events reply
       → RepliesToBody body watcher moment events reply
   -- it isn't a request

@@ -9,7 +9,7 @@ use Rattle.http_front.specs.Post.{AnswersPost}
 use Rattle.http_front.specs.Reply.{code_of}
 use Rattle.http_front.specs.declared.fault.PostFault.TheVariants as fault
 use Rattle.answering.specs.Answer.{RepliesByRuns, WritesNothing}
-use Rattle.answering.specs.Reply.{HttpReply, message_bytes, told_line}
+use Rattle.answering.specs.Reply.{HttpReply, message_bytes, refusal_line}
 use Rattle.answering.specs.declared.answering.AnswerFault.{AnswerFault}
 use Rattle.answering.specs.declared.answering.AnswerFault.TheVariants as answer
 use Rattle.answering.specs.declared.sent.Sent.{Sent}
@@ -23,7 +23,7 @@ pub record Answers {P R W : Type 0} (grew : P → CellEvent → P → Type 0)
     (writer writer' : Counted W) (outcome : Result Sent AnswerFault) : Type 0 where
   -- what was written is the reply to what was read, under the ruleset that the watcher read
   pub replied : IfOk outcome (λ sent. (reply : HttpReply)
-      × (code_of reply.status ≡ sent.status) × (sent.line.now ≡ told_line reply)
+      × (code_of reply.status ≡ sent.status) × (sent.line.now ≡ refusal_line reply)
       × RepliesByRuns grew (remaining reader.inner) known moment pass pass' reply
       × Appends (contents writer.inner) (contents writer'.inner) (message_bytes reply))
   -- a refused request makes no run

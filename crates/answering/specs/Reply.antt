@@ -49,8 +49,8 @@ abbrev pub line_by : Status → List ℕ → List ℕ
 line_by status.Success text = []
 line_by s text = text
 
-abbrev pub told_line : HttpReply → List ℕ
-told_line reply = line_by reply.status reply.text
+abbrev pub refusal_line : HttpReply → List ℕ
+refusal_line reply = line_by reply.status reply.text
 
 -- the result of the code, as a reply
 abbrev pub settled_reply : {A : Type 0} → Result (Vec ℕ A) HttpReply → HttpReply

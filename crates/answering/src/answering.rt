@@ -4,11 +4,11 @@ ghost use Rattle.std.specs.Prelude.{◌-◌, ◌^◌, ◌<◌};
 ghost use Rattle.hot_swap.specs.Published.{GoesOnwards};
 ghost use Rattle.answering.specs.Connection.{Answers};
 
-use crate::room::AnswerRoom;
+use crate::answer_buffers::AnswerBuffers;
 use crate::sent::Sent;
 use crate::settling::answer_in;
 use crate::turn::Turn;
-use crate::witness::NoWitness;
+use crate::observer::NoObserver;
 use attrs::Moment;
 use cells::CellSteps;
 use hot_swap::Watcher;
@@ -65,7 +65,7 @@ pub fn answer<R: Read, W: Write, C: CellSteps>(
         cells,
         moment: &moment,
     };
-    let mut room = AnswerRoom::new(alloc);
+    let mut room = AnswerBuffers::new(alloc);
     answer_in(
         &turn,
         &mut room,
@@ -73,6 +73,6 @@ pub fn answer<R: Read, W: Write, C: CellSteps>(
         writer,
         pass,
         watcher,
-        &mut NoWitness,
+        &mut NoObserver,
     )
 }

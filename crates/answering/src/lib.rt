@@ -13,21 +13,21 @@
 //! See docs/DECISIONS.md, "Requests"; docs/DECISIONS.md, "The front".
 #![tactic(auto)]
 
+mod answer_buffers;
 mod answering;
 mod apps;
+mod observer;
 mod reading;
 mod rejection;
 mod replying;
-mod room;
 mod sent;
 mod settling;
 mod turn;
-mod witness;
 
+pub use answer_buffers::AnswerBuffers;
 pub use answering::{AnswerFault, answer};
 pub use apps::run_apps;
-pub use room::AnswerRoom;
+pub use observer::{NoObserver, RequestObserver};
 pub use sent::Sent;
 pub use settling::answer_in;
 pub use turn::Turn;
-pub use witness::{NoWitness, Witness};

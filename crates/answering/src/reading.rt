@@ -6,22 +6,22 @@ ghost use Rattle.http_front.specs.declared.fault.PostFault.TheVariants as fault;
 ghost use Rattle.answering.specs.Answer.{IsReceived, IsReceivedBody, WritesNothing};
 
 use crate::answering::AnswerFault;
+use crate::observer::RequestObserver;
 use crate::rejection::Rejection;
-use crate::witness::Witness;
-use http_front::{Counted, PostFault, PostRoom};
+use http_front::{Counted, PostBuffers, PostFault};
 use omaha_json::{Request, read_request};
 use std::alloc::Global;
 use std::io::Read;
 
 /// Reads a request into the buffers, and returns it, or its refusal.
-pub fn receive_request<R: Read, W: Witness>(
+pub fn receive_request<R: Read, W: RequestObserver>(
     alloc: Global,
-    room: &mut PostRoom,
+    room: &mut PostBuffers,
     reader: &mut Counted<R>,
-    witness: &mut W,
+    observer: &mut W,
 ) -> Result<Result<Request, Rejection>, AnswerFault>
     requires { reader.old.failures < 2 ^ 64 - 1 }
-    ensures heard { IfOk result (IsReceived (R.remaining reader.old.inner)) }
+    ensures received { IfOk result (IsReceived (R.remaining reader.old.inner)) }
     ensures silent { IfErr result WritesNothing }
     ensures ended { result ≡ Err AnswerFault.Ended
         → AnswersPost (R.remaining reader.old.inner) (Err fault.Ended) }
@@ -29,7 +29,7 @@ pub fn receive_request<R: Read, W: Witness>(
         → reader.new.failures ≡ reader.old.failures + 1 }
 {
     let fault = match room.read_post(reader) {
-        Ok(()) => return Ok(request_of(alloc, room.body(), witness)),
+        Ok(()) => return Ok(request_of(alloc, room.body(), observer)),
         Err(fault) => fault,
     };
     match fault.status() {
@@ -42,10 +42,10 @@ pub fn receive_request<R: Read, W: Witness>(
 }
 
 // The request that a body is, or its refusal.
-fn request_of<W: Witness>(alloc: Global, body: &[u8], witness: &mut W) -> Result<Request, Rejection>
+fn request_of<W: RequestObserver>(alloc: Global, body: &[u8], observer: &mut W) -> Result<Request, Rejection>
     ensures { IsReceivedBody body.now result }
 {
-    match read_request(alloc, body, witness) {
+    match read_request(alloc, body, observer) {
         Ok(request) => Ok(request),
         Err(fault) => Err(Rejection::of_omaha(fault)),
     }

@@ -8,7 +8,7 @@ ghost use Rattle.answering.specs.Reply.{settled_reply};
 use crate::apps::run_apps;
 use crate::rejection::Rejection;
 use crate::turn::Turn;
-use crate::witness::Witness;
+use crate::observer::RequestObserver;
 use cells::CellSteps;
 use hot_swap::Watcher;
 use omaha_json::{OmahaFault, Request, found_text};
@@ -16,13 +16,13 @@ use ruleset::Ruleset;
 
 /// The text of the reply to a request, in the buffer of an earlier text, or why there is none. The
 /// ruleset is looked up once. The witness is passed the result of each app.
-pub fn reply_to<C: CellSteps, W: Witness>(
+pub fn reply_to<C: CellSteps, W: RequestObserver>(
     turn: &Turn<'_, C>,
     text: Vec<u8>,
     request: &Request,
     pass: &mut C::Pass,
     watcher: &mut Watcher,
-    witness: &mut W,
+    observer: &mut W,
 ) -> Result<Vec<u8>, Rejection>
     requires { C.belongs turn.now.cells.now pass.old }
     ensures belongs { C.belongs turn.now.cells.now pass.new }
@@ -39,7 +39,7 @@ pub fn reply_to<C: CellSteps, W: Witness>(
         return Err(Rejection::of_omaha(OmahaFault::Memory));
     };
     let answers = found.as_slice();
-    witness.see(current.0, request, answers);
+    observer.observe(current.0, request, answers);
     match found_text(text, rules.server(), request.apps(), answers, turn.moment) {
         Ok(text) => Ok(text),
         Err(_) => Err(Rejection::of_omaha(OmahaFault::Memory)),

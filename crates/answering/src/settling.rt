@@ -2,22 +2,22 @@
 
 ghost use Rattle.std.specs.Prelude.{◌≡◌, ◌+◌, ◌-◌, ◌^◌, ◌<◌, Err, IfOk};
 ghost use Rattle.hot_swap.specs.Published.{GoesOnwards};
-ghost use Rattle.net_io.specs.Device.{CountsFailure, WritesBeginning};
+ghost use Rattle.net_io.specs.Device.{CountsFailure, WritesPrefix};
 ghost use Rattle.http_front.specs.Post.{AnswersPost};
 ghost use Rattle.http_front.specs.Reply.{code_of};
 ghost use Rattle.http_front.specs.declared.fault.PostFault.TheVariants as fault;
 ghost use Rattle.answering.specs.Answer.{Settles};
 ghost use Rattle.answering.specs.Connection.{Answers};
-ghost use Rattle.answering.specs.Reply.{message_bytes, told_line, settled_reply};
+ghost use Rattle.answering.specs.Reply.{message_bytes, refusal_line, settled_reply};
 
 use crate::answering::AnswerFault;
 use crate::reading::receive_request;
 use crate::rejection::Rejection;
 use crate::replying::reply_to;
-use crate::room::AnswerRoom;
+use crate::answer_buffers::AnswerBuffers;
 use crate::sent::Sent;
 use crate::turn::Turn;
-use crate::witness::Witness;
+use crate::observer::RequestObserver;
 use cells::CellSteps;
 use hot_swap::Watcher;
 use http_front::{Counted, Status, WriteFault, write_reply};
@@ -27,14 +27,14 @@ use std::io::{Read, Write};
 /// witness observes both.
 // open: whether an allocation fails (O5, P9), or a ruleset can't have another owner (H2), each a
 // reply with status 500; which bytes a socket carries; that the moment is the clock's: a test.
-pub fn answer_in<R: Read, W: Write, C: CellSteps, N: Witness>(
+pub fn answer_in<R: Read, W: Write, C: CellSteps, N: RequestObserver>(
     turn: &Turn<'_, C>,
-    room: &mut AnswerRoom,
+    room: &mut AnswerBuffers,
     reader: &mut Counted<R>,
     writer: &mut Counted<W>,
     pass: &mut C::Pass,
     watcher: &mut Watcher,
-    witness: &mut N,
+    observer: &mut N,
 ) -> Result<Sent, AnswerFault>
     requires belongs { C.belongs turn.now.cells.now pass.old }
     requires reads { reader.old.failures < 2 ^ 64 - 1 }
@@ -44,7 +44,7 @@ pub fn answer_in<R: Read, W: Write, C: CellSteps, N: Witness>(
     ensures answers { Answers C.grew R.remaining W.contents watcher.new turn.now.moment.now
         pass.old pass.new reader.old reader.new writer.old writer.new result }
 {
-    let outcome = settle(turn, room, reader, pass, watcher, witness)?;
+    let outcome = settle(turn, room, reader, pass, watcher, observer)?;
     match send(writer, &outcome) {
         Ok(sent) => {
             room.keep(outcome);
@@ -55,13 +55,13 @@ pub fn answer_in<R: Read, W: Write, C: CellSteps, N: Witness>(
 }
 
 // Reads a request, and finds its reply.
-fn settle<R: Read, C: CellSteps, N: Witness>(
+fn settle<R: Read, C: CellSteps, N: RequestObserver>(
     turn: &Turn<'_, C>,
-    room: &mut AnswerRoom,
+    room: &mut AnswerBuffers,
     reader: &mut Counted<R>,
     pass: &mut C::Pass,
     watcher: &mut Watcher,
-    witness: &mut N,
+    observer: &mut N,
 ) -> Result<Result<Vec<u8>, Rejection>, AnswerFault>
     requires belongs { C.belongs turn.now.cells.now pass.old }
     requires reads { reader.old.failures < 2 ^ 64 - 1 }
@@ -74,10 +74,10 @@ fn settle<R: Read, C: CellSteps, N: Witness>(
     ensures unreadable { result ≡ Err AnswerFault.Reading
         → reader.new.failures ≡ reader.old.failures + 1 }
 {
-    match receive_request(turn.alloc, &mut room.post, reader, witness)? {
+    match receive_request(turn.alloc, &mut room.post, reader, observer)? {
         Ok(request) => {
             let text = room.take_text(turn.alloc);
-            let outcome = reply_to(turn, text, &request, pass, watcher, witness);
+            let outcome = reply_to(turn, text, &request, pass, watcher, observer);
             Ok(outcome)
         }
         Err(rejection) => Ok(Err(rejection)),
@@ -92,8 +92,8 @@ fn send<W: Write>(
     requires { writer.old.failures < 2 ^ 64 - 1 }
     ensures status { IfOk result
         (λ sent. code_of (settled_reply outcome.now).status ≡ sent.status) }
-    ensures line { IfOk result (λ sent. sent.line.now ≡ told_line (settled_reply outcome.now)) }
-    ensures bytes { WritesBeginning (W.contents writer.old.inner) (W.contents writer.new.inner)
+    ensures line { IfOk result (λ sent. sent.line.now ≡ refusal_line (settled_reply outcome.now)) }
+    ensures bytes { WritesPrefix (W.contents writer.old.inner) (W.contents writer.new.inner)
         (message_bytes (settled_reply outcome.now)) result }
     ensures count { CountsFailure writer.old.failures writer.new.failures result }
 {

@@ -3,7 +3,7 @@
 ghost use Rattle.std.specs.Prelude.{◌≡◌, ◌+◌, IfOk};
 ghost use Rattle.bench_answer.specs.Answered.{IsSuccess, IsReplyTally, IsTallyFromZeros, moment};
 
-use answering::{AnswerRoom, NoWitness, Turn, answer_in};
+use answering::{AnswerBuffers, NoObserver, Turn, answer_in};
 use anyhow::{Context, Error, Result};
 use attrs::fnv1a;
 use cells::{CellSteps, PlainCells};
@@ -26,7 +26,7 @@ pub(crate) struct ReplyTally {
 /// Makes one reply with reused buffers, and writes it over an earlier reply.
 fn answer_once<C: CellSteps>(
     turn: &Turn<'_, C>,
-    room: &mut AnswerRoom,
+    room: &mut AnswerBuffers,
     input: &[u8],
     mut written: Vec<u8>,
     pass: &mut C::Pass,
@@ -48,7 +48,7 @@ fn answer_once<C: CellSteps>(
         &mut writer,
         pass,
         watcher,
-        &mut NoWitness,
+        &mut NoObserver,
     )?;
     if sent.status != 200 {
         return Err(Error::msg("the request is refused"));
@@ -83,7 +83,7 @@ pub(crate) fn answer_times<C: CellSteps>(
         cells,
         moment: &MOMENT,
     };
-    let mut room = AnswerRoom::new(alloc);
+    let mut room = AnswerBuffers::new(alloc);
     let mut reply = Vec::new(alloc);
     let mut bytes = 0u64;
     for n in 0..times {

@@ -14,7 +14,7 @@ use Rattle.omaha_json.specs.declared.fault.OmahaFault.{OmahaFault}
 use Rattle.omaha_json.specs.declared.fault.OmahaFault.TheVariants.{Json, Shape, Protocol}
 use Rattle.omaha_json.specs.declared.fault.OmahaFault.TheVariants.{TooManyApps, Memory}
 use Rattle.answering.specs.Answer.{RepliesToRequest, RepliesToBody}
-use Rattle.answering.specs.Answer.{replied, unowned, broken_off, asked, refused, unread}
+use Rattle.answering.specs.Answer.{replied, unowned, broken_off, accepted, refused, unread}
 use Rattle.answering.specs.Reply.{HttpReply, success, omaha_rejection, omaha_status}
 use Rattle.dry_run.specs.Reply.{Replies, RepliesToBodyOn}
 use Rattle.dry_run.proofs.Requests.{one_reply_to_body}
@@ -51,7 +51,7 @@ module _ (watcher : Beginning) (generation : ℕ) (rules : Rules) (moment : ℤ)
       → RepliesToBody body watcher moment events reply → reply.status ≡ status.Success
       → (request : Request) × (request_in body ≡ Ok request)
       × Replies rules moment request events reply.text
-  of_body body (asked {request} e r) h = (request, e, of_request request r h)
+  of_body body (accepted {request} e r) h = (request, e, of_request request r h)
   of_body body (refused fault e) h = absurd (not_success fault h)
   of_body body unread h = absurd cc
 
@@ -62,7 +62,7 @@ module _ (watcher : Beginning) (generation : ℕ) (rules : Rules) (moment : ℤ)
   sends body events text found =
       let request = found.0 in
       let r = found.2 in
-      asked found.1
+      accepted found.1
       (subst (λ (z : List ℕ). RepliesToRequest request watcher moment events (success z))
       (sym r.text_is) (replied latest r.runs))
 
@@ -85,7 +85,7 @@ pub refuses_alike : (watcher : Beginning) (moment : ℤ) (body : List ℕ) {even
     {reply : HttpReply} (fault : OmahaFault) → request_in body ≡ Err fault
     → RepliesToBody body watcher moment events reply
     → (reply ≡ omaha_rejection fault) ⊎ (reply ≡ omaha_rejection Memory)
-refuses_alike watcher moment body fault e (asked e' r) = absurd cc
+refuses_alike watcher moment body fault e (accepted e' r) = absurd cc
 refuses_alike watcher moment body fault e (refused fault' e') =
     inl (ap omaha_rejection (ap (fault_or fault) (sym e' ∙ e)))
 refuses_alike watcher moment body fault e unread = inr refl

@@ -3,7 +3,7 @@
 ghost use Rattle.std.specs.Prelude.{◌≡◌, IfOk, IfErr};
 ghost use Rattle.dry_run.specs.Reply.{IsFoundReply, RepliesOn};
 
-use answering::{NoWitness, Turn, run_apps};
+use answering::{NoObserver, Turn, run_apps};
 use attrs::Moment;
 use cells::{PlainCells, PlainPass};
 use omaha_json::{OmahaFault, Request, found_text, read_request};
@@ -21,7 +21,7 @@ pub(crate) fn find_reply(
 ) -> Result<Vec<u8>, OmahaFault>
     ensures { IsFoundReply rules.now moment.now body.now counters.old counters.new result }
 {
-    match read_request(alloc, body, &mut NoWitness) {
+    match read_request(alloc, body, &mut NoObserver) {
         Ok(request) => reply_to(alloc, rules, moment, &request, counters),
         Err(fault) => Err(fault),
     }

@@ -14,7 +14,7 @@ use crate::fault::DryRunFault;
 use crate::ignored::{Notes, note_at, notes_in};
 use crate::told::counters_as_told;
 use crate::why_files::OpenedWhy;
-use answering::NoWitness;
+use answering::NoObserver;
 use attrs::{AppFacts, Attrs, Context, Moment, RequestFacts, SharedFacts};
 use cells::PlainPass;
 use omaha_json::{OmahaFault, Request, read_request};
@@ -47,7 +47,7 @@ pub fn why_as_told(
         (IsUnanswered why.now.directory why.now.body.items served.now words.now) }
 {
     let mut counters = counters_as_told(alloc, why.directory.arrays(), served, words)?;
-    let request = match read_request(alloc, &why.body, &mut NoWitness) {
+    let request = match read_request(alloc, &why.body, &mut NoObserver) {
         Ok(request) => request,
         Err(fault) => return Err(DryRunFault::Omaha(fault)),
     };

@@ -22,8 +22,8 @@ use Rattle.http_front.specs.Post.{Posts, whole, cut_short, refused, malformed, l
 use Rattle.http_front.specs.Post.{HasHead, IsBegun, IsHeadFault, IsPostAnswer, AnswersPost}
 use Rattle.http_front.specs.Post.{IsFrugal, TakesAtMost, CountsDevice, post_answer}
 use Rattle.http_front.specs.Post.{head_limit, field_limit}
-use Rattle.http_front.specs.Head.{IsAskedFault, asked_length, asked_length_by}
-use Rattle.http_front.specs.Reading.{IsFilled, IsFound, IsBody, IsBodyBehind, asked_at}
+use Rattle.http_front.specs.Head.{IsFaultOfHead, body_length, body_length_by}
+use Rattle.http_front.specs.Reading.{IsFilled, IsFound, IsBody, IsBodyAfter, body_length_at}
 
 -- no head was found, so the bytes have none yet
 pub begun_at : (seen : List ℕ) (headers : List HeaderSpan) (o : Option RequestSpans)
@@ -103,16 +103,16 @@ has_head xs ys seen headers r h e short lines w a =
       few = omega (arith, count, length-take {A = HeaderSpan} r.headers headers);
     }
 
-asked_same : (seen : List ℕ) (headers : List HeaderSpan) (r : RequestSpans) (h : RequestHead)
-    → IsRequestAt seen headers r h → asked_at seen headers r ≡ asked_length_by h
-asked_same seen headers r h a =
+same_length : (seen : List ℕ) (headers : List HeaderSpan) (r : RequestSpans) (h : RequestHead)
+    → IsRequestAt seen headers r h → body_length_at seen headers r ≡ body_length_by h
+same_length seen headers r h a =
     let lines = map (header_bytes seen) (take r.headers headers) in
-    ap (λ (z : List ℕ). asked_length z (span_bytes seen r.method) lines) a.path
-    ∙ ap (λ (z : List ℕ). asked_length h.target z lines) a.method
-    ∙ ap (asked_length h.target h.method) a.fields
+    ap (λ (z : List ℕ). body_length z (span_bytes seen r.method) lines) a.path
+    ∙ ap (λ (z : List ℕ). body_length h.target z lines) a.method
+    ∙ ap (body_length h.target h.method) a.fields
 
 body_answer : (xs rest : List ℕ) (h : RequestHead) (n : ℕ) (r : Result (List ℕ) PostFault)
-    → HasHead xs h rest → asked_length_by h ≡ Ok n → IsBody rest n r → IsPostAnswer xs r
+    → HasHead xs h rest → body_length_by h ≡ Ok n → IsBody rest n r → IsPostAnswer xs r
 body_answer xs rest h n (Ok body) head e b =
     let P : List ℕ → Type 0 = λ z. Posts xs (Ok z) in
     subst P (sym b.1) (whole head e b.0)
@@ -122,7 +122,7 @@ body_answer xs rest h n (Err fault.Memory) head e b = tt
 body_answer xs rest h n (Err x) head e b = absurd b
 
 -- a whole head is at the front of the bytes read
-pub record Stands
+pub record HasHeadAt
     (a b : Option (List ℕ)) (seen : List ℕ) (headers : List HeaderSpan) (r : RequestSpans)
     : Type 0 where
   pub bytes : Consumes a b seen
@@ -133,7 +133,7 @@ pub record Stands
 
 pub stands : {a b : Option (List ℕ)} {buf : List ℕ} {headers : List HeaderSpan} {f : Found}
     → IsFound a b buf headers f → length buf ≡ head_limit → length headers ≡ field_limit
-    → Stands a b (take f.filled buf) headers f.head
+    → HasHeadAt a b (take f.filled buf) headers f.head
 stands {a = a} {b = b} {buf = buf} {f = f} found room lines =
     let size = seen_size a b buf f.filled found.filled in
     let fits = found.filled.fits in
@@ -146,20 +146,20 @@ stands {a = a} {b = b} {buf = buf} {f = f} found room lines =
     }
 
 known_head : {xs ys seen : List ℕ} {headers : List HeaderSpan} {r : RequestSpans}
-    → (s : Stands (Some xs) (Some ys) seen headers r) → HasHead xs s.head.0 (drop r.len seen ++ ys)
+    → (s : HasHeadAt (Some xs) (Some ys) seen headers r) → HasHead xs s.head.0 (drop r.len seen ++ ys)
 known_head {xs = xs} {ys = ys} {seen = seen} {headers = headers} {r = r} s =
     has_head xs ys seen headers r s.head.0 s.bytes s.short s.lines s.within s.head.1
 
 told : {a b : Option (List ℕ)} {seen : List ℕ} {headers : List HeaderSpan} {r : RequestSpans}
-    → (s : Stands a b seen headers r) → asked_length_by s.head.0 ≡ asked_at seen headers r
+    → (s : HasHeadAt a b seen headers r) → body_length_by s.head.0 ≡ body_length_at seen headers r
 told {seen = seen} {headers = headers} {r = r} s =
-    sym (asked_same seen headers r s.head.0 s.head.1)
+    sym (same_length seen headers r s.head.0 s.head.1)
 
 -- the body that follows the head is the result
 pub body_at : (a b : Option (List ℕ)) (seen : List ℕ) (headers : List HeaderSpan)
     (r : RequestSpans) (n : ℕ) (first : List ℕ) (answer : Result (List ℕ) PostFault)
-    → Stands a b seen headers r → asked_at seen headers r ≡ Ok n → first ≡ drop r.len seen
-    → IsBodyBehind first b n answer → AnswersPost a answer
+    → HasHeadAt a b seen headers r → body_length_at seen headers r ≡ Ok n → first ≡ drop r.len seen
+    → IsBodyAfter first b n answer → AnswersPost a answer
 body_at None b seen headers r n first answer s e split h = tt
 body_at (Some xs) None seen headers r n first answer s e split h = absurd s.bytes
 body_at (Some xs) (Some ys) seen headers r n first answer s e split h =
@@ -170,7 +170,7 @@ body_at (Some xs) (Some ys) seen headers r n first answer s e split h =
 -- a rule that the head breaks is the result
 pub refused_at : (a b : Option (List ℕ)) (seen : List ℕ) (headers : List HeaderSpan)
     (r : RequestSpans) (x : PostFault)
-    → Stands a b seen headers r → asked_at seen headers r ≡ Err x → AnswersPost a (Err x)
+    → HasHeadAt a b seen headers r → body_length_at seen headers r ≡ Err x → AnswersPost a (Err x)
 refused_at None b seen headers r x s e = tt
 refused_at (Some xs) None seen headers r x s e = absurd s.bytes
 refused_at (Some xs) (Some ys) seen headers r fault.Device s e = tt
@@ -227,8 +227,8 @@ frugal_at {a = a} {b = b} {buf = buf} {filled = filled} f room e =
 -- a fault of a body isn't one of a head
 pub frugal_behind : {A : Type 0} (a b : Option (List ℕ)) (seen : List ℕ)
     (headers : List HeaderSpan) (r : RequestSpans) (c : Option (List ℕ)) (n : ℕ) (first : List ℕ)
-    (result : Result A PostFault) (body_of : A → List ℕ) → Stands a b seen headers r
-    → IsBodyBehind first b n (post_answer result body_of) → IfErr result (IsFrugal a c)
+    (result : Result A PostFault) (body_of : A → List ℕ) → HasHeadAt a b seen headers r
+    → IsBodyAfter first b n (post_answer result body_of) → IfErr result (IsFrugal a c)
 frugal_behind a b seen headers r c n first (Ok x) body_of s h = tt
 frugal_behind None b seen headers r c n first (Err e) body_of s h =
     frugal (record { taken = []; consumed = tt; short = omega arith }) e
@@ -240,7 +240,7 @@ frugal_behind (Some xs) (Some ys) seen headers r c n first (Err e) body_of s h =
 
 -- ---- a rule that a head breaks isn't a failure
 
-pub counts_asked : (A : Type 0) (old new : ℕ) (e : PostFault) → IsAskedFault e → new ≡ old
+pub counts_head : (A : Type 0) (old new : ℕ) (e : PostFault) → IsFaultOfHead e → new ≡ old
     → CountsDevice {A = A} old new (Err e)
-counts_asked A old new fault.Device h same = absurd h
-counts_asked A old new e h same = same
+counts_head A old new fault.Device h same = absurd h
+counts_head A old new e h same = same

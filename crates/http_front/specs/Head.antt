@@ -8,7 +8,7 @@ use Rattle.httparse.specs.Grammar.{RequestHead}
 use Rattle.httparse.specs.Spans.{name_and_value}
 use Rattle.http_front.specs.declared.fault.PostFault.{PostFault}
 use Rattle.http_front.specs.declared.fault.PostFault.TheVariants as fault
-use Rattle.http_front.specs.Length.{told_length}
+use Rattle.http_front.specs.Length.{content_length}
 
 -- a header line: its name, and its value without the blanks around it
 abbrev pub HeaderLine : Type 0
@@ -33,21 +33,21 @@ abbrev pub is_served : List ℕ → Bool
 is_served target = bytes_eq target service || starts_with nat_eq target (service ++ codes "?")
 
 -- the length of the body, or the first rule that the head breaks; a body in chunks gives no length
-abbrev pub asked_length : List ℕ → List ℕ → List HeaderLine → Result ℕ PostFault
-asked_length target method lines =
+abbrev pub body_length : List ℕ → List ℕ → List HeaderLine → Result ℕ PostFault
+body_length target method lines =
     if not (is_served target) then Err fault.Path
     else if not (bytes_eq method (codes "POST")) then Err fault.Method
     else if has_line (codes "transfer-encoding") lines then Err fault.Length
-    else told_length (values_of (codes "content-length") lines)
+    else content_length (values_of (codes "content-length") lines)
 
 -- the length of the body that a head gives, or the first rule that it breaks
-abbrev pub asked_length_by : RequestHead → Result ℕ PostFault
-asked_length_by h = asked_length h.target h.method (map name_and_value h.fields)
+abbrev pub body_length_by : RequestHead → Result ℕ PostFault
+body_length_by h = body_length h.target h.method (map name_and_value h.fields)
 
 -- the faults that a whole head may have
-abbrev pub IsAskedFault : PostFault → Type 0
-IsAskedFault fault.HeadTooLarge = ⊥
-IsAskedFault fault.Ended = ⊥
-IsAskedFault fault.Device = ⊥
-IsAskedFault fault.Memory = ⊥
-IsAskedFault e = Unit {0}
+abbrev pub IsFaultOfHead : PostFault → Type 0
+IsFaultOfHead fault.HeadTooLarge = ⊥
+IsFaultOfHead fault.Ended = ⊥
+IsFaultOfHead fault.Device = ⊥
+IsFaultOfHead fault.Memory = ⊥
+IsFaultOfHead e = Unit {0}

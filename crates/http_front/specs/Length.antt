@@ -46,8 +46,8 @@ first_of [] = None
 first_of (v ∷ vs) = Some v
 
 -- the values may repeat one number, but not give two; a value that is a list of numbers gives none
-abbrev pub told_length : List (List ℕ) → Result ℕ PostFault
-told_length [] = Err fault.Length
-told_length (v ∷ vs) =
+abbrev pub content_length : List (List ℕ) → Result ℕ PostFault
+content_length [] = Err fault.Length
+content_length (v ∷ vs) =
     if list_all (writes (significant v)) (v ∷ vs)
     then ok_or fault.TooLarge (number_within (significant v)) else Err fault.Head

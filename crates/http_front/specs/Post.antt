@@ -13,7 +13,7 @@ use Rattle.httparse.specs.Grammar.{HasNoRequest, NeverHasRequest, MayBecomeReque
 use Rattle.httparse.specs.Spans.{RequestExceeds}
 use Rattle.http_front.specs.declared.fault.PostFault.{PostFault}
 use Rattle.http_front.specs.declared.fault.PostFault.TheVariants as fault
-use Rattle.http_front.specs.Head.{asked_length_by}
+use Rattle.http_front.specs.Head.{body_length_by}
 
 abbrev pub head_limit : ℕ
 head_limit = 16384
@@ -36,15 +36,15 @@ pub record IsBegun (xs : List ℕ) : Type 0 where
 pub data Posts (xs : List ℕ) : Result (List ℕ) PostFault → Type 0 where
   -- the body, of the length that the head gives; bytes after it are ignored
   whole : {h : RequestHead} {rest : List ℕ} {n : ℕ}
-      → HasHead xs h rest → asked_length_by h ≡ Ok n → n ≤ length rest
+      → HasHead xs h rest → body_length_by h ≡ Ok n → n ≤ length rest
       → Posts xs (Ok (take n rest))
   -- the input ends before the body does
   cut_short : {h : RequestHead} {rest : List ℕ} {n : ℕ}
-      → HasHead xs h rest → asked_length_by h ≡ Ok n → length rest < n
+      → HasHead xs h rest → body_length_by h ≡ Ok n → length rest < n
       → Posts xs (Err fault.Ended)
   -- a rule that a whole head breaks
   refused : {h : RequestHead} {rest : List ℕ} {e : PostFault}
-      → HasHead xs h rest → asked_length_by h ≡ Err e → Posts xs (Err e)
+      → HasHead xs h rest → body_length_by h ≡ Err e → Posts xs (Err e)
   -- whatever bytes follow, there is no head
   malformed : (k : ℕ) → k ≤ head_limit → NeverHasRequest (take k xs) → Posts xs (Err fault.Head)
   -- 16,384 bytes, and still no head

@@ -8,7 +8,7 @@ use Rattle.httparse.specs.Spans.{span_bytes, header_bytes, IsRequestOf, IsReques
 use Rattle.http_front.specs.declared.fault.PostFault.{PostFault}
 use Rattle.http_front.specs.declared.fault.PostFault.TheVariants as fault
 use Rattle.http_front.specs.declared.head.Found.{Found}
-use Rattle.http_front.specs.Head.{asked_length, values_of}
+use Rattle.http_front.specs.Head.{body_length, values_of}
 
 -- some bytes were stored after the first ones of a buffer
 abbrev pub GainsBytes :
@@ -37,9 +37,9 @@ abbrev pub values_at : List ℕ → List HeaderSpan → List ℕ → List (List 
 values_at buf headers name = values_of name (map (header_bytes buf) headers)
 
 -- what the head whose parts the spans cover requests
-abbrev pub asked_at : List ℕ → List HeaderSpan → RequestSpans → Result ℕ PostFault
-asked_at buf headers r =
-    asked_length (span_bytes buf r.path) (span_bytes buf r.method)
+abbrev pub body_length_at : List ℕ → List HeaderSpan → RequestSpans → Result ℕ PostFault
+body_length_at buf headers r =
+    body_length (span_bytes buf r.path) (span_bytes buf r.method)
     (map (header_bytes buf) (take r.headers headers))
 
 -- the body is the first n of these bytes, or there are fewer
@@ -61,5 +61,5 @@ FillsBody old buf filled r =
     (all : Option (List ℕ)) → IsFilled all old buf filled → IsBodyOf all (length buf) r
 
 -- the body whose first bytes came with the head
-abbrev pub IsBodyBehind : List ℕ → Option (List ℕ) → ℕ → Result (List ℕ) PostFault → Type 0
-IsBodyBehind first old n r = IsBodyOf (prepend_known first old) n r
+abbrev pub IsBodyAfter : List ℕ → Option (List ℕ) → ℕ → Result (List ℕ) PostFault → Type 0
+IsBodyAfter first old n r = IsBodyOf (prepend_known first old) n r

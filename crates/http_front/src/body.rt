@@ -3,11 +3,11 @@
 ghost use Rattle.std.specs.Prelude.{◌+◌, ◌-◌, ◌^◌, ◌<◌, ◌≤◌, length};
 ghost use Rattle.std.specs.Prelude.{Ok, Err};
 ghost use Rattle.http_front.specs.Post.{CountsDevice, post_answer};
-ghost use Rattle.http_front.specs.Reading.{IsBodyBehind, FillsBody};
+ghost use Rattle.http_front.specs.Reading.{IsBodyAfter, FillsBody};
 
 use crate::fault::PostFault;
 use crate::head::read_more;
-use crate::room::{begin_body, put_body};
+use crate::post_buffers::{begin_body, put_body};
 use net_io::Counted;
 use std::io::Read;
 
@@ -38,7 +38,7 @@ pub fn read_body<R: Read>(
     size: usize,
 ) -> Result<(), PostFault>
     requires { reader.old.failures < 2 ^ 64 - 1 }
-    ensures body { IsBodyBehind first.now (R.remaining reader.old.inner) size
+    ensures body { IsBodyAfter first.now (R.remaining reader.old.inner) size
         (post_answer result (λ _. body.new.items)) }
     ensures count { CountsDevice reader.old.failures reader.new.failures result }
 {

@@ -9,21 +9,21 @@
 //! See docs/DECISIONS.md, "The front".
 #![tactic(auto)]
 
-mod asked;
 mod body;
 mod fault;
 mod head;
+mod head_rules;
 mod length;
 mod lines;
 mod post;
+mod post_buffers;
 mod reply;
-mod room;
 mod status;
 
 pub use fault::PostFault;
 pub use post::read_post;
+pub use post_buffers::PostBuffers;
 pub use reply::write_reply;
-pub use room::PostRoom;
 pub use status::Status;
 
 // These are named in the contracts of this crate.

@@ -3,8 +3,8 @@
 ghost use Rattle.std.specs.Prelude.{◌≡◌, length, map, All, IfErr, option_copied};
 ghost use Rattle.std.specs.List.{list_all};
 ghost use Rattle.httparse.specs.Spans.{header_bytes, IsHeaderWithin};
-ghost use Rattle.http_front.specs.Length.{writes, first_of, told_length};
-ghost use Rattle.http_front.specs.Head.{is_named, has_line, IsAskedFault};
+ghost use Rattle.http_front.specs.Length.{writes, first_of, content_length};
+ghost use Rattle.http_front.specs.Head.{is_named, has_line, IsFaultOfHead};
 ghost use Rattle.http_front.specs.Reading.{values_at};
 
 use crate::fault::PostFault;
@@ -62,10 +62,10 @@ fn all_write(buf: &[u8], mut lines: &[HeaderSpan], name: &[u8], digits: &[u8]) -
 }
 
 /// The length of the body that the lines of the name give.
-pub fn told_length(buf: &[u8], lines: &[HeaderSpan], name: &[u8]) -> Result<usize, PostFault>
+pub fn content_length(buf: &[u8], lines: &[HeaderSpan], name: &[u8]) -> Result<usize, PostFault>
     requires { All (IsHeaderWithin (length buf.now)) lines.now }
-    ensures length { result ≡ told_length (values_at buf.now lines.now name.now) }
-    ensures rule { IfErr result IsAskedFault }
+    ensures length { result ≡ content_length (values_at buf.now lines.now name.now) }
+    ensures rule { IfErr result IsFaultOfHead }
 {
     let Some(value) = first_value(buf, lines, name) else {
         return Err(PostFault::Length);

@@ -3,11 +3,11 @@
 ghost use Rattle.std.specs.Prelude.{◌≡◌, ◌-◌, ◌^◌, ◌<◌, length};
 ghost use Rattle.http_front.specs.Post.{ReadsPost};
 
-use crate::asked::asked;
 use crate::body::read_body;
 use crate::fault::PostFault;
 use crate::head::read_head;
-use crate::room::PostRoom;
+use crate::head_rules::requested_length;
+use crate::post_buffers::PostBuffers;
 use httparse::spans::HeaderSpan;
 use net_io::Counted;
 use std::alloc::Global;
@@ -24,7 +24,7 @@ pub fn read_post<R: Read>(alloc: Global, reader: &mut Counted<R>) -> Result<Vec<
     requires { reader.old.failures < 2 ^ 64 - 1 }
     ensures { ReadsPost R.remaining reader.old reader.new result (λ v. v.items) }
 {
-    let mut room = PostRoom::new(alloc);
+    let mut room = PostBuffers::new(alloc);
     room.read_post(reader)?;
     Ok(room.into_body())
 }
@@ -43,6 +43,6 @@ pub(crate) fn read_by<R: Read>(
 {
     let found = read_head(reader, buf, headers)?;
     let seen = &buf[..found.filled];
-    let size = asked(seen, headers, found.head)?;
+    let size = requested_length(seen, headers, found.head)?;
     read_body(reader, body, &seen[found.head.len..], size)
 }

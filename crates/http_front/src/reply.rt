@@ -5,7 +5,7 @@
 
 ghost use Rattle.std.specs.Prelude.{◌≡◌, ◌+◌, ◌-◌, ◌^◌, ◌<◌, ◌≤◌, ◌++◌, IsTrue, length, take};
 ghost use Rattle.arrayvec.specs.ArrayVec.{array_vec_len};
-ghost use Rattle.net_io.specs.Device.{CountsFailure, WritesBeginning};
+ghost use Rattle.net_io.specs.Device.{CountsFailure, WritesPrefix};
 ghost use Rattle.http_front.specs.Reply.{crlf, reply_head, reply_bytes};
 
 use crate::status::Status;
@@ -14,13 +14,13 @@ use net_io::{Counted, WriteFault};
 use std::io::Write;
 
 /// More bytes than the head of any reply has.
-const HEAD_ROOM: usize = 256;
+const HEAD_SPACE: usize = 256;
 
 /// Enough bytes for the whole reply to a request of an app or two.
-const PIECE_ROOM: usize = 2048;
+const PIECE_LIMIT: usize = 2048;
 
 // Appends the text to the head.
-fn put(head: &mut ArrayVec<u8, HEAD_ROOM>, text: &[u8])
+fn put(head: &mut ArrayVec<u8, HEAD_SPACE>, text: &[u8])
     requires { array_vec_len head.old + length text.now ≤ 256 }
     ensures items { head.new.items ≡ head.old.items ++ text.now }
     ensures len { array_vec_len head.new ≡ array_vec_len head.old + length text.now }
@@ -29,7 +29,7 @@ fn put(head: &mut ArrayVec<u8, HEAD_ROOM>, text: &[u8])
 }
 
 // Appends a line to the head.
-fn put_line(head: &mut ArrayVec<u8, HEAD_ROOM>, name: &[u8], value: &[u8])
+fn put_line(head: &mut ArrayVec<u8, HEAD_SPACE>, name: &[u8], value: &[u8])
     requires { array_vec_len head.old + (length name.now + length value.now + 2) ≤ 256 }
     ensures items { head.new.items ≡ head.old.items ++ (name.now ++ value.now ++ crlf) }
     ensures len { array_vec_len head.new
@@ -41,7 +41,7 @@ fn put_line(head: &mut ArrayVec<u8, HEAD_ROOM>, name: &[u8], value: &[u8])
 }
 
 // The head of a reply with a body of `size` bytes.
-fn head_of(status: Status, size: usize) -> ArrayVec<u8, HEAD_ROOM>
+fn head_of(status: Status, size: usize) -> ArrayVec<u8, HEAD_SPACE>
     ensures { result.items ≡ reply_head status size }
 {
     let mut head = ArrayVec::new();
@@ -77,7 +77,7 @@ fn fits(room: &mut [u8], head: &[u8], body: &[u8]) -> bool
 // Writes one text, and then the other.
 fn write_both<W: Write>(writer: &mut Counted<W>, head: &[u8], body: &[u8]) -> Result<(), WriteFault>
     requires { writer.old.failures < 2 ^ 64 - 1 }
-    ensures bytes { WritesBeginning (W.contents writer.old.inner) (W.contents writer.new.inner)
+    ensures bytes { WritesPrefix (W.contents writer.old.inner) (W.contents writer.new.inner)
         (head.now ++ body.now) result }
     ensures count { CountsFailure writer.old.failures writer.new.failures result }
 {
@@ -98,12 +98,12 @@ pub fn write_reply<W: Write>(
     body: &[u8],
 ) -> Result<(), WriteFault>
     requires { writer.old.failures < 2 ^ 64 - 1 }
-    ensures bytes { WritesBeginning (W.contents writer.old.inner) (W.contents writer.new.inner)
+    ensures bytes { WritesPrefix (W.contents writer.old.inner) (W.contents writer.new.inner)
         (reply_bytes status body.now) result }
     ensures count { CountsFailure writer.old.failures writer.new.failures result }
 {
     let head = head_of(status, body.len());
-    let mut room = [0; PIECE_ROOM];
+    let mut room = [0; PIECE_LIMIT];
     if fits(&mut room, head.as_slice(), body) {
         writer.write_whole(&room[..head.len() + body.len()])
     } else {

@@ -9,8 +9,8 @@ CountsFailure old new (Ok a) = new ≡ old
 CountsFailure old new (Err e) = new ≡ old + 1
 
 -- all bytes were taken, or a prefix whose length the fault has
-abbrev pub WritesBeginning :
+abbrev pub WritesPrefix :
     {A : Type 0} → Option (List ℕ) → Option (List ℕ) → List ℕ → Result A WriteFault → Type 0
-WritesBeginning old new bytes (Ok a) = Appends old new bytes
-WritesBeginning old new bytes (Err e) =
+WritesPrefix old new bytes (Ok a) = Appends old new bytes
+WritesPrefix old new bytes (Err e) =
     (e.written ≤ length bytes) × Appends old new (take e.written bytes)

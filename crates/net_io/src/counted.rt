@@ -3,7 +3,7 @@
 
 ghost use Rattle.std.specs.Prelude.{◌≡◌, ◌-◌, ◌^◌, ◌<◌, ◌≤◌, length, MatchResult};
 ghost use Rattle.std.specs.Io.KnownBytes.{ReadConsumes};
-ghost use Rattle.net_io.specs.Device.{CountsFailure, WritesBeginning};
+ghost use Rattle.net_io.specs.Device.{CountsFailure, WritesPrefix};
 
 use std::io::{Read, Write};
 
@@ -75,7 +75,7 @@ impl<W: Write> Counted<W> {
     // open: when a device fails.
     pub fn write_whole(&mut self, bytes: &[u8]) -> Result<(), WriteFault>
         requires { self.old.failures < 2 ^ 64 - 1 }
-        ensures bytes { WritesBeginning
+        ensures bytes { WritesPrefix
             (W.contents self.old.inner) (W.contents self.new.inner) bytes.now result }
         ensures count { CountsFailure self.old.failures self.new.failures result }
     {

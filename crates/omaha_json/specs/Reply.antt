@@ -12,7 +12,7 @@ use Rattle.releases.specs.Release.{Release}
 use Rattle.ruleset.specs.Rules.{Rules}
 use Rattle.omaha_json.specs.Found.{FoundApp, found_apps}
 use Rattle.omaha_json.specs.Request.{Request}
-use Rattle.omaha_json.specs.Update.{only, told_status, update_value, release_at}
+use Rattle.omaha_json.specs.Update.{only, status_value, update_value, release_at}
 
 -- the `status` of a known app and, if a run was made, the reply to its `updatecheck`
 abbrev pub answered : List Release → Option ℕ → Members
@@ -24,7 +24,7 @@ answered releases None = member (codes "status") (string (codes "ok")) no_member
 
 -- these members, after the reply to `ping` if the request had one
 abbrev pub pinged : Bool → Members → Members
-pinged true rest = member (codes "ping") (told_status (codes "ok")) rest
+pinged true rest = member (codes "ping") (status_value (codes "ok")) rest
 pinged false rest = rest
 
 -- an app that is in the ruleset

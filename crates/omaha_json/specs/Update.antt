@@ -10,8 +10,8 @@ use Rattle.releases.specs.Release.{Package, Release}
 abbrev pub only : List ℕ → Data → Data
 only name d = object (member name d no_members)
 
-abbrev pub told_status : List ℕ → Data
-told_status word = only (codes "status") (string word)
+abbrev pub status_value : List ℕ → Data
+status_value word = only (codes "status") (string word)
 
 abbrev pub package_value : Package → Data
 package_value file = object (
@@ -42,7 +42,7 @@ update_value (Some release) = object (
     member (codes "status") (string (codes "ok")) (
     member (codes "urls") (urls_value release.codebase)
     no_members)))
-update_value None = told_status (codes "noupdate")
+update_value None = status_value (codes "noupdate")
 
 -- the release that a choice names: 1 is the first, and 0 none
 abbrev pub release_at : List Release → ℕ → Option Release

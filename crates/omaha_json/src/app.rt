@@ -4,7 +4,7 @@ ghost use Rattle.std.specs.Prelude.{◌≡◌, length, OnOk};
 ghost use Rattle.omaha_json.specs.Tokens.{Adds, tokens_of, item_tokens, member_tokens};
 ghost use Rattle.omaha_json.specs.Reply as specs;
 
-use crate::cohort::{as_text, told_cohort};
+use crate::cohort::{as_text, cohort_text};
 use crate::found::FoundApp;
 use crate::tokens::write_tokens;
 use crate::update::{release_at, write_status, write_update};
@@ -71,7 +71,7 @@ fn write_known(
     ensures { OnOk result (Adds writer.old writer.new
         (tokens_of (specs.known_value app.now found.now))) }
 {
-    let cohort = told_cohort(found.bucket());
+    let cohort = cohort_text(found.bucket());
     write_tokens(
         writer,
         &[

@@ -8,7 +8,7 @@ use attrs::{Bucket, four_digits};
 
 /// `b:` and the four digits of the bucket.
 #[tactic(auto, using(crate::proofs::Cohorts::cohort_is_ascii))]
-pub fn told_cohort(bucket: Bucket) -> [u8; 6]
+pub fn cohort_text(bucket: Bucket) -> [u8; 6]
     ensures value { result ≡ specs.told_cohort bucket }
     ensures ascii { IsAscii result }
 {

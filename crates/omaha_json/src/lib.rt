@@ -7,10 +7,10 @@
 
 mod app;
 mod app_members;
+mod app_observer;
 mod cohort;
 mod fault;
 mod found;
-mod hears_apps;
 mod reading;
 mod reply;
 mod request;
@@ -19,9 +19,9 @@ mod tokens;
 mod update;
 mod value;
 
+pub use app_observer::{AppObserver, WrittenApp};
 pub use fault::OmahaFault;
 pub use found::FoundApp;
-pub use hears_apps::{HearsApps, WrittenApp};
 pub use reading::read_request;
 pub use reply::{found_text, reply_text};
 pub use request::Request;

@@ -9,7 +9,7 @@ ghost use Rattle.omaha_json.specs.Members.{request_found};
 
 use crate::app_members::app_facts;
 use crate::fault::OmahaFault;
-use crate::hears_apps::{HearsApps, WrittenApp};
+use crate::app_observer::{AppObserver, WrittenApp};
 use crate::request::Request;
 use crate::request_members::{RequestMembers, request_members};
 use crate::value::object_in;
@@ -23,10 +23,10 @@ use std::alloc::Global;
 /// doesn't name are ignored. The witness is passed the apps; if the request is refused, some of
 /// them.
 // open: whether an allocation fails (O5); which apps the witness is passed: tests.
-pub fn read_request<H: HearsApps>(
+pub fn read_request<H: AppObserver>(
     alloc: Global,
     body: &[u8],
-    witness: &mut H,
+    observer: &mut H,
 ) -> Result<Request, OmahaFault>
     ensures { result ≢ Err OmahaFault.Memory → result ≡ request_in body.now }
 {
@@ -34,43 +34,43 @@ pub fn read_request<H: HearsApps>(
         return Err(OmahaFault::Memory);
     };
     match found {
-        Some(value) => of_value(alloc, value, witness),
+        Some(value) => of_value(alloc, value, observer),
         None => Err(OmahaFault::Json),
     }
 }
 
 // The request that a body's value is.
-fn of_value<H: HearsApps>(
+fn of_value<H: AppObserver>(
     alloc: Global,
     value: Value,
-    witness: &mut H,
+    observer: &mut H,
 ) -> Result<Request, OmahaFault>
     ensures { result ≢ Err OmahaFault.Memory → result ≡ of_value (view value) }
 {
     match object_in(value, "request") {
-        Some(request) => of_request(alloc, request, witness),
+        Some(request) => of_request(alloc, request, observer),
         None => Err(OmahaFault::Shape),
     }
 }
 
 // The request that the member `request` is.
-fn of_request<H: HearsApps>(
+fn of_request<H: AppObserver>(
     alloc: Global,
     request: Map<String, Value>,
-    witness: &mut H,
+    observer: &mut H,
 ) -> Result<Request, OmahaFault>
     ensures { result ≢ Err OmahaFault.Memory
         → result ≡ of_request (object (members_view request.entries)) }
 {
-    of_members(alloc, request_members(request), witness)
+    of_members(alloc, request_members(request), observer)
 }
 
 // The request with these members.
 #[tactic(auto, using(crate::proofs::Bodies::count_of_view))]
-fn of_members<H: HearsApps>(
+fn of_members<H: AppObserver>(
     alloc: Global,
     found: RequestMembers,
-    witness: &mut H,
+    observer: &mut H,
 ) -> Result<Request, OmahaFault>
     ensures { result ≢ Err OmahaFault.Memory → result ≡ request_found found }
 {
@@ -95,7 +95,7 @@ fn of_members<H: HearsApps>(
         sessionid,
         platform,
     };
-    match all_facts(alloc, apps, witness) {
+    match all_facts(alloc, apps, observer) {
         Ok(each) => Ok(Request::new(facts, each)),
         Err(e) => Err(e),
     }
@@ -116,10 +116,10 @@ fn listed(alloc: Global, apps: Option<Value>) -> Option<Vec<Value>>
 }
 
 // The facts of all apps.
-fn all_facts<H: HearsApps>(
+fn all_facts<H: AppObserver>(
     alloc: Global,
     apps: Vec<Value>,
-    witness: &mut H,
+    observer: &mut H,
 ) -> Result<Vec<SharedFacts>, OmahaFault>
     ensures ok { IfOk result (λ each. all_facts (items_view apps.items) ≡ Some each.items) }
     ensures err { IfErr result (λ e. e ≢ OmahaFault.Memory
@@ -129,7 +129,7 @@ fn all_facts<H: HearsApps>(
         return Err(OmahaFault::Memory);
     };
     for app in apps {
-        witness.hear_app(WrittenApp::of(&app));
+        observer.observe_app(WrittenApp::of(&app));
         let Some(said) = app_facts(app) else {
             return Err(OmahaFault::Shape);
         };

@@ -13,7 +13,7 @@ use std::alloc::AllocError;
 
 /// An object with only a status.
 pub fn write_status(writer: &mut Writer, word: &str) -> Result<(), AllocError>
-    ensures { OnOk result (Adds writer.old writer.new (tokens_of (specs.told_status word.now))) }
+    ensures { OnOk result (Adds writer.old writer.new (tokens_of (specs.status_value word.now))) }
 {
     write_tokens(
         writer,

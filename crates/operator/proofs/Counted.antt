@@ -68,7 +68,7 @@ module _ {P : Type 0} (grew : P → CellEvent → P → Type 0) where
   pub no_cells : (p : P) (array : CellArray) (text : List ℕ)
       → Grows grew p p (Tells (ReadsCells array 0) text text)
   no_cells p array text = grows_none p _
-      (record { lines = []; told = sym (append-nil text); reads = no_cell })
+      (record { lines = []; written = sym (append-nil text); reads = no_cell })
 
   pub next_cell : (p m q : P) (array : CellArray) (index value : ℕ) (first old new : List ℕ)
       → GrowsBySnoc grew
@@ -76,7 +76,7 @@ module _ {P : Type 0} (grew : P → CellEvent → P → Type 0) where
       → grew m (event (array.base + index) Load value) q
       → new ≡ old ++ cell_text array index value
       → Grows grew p q (Tells (ReadsCells array (index + 1)) first new)
-  next_cell p m q array index value first old new snoc before step told =
+  next_cell p m q array index value first old new snoc before step written =
       let e = event (array.base + index) Load value in
       let line = cell_text array index value in
       record {
@@ -84,7 +84,7 @@ module _ {P : Type 0} (grew : P → CellEvent → P → Type 0) where
         grown = snoc p before.events m e q before.grown step;
         of = record {
           lines = before.of.lines ++ line;
-          told = told ∙ ap (λ (l : List ℕ). l ++ line) before.of.told
+          written = written ∙ ap (λ (l : List ℕ). l ++ line) before.of.written
               ∙ append_assoc first before.of.lines line;
           reads = one_cell value before.of.reads;
         };
@@ -118,7 +118,7 @@ module _ {P : Type 0} (grew : P → CellEvent → P → Type 0) where
       record {
         events = a.events ++ b.events;
         grown = append p a.events m b.events q a.grown b.grown;
-        of = rw (longer, b.of.told) (one_array a.of b.of.reads);
+        of = rw (longer, b.of.written) (one_array a.of b.of.reads);
       }
 
   pub loaded_array : (p m q : P) (arrays : List CellArray) (old : List ℕ)

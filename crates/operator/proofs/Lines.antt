@@ -145,16 +145,16 @@ module _ (line : List ℕ) where
       subst Of (sym (take_all (line_limit + 1) line (omega (arith, h.short)))) h
 
 -- the request that is found is that of the reader's bytes
-pub is_asked : (told : Option (List ℕ)) (shown : List ℕ) (room : ℕ) (asked : Option OperatorRequest)
-    → room ≡ line_limit + 1 → IfSome told (λ sent. shown ≡ take room (line_of sent))
-    → IfSome asked (SpellsRequest shown) → IfNone asked (SpellsNoRequest shown)
-    → IsFirstRequest told asked
-is_asked None shown room asked size same some nothing = tt
-is_asked (Some sent) shown room None size same some nothing =
+pub line_request_is : (input : Option (List ℕ)) (shown : List ℕ) (room : ℕ) (line_request : Option OperatorRequest)
+    → room ≡ line_limit + 1 → IfSome input (λ sent. shown ≡ take room (line_of sent))
+    → IfSome line_request (SpellsRequest shown) → IfNone line_request (SpellsNoRequest shown)
+    → IsFirstRequest input line_request
+line_request_is None shown room line_request size same some nothing = tt
+line_request_is (Some sent) shown room None size same some nothing =
     let Of : List ℕ → Type 0 = λ l. SpellsNoRequest l in
     let none = subst Of (same ∙ ap (λ (n : ℕ). take n (line_of sent)) size) nothing in
     λ request asks. none request (shows_asked (line_of sent) request asks)
-is_asked (Some sent) shown room (Some request) size same some nothing =
+line_request_is (Some sent) shown room (Some request) size same some nothing =
     let Of : List ℕ → Type 0 = λ l. SpellsRequest l request in
     let asks = subst Of (same ∙ ap (λ (n : ℕ). take n (line_of sent)) size) some in
     asks_shown (line_of sent) request asks

@@ -30,5 +30,5 @@ IsLoad e = e.op ≡ Load
 pub record Tells (Reads : List CellEvent → List ℕ → Type 0) (old new : List ℕ)
     (events : List CellEvent) : Type 0 where
   pub lines : List ℕ
-  pub told : new ≡ old ++ lines
+  pub written : new ≡ old ++ lines
   pub reads : Reads events lines

@@ -18,7 +18,7 @@ IsRequestOfLine line (Some request) = SpellsRequest line request
 
 -- the request of the first line of the bytes, if these are known
 abbrev pub IsFirstRequest : Option (List ℕ) → Option OperatorRequest → Type 0
-IsFirstRequest told asked = IfSome told (λ sent. IsRequestOfLine (line_of sent) asked)
+IsFirstRequest input line_request = IfSome input (λ sent. IsRequestOfLine (line_of sent) line_request)
 
 -- the line of the reader's bytes is this
 abbrev pub IsWhole : Option (List ℕ) → List ℕ → Type 0

@@ -46,8 +46,8 @@ module _ {F : Type 0} (loads : Loading F) where
         → Performs (Some sent.Cells) old events (reply.Refused refusal.Memory) old
 
   -- the reply to a connection that sends these bytes, if they are known
-  pub record AnswersLine (told : Option (List ℕ)) (old : Controlled)
+  pub record AnswersLine (input : Option (List ℕ)) (old : Controlled)
       (events : List CellEvent) (replied : OperatorReply F) (new : Controlled) : Type 0 where
-    pub asked : Option OperatorRequest
-    pub is_asked : IsFirstRequest told asked
-    pub performs : Performs asked old events replied new
+    pub line_request : Option OperatorRequest
+    pub line_request_is : IsFirstRequest input line_request
+    pub performs : Performs line_request old events replied new

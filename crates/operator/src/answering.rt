@@ -44,10 +44,10 @@ pub fn answer<H: Wait, R: Read, L: Loader, C: CellSteps>(
     ensures answers { IfSome result (λ reply. Grows C.grew pass.old pass.new
         (λ events. AnswersLine (L.loads loader.now) (R.remaining reader.old.inner)
         control.old events reply control.new)) }
-    ensures heard { OnSome result (reader.new.failures ≡ reader.old.failures) }
+    ensures received { OnSome result (reader.new.failures ≡ reader.old.failures) }
 
     // Otherwise the reader failed, and nothing happened.
-    ensures unheard { IfNone result ((control.new ≡ control.old) × (pass.new ≡ pass.old)) }
+    ensures unreceived { IfNone result ((control.new ≡ control.old) × (pass.new ≡ pass.old)) }
     ensures unreadable { IfNone result (reader.new.failures ≡ reader.old.failures + 1) }
 {
     let mut room = [0; LINE_ROOM];

@@ -39,9 +39,9 @@ pub fn counter_lines<C: CellSteps>(
     requires belongs { C.belongs cells.now pass.old }
     requires directory { IsDirectory arrays.now }
     ensures belongs { C.belongs cells.now pass.new }
-    ensures told { IfOk result (λ text. Grows C.grew pass.old pass.new
+    ensures written { IfOk result (λ text. Grows C.grew pass.old pass.new
         (λ events. ReadsArrays arrays.now events (string_bytes text))) }
-    ensures untold { OnErr result (Grows C.grew pass.old pass.new (All IsLoad)) }
+    ensures unwritten { OnErr result (Grows C.grew pass.old pass.new (All IsLoad)) }
 {
     growth::<C>();
     let mut text = String::new(alloc);
@@ -63,10 +63,10 @@ fn tell_cells<C: CellSteps>(
     requires belongs { C.belongs cells.now pass.old }
     requires within { array.now.base + array.now.length ≤ 8192 }
     ensures belongs { C.belongs cells.now pass.new }
-    ensures told { OnOk result (Grows C.grew pass.old pass.new
+    ensures written { OnOk result (Grows C.grew pass.old pass.new
         (Tells (ReadsCells array.now array.now.length)
         (string_bytes text.old) (string_bytes text.new))) }
-    ensures untold { OnErr result (Grows C.grew pass.old pass.new (All IsLoad)) }
+    ensures unwritten { OnErr result (Grows C.grew pass.old pass.new (All IsLoad)) }
 {
     growth::<C>();
     for index in 0..array.length {

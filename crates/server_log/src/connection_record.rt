@@ -10,11 +10,11 @@ use crate::app_record::{AppExtras, AppRecord, KeptExcerpt};
 use crate::kept_texts::{KeptTexts, TextPlace};
 use crate::recorder::Recorder;
 use access_log::{Excerpt, LoggedApp};
-use answering::Witness;
+use answering::RequestObserver;
 use attrs::{Bucket, hashed_bucket};
 use hot_swap::Generation;
 use net_io::Timed;
-use omaha_json::{FoundApp, HearsApps, Request, WrittenApp};
+use omaha_json::{AppObserver, FoundApp, Request, WrittenApp};
 use std::alloc::{AllocError, Global};
 use std::mem;
 use std::net::{IpAddr, SocketAddr};
@@ -218,8 +218,8 @@ impl ConnectionRecord {
     }
 }
 
-impl HearsApps for ConnectionRecord {
-    fn hear_app(&mut self, app: WrittenApp<'_>) {
+impl AppObserver for ConnectionRecord {
+    fn observe_app(&mut self, app: WrittenApp<'_>) {
         if self.is_kept {
             let is_kept = self.keep_details(app).is_ok();
             self.is_cut = self.is_cut || !is_kept;
@@ -227,7 +227,7 @@ impl HearsApps for ConnectionRecord {
     }
 }
 
-impl Witness for ConnectionRecord {
+impl RequestObserver for ConnectionRecord {
     fn observe(&mut self, generation: Generation, request: &Request, found: &[Option<FoundApp<'_>>]) {
         self.generation = generation;
         if self.is_kept {

@@ -1,6 +1,6 @@
 //! The events of a request's apps, as they are passed to a log.
 
-use omaha_json::{HearsApps, OmahaFault, WrittenApp, read_request};
+use omaha_json::{AppObserver, OmahaFault, WrittenApp, read_request};
 use std::alloc::{AllocError, Global};
 use std::test::Fail;
 
@@ -23,8 +23,8 @@ impl Events {
     }
 }
 
-impl HearsApps for Events {
-    fn hear_app(&mut self, app: WrittenApp<'_>) {
+impl AppObserver for Events {
+    fn observe_app(&mut self, app: WrittenApp<'_>) {
         let is_refused = self.write(app).is_err();
         self.is_refused = self.is_refused || is_refused;
     }

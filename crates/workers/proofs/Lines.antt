@@ -30,7 +30,7 @@ module _ {F P : Type 0} (loads : Loading F) (grew : P → CellEvent → P → Ty
   of_some_line known m c q d reply did = record {
     events = did.events;
     grown = did.grown;
-    of = record { asked = did.of.asked; is_asked = tt; performs = did.of.performs };
+    of = record { line_request = did.of.line_request; line_request_is = tt; performs = did.of.performs };
   }
 
   module _ (belongs : P → Type 0) where
@@ -55,7 +55,7 @@ module _ {F P : Type 0} (loads : Loading F) (grew : P → CellEvent → P → Ty
       with_line : (reply : OperatorReply F) → Answered None m d q e reply
           → OperatorBack belongs grew loads (end_now more e) (p, c) (q, e)
       with_line reply did =
-          let line : AnsweredLine F = record { request = did.of.asked; reply = reply } in
+          let line : AnsweredLine F = record { request = did.of.line_request; reply = reply } in
           let size = length_push old.lines line in
           record {
             belongs_yet = here;

@@ -8,7 +8,7 @@ use Rattle.std.specs.List.{last_or}
 use Rattle.std.proofs.lemmas.Bool.Decides.{nat_tests}
 use Rattle.std.proofs.lemmas.List.Elements.{All-cons, All-nil, All-from_recursion}
 use Rattle.answering.specs.Answer.{RepliesTo, RepliesToBody, RepliesToRequest, taken, rejected}
-use Rattle.answering.specs.Answer.{replied, unowned, broken_off, asked, refused, unread}
+use Rattle.answering.specs.Answer.{replied, unowned, broken_off, accepted, refused, unread}
 use Rattle.answering.specs.Apps.{RunsApp, RunsApps, no_updatecheck, unknown, ran, none}
 use Rattle.answering.specs.Apps as apps
 use Rattle.answering.specs.Reply.{HttpReply}
@@ -150,7 +150,7 @@ module _ (law : Laws) (watcher : Beginning) (moment : ℤ) where
   of_body : (body : List ℕ) (events : List CellEvent) (reply : HttpReply)
       (replies : RepliesToBody body watcher moment events reply)
       → AreOfRuns watcher.rulesets (runs_of_body replies) events
-  of_body body events reply (asked {request = request} is replies) =
+  of_body body events reply (accepted {request = request} is replies) =
       of_request request events reply replies
   of_body body events reply (refused fault is) = law.nothing watcher.rulesets
   of_body body events reply unread = law.nothing watcher.rulesets

@@ -1,7 +1,7 @@
 -- The runs of a worker's answers: those of each request, app after app, each to its end.
 use Rattle.std.specs.Prelude.{ℕ, ℤ, List, [], ◌∷◌, ◌++◌, Option, flat_map}
 use Rattle.answering.specs.Answer.{RepliesTo, taken, rejected}
-use Rattle.answering.specs.Answer.{RepliesToBody, asked, refused, unread}
+use Rattle.answering.specs.Answer.{RepliesToBody, accepted, refused, unread}
 use Rattle.answering.specs.Answer.{RepliesToRequest, replied, unowned, broken_off}
 use Rattle.answering.specs.Apps.{RunsApp, RunsApps, no_updatecheck, unknown, ran, none}
 use Rattle.answering.specs.Apps as apps
@@ -56,7 +56,7 @@ runs_of_request {request = request} {moment = moment}
 abbrev pub runs_of_body : {body : List ℕ} {known : Beginning} {moment : ℤ}
     {events : List CellEvent} {reply : HttpReply}
     → RepliesToBody body known moment events reply → List AppRun
-runs_of_body (asked is replies) = runs_of_request replies
+runs_of_body (accepted is replies) = runs_of_request replies
 runs_of_body (refused fault is) = []
 runs_of_body unread = []
 

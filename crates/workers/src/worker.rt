@@ -7,7 +7,7 @@ use crate::accept::Call;
 use crate::clock::{Limits, begun, micros_between, unix_second};
 use crate::gate::Gate;
 use crate::queue::Calls;
-use answering::{AnswerFault, AnswerRoom, Sent, Turn, answer_in};
+use answering::{AnswerBuffers, AnswerFault, Sent, Turn, answer_in};
 use cells::{CellSteps, growth};
 use crossbeam_channel::Receiver;
 use hot_swap::Watcher;
@@ -38,7 +38,7 @@ where
     cells: &'a C,
     pass: C::Pass,
     watcher: Watcher,
-    room: AnswerRoom,
+    room: AnswerBuffers,
 }
 
 /// Answers until the queue is closed, and returns the pass and the watcher.
@@ -63,7 +63,7 @@ where
         cells,
         pass,
         watcher,
-        room: AnswerRoom::new(rt.alloc()),
+        room: AnswerBuffers::new(rt.alloc()),
     };
     let mut calls = Calls::of(queue);
     attend_all(rt, gate, &mut calls, &mut seat, service);

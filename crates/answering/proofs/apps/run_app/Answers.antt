@@ -4,7 +4,7 @@ use Rattle.attrs.specs.Bucket.{named_bucket}
 use Rattle.attrs.specs.declared.facts.AppFacts.{AppFacts}
 use Rattle.ruleset.specs.Rules.{app_of}
 use Rattle.answering.proofs.Grown.{grows_none, grows_ran, grows_found, not_true, not_false}
-use Rattle.answering.proofs.Grown.{finds_none, finds_unasked, found_is}
+use Rattle.answering.proofs.Grown.{finds_none, finds_unrequested, found_is}
 use Rattle.answering.proofs.apps.run_app.Goals as goal
 
 pub returns-in_default-clause-finds : goal.returns-in_default-clause-finds
@@ -33,7 +33,7 @@ returns-then-not-told-clause-finds g c =
     c.new.result
     knows bucket c.new.ensures in
     grows_none (g.C.CellSteps.grew) _ _
-    (finds_unasked rules' facts' c.args.turn.now.moment.now app' (Some c.new.result)
+    (finds_unrequested rules' facts' c.args.turn.now.moment.now app' (Some c.new.result)
     (sym (ap (λ (f : AppFacts). f.updatecheck) told) ∙ asks) is)
 
 pub returns-clause-finds : goal.returns-clause-finds
@@ -41,9 +41,9 @@ returns-clause-finds g c =
     let rules' = c.args.rules.now in
     let facts' = c.args.facts.now in
     let app' = c.args.app.now in
-    let asked : c.facts-told.result.now.updatecheck ≡ true =
+    let accepted : c.facts-told.result.now.updatecheck ≡ true =
     first_of (search rules, search (rules, not_false)) in
-    let asks = sym (ap (λ (f : AppFacts). f.updatecheck) c.facts-told.ensures) ∙ asked in
+    let asks = sym (ap (λ (f : AppFacts). f.updatecheck) c.facts-told.ensures) ∙ accepted in
     let same = ap (λ (z : List ℕ). app_of rules' z) c.appid.ensures in
     let knows = sym same ∙ sym c.in-Some.ensures.found in
     let choice = Some c.run-choice.result.0 in

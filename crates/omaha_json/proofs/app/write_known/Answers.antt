@@ -6,7 +6,7 @@ returns c =
     rw (
       ← c.bucket.ensures,
       ← c.appid.ensures,
-      ← c.told_cohort-cohort.ensures.value,
+      ← c.cohort_text-cohort.ensures.value,
       ← c.as_text.ensures,
       ← c.releases.ensures,
       ← c.choice.ensures,

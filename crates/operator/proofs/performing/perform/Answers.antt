@@ -27,9 +27,9 @@ returns-in-Ok-ruleset_lines-clause-performs g c =
     let text = c.in-Ok-ruleset_lines.ensures in
     let generation = c.generation.ensures in
     let rules = c.ruleset.ensures in
-    let told : string_bytes c.in-Ok-ruleset_lines.lines
+    let written : string_bytes c.in-Ok-ruleset_lines.lines
     ≡ ruleset_text c.args.control.now.publishing.latest = cc in
-    grows_none (g.C.CellSteps.grew) _ _ (rw (c.in-Some.is, c.in-Show.is) (shown _ told))
+    grows_none (g.C.CellSteps.grew) _ _ (rw (c.in-Some.is, c.in-Show.is) (shown _ written))
 
 pub returns-in-Err-ruleset_lines-clause-performs : goal.returns-in-Err-ruleset_lines-clause-performs
 returns-in-Err-ruleset_lines-clause-performs g c =
@@ -37,7 +37,7 @@ returns-in-Err-ruleset_lines-clause-performs g c =
 
 pub returns-in-Ok-counter_lines-clause-performs : goal.returns-in-Ok-counter_lines-clause-performs
 returns-in-Ok-counter_lines-clause-performs g c =
-    let a = c.in-Ok-counter_lines.ensures.told in
+    let a = c.in-Ok-counter_lines.ensures.written in
     let Read : List CellArray → Type 0 = λ arrays.
     ReadsArrays arrays a.events (string_bytes c.in-Ok-counter_lines.lines) in
     let read = subst Read c.arrays.ensures.arrays a.of in record {
@@ -49,7 +49,7 @@ returns-in-Ok-counter_lines-clause-performs g c =
 pub returns-in-Err-counter_lines-clause-performs :
     goal.returns-in-Err-counter_lines-clause-performs
 returns-in-Err-counter_lines-clause-performs g c =
-    let a = c.in-Err-counter_lines.ensures.untold in record {
+    let a = c.in-Err-counter_lines.ensures.unwritten in record {
       events = a.events;
       grown = a.grown;
       of = rw (c.in-Some.is, c.in-Cells.is) (uncounted a.of);

@@ -15,10 +15,10 @@ pub loop-array-preserved : goal.loop-array-preserved
 loop-array-preserved g c = (
   c.tell_cells.ensures.belongs,
   next_array (g.C.CellSteps.grew) _ _ _ _ _ _ _ _ c.growth.ensures.append c.loop-array-test.true
-      c.array-item.is c.loop-array.invariant.1 c.in-Ok.ensures.told,
+      c.array-item.is c.loop-array.invariant.1 c.in-Ok.ensures.written,
 )
 
-pub returns-in_default-clause-untold : goal.returns-in_default-clause-untold
-returns-in_default-clause-untold g c =
+pub returns-in_default-clause-unwritten : goal.returns-in_default-clause-unwritten
+returns-in_default-clause-unwritten g c =
     loaded_array (g.C.CellSteps.grew) _ _ _ _ _ c.growth.ensures.append c.loop-array.invariant.1
-    c.in_default.ensures.untold
+    c.in_default.ensures.unwritten

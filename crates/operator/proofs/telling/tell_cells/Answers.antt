@@ -18,8 +18,8 @@ loop-index-preserved g c =
           c.loop-index.invariant.2 step c.in-Ok.ensures,
     )
 
-pub returns-in_default-clause-untold : goal.returns-in_default-clause-untold
-returns-in_default-clause-untold g c =
+pub returns-in_default-clause-unwritten : goal.returns-in_default-clause-unwritten
+returns-in_default-clause-unwritten g c =
     let At : ℕ → Type 0 = λ n. g.C.CellSteps.grew c.loop-index.pass
     (event n Load c.act-value.result) c.act-value.new.pass in
     let step = subst At c.new-cell.ensures c.act-value.ensures.grew in

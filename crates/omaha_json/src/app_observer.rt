@@ -69,7 +69,7 @@ fn event_of(app: &Value) -> Option<&Value>
 }
 
 /// Observes each app of a request, in its order. It can't change what is read.
-pub trait HearsApps {
+pub trait AppObserver {
     /// The next app was read.
-    fn hear_app(&mut self, app: WrittenApp<'_>);
+    fn observe_app(&mut self, app: WrittenApp<'_>);
 }

@@ -25,14 +25,14 @@ static BLANK: [u8; HEAD_LIMIT] = [0; HEAD_LIMIT];
 
 /// Buffers for a head, and for a body of any length. They are allocated as requests need them, and
 /// kept: 16,384 bytes for a head, and up to 65,536 for a body. The buffer of a longer body is freed
-/// before the next request is read. In contracts, a `PostRoom` is the body that was read last.
+/// before the next request is read. In contracts, a `PostBuffers` is the body that was read last.
 #[derive(Drop)]
-pub struct PostRoom {
+pub struct PostBuffers {
     head: Vec<u8>,
     body: Vec<u8>,
 }
 
-impl Model for PostRoom {
+impl Model for PostBuffers {
     ghost use Rattle.std.specs.Prelude.{List, ℕ};
 
     ghost Value = { List ℕ };
@@ -40,12 +40,12 @@ impl Model for PostRoom {
     ghost view = { λ r. r.body.items };
 }
 
-impl PostRoom {
+impl PostBuffers {
     /// No body, and no allocation yet.
-    pub fn new(alloc: Global) -> PostRoom
+    pub fn new(alloc: Global) -> PostBuffers
         ensures { result ≡ [] }
     {
-        PostRoom {
+        PostBuffers {
             head: Vec::new(alloc),
             body: Vec::new(alloc),
         }
@@ -62,7 +62,7 @@ impl PostRoom {
     pub fn into_body(self) -> Vec<u8>
         ensures { result.items ≡ self }
     {
-        let PostRoom { head: _head, body } = self;
+        let PostBuffers { head: _head, body } = self;
         body
     }
 
@@ -73,7 +73,7 @@ impl PostRoom {
         requires { reader.old.failures < 2 ^ 64 - 1 }
         ensures { ReadsPost R.remaining reader.old reader.new result (λ _. self.new) }
     {
-        let Ok(()) = make_head_room(&mut self.head) else {
+        let Ok(()) = make_head_space(&mut self.head) else {
             return Err(PostFault::Memory);
         };
         let mut headers = [EMPTY_HEADER_SPAN; FIELD_LIMIT];
@@ -87,7 +87,7 @@ impl PostRoom {
 }
 
 // Allocates the buffer for a head, if it isn't there.
-fn make_head_room(head: &mut Vec<u8>) -> Result<(), AllocError>
+fn make_head_space(head: &mut Vec<u8>) -> Result<(), AllocError>
     ensures { OnOk result (length head.new.items ≡ 16384) }
 {
     if head.len() == HEAD_LIMIT {

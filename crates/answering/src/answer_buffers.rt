@@ -1,7 +1,7 @@
 //! Buffers for a request and its reply, so that a worker thread can reuse them.
 
 use crate::rejection::Rejection;
-use http_front::PostRoom;
+use http_front::PostBuffers;
 use std::alloc::Global;
 use std::mem;
 
@@ -13,16 +13,16 @@ const KEPT_TEXT: usize = 1_048_576;
 /// as requests need them, and kept for a head, a body up to 65,536 bytes and a text up to
 /// 1,048,576. No reply depends on their earlier contents.
 #[derive(Drop)]
-pub struct AnswerRoom {
-    pub(crate) post: PostRoom,
+pub struct AnswerBuffers {
+    pub(crate) post: PostBuffers,
     text: Vec<u8>,
 }
 
-impl AnswerRoom {
+impl AnswerBuffers {
     /// Empty buffers, without an allocation.
-    pub fn new(alloc: Global) -> AnswerRoom {
-        AnswerRoom {
-            post: PostRoom::new(alloc),
+    pub fn new(alloc: Global) -> AnswerBuffers {
+        AnswerBuffers {
+            post: PostBuffers::new(alloc),
             text: Vec::new(alloc),
         }
     }

@@ -1,5 +1,5 @@
 use Rattle.std.proofs.Common.{◌≡◌, ◌-◌, ◌≤◌, length, take, vec_len}
-use Rattle.http_front.proofs.room.begin_body.Given as goal
+use Rattle.http_front.proofs.post_buffers.begin_body.Given as goal
 
 -- the first bytes are there, and the bytes so far aren't longer than the body
 abbrev pub invariant-loop-body : goal.invariant-loop-body

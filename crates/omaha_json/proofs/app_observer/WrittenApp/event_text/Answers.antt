@@ -3,7 +3,7 @@ use Rattle.serde_json.specs.Data.{Data, depth}
 use Rattle.serde_json.specs.Read.{read, max_depth}
 use Rattle.serde_json.specs.Written.{compact_text, has_float}
 use Rattle.omaha_json.specs.Event.{IsEventText}
-use Rattle.omaha_json.proofs.hears_apps.WrittenApp.event_text.Goals as goal
+use Rattle.omaha_json.proofs.app_observer.WrittenApp.event_text.Goals as goal
 
 is_told : (o : Option Data) (d : Data) (text : List ℕ) → Some d ≡ o
     → (depth d ≤ max_depth → read text ≡ Some d) → (has_float d ≡ false → text ≡ compact_text d)

@@ -2,11 +2,11 @@
 
 ghost use Rattle.std.specs.Prelude.{◌≡◌, length, IfErr};
 ghost use Rattle.httparse.specs.Spans.{IsRequestWithin};
-ghost use Rattle.http_front.specs.Head.{is_served, IsAskedFault};
-ghost use Rattle.http_front.specs.Reading.{asked_at};
+ghost use Rattle.http_front.specs.Head.{is_served, IsFaultOfHead};
+ghost use Rattle.http_front.specs.Reading.{body_length_at};
 
 use crate::fault::PostFault;
-use crate::lines::{has_line, told_length};
+use crate::lines::{content_length, has_line};
 use httparse::spans::{HeaderSpan, RequestSpans};
 
 // Whether the target is the one that is served, with or without a query.
@@ -17,10 +17,10 @@ fn is_served(target: &[u8]) -> bool
 }
 
 /// The length of the body, or the first rule that the head breaks.
-pub fn asked(buf: &[u8], headers: &[HeaderSpan], head: RequestSpans) -> Result<usize, PostFault>
+pub fn requested_length(buf: &[u8], headers: &[HeaderSpan], head: RequestSpans) -> Result<usize, PostFault>
     requires { IsRequestWithin buf.now headers.now head }
-    ensures length { result ≡ asked_at buf.now headers.now head }
-    ensures rule { IfErr result IsAskedFault }
+    ensures length { result ≡ body_length_at buf.now headers.now head }
+    ensures rule { IfErr result IsFaultOfHead }
 {
     if !is_served(head.path.of(buf)) {
         return Err(PostFault::Path);
@@ -32,5 +32,5 @@ pub fn asked(buf: &[u8], headers: &[HeaderSpan], head: RequestSpans) -> Result<u
     if has_line(buf, lines, b"transfer-encoding") {
         return Err(PostFault::Length);
     }
-    told_length(buf, lines, b"content-length")
+    content_length(buf, lines, b"content-length")
 }
