@@ -4,7 +4,7 @@ use Rattle.std.proofs.Common.{Option, Result, Ok, Err}
 use Rattle.std.specs.Prelude.{ℤ}
 use Rattle.cells.specs.Grown.{GrewBy, Grows}
 use Rattle.cells.specs.declared.event.CellEvent.{CellEvent}
-use Rattle.hot_swap.specs.Published.{Beginning, IsLatest}
+use Rattle.hot_swap.specs.Published.{KnownPrefix, IsLatest}
 use Rattle.http_front.specs.Post.{AnswersPost}
 use Rattle.http_front.specs.Reply.{code_of}
 use Rattle.omaha_json.specs.Request.{Request, request_in}
@@ -21,7 +21,7 @@ use Rattle.answering.specs.Answer.{replied, unowned, broken_off, accepted, refus
 use Rattle.answering.specs.Answer.{taken, rejected}
 use Rattle.answering.specs.Reply.{HttpReply, success, omaha_rejection}
 
-module _ (body : List ℕ) (watcher : Beginning) (moment : ℤ) where
+module _ (body : List ℕ) (watcher : KnownPrefix) (moment : ℤ) where
   -- the body's fault, or out of memory
   pub refused_by : (fault : OmahaFault)
       → (let found : Result Request OmahaFault = Err fault in
@@ -34,7 +34,7 @@ module _ (body : List ℕ) (watcher : Beginning) (moment : ℤ) where
   refused_by Memory h = unread
 
 module _ {P : Type 0} (grew : P → CellEvent → P → Type 0)
-    (request : Request) (watcher : Beginning) (moment : ℤ) where
+    (request : Request) (watcher : KnownPrefix) (moment : ℤ) where
   -- an allocation failed after some runs
   pub is_broken_off : (p q : P) (generation : ℕ) (rules : Rules) → IsLatest watcher generation rules
       → Grows grew p q (RunsFew rules request.facts moment request.apps)
@@ -63,7 +63,7 @@ module _ {P : Type 0} (grew : P → CellEvent → P → Type 0)
 
 -- ---- no run was made if the status is neither 200 nor 500
 
-module _ (request : Request) (watcher : Beginning) (moment : ℤ) where
+module _ (request : Request) (watcher : KnownPrefix) (moment : ℤ) where
   pub idle_request : {events : List CellEvent} {reply : HttpReply}
       → RepliesToRequest request watcher moment events reply
       → code_of reply.status ≢ 200 → code_of reply.status ≢ 500 → events ≡ []
@@ -71,7 +71,7 @@ module _ (request : Request) (watcher : Beginning) (moment : ℤ) where
   idle_request unowned h k = refl
   idle_request (broken_off l r) h k = absurd (k refl)
 
-module _ (body : List ℕ) (watcher : Beginning) (moment : ℤ) where
+module _ (body : List ℕ) (watcher : KnownPrefix) (moment : ℤ) where
   pub idle_body : {events : List CellEvent} {reply : HttpReply}
       → RepliesToBody body watcher moment events reply
       → code_of reply.status ≢ 200 → code_of reply.status ≢ 500 → events ≡ []
@@ -79,7 +79,7 @@ module _ (body : List ℕ) (watcher : Beginning) (moment : ℤ) where
   idle_body (refused fault e) h k = refl
   idle_body unread h k = refl
 
-module _ (told : Option (List ℕ)) (watcher : Beginning) (moment : ℤ) where
+module _ (told : Option (List ℕ)) (watcher : KnownPrefix) (moment : ℤ) where
   pub idle_input : {events : List CellEvent} {reply : HttpReply}
       → RepliesTo told watcher moment events reply
       → code_of reply.status ≢ 200 → code_of reply.status ≢ 500 → events ≡ []
@@ -97,7 +97,7 @@ module _ (told : Option (List ℕ)) where
       taken body b (subst J e (r watcher moment))
 
 module _ {P : Type 0} (grew : P → CellEvent → P → Type 0)
-    (told : Option (List ℕ)) (watcher : Beginning) (moment : ℤ) where
+    (told : Option (List ℕ)) (watcher : KnownPrefix) (moment : ℤ) where
   -- a request was read, and has a reply
   pub is_answered : (p q : P) (request : Request) (reply : HttpReply) → IsReceived told (Ok request)
       → Grows grew p q (λ events. RepliesToRequest request watcher moment events reply)

@@ -3,7 +3,7 @@
 -- fails; every other refusal is the one that the bytes have.
 use Rattle.std.specs.Prelude.{◌≡◌, ℕ, ℤ, List, [], Option, Some, Result, Ok, Err, Vec}
 use Rattle.cells.specs.declared.event.CellEvent.{CellEvent}
-use Rattle.hot_swap.specs.Published.{Beginning, IsLatest}
+use Rattle.hot_swap.specs.Published.{KnownPrefix, IsLatest}
 use Rattle.http_front.specs.Faults.{post_name}
 use Rattle.http_front.specs.Faults.{status_of}
 use Rattle.http_front.specs.Post.{AnswersPost}
@@ -22,7 +22,7 @@ use Rattle.answering.specs.declared.answering.AnswerFault.{AnswerFault}
 use Rattle.answering.specs.declared.answering.AnswerFault.TheVariants as answer
 
 -- to a request, under the ruleset that the watcher read last
-pub data RepliesToRequest (request : Request) (watcher : Beginning) (moment : ℤ)
+pub data RepliesToRequest (request : Request) (watcher : KnownPrefix) (moment : ℤ)
     : List CellEvent → HttpReply → Type 0 where
   -- Omaha's reply: all apps get their results under one ruleset, each by the choice of its run
   replied : {generation : ℕ} {rules : Rules} {choices : List (Option ℕ)} {events : List CellEvent}
@@ -39,7 +39,7 @@ pub data RepliesToRequest (request : Request) (watcher : Beginning) (moment : �
       → RepliesToRequest request watcher moment events (omaha_rejection omaha.Memory)
 
 -- to a body
-pub data RepliesToBody (body : List ℕ) (watcher : Beginning) (moment : ℤ)
+pub data RepliesToBody (body : List ℕ) (watcher : KnownPrefix) (moment : ℤ)
     : List CellEvent → HttpReply → Type 0 where
   accepted : {request : Request} {events : List CellEvent} {reply : HttpReply}
       → request_in body ≡ Ok request → RepliesToRequest request watcher moment events reply
@@ -51,7 +51,7 @@ pub data RepliesToBody (body : List ℕ) (watcher : Beginning) (moment : ℤ)
   unread : RepliesToBody body watcher moment [] (omaha_rejection omaha.Memory)
 
 -- to the bytes of a reader, if they are known
-pub data RepliesTo (told : Option (List ℕ)) (watcher : Beginning) (moment : ℤ)
+pub data RepliesTo (told : Option (List ℕ)) (watcher : KnownPrefix) (moment : ℤ)
     : List CellEvent → HttpReply → Type 0 where
   taken : {events : List CellEvent} {reply : HttpReply} (body : List ℕ) → AnswersPost told (Ok body)
       → RepliesToBody body watcher moment events reply
@@ -65,14 +65,14 @@ pub data RepliesTo (told : Option (List ℕ)) (watcher : Beginning) (moment : �
 abbrev pub IsReceivedBody : List ℕ → Result Request HttpReply → Type 0
 IsReceivedBody body (Ok request) = request_in body ≡ Ok request
 IsReceivedBody body (Err reply) =
-    (watcher : Beginning) (moment : ℤ) → RepliesToBody body watcher moment [] reply
+    (watcher : KnownPrefix) (moment : ℤ) → RepliesToBody body watcher moment [] reply
 
 -- and what the bytes of a reader are
 abbrev pub IsReceived : Option (List ℕ) → Result Request HttpReply → Type 0
 IsReceived told (Ok request) =
     (body : List ℕ) × AnswersPost told (Ok body) × (request_in body ≡ Ok request)
 IsReceived told (Err reply) =
-    (watcher : Beginning) (moment : ℤ) → RepliesTo told watcher moment [] reply
+    (watcher : KnownPrefix) (moment : ℤ) → RepliesTo told watcher moment [] reply
 
 -- the faults after which nothing is written
 abbrev pub WritesNothing : AnswerFault → Type 0
@@ -83,12 +83,12 @@ WritesNothing (answer.Writing written) = ⊥
 -- the reply is that to the bytes of the reader, and the pass (a ghost token) grew by the events of
 -- its runs
 module _ {P : Type 0} (grew : P → CellEvent → P → Type 0) where
-  abbrev pub RepliesByRuns : Option (List ℕ) → Beginning → ℤ → P → P → HttpReply → Type 0
+  abbrev pub RepliesByRuns : Option (List ℕ) → KnownPrefix → ℤ → P → P → HttpReply → Type 0
   RepliesByRuns told watcher moment before after reply =
       Grows grew before after (λ events. RepliesTo told watcher moment events reply)
 
   -- the result before anything is written: a reply, or that there is none
-  abbrev pub Settles : {A : Type 0} → Option (List ℕ) → Beginning → ℤ → P → P
+  abbrev pub Settles : {A : Type 0} → Option (List ℕ) → KnownPrefix → ℤ → P → P
       → Result (Result (Vec ℕ A) HttpReply) AnswerFault → Type 0
   Settles told watcher moment before after (Ok outcome) =
       RepliesByRuns told watcher moment before after (settled_reply outcome)

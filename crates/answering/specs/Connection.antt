@@ -4,7 +4,7 @@ use Rattle.std.specs.Prelude.{Result, Err, IfOk, IfErr}
 use Rattle.std.specs.Io.KnownBytes.{Appends}
 use Rattle.cells.specs.declared.event.CellEvent.{CellEvent}
 use Rattle.net_io.specs.declared.counted.Counted.{Counted}
-use Rattle.hot_swap.specs.Published.{Beginning}
+use Rattle.hot_swap.specs.Published.{KnownPrefix}
 use Rattle.http_front.specs.Post.{AnswersPost}
 use Rattle.http_front.specs.Reply.{code_of}
 use Rattle.http_front.specs.declared.fault.PostFault.TheVariants as fault
@@ -19,7 +19,7 @@ use Rattle.answering.specs.declared.sent.Sent.{Sent}
 -- outcome.
 pub record Answers {P R W : Type 0} (grew : P → CellEvent → P → Type 0)
     (remaining : R → Option (List ℕ)) (contents : W → Option (List ℕ))
-    (known : Beginning) (moment : ℤ) (pass pass' : P) (reader reader' : Counted R)
+    (known : KnownPrefix) (moment : ℤ) (pass pass' : P) (reader reader' : Counted R)
     (writer writer' : Counted W) (outcome : Result Sent AnswerFault) : Type 0 where
   -- what was written is the reply to what was read, under the ruleset that the watcher read
   pub replied : IfOk outcome (λ sent. (reply : HttpReply)

@@ -1,7 +1,7 @@
 //! One request, from the bytes of a reader to those of a writer.
 
 ghost use Rattle.std.specs.Prelude.{◌-◌, ◌^◌, ◌<◌};
-ghost use Rattle.hot_swap.specs.Published.{GoesOnwards};
+ghost use Rattle.hot_swap.specs.Published.{Extends};
 ghost use Rattle.answering.specs.Connection.{Answers};
 
 use crate::answer_buffers::AnswerBuffers;
@@ -56,7 +56,7 @@ pub fn answer<R: Read, W: Write, C: CellSteps>(
     requires reads { reader.old.failures < 2 ^ 64 - 1 }
     requires writes { writer.old.failures < 2 ^ 64 - 1 }
     ensures belongs { C.belongs cells.now pass.new }
-    ensures watched { GoesOnwards watcher.old watcher.new }
+    ensures watched { Extends watcher.old watcher.new }
     ensures answers { Answers C.grew R.remaining W.contents watcher.new moment
         pass.old pass.new reader.old reader.new writer.old writer.new result }
 {

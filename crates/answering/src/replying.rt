@@ -1,7 +1,7 @@
 //! Makes the reply to a request: each of its apps is looked up and run, under one ruleset.
 
 ghost use Rattle.cells.specs.Grown.{Grows};
-ghost use Rattle.hot_swap.specs.Published.{GoesOnwards};
+ghost use Rattle.hot_swap.specs.Published.{Extends};
 ghost use Rattle.answering.specs.Answer.{RepliesToRequest};
 ghost use Rattle.answering.specs.Reply.{settled_reply};
 
@@ -26,7 +26,7 @@ pub fn reply_to<C: CellSteps, W: RequestObserver>(
 ) -> Result<Vec<u8>, Rejection>
     requires { C.belongs turn.now.cells.now pass.old }
     ensures belongs { C.belongs turn.now.cells.now pass.new }
-    ensures watched { GoesOnwards watcher.old watcher.new }
+    ensures watched { Extends watcher.old watcher.new }
     ensures replies { Grows C.grew pass.old pass.new
         (λ events. RepliesToRequest request.now watcher.new turn.now.moment.now events
         (settled_reply result)) }

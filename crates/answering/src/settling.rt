@@ -1,7 +1,7 @@
 //! One request: it is read into reused buffers, its reply is found, and written.
 
 ghost use Rattle.std.specs.Prelude.{◌≡◌, ◌+◌, ◌-◌, ◌^◌, ◌<◌, Err, IfOk};
-ghost use Rattle.hot_swap.specs.Published.{GoesOnwards};
+ghost use Rattle.hot_swap.specs.Published.{Extends};
 ghost use Rattle.net_io.specs.Device.{CountsFailure, WritesPrefix};
 ghost use Rattle.http_front.specs.Post.{AnswersPost};
 ghost use Rattle.http_front.specs.Reply.{code_of};
@@ -40,7 +40,7 @@ pub fn answer_in<R: Read, W: Write, C: CellSteps, N: RequestObserver>(
     requires reads { reader.old.failures < 2 ^ 64 - 1 }
     requires writes { writer.old.failures < 2 ^ 64 - 1 }
     ensures belongs { C.belongs turn.now.cells.now pass.new }
-    ensures watched { GoesOnwards watcher.old watcher.new }
+    ensures watched { Extends watcher.old watcher.new }
     ensures answers { Answers C.grew R.remaining W.contents watcher.new turn.now.moment.now
         pass.old pass.new reader.old reader.new writer.old writer.new result }
 {
@@ -66,7 +66,7 @@ fn settle<R: Read, C: CellSteps, N: RequestObserver>(
     requires belongs { C.belongs turn.now.cells.now pass.old }
     requires reads { reader.old.failures < 2 ^ 64 - 1 }
     ensures belongs { C.belongs turn.now.cells.now pass.new }
-    ensures watched { GoesOnwards watcher.old watcher.new }
+    ensures watched { Extends watcher.old watcher.new }
     ensures settles { Settles C.grew (R.remaining reader.old.inner) watcher.new
         turn.now.moment.now pass.old pass.new result }
     ensures ended { result ≡ Err AnswerFault.Ended

@@ -3,7 +3,7 @@ use Rattle.std.specs.Prelude.{◌≡◌, ℕ, ◌+◌, ℤ, pos, List, [], lengt
 use Rattle.attrs.specs.Hash.{fnv1a}
 use Rattle.cells.specs.Events.{AreZeros, IsEvent}
 use Rattle.cells.specs.declared.event.CellEvent.{CellEvent}
-use Rattle.hot_swap.specs.Published.{Beginning}
+use Rattle.hot_swap.specs.Published.{KnownPrefix}
 use Rattle.http_front.specs.Reply.{code_of}
 use Rattle.answering.specs.Answer.{RepliesByRuns}
 use Rattle.answering.specs.Reply.{HttpReply, message_bytes}
@@ -16,7 +16,7 @@ moment = pos 1772413200
 -- these bytes are a reply of status 200 to the request, and the pass (a ghost token) grew by the
 -- events of its runs
 pub record IsSuccess {P : Type 0} (grew : P → CellEvent → P → Type 0) (request : List ℕ)
-    (watcher : Beginning) (before after : P) (written : List ℕ) : Type 0 where
+    (watcher : KnownPrefix) (before after : P) (written : List ℕ) : Type 0 where
   pub reply : HttpReply
   pub success : code_of reply.status ≡ 200
   pub is_reply : RepliesByRuns grew (Some request) watcher moment before after reply
@@ -27,7 +27,7 @@ pub record IsSuccess {P : Type 0} (grew : P → CellEvent → P → Type 0) (req
 pub data AreAnswers {P : Type 0} (grew : P → CellEvent → P → Type 0) (request : List ℕ) (opened : P)
     : ℕ → P → ℕ → List ℕ → Type 0 where
   none : AreAnswers grew request opened 0 opened 0 []
-  more : {n bytes : ℕ} {before after : P} {last written : List ℕ} {watcher : Beginning}
+  more : {n bytes : ℕ} {before after : P} {last written : List ℕ} {watcher : KnownPrefix}
       → AreAnswers grew request opened n before bytes last
       → IsSuccess grew request watcher before after written
       → AreAnswers grew request opened (n + 1) after (bytes + length written) written

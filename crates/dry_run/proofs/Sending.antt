@@ -5,7 +5,7 @@ use Rattle.std.specs.Prelude.{ℤ, ◌↔◌}
 use Rattle.cells.specs.Events.{IsEvent}
 use Rattle.cells.specs.Grown.{GrewBy}
 use Rattle.cells.specs.declared.event.CellEvent.{CellEvent}
-use Rattle.hot_swap.specs.Published.{Beginning, IsLatest}
+use Rattle.hot_swap.specs.Published.{KnownPrefix, IsLatest}
 use Rattle.http_front.specs.declared.status.Status.TheVariants as status
 use Rattle.ruleset.specs.Rules.{Rules}
 use Rattle.omaha_json.specs.Reply.{reply_text}
@@ -34,7 +34,7 @@ abbrev fault_or : OmahaFault → Result Request OmahaFault → OmahaFault
 fault_or other (Err fault) = fault
 fault_or other (Ok request) = other
 
-module _ (watcher : Beginning) (generation : ℕ) (rules : Rules) (moment : ℤ)
+module _ (watcher : KnownPrefix) (generation : ℕ) (rules : Rules) (moment : ℤ)
     (latest : IsLatest watcher generation rules) where
   of_request : (request : Request) {events : List CellEvent} {reply : HttpReply}
       → RepliesToRequest request watcher moment events reply → reply.status ≡ status.Success
@@ -81,7 +81,7 @@ module _ (watcher : Beginning) (generation : ℕ) (rules : Rules) (moment : ℤ)
       one_reply_to_body rules moment body old sent found new left
       (r.0, r.1, record { events = events; legal = g; replies = r.2 }) a
 
-pub refuses_alike : (watcher : Beginning) (moment : ℤ) (body : List ℕ) {events : List CellEvent}
+pub refuses_alike : (watcher : KnownPrefix) (moment : ℤ) (body : List ℕ) {events : List CellEvent}
     {reply : HttpReply} (fault : OmahaFault) → request_in body ≡ Err fault
     → RepliesToBody body watcher moment events reply
     → (reply ≡ omaha_rejection fault) ⊎ (reply ≡ omaha_rejection Memory)

@@ -1,5 +1,5 @@
 pub mod Prefixes
 pub mod Generations
 pub mod Entering
-pub mod Telling
+pub mod KnownPublisher
 pub mod Published

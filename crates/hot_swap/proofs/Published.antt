@@ -6,15 +6,15 @@ use Rattle.std.proofs.Common.{Result, Ok, Err, MatchResult, MatchBool, IsTrue}
 use Rattle.std.proofs.lemmas.List.Sums.{fold-append}
 use Rattle.std.specs.Arc.{arc_value}
 use Rattle.hot_swap.proofs.Prefixes.{has_last}
-use Rattle.hot_swap.specs.Published.{Beginning, IsLatest}
+use Rattle.hot_swap.specs.Published.{KnownPrefix, IsLatest}
 use Rattle.hot_swap.specs.Seats.{TellsPublisher}
 use Rattle.hot_swap.specs.declared.publisher_id.PublisherId.{PublisherId}
 use Rattle.hot_swap.specs.declared.next.NextInstall.{NextInstall}
 use Rattle.hot_swap.specs.declared.next.Stamp.{Stamp}
-use Rattle.hot_swap.specs.declared.shown.Shown.{Shown}
+use Rattle.hot_swap.specs.declared.published_ruleset.PublishedRuleset.{PublishedRuleset}
 use Rattle.ruleset.specs.Rules.{Rules}
 
-abbrev pub stamp_of : Shown → Stamp
+abbrev pub stamp_of : PublishedRuleset → Stamp
 stamp_of x = record {
   generation = x.generation;
   rules = arc_value x.rules;
@@ -36,7 +36,7 @@ abbrev pub EndsIn : List NextInstall → List NextInstall → NextInstall → Ty
 EndsIn all waiting next = all ≡ waiting ++ next ∷ []
 
 -- whatever was waiting, the last operation is what is published
-pub applied_last : (shown : Shown) (waiting all : List NextInstall) (next : NextInstall)
+pub applied_last : (shown : PublishedRuleset) (waiting all : List NextInstall) (next : NextInstall)
     → EndsIn all waiting next
     → fold replaced (stamp_of shown) all ≡ brought next
 applied_last shown waiting all next e =
@@ -44,20 +44,20 @@ applied_last shown waiting all next e =
     ∙ fold-append replaced (stamp_of shown) waiting (next ∷ [])
 
 -- so each value that a publish may make visible has what the operation brings
-pub brings : (shown new : Shown) (waiting all : List NextInstall) (next : NextInstall)
+pub brings : (shown new : PublishedRuleset) (waiting all : List NextInstall) (next : NextInstall)
     → EndsIn all waiting next
     → stamp_of new ≡ fold replaced (stamp_of shown) all → stamp_of new ≡ brought next
 brings shown new waiting all next e is = is ∙ applied_last shown waiting all next e
 
 -- the next ruleset is published, and the publish's seat (a ghost token) knows its publisher
-abbrev pub IsShown : Option PublisherId → Shown → NextInstall → Type 0
+abbrev pub IsShown : Option PublisherId → PublishedRuleset → NextInstall → Type 0
 IsShown after new next = (after ≡ Some next.known.publisher)
     × (new.generation ≡ next.generation)
     × (arc_value new.rules ≡ arc_value next.rules)
     × (new.known.publisher ≡ next.known.publisher)
 
 -- the result of a publish, put together
-pub told : {U E : Type 0} (P Q : Type 0) (r : Result U E) (next : NextInstall) (old new : Shown)
+pub told : {U E : Type 0} (P Q : Type 0) (r : Result U E) (next : NextInstall) (old new : PublishedRuleset)
     (before after : Option PublisherId) (s : Stamp) → s ≡ brought next
     → MatchResult r (λ _. (stamp_of new ≡ s) × P) (λ _. (new ≡ old) × Q)
     → MatchResult r (λ _. TellsPublisher before old new after) (λ _. after ≡ before)
@@ -74,7 +74,7 @@ told P Q (Ok u) next old new before after s e v t =
 told P Q (Err e) next old new before after s is v t = (t, v.0)
 
 -- the appended ruleset ends the list, as the generation of its length
-pub is_latest : (P : Type 0) (entered : Bool) (old : List Rules) (new : Beginning) (rules : Rules)
+pub is_latest : (P : Type 0) (entered : Bool) (old : List Rules) (new : KnownPrefix) (rules : Rules)
     (generation : ℕ) → generation ≡ length old + 1
     → MatchBool entered (new.rulesets ≡ old ++ rules ∷ []) P → IsTrue entered
     → IsLatest new generation rules

@@ -2,7 +2,7 @@
 use Rattle.std.specs.Prelude.{◌≡◌, ℕ, ◌+◌, [], ◌∷◌, ◌++◌, Option, Some, All}
 use Rattle.logbook.specs.Pages.{Book}
 use Rattle.hot_swap.specs.Book.{id_of}
-use Rattle.hot_swap.specs.Published.{Beginning, HasLast}
+use Rattle.hot_swap.specs.Published.{KnownPrefix, HasLast}
 use Rattle.hot_swap.specs.declared.publisher_id.PublisherId.{PublisherId}
 use Rattle.ruleset.specs.Rules.{Rules, IsRuleset}
 
@@ -16,7 +16,7 @@ latest generation rules = record { generation = generation; rules = rules }
 
 -- all that was installed, what was installed last, and for how many watchers there still is a place
 pub record Publishing : Type 0 where
-  pub known : Beginning
+  pub known : KnownPrefix
   pub latest : Latest
   pub places : ℕ
 
@@ -31,7 +31,7 @@ pub record Installs (old : Publishing) (rules : Rules) (generation : ℕ) (new :
 
 -- what a publisher keeps: its list is sound and ends with its last ruleset; its seat (a ghost
 -- token), what is published and its book belong to the list's publisher
-pub record IsPublisher (known : Beginning) (rules : Rules) (seat : Option PublisherId)
+pub record IsPublisher (known : KnownPrefix) (rules : Rules) (seat : Option PublisherId)
     (shown : PublisherId) (book : Book) : Type 0 where
   pub last : HasLast known.rulesets rules
   pub sound : All IsRuleset known.rulesets

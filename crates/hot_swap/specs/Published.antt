@@ -6,7 +6,7 @@ use Rattle.hot_swap.specs.declared.publisher_id.PublisherId.{PublisherId}
 use Rattle.ruleset.specs.Rules.{Rules}
 
 -- the publisher of a list, and a prefix of the list
-pub record Beginning : Type 0 where
+pub record KnownPrefix : Type 0 where
   pub publisher : PublisherId
   pub rulesets : List Rules
 
@@ -15,12 +15,12 @@ abbrev pub HasLast : List Rules → Rules → Type 0
 HasLast rulesets rules = last_or None rulesets ≡ Some rules
 
 -- of all that is known, this ruleset was installed last, as this generation
-pub record IsLatest (known : Beginning) (generation : ℕ) (rules : Rules) : Type 0 where
+pub record IsLatest (known : KnownPrefix) (generation : ℕ) (rules : Rules) : Type 0 where
   pub generation_is : generation ≡ length known.rulesets
   pub rules_are : HasLast known.rulesets rules
 
 -- what was known is a prefix of what is known later
-pub record GoesOnwards (old new : Beginning) : Type 0 where
+pub record Extends (old new : KnownPrefix) : Type 0 where
   pub publisher : new.publisher ≡ old.publisher
   pub onwards : IsPrefix old.rulesets new.rulesets
 
@@ -28,15 +28,15 @@ pub record GoesOnwards (old new : Beginning) : Type 0 where
 
 -- generations never go back
 abbrev pub NeverGoesBack : Type 0
-NeverGoesBack = (old new : Beginning) (m n : ℕ) (r s : Rules)
-    → GoesOnwards old new → IsLatest old m r → IsLatest new n s → m ≤ n
+NeverGoesBack = (old new : KnownPrefix) (m n : ℕ) (r s : Rules)
+    → Extends old new → IsLatest old m r → IsLatest new n s → m ≤ n
 
 -- a generation has one ruleset, the same for all that know a prefix of one list
 abbrev pub HasOneRuleset : Type 0
-HasOneRuleset = (a b all : Beginning) (n : ℕ) (r s : Rules)
-    → GoesOnwards a all → GoesOnwards b all → IsLatest a n r → IsLatest b n s → r ≡ s
+HasOneRuleset = (a b all : KnownPrefix) (n : ℕ) (r s : Rules)
+    → Extends a all → Extends b all → IsLatest a n r → IsLatest b n s → r ≡ s
 
 -- of two prefixes of one list, the shorter is a prefix of the longer
 abbrev pub ShorterBegins : Type 0
-ShorterBegins = (a b all : Beginning) → GoesOnwards a all → GoesOnwards b all
-    → length a.rulesets ≤ length b.rulesets → GoesOnwards a b
+ShorterBegins = (a b all : KnownPrefix) → Extends a all → Extends b all
+    → length a.rulesets ≤ length b.rulesets → Extends a b

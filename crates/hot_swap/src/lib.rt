@@ -13,22 +13,22 @@
 //! See docs/DECISIONS.md, "The published ruleset".
 #![tactic(auto)]
 
-mod beginning;
 mod book;
 mod fault;
+mod known_prefix;
 mod laws;
 mod list_end;
 mod next;
 mod notice;
+mod published_ruleset;
 mod publisher;
 mod publisher_id;
 mod seats;
 mod showing;
-mod shown;
 mod watcher;
 
-pub use beginning::Generation;
 pub use fault::SwapFault;
+pub use known_prefix::Generation;
 pub use laws::generations_go_onwards;
 pub use notice::Notice;
 pub use publisher::Publisher;

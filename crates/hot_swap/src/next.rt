@@ -5,10 +5,10 @@ ghost use Rattle.std.specs.Arc.{arc_value};
 ghost use Rattle.hot_swap.specs.Book.{id_of};
 ghost use Rattle.hot_swap.specs.Published.{IsLatest};
 
-use crate::beginning::{Beginning, Generation};
+use crate::known_prefix::{Generation, KnownPrefix};
 use crate::list_end::ListEnd;
+use crate::published_ruleset::PublishedRuleset;
 use crate::publisher_id::PublisherId;
-use crate::shown::Shown;
 use left_right::Absorb;
 use ruleset::Ruleset;
 use std::alloc::AllocError;
@@ -20,7 +20,7 @@ pub struct NextInstall {
     generation: Generation,
     install: u64,
     pub(crate) rules: Arc<Ruleset>,
-    pub(crate) known: Beginning,
+    pub(crate) known: KnownPrefix,
     end: Arc<ListEnd>,
     ghost next: { generation ≡ length known.rulesets + 1 },
     ghost room: { length known.rulesets < 2 ^ 64 - 1 },
@@ -31,7 +31,7 @@ impl NextInstall {
     /// The install of this ruleset; it becomes another owner of the ruleset.
     pub(crate) fn new(
         end: &Arc<ListEnd>,
-        known: &Beginning,
+        known: &KnownPrefix,
         rules: &Arc<Ruleset>,
     ) -> Result<NextInstall, AllocError>
         requires room { length known.now.rulesets < 2 ^ 64 - 1 }
@@ -46,19 +46,19 @@ impl NextInstall {
             generation: known.generation() + 1,
             install,
             rules,
-            known: known.again(),
+            known: known.copy(),
             end,
         })
     }
 
     // What is known after the attempt to append the ruleset, and whether it was appended: if a
     // later install has begun, it isn't.
-    fn entered(&self, rules: &Arc<Ruleset>) -> (Beginning, bool)
+    fn entered(&self, rules: &Arc<Ruleset>) -> (KnownPrefix, bool)
         ensures publisher { result.0.publisher ≡ self.now.known.publisher }
         ensures listed { IsTrue result.1
             → IsLatest result.0 self.now.generation (arc_value rules.now) }
     {
-        let mut known = self.known.again();
+        let mut known = self.known.copy();
         if !self.end.is_last(self.install) {
             return (known, false);
         }
@@ -68,14 +68,14 @@ impl NextInstall {
 
     // What the install publishes first. The Arc is copied, which may fail, before the ruleset is
     // appended.
-    fn listed(&self) -> Result<Shown, AllocError>
+    fn listed(&self) -> Result<PublishedRuleset, AllocError>
         ensures { IfOk result (λ x. (x.generation ≡ self.now.generation)
             × (arc_value x.rules ≡ arc_value self.now.rules)
             × (x.known.publisher ≡ self.now.known.publisher)) }
     {
         let rules = Arc::try_clone(&self.rules)?;
         let (known, is_listed) = self.entered(&rules);
-        Ok(Shown {
+        Ok(PublishedRuleset {
             generation: self.generation,
             rules,
             is_listed,
@@ -84,7 +84,7 @@ impl NextInstall {
     }
 
     // What the other copy becomes. The next operation replaces it before it is published.
-    fn unlisted(self) -> Shown
+    fn unlisted(self) -> PublishedRuleset
         ensures { (result.generation ≡ self.generation)
             × (arc_value result.rules ≡ arc_value self.rules)
             × (result.known.publisher ≡ self.known.publisher) }
@@ -96,7 +96,7 @@ impl NextInstall {
             known,
             end: _,
         } = self;
-        Shown {
+        PublishedRuleset {
             generation,
             rules,
             is_listed: false,
@@ -112,7 +112,7 @@ pub struct Stamp {
     pub publisher: PublisherId,
 }
 
-impl Absorb<NextInstall> for Shown {
+impl Absorb<NextInstall> for PublishedRuleset {
     type State = Stamp;
 
     ghost state = { λ x. record {
@@ -127,12 +127,12 @@ impl Absorb<NextInstall> for Shown {
       publisher = x.known.publisher;
     } };
 
-    fn absorb_first(&mut self, operation: &NextInstall, _other: &Shown) -> Result<(), AllocError> {
+    fn absorb_first(&mut self, operation: &NextInstall, _other: &PublishedRuleset) -> Result<(), AllocError> {
         *self = operation.listed()?;
         Ok(())
     }
 
-    fn absorb_second(&mut self, operation: NextInstall, _other: &Shown) -> Result<(), NextInstall> {
+    fn absorb_second(&mut self, operation: NextInstall, _other: &PublishedRuleset) -> Result<(), NextInstall> {
         *self = operation.unlisted();
         Ok(())
     }

@@ -2,34 +2,34 @@
 
 ghost use Rattle.std.specs.Prelude.{◌≡◌};
 
-use crate::beginning::Beginning;
+use crate::known_prefix::KnownPrefix;
 use std::marker::Model;
 
 /// What a publisher had installed when the notice was made. Watchers in any thread may learn it,
 /// any number of times.
 #[derive(Drop)]
 pub struct Notice {
-    known: Beginning,
+    known: KnownPrefix,
 }
 
 impl Model for Notice {
-    ghost use Rattle.hot_swap.specs.Published.{Beginning};
+    ghost use Rattle.hot_swap.specs.Published.{KnownPrefix};
 
-    ghost Value = { Beginning };
+    ghost Value = { KnownPrefix };
 
     ghost view = { λ n. n.known };
 }
 
 impl Notice {
     /// A notice of this list.
-    pub(crate) fn new(known: Beginning) -> Notice
+    pub(crate) fn new(known: KnownPrefix) -> Notice
         ensures { result ≡ known }
     {
         Notice { known }
     }
 
     /// The list in it.
-    pub(crate) fn known(&self) -> &Beginning
+    pub(crate) fn known(&self) -> &KnownPrefix
         ensures { result.now ≡ self.now }
     {
         &self.known

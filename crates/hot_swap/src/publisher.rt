@@ -4,13 +4,13 @@ ghost use Rattle.std.specs.Prelude.{◌≡◌, ◌≢◌, ◌↔◌, ◌+◌, �
 ghost use Rattle.std.specs.Prelude.{Err, IfOk, IfErr, All};
 ghost use Rattle.std.specs.Arc.{arc_value};
 
-use crate::beginning::{Beginning, Generation};
+use crate::known_prefix::{Generation, KnownPrefix};
 use crate::fault::SwapFault;
 use crate::list_end::ListEnd;
 use crate::next::NextInstall;
 use crate::notice::Notice;
 use crate::seats::{Shared, Taken};
-use crate::showing::{ShownWriter, nothing_shown, show};
+use crate::showing::{PublishedWriter, nothing_shown, show};
 use crate::watcher::Watcher;
 use core::mem::replace_with;
 use ruleset::Ruleset;
@@ -21,9 +21,9 @@ use std::sync::{Arc, Wait};
 /// Installs rulesets, and makes watchers. It is ended by `close`, and must live as long as its
 /// watchers are used.
 pub struct Publisher {
-    writer: ShownWriter,
+    writer: PublishedWriter,
     end: Arc<ListEnd>,
-    known: Beginning,
+    known: KnownPrefix,
     latest: Arc<Ruleset>,
     places: usize,
 }
@@ -68,7 +68,7 @@ impl Publisher {
         ensures memory { IfErr result (λ e. e ≡ SwapFault.Memory) }
     {
         first.keeps();
-        let (known, end) = Beginning::open();
+        let (known, end) = KnownPrefix::open();
         let Ok(end) = Arc::new(alloc, end) else {
             return Err(SwapFault::Memory);
         };
@@ -170,14 +170,14 @@ impl Publisher {
         };
         reader.learn::<Taken>(self.writer.tell::<Shared>());
         self.places -= 1;
-        Ok(Watcher::new(reader, self.known.again()))
+        Ok(Watcher::new(reader, self.known.copy()))
     }
 
     /// A notice of all that was installed, for its watchers to learn. It allocates nothing.
     pub fn tell(&self) -> Notice
         ensures { result ≡ self.now.known }
     {
-        Notice::new(self.known.again())
+        Notice::new(self.known.copy())
     }
 
     /// Waits for readers, and frees what it holds. Its watchers get nothing more.

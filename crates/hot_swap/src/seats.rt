@@ -2,14 +2,14 @@
 //! these types is made; they are names for definitions.
 
 use crate::publisher_id::PublisherId;
-use crate::shown::Shown;
+use crate::published_ruleset::PublishedRuleset;
 use atomic_table::{Join, Split};
 use crossbeam_utils::rule::{Outcome, Protocol};
 
 /// The rule: all seats that know a publisher know the same.
 pub struct OnePublisher;
 
-impl Protocol<Shown, Option<PublisherId>> for OnePublisher {
+impl Protocol<PublishedRuleset, Option<PublisherId>> for OnePublisher {
     ghost use Rattle.std.specs.Prelude.{None};
     ghost use Rattle.hot_swap.specs.Seats.{KnowOnePublisher};
 
@@ -19,9 +19,9 @@ impl Protocol<Shown, Option<PublisherId>> for OnePublisher {
 }
 
 /// What a seat knows after a look or a publish.
-pub struct Telling;
+pub struct PublisherKnown;
 
-impl Outcome<Shown, Option<PublisherId>> for Telling {
+impl Outcome<PublishedRuleset, Option<PublisherId>> for PublisherKnown {
     ghost use Rattle.hot_swap.specs.Seats.{TellsPublisher};
 
     ghost then = { TellsPublisher };

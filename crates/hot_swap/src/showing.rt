@@ -4,41 +4,41 @@ ghost use Rattle.std.specs.Prelude.{◌≡◌, ◌≤◌, [], ◌∷◌, ◌++�
 ghost use Rattle.std.specs.Arc.{arc_value};
 ghost use Rattle.left_right.specs.Sides.{view};
 
-use crate::beginning::Beginning;
+use crate::known_prefix::KnownPrefix;
 use crate::next::NextInstall;
+use crate::published_ruleset::PublishedRuleset;
 use crate::publisher_id::PublisherId;
-use crate::seats::{OnePublisher, Telling};
-use crate::shown::Shown;
+use crate::seats::{OnePublisher, PublisherKnown};
 use left_right::writer::Writer;
 use ruleset::Ruleset;
 use std::alloc::{AllocError, Global};
 use std::sync::{Arc, Wait};
 
 /// What publishes rulesets to the readers.
-pub(crate) type ShownWriter = Writer<Shown, NextInstall, Option<PublisherId>, OnePublisher>;
+pub(crate) type PublishedWriter = Writer<PublishedRuleset, NextInstall, Option<PublisherId>, OnePublisher>;
 
 /// A writer that has published nothing yet, with places for 1 to 65 readers.
 pub(crate) fn nothing_shown(
     alloc: Global,
     first: &Arc<Ruleset>,
-    known: &Beginning,
+    known: &KnownPrefix,
     readers: usize,
-) -> Result<ShownWriter, AllocError>
+) -> Result<PublishedWriter, AllocError>
     requires { (1 ≤ readers) × (readers ≤ 65) }
     ensures { IfOk result (λ w. w.desk.shown.value.known.publisher ≡ known.now.publisher) }
 {
-    let one = Shown::nothing(Arc::try_clone(first)?, known.again());
-    let two = Shown::nothing(Arc::try_clone(first)?, known.again());
+    let one = PublishedRuleset::nothing(Arc::try_clone(first)?, known.copy());
+    let two = PublishedRuleset::nothing(Arc::try_clone(first)?, known.copy());
     let writer = Writer::new(alloc, one, two, readers)?;
     Ok(writer)
 }
 
 /// Appends the next ruleset to the list and publishes it, and returns all that is then installed.
 pub(crate) fn show<R: Wait>(
-    writer: ShownWriter,
+    writer: PublishedWriter,
     next: NextInstall,
     rt: &R,
-) -> (ShownWriter, Option<Beginning>)
+) -> (PublishedWriter, Option<KnownPrefix>)
     requires one { writer.desk.shown.value.known.publisher ≡ next.known.publisher }
     ensures one { result.0.desk.shown.value.known.publisher ≡ next.known.publisher }
     ensures keeps { view writer.desk.place ≡ Some next.known.publisher
@@ -47,11 +47,11 @@ pub(crate) fn show<R: Wait>(
         × (k.publisher ≡ next.known.publisher)
         × (k.rulesets ≡ next.known.rulesets ++ arc_value next.rules ∷ [])) }
 {
-    let known = next.known.again();
+    let known = next.known.copy();
     let (writer, done) = publish(writer, next, rt);
     match done {
         Ok(()) => {
-            let grown = writer.published().grown(known);
+            let grown = writer.published().list_up_to(known);
             (writer, grown)
         }
         Err(_) => (writer, None),
@@ -61,10 +61,10 @@ pub(crate) fn show<R: Wait>(
 // Publishes the next ruleset. In the same publish it replaces one that a failed install left
 // waiting.
 fn publish<R: Wait>(
-    mut writer: ShownWriter,
+    mut writer: PublishedWriter,
     next: NextInstall,
     rt: &R,
-) -> (ShownWriter, Result<(), AllocError>)
+) -> (PublishedWriter, Result<(), AllocError>)
     requires one { writer.desk.shown.value.known.publisher ≡ next.known.publisher }
     ensures { MatchResult result.1
         (λ _. (view result.0.desk.place ≡ Some next.known.publisher)
@@ -77,5 +77,5 @@ fn publish<R: Wait>(
     let Ok(()) = writer.append(next) else {
         return (writer, Err(AllocError));
     };
-    writer.publish_as::<Telling, R>(rt)
+    writer.publish_as::<PublisherKnown, R>(rt)
 }

@@ -3,14 +3,14 @@
 ghost use Rattle.std.specs.Prelude.{◌≡◌, ◌⊎◌, Some, IfOk, IfErr, IfSome};
 ghost use Rattle.std.specs.Arc.{arc_value};
 ghost use Rattle.left_right.specs.Sides.{view};
-ghost use Rattle.hot_swap.specs.Published.{HasLast, GoesOnwards};
+ghost use Rattle.hot_swap.specs.Published.{HasLast, Extends};
 
-use crate::beginning::{Beginning, Generation};
+use crate::known_prefix::{Generation, KnownPrefix};
 use crate::fault::SwapFault;
 use crate::notice::Notice;
 use crate::publisher_id::PublisherId;
-use crate::seats::{OnePublisher, Telling};
-use crate::shown::Shown;
+use crate::seats::{OnePublisher, PublisherKnown};
+use crate::published_ruleset::PublishedRuleset;
 use core::mem::replace_with;
 use left_right::reader::Reader;
 use ruleset::Ruleset;
@@ -18,21 +18,21 @@ use std::marker::Model;
 use std::sync::Arc;
 
 /// A reader of what is published.
-pub(crate) type ShownReader = Reader<Shown, Option<PublisherId>, OnePublisher>;
+pub(crate) type PublishedReader = Reader<PublishedRuleset, Option<PublisherId>, OnePublisher>;
 
 /// Reads the rulesets that a publisher installs.
 #[derive(Drop)]
 pub struct Watcher {
-    reader: ShownReader,
-    known: Beginning,
+    reader: PublishedReader,
+    known: KnownPrefix,
 }
 
 impl Model for Watcher {
     ghost use Rattle.std.specs.Prelude.{◌≡◌, Some};
     ghost use Rattle.left_right.specs.Sides.{view as told};
-    ghost use Rattle.hot_swap.specs.Published.{Beginning};
+    ghost use Rattle.hot_swap.specs.Published.{KnownPrefix};
 
-    ghost Value = { Beginning };
+    ghost Value = { KnownPrefix };
 
     ghost view = { λ w. w.known };
 
@@ -43,7 +43,7 @@ impl Watcher {
     ghost use Rattle.hot_swap.specs.Published.{IsLatest};
 
     /// A watcher that knows this list.
-    pub(crate) fn new(reader: ShownReader, known: Beginning) -> Watcher
+    pub(crate) fn new(reader: PublishedReader, known: KnownPrefix) -> Watcher
         requires { view reader.place ≡ Some known.publisher }
         ensures { result ≡ known }
     {
@@ -56,11 +56,11 @@ impl Watcher {
     // open: how new the ruleset is, unless the watcher learned a notice, and that H2 isn't always
     // returned: tests.
     pub fn current(&mut self) -> Result<(Generation, Arc<Ruleset>), SwapFault>
-        ensures onwards { GoesOnwards self.old self.new }
+        ensures onwards { Extends self.old self.new }
         ensures newest { IfOk result (λ r. IsLatest self.new r.0 (arc_value r.1)) }
         ensures place { IfErr result (λ e. e ≡ SwapFault.NoPlace) }
     {
-        let known = self.known.again();
+        let known = self.known.copy();
         let (known, rules) = replace_with(&mut self.reader, known, |reader, known| {
             look(reader, known)
         });
@@ -74,8 +74,8 @@ impl Watcher {
     /// Learns a notice of its publisher: from then on it returns nothing older.
     pub fn learn(&mut self, notice: &Notice)
         requires { notice.now.publisher ≡ self.old.publisher }
-        ensures onwards { GoesOnwards self.old self.new }
-        ensures told { GoesOnwards notice.now self.new }
+        ensures onwards { Extends self.old self.new }
+        ensures noticed { Extends notice.now self.new }
         // So it is the longer of the two.
         ensures one { (self.new ≡ self.old) ⊎ (self.new ≡ notice.now) }
     {
@@ -84,13 +84,13 @@ impl Watcher {
 }
 
 // Reads once what is published.
-fn look(reader: ShownReader, known: Beginning) -> (ShownReader, (Beginning, Option<Arc<Ruleset>>))
+fn look(reader: PublishedReader, known: KnownPrefix) -> (PublishedReader, (KnownPrefix, Option<Arc<Ruleset>>))
     requires { view reader.place ≡ Some known.publisher }
     ensures same { view result.0.place ≡ Some known.publisher }
-    ensures onwards { GoesOnwards known result.1.0 }
+    ensures onwards { Extends known result.1.0 }
     ensures newest { IfSome result.1.1 (λ rules. HasLast result.1.0.rulesets (arc_value rules)) }
 {
-    match reader.enter_as::<Telling>() {
+    match reader.enter_as::<PublisherKnown>() {
         Ok(reading) => {
             let seen = reading.get().look(known);
             (reading.leave(), seen)

@@ -7,7 +7,7 @@ use Rattle.cells.specs.Apart.{ArraysStay}
 use Rattle.cells.specs.Directory.{HasArray}
 use Rattle.cells.specs.declared.array.CellArray.{CellArray}
 use Rattle.cells.specs.declared.event.CellEvent.{CellEvent}
-use Rattle.hot_swap.specs.Published.{GoesOnwards}
+use Rattle.hot_swap.specs.Published.{Extends}
 use Rattle.ruleset.specs.Rules.{AppRule, Rules, KnowsOnly}
 use Rattle.operator.specs.Control.{Controlled, Loading, IsInstalled, KnowOnlyItsArrays, stopping}
 use Rattle.operator.specs.Counters.{IsLoad, ReadsCells, ReadsArrays}
@@ -74,8 +74,8 @@ module _ {F : Type 0} (loads : Loading F) where
   of_line request c d events reply (uncounted all) = all
 
   goes_on : (c m d : Controlled) → Changes m d
-      → GoesOnwards c.publishing.known m.publishing.known
-      → GoesOnwards c.publishing.known d.publishing.known
+      → Extends c.publishing.known m.publishing.known
+      → Extends c.publishing.known d.publishing.known
   goes_on c m d nothing before = before
   goes_on c m d one_stop before = before
   goes_on c m d (one_load is) before =

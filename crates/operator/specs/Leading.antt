@@ -2,7 +2,7 @@
 -- ruleset to the next.
 use Rattle.std.specs.Prelude.{List, [], ◌∷◌, ◌++◌, All, Option}
 use Rattle.cells.specs.declared.event.CellEvent.{CellEvent}
-use Rattle.hot_swap.specs.Published.{GoesOnwards}
+use Rattle.hot_swap.specs.Published.{Extends}
 use Rattle.operator.specs.Control.{Controlled, Loading, KnowOnlyItsArrays}
 use Rattle.operator.specs.Counters.{IsLoad}
 use Rattle.operator.specs.Perform.{Performs}
@@ -31,7 +31,7 @@ module _ {F : Type 0} (loads : Loading F) where
   -- then the former list of rulesets is a prefix of the latter
   abbrev pub LinesGoOnwards : Type 0
   LinesGoOnwards = (c d : Controlled) (lines : List (AnsweredLine F)) (reads : List CellEvent)
-      → LinesLead c lines reads d → GoesOnwards c.publishing.known d.publishing.known
+      → LinesLead c lines reads d → Extends c.publishing.known d.publishing.known
 
   -- if the programs knew only the server's arrays, they still do
   abbrev pub LinesKeepToArrays : Type 0

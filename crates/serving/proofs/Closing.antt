@@ -5,26 +5,26 @@ use Rattle.std.proofs.lemmas.List.{map-append, reverse-append}
 use Rattle.std.proofs.lemmas.List.Elements.{All-head, All-nil, All-push, All-same, All-tail}
 use mathlib.Core.List.{IsPrefix, reverse-cons}
 use Rattle.shared_cells.specs.Passes.{PassView}
-use Rattle.hot_swap.specs.Published.{Beginning}
+use Rattle.hot_swap.specs.Published.{KnownPrefix}
 use Rattle.ruleset.specs.Rules.{Rules}
 
-abbrev pub turned : List (PassView × Beginning) → List PassView
-turned workers = reverse (map (λ (worker : PassView × Beginning). worker.0) workers)
+abbrev pub turned : List (PassView × KnownPrefix) → List PassView
+turned workers = reverse (map (λ (worker : PassView × KnownPrefix). worker.0) workers)
 
 -- the last worker's pass is the first
-turned_push : (rest : List (PassView × Beginning)) (worker : PassView × Beginning)
+turned_push : (rest : List (PassView × KnownPrefix)) (worker : PassView × KnownPrefix)
     → turned (rest ++ worker ∷ []) ≡ worker.0 ∷ turned rest
 turned_push rest worker =
-    let passes = map (λ (w : PassView × Beginning). w.0) rest in
+    let passes = map (λ (w : PassView × KnownPrefix). w.0) rest in
     ap (λ (ps : List PassView). reverse ps)
-    (map-append (λ (w : PassView × Beginning). w.0) rest (worker ∷ []))
+    (map-append (λ (w : PassView × KnownPrefix). w.0) rest (worker ∷ []))
     ∙ reverse-append passes (worker.0 ∷ [])
 
 -- ---- the passes so far and those of the remaining workers are all
 
 -- one more worker
-pub one_gathered : (room more : List PassView) (workers rest : List (PassView × Beginning))
-    (worker : PassView × Beginning) (pass : PassView) (all : List PassView)
+pub one_gathered : (room more : List PassView) (workers rest : List (PassView × KnownPrefix))
+    (worker : PassView × KnownPrefix) (pass : PassView) (all : List PassView)
     → workers ≡ rest ++ worker ∷ [] → more ≡ room ++ pass ∷ [] → pass ≡ worker.0
     → room ++ turned workers ≡ all → more ++ turned rest ≡ all
 one_gathered room more workers rest worker pass all split grown same so_far =
@@ -36,7 +36,7 @@ one_gathered room more workers rest worker pass all split grown same so_far =
     ∙ so_far
 
 -- no worker remains
-pub all_gathered : (room : List PassView) (workers : List (PassView × Beginning))
+pub all_gathered : (room : List PassView) (workers : List (PassView × KnownPrefix))
     (all : List PassView) → length workers ≡ 0 → room ++ turned workers ≡ all → room ≡ all
 all_gathered room [] all none so_far = sym (append-nil room) ∙ so_far
 all_gathered room (w ∷ workers) all none so_far = absurd (omega (arith, none))
@@ -50,12 +50,12 @@ All-reverse P (x ∷ xs) all =
 
 -- ---- what each worker has read
 
-abbrev pub HasSeen : List Rules → PassView × Beginning → Type 0
+abbrev pub HasSeen : List Rules → PassView × KnownPrefix → Type 0
 HasSeen published worker = IsPrefix worker.1.rulesets published
 
 -- if all remaining workers have read only what was published, all have
-pub one_more_has : (published : List Rules) (workers rest : List (PassView × Beginning))
-    (worker : PassView × Beginning) (all : List (PassView × Beginning))
+pub one_more_has : (published : List Rules) (workers rest : List (PassView × KnownPrefix))
+    (worker : PassView × KnownPrefix) (all : List (PassView × KnownPrefix))
     → workers ≡ rest ++ worker ∷ [] → IsPrefix worker.1.rulesets published
     → (All (HasSeen published) workers → All (HasSeen published) all)
     → All (HasSeen published) rest → All (HasSeen published) all
@@ -63,7 +63,7 @@ one_more_has published workers rest worker all split seen before others =
     let P = HasSeen published in
     before (All-same P workers (rest ++ worker ∷ []) split (All-push P rest worker others seen))
 
-pub all_have_seen : (published : List Rules) (workers all : List (PassView × Beginning))
+pub all_have_seen : (published : List Rules) (workers all : List (PassView × KnownPrefix))
     → length workers ≡ 0 → (All (HasSeen published) workers → All (HasSeen published) all)
     → All (HasSeen published) all
 all_have_seen published [] all none before = before (All-nil (HasSeen published))

@@ -10,7 +10,7 @@ use Rattle.cells.specs.declared.event.CellEvent.{CellEvent}
 use Rattle.shared_cells.specs.Passes.{CellsView, PassView, IsPassOf, IsNewPass, Gained}
 use Rattle.shared_cells.specs.Passes.{PassesGainLists}
 use Rattle.thread_laws.specs.Passes.{AreLoads}
-use Rattle.hot_swap.specs.Published.{Beginning, GoesOnwards, IsLatest, ShorterBegins}
+use Rattle.hot_swap.specs.Published.{KnownPrefix, Extends, IsLatest, ShorterBegins}
 use Rattle.hot_swap.specs.declared.publisher_id.PublisherId.{PublisherId}
 use Rattle.ruleset.specs.Rules.{Rules}
 use Rattle.workers.specs.Answers.{AnswersGoOnwards}
@@ -46,15 +46,15 @@ has_looked gain table old reads new is grown =
     subst AreLoads (sym (all_made gain table old reads new is grown))
 
 -- new workers belong to the cells
-pub new_belong : (cells : CellsView) (known : Beginning) (workers : List (PassView × Beginning))
+pub new_belong : (cells : CellsView) (known : KnownPrefix) (workers : List (PassView × KnownPrefix))
     → All (IsNewWorker cells.table known) workers → All (λ w. IsPassOf cells w.0) workers
 new_belong cells known workers =
-    All-weaker (IsNewWorker cells.table known) (λ (w : PassView × Beginning). IsPassOf cells w.0)
+    All-weaker (IsNewWorker cells.table known) (λ (w : PassView × KnownPrefix). IsPassOf cells w.0)
     (λ w is. is.pass.of) workers
 
 -- returned workers belong to the server
-pub are_of_server : AnswersGoOnwards → (cells : CellsView) (known : Beginning)
-    (publisher : PublisherId) (old new : List (PassView × Beginning))
+pub are_of_server : AnswersGoOnwards → (cells : CellsView) (known : KnownPrefix)
+    (publisher : PublisherId) (old new : List (PassView × KnownPrefix))
     → publisher ≡ known.publisher → All (IsNewWorker cells.table known) old
     → AllZip (WorkerBack (IsPassOf cells) Gained) old new → All (IsOfServer cells publisher) new
 are_of_server onwards cells known publisher old new same =
@@ -64,19 +64,19 @@ are_of_server onwards cells known publisher old new same =
       pass = back.belongs_yet;
       watcher =
           same ∙ sym ((onwards x.1 y.1 back.answers back.in_turn).publisher
-          ∙ ap (λ (b : Beginning). b.publisher) is.watches);
+          ∙ ap (λ (b : KnownPrefix). b.publisher) is.watches);
     })
     old new
 
 -- ---- a worker has read only what was published
 
-shorter : (a b : Beginning) → GoesOnwards a b → length a.rulesets ≤ length b.rulesets
+shorter : (a b : KnownPrefix) → Extends a b → length a.rulesets ≤ length b.rulesets
 shorter a b goes =
     let size = sym (ap length goes.onwards.1) ∙ length-append a.rulesets goes.onwards.0 in
     omega (arith, size)
 
-pub has_seen : ShorterBegins → (old told learned new : Beginning) (generation : ℕ) (rules : Rules)
-    → GoesOnwards old learned → GoesOnwards told learned → GoesOnwards learned new
+pub has_seen : ShorterBegins → (old told learned new : KnownPrefix) (generation : ℕ) (rules : Rules)
+    → Extends old learned → Extends told learned → Extends learned new
     → IsLatest new generation rules → generation ≤ length told.rulesets
     → IsPrefix old.rulesets told.rulesets
 has_seen begins old told learned new generation rules first second last is less =

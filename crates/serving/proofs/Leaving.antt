@@ -8,7 +8,7 @@ use Rattle.cells.specs.declared.event.CellEvent.{CellEvent}
 use Rattle.shared_cells.specs.Passes.{CellsView, ClosedView, AreClosed}
 use Rattle.operator.specs.Control.{Controlled, Loading, KnowOnlyItsArrays}
 use Rattle.operator.specs.Leading.{AnsweredLine, LinesLead, LinesKeepToArrays}
-use Rattle.hot_swap.specs.Published.{Beginning}
+use Rattle.hot_swap.specs.Published.{KnownPrefix}
 use Rattle.ruleset.specs.Rules.{Rules, IsRuleset, KnowsOnly}
 use Rattle.serving.specs.Ended.{LeavesOneWorld, runs_by_pass}
 use Rattle.serving.proofs.Turns.{DidInTurn}
@@ -26,16 +26,16 @@ knows_first control arrays rules same listed only =
 -- and all published rulesets know only the server's arrays at its end
 pub leaves : {F : Type 0} (loads : Loading F) → LinesKeepToArrays loads → ThreadsGrantQuotas
     → (cells : CellsView) (control end : Controlled) (lines : List (AnsweredLine F))
-    (reads : List CellEvent) (published : Beginning) (closed : ClosedView)
+    (reads : List CellEvent) (published : KnownPrefix) (closed : ClosedView)
     → AreClosed cells closed → LinesLead loads control lines reads end → IsDirectory end.arrays
     → KnowOnlyItsArrays control → published ≡ end.publishing.known
     → All IsRuleset published.rulesets → DidInTurn control.publishing.known published closed
     → LeavesOneWorld loads cells control closed
 leaves loads keep grant cells control end lines reads published closed own led directory knows
     same sound did =
-    let sound_now = subst (λ (b : Beginning). All IsRuleset b.rulesets) same sound in
+    let sound_now = subst (λ (b : KnownPrefix). All IsRuleset b.rulesets) same sound in
     let now =
-    subst (λ (b : Beginning). DidInTurn control.publishing.known b closed) same did in
+    subst (λ (b : KnownPrefix). DidInTurn control.publishing.known b closed) same did in
     let world = now.did in
     let only = keep control end lines reads led knows in
     record {

@@ -4,7 +4,7 @@ use Rattle.std.proofs.lemmas.List.{length_push}
 use Rattle.std.proofs.lemmas.List.Elements.{All-same, All-push, All-pop}
 use Rattle.atomic_table.specs.Seated.{TableId}
 use Rattle.shared_cells.specs.Passes.{CellsView, PassView, IsNewPass}
-use Rattle.hot_swap.specs.Published.{Beginning}
+use Rattle.hot_swap.specs.Published.{KnownPrefix}
 use Rattle.serving.specs.Staff.{IsNewWorker, IsStaff}
 
 pub one_less : {A B : Type 0} (old rest : List A) (a : A) (xs more : List B) (b : B)
@@ -16,8 +16,8 @@ one_less old rest a xs more b split grown =
     omega (arith, x, y)
 
 -- a worker takes the last pass
-pub one_worker : (table : TableId) (known : Beginning) (passes rest : List PassView)
-    (pass : PassView) (workers more : List (PassView × Beginning)) (watcher : Beginning)
+pub one_worker : (table : TableId) (known : KnownPrefix) (passes rest : List PassView)
+    (pass : PassView) (workers more : List (PassView × KnownPrefix)) (watcher : KnownPrefix)
     → passes ≡ rest ++ pass ∷ [] → more ≡ workers ++ (pass, watcher) ∷ [] → watcher ≡ known
     → All (IsNewPass table) passes × All (IsNewWorker table known) workers
     → All (IsNewPass table) rest × All (IsNewWorker table known) more
@@ -31,8 +31,8 @@ one_worker table known passes rest pass workers more watcher split grown seen ne
     )
 
 -- the operator takes the last pass, and each worker takes one of the others
-pub is_staff : (cells : CellsView) (known : Beginning) (all rest : List PassView) (pass : PassView)
-    (workers : List (PassView × Beginning))
+pub is_staff : (cells : CellsView) (known : KnownPrefix) (all rest : List PassView) (pass : PassView)
+    (workers : List (PassView × KnownPrefix))
     → cells.passes ≡ length all → All (IsNewPass cells.table) all → all ≡ rest ++ pass ∷ []
     → length workers ≡ length rest
     → (All (IsNewPass cells.table) rest → All (IsNewWorker cells.table known) workers)

@@ -12,7 +12,7 @@ use Rattle.shared_cells.specs.Quotas.{QuotasAreExact}
 use Rattle.thread_laws.specs.InTurn.{AreOfRuns, events_in_turn}
 use Rattle.thread_laws.specs.Passes.{AreLoads, DidRuns, PassesAreOneWorld, all_runs}
 use Rattle.thread_laws.specs.Runs.{AppRun, IsRunUnder, IsWholeRun}
-use Rattle.hot_swap.specs.Published.{Beginning, GoesOnwards, HasLast}
+use Rattle.hot_swap.specs.Published.{KnownPrefix, Extends, HasLast}
 use Rattle.ruleset.specs.Rules.{Rules, IsRuleset}
 use Rattle.workers.specs.Answers.{WorkerAnswer, AreInTurn, made_in_turn}
 use Rattle.workers.specs.Answers.{AnswersGoOnwards, AnswersStayInTurn}
@@ -33,19 +33,19 @@ pub record Laws : Type 0 where
   pub world : PassesAreOneWorld
 
 -- what a pass did is the runs of answers in turn
-record HasAnswered (from to : Beginning) (pass : PassView) : Type 0 where
+record HasAnswered (from to : KnownPrefix) (pass : PassView) : Type 0 where
   pub answers : List WorkerAnswer
   pub in_turn : AreInTurn from answers to
   pub ran : AreOfRuns to.rulesets (runs_in_turn answers) pass.events
 
 -- a worker that has read only what was published
-has_answered : Laws → (cells : CellsView) (known to : Beginning) (old new : PassView × Beginning)
+has_answered : Laws → (cells : CellsView) (known to : KnownPrefix) (old new : PassView × KnownPrefix)
     → IsNewWorker cells.table known old → WorkerBack (IsPassOf cells) Gained old new
-    → GoesOnwards new.1 to → HasAnswered known to new.0
+    → Extends new.1 to → HasAnswered known to new.0
 has_answered laws cells known to old new is back seen =
     let answers = back.answers in
     let first =
-    subst (λ (from : Beginning). AreInTurn from answers new.1) is.watches back.in_turn in
+    subst (λ (from : KnownPrefix). AreInTurn from answers new.1) is.watches back.in_turn in
     let turn = laws.stay known new.1 to answers first seen in
     let made =
     all_made laws.gain cells.table old.0 (made_in_turn answers) new.0 is.pass back.grown in
@@ -56,16 +56,16 @@ has_answered laws cells known to old new is back seen =
           (laws.runs known to answers turn);
     }
 
-all_answered : Laws → (cells : CellsView) (known to : Beginning)
-    (old new : List (PassView × Beginning)) → to.publisher ≡ known.publisher
+all_answered : Laws → (cells : CellsView) (known to : KnownPrefix)
+    (old new : List (PassView × KnownPrefix)) → to.publisher ≡ known.publisher
     → All (IsNewWorker cells.table known) old
     → AllZip (WorkerBack (IsPassOf cells) Gained) old new
     → All (λ w. IsPrefix w.1.rulesets to.rulesets) new
     → All (λ w. HasAnswered known to w.0) new
 all_answered laws cells known to old new same is back seen =
     let own = are_of_server laws.onwards cells known to.publisher old new same is back in
-    let Q : PassView × Beginning → Type 0 =
-    λ (w : PassView × Beginning). GoesOnwards w.1 to → HasAnswered known to w.0 in
+    let Q : PassView × KnownPrefix → Type 0 =
+    λ (w : PassView × KnownPrefix). Extends w.1 to → HasAnswered known to w.0 in
     let each : All Q new =
     zipped (IsNewWorker cells.table known) (WorkerBack (IsPassOf cells) Gained) Q
     (λ x y. has_answered laws cells known to x y) old new is back in
@@ -76,7 +76,7 @@ all_answered laws cells known to old new same is back seen =
 
 -- ---- pass after pass
 
-record HaveAnswered (from to : Beginning) (passes : List PassView) : Type 0 where
+record HaveAnswered (from to : KnownPrefix) (passes : List PassView) : Type 0 where
   pub answers : List (List WorkerAnswer)
   pub as_many : length answers ≡ length passes
   pub in_turn : All (λ given. AreInTurn from given to) answers
@@ -84,7 +84,7 @@ record HaveAnswered (from to : Beginning) (passes : List PassView) : Type 0 wher
   pub ran : (k : ℕ) → get_or (lists_of passes) k []
       ≡ events_in_turn (get_or (map runs_in_turn answers) k [])
 
-none_answered : (from to : Beginning) → HaveAnswered from to []
+none_answered : (from to : KnownPrefix) → HaveAnswered from to []
 none_answered from to = record {
   answers = [];
   as_many = refl;
@@ -93,7 +93,7 @@ none_answered from to = record {
   ran = λ k. refl;
 }
 
-one_answered : (from to : Beginning) (pass : PassView) (passes : List PassView)
+one_answered : (from to : KnownPrefix) (pass : PassView) (passes : List PassView)
     → HasAnswered from to pass → HaveAnswered from to passes
     → HaveAnswered from to (pass ∷ passes)
 one_answered from to pass passes first rest = record {
@@ -111,7 +111,7 @@ one_answered from to pass passes first rest = record {
     ran_at zero = first.ran.events_are
     ran_at (suc k) = rest.ran k
 
-have_answered : (from to : Beginning) (passes : List PassView)
+have_answered : (from to : KnownPrefix) (passes : List PassView)
     → All (HasAnswered from to) passes → HaveAnswered from to passes
 have_answered from to [] all = none_answered from to
 have_answered from to (p ∷ ps) all =
@@ -119,7 +119,7 @@ have_answered from to (p ∷ ps) all =
     (have_answered from to ps (All-tail (HasAnswered from to) p ps all))
 
 -- the operator did no runs
-all_did : (from to : Beginning) (operator : PassView) (others : List PassView)
+all_did : (from to : KnownPrefix) (operator : PassView) (others : List PassView)
     (have : HaveAnswered from to others) → AreLoads operator.events
     → DidRuns (lists_of (operator ∷ others)) 0 (runs_by_pass have.answers)
 all_did from to operator others have looked = record {
@@ -155,13 +155,13 @@ by_runs world (first ∷ later) last runs closed is sound did whole left counter
     }
 
 -- the answers of a server's workers, in turn, and what their runs did to the counters
-pub record DidInTurn (from to : Beginning) (closed : ClosedView) : Type 0 where
+pub record DidInTurn (from to : KnownPrefix) (closed : ClosedView) : Type 0 where
   pub answers : List (List WorkerAnswer)
   pub in_turn : All (λ given. AreInTurn from given to) answers
   pub did : AreLeftByOneWorld to.rulesets (runs_by_pass answers) closed
 
-pub did_in_turn : Laws → (cells : CellsView) (from to : Beginning) (last : Rules)
-    (operator : PassView) (old new : List (PassView × Beginning)) (closed : ClosedView)
+pub did_in_turn : Laws → (cells : CellsView) (from to : KnownPrefix) (last : Rules)
+    (operator : PassView) (old new : List (PassView × KnownPrefix)) (closed : ClosedView)
     → HasLast to.rulesets last → All IsRuleset to.rulesets → AreLoads operator.events
     → to.publisher ≡ from.publisher → All (IsNewWorker cells.table from) old
     → AllZip (WorkerBack (IsPassOf cells) Gained) old new
@@ -172,8 +172,8 @@ did_in_turn laws cells from to last operator old new closed is sound looked publ
     seen same left counters =
     let others = turned new in
     let have = have_answered from to others
-    (All-reverse (HasAnswered from to) (map (λ (w : PassView × Beginning). w.0) new)
-    (All-map (HasAnswered from to) (λ (w : PassView × Beginning). w.0) new
+    (All-reverse (HasAnswered from to) (map (λ (w : PassView × KnownPrefix). w.0) new)
+    (All-map (HasAnswered from to) (λ (w : PassView × KnownPrefix). w.0) new
     (all_answered laws cells from to old new publisher fresh back seen))) in
     let runs = runs_by_pass have.answers in
     let did = subst (λ (ps : List PassView). DidRuns (lists_of ps) 0 runs) (sym same)

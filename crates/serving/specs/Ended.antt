@@ -10,7 +10,7 @@ use Rattle.cells.specs.Directory.{IsDirectory}
 use Rattle.cells.specs.declared.event.CellEvent.{CellEvent}
 use Rattle.operator.specs.Control.{Controlled, Loading, KnowOnlyItsArrays}
 use Rattle.operator.specs.Leading.{AnsweredLine, LinesLead}
-use Rattle.hot_swap.specs.Published.{Beginning}
+use Rattle.hot_swap.specs.Published.{KnownPrefix}
 use Rattle.hot_swap.specs.declared.publisher_id.PublisherId.{PublisherId}
 use Rattle.ruleset.specs.Rules.{Rules, IsRuleset}
 use Rattle.workers.specs.Answers.{WorkerAnswer, AreInTurn}
@@ -60,12 +60,12 @@ pub record LeavesOneWorld {F : Type 0} (loads : Loading F) (cells : CellsView)
 
 -- a worker whose thread has ended: its pass is to these cells, and its watcher is of this publisher
 pub record IsOfServer (cells : CellsView) (publisher : PublisherId)
-    (worker : PassView × Beginning) : Type 0 where
+    (worker : PassView × KnownPrefix) : Type 0 where
   pub pass : IsPassOf cells worker.0
   pub watcher : publisher ≡ worker.1.publisher
 
 -- the passes as they are closed: the operator's, then those of the workers from the last to the
 -- first
-abbrev pub passes_of : PassView → List (PassView × Beginning) → List PassView
+abbrev pub passes_of : PassView → List (PassView × KnownPrefix) → List PassView
 passes_of operator workers =
-    operator ∷ reverse (map (λ (worker : PassView × Beginning). worker.0) workers)
+    operator ∷ reverse (map (λ (worker : PassView × KnownPrefix). worker.0) workers)

@@ -3,18 +3,18 @@
 use Rattle.std.specs.Prelude.{◌≡◌, ◌+◌, List, All, length}
 use Rattle.atomic_table.specs.Seated.{TableId}
 use Rattle.shared_cells.specs.Passes.{CellsView, PassView, IsNewPass}
-use Rattle.hot_swap.specs.Published.{Beginning}
+use Rattle.hot_swap.specs.Published.{KnownPrefix}
 
 -- a worker before it serves: its pass to the cells of this table has made no event, and its watcher
 -- knows what is installed
-pub record IsNewWorker (table : TableId) (known : Beginning) (worker : PassView × Beginning)
+pub record IsNewWorker (table : TableId) (known : KnownPrefix) (worker : PassView × KnownPrefix)
     : Type 0 where
   pub pass : IsNewPass table worker.0
   pub watches : worker.1 ≡ known
 
 -- all passes to the cells are those of the operator and of the workers, and none has made an event
-pub record IsStaff (cells : CellsView) (pass : PassView) (known : Beginning)
-    (workers : List (PassView × Beginning)) : Type 0 where
+pub record IsStaff (cells : CellsView) (pass : PassView) (known : KnownPrefix)
+    (workers : List (PassView × KnownPrefix)) : Type 0 where
   pub all : cells.passes ≡ length workers + 1
   pub own : IsNewPass cells.table pass
   pub each : All (IsNewWorker cells.table known) workers

@@ -68,17 +68,17 @@ begins n ws zeros = record {
   words = zeros.count;
   stored = λ c lt. zeros.zero c ∙ sym (stored_word-zero c)
       ∙ ap (stored_word c) (sym (zeros.zero c));
-  told = told;
+  agrees = agrees;
   once = λ p. one_seat (accounts_of p) (new_accounts 0 n) ∙ new_once n p;
   whole = one_seat (λ (v : List Account). length v) (new_accounts 0 n) ∙ new_length 0 n;
   known = λ p le. refl;
 }
   where
-    told : (id : ℕ) (v : List Account) → get_elem? (new_accounts 0 n ∷ []) id ≡ some v
+    agrees : (id : ℕ) (v : List Account) → get_elem? (new_accounts 0 n ∷ []) id ≡ some v
         → All (AgreesWith []) v
-    told zero v e = subst (All (AgreesWith [])) (some-injective (new_accounts 0 n) v e)
+    agrees zero v e = subst (All (AgreesWith [])) (some-injective (new_accounts 0 n) v e)
         (new_agree 0 n)
-    told (suc id) v e = absurd (some-ne-none v (sym e))
+    agrees (suc id) v e = absurd (some-ne-none v (sym e))
 
 cut_in_two : (f : List Account → ℕ) (v : List Account) → f [] ≡ 0
     → ((x : Account) (xs : List Account) → f (x ∷ xs) ≡ f (x ∷ []) + f xs)
@@ -121,16 +121,16 @@ splits n id v s rule at =
       cells = rule.cells;
       words = rule.words;
       stored = rule.stored;
-      told = λ j u there.
+      agrees = λ j u there.
           ⊎_elim
           (λ (old : get_elem? rest j ≡ some u).
           ⊎_elim
           (λ (t : (j ≡ id) × (left ≡ u)). subst (All (AgreesWith rule.history)) t.1
-          (rest_agrees rule.history v (rule.told id v at)))
-          (λ (t : (j ≢ id) × (get_elem? s.views j ≡ some u)). rule.told j u t.1)
+          (rest_agrees rule.history v (rule.agrees id v at)))
+          (λ (t : (j ≢ id) × (get_elem? s.views j ≡ some u)). rule.agrees j u t.1)
           (at_set s.views id j left u old))
           (λ (new : right ≡ u). subst (All (AgreesWith rule.history)) new
-          (first_agrees rule.history v (rule.told id v at)))
+          (first_agrees rule.history v (rule.agrees id v at)))
           (at_snoc rest right u j there);
       once = λ p. sum (accounts_of p) (cut_in_two (accounts_of p) v refl (count_adds p))
           ∙ rule.once p;
@@ -149,8 +149,8 @@ joins n id v other w s rule at two there =
     ⊎_elim (λ (t : (other ≡ id) × (both ≡ w)). absurd (two t.0))
     (λ (t : (other ≢ id) × (get_elem? s.views other ≡ some w)). t.1)
     (at_set s.views id other both w there) in
-    let all_agree = All-append (AgreesWith rule.history) w v (rule.told other w theirs)
-    (rule.told id v at) in
+    let all_agree = All-append (AgreesWith rule.history) w v (rule.agrees other w theirs)
+    (rule.agrees id v at) in
     let sum : (f : List Account → ℕ) → f [] ≡ 0 → f both ≡ f w + f v
     → sum_by f (set first other []) ≡ sum_by f s.views = λ f none adds.
     let t = sum_set f s.views id v both at in
@@ -162,14 +162,14 @@ joins n id v other w s rule at two there =
       cells = rule.cells;
       words = rule.words;
       stored = rule.stored;
-      told = λ j u e.
+      agrees = λ j u e.
           ⊎_elim
           (λ (t : (j ≡ other) × ([] ≡ u)). subst (All (AgreesWith rule.history)) t.1
           (All-nil (AgreesWith rule.history)))
           (λ (t : (j ≢ other) × (get_elem? first j ≡ some u)).
           ⊎_elim
           (λ (x : (j ≡ id) × (both ≡ u)). subst (All (AgreesWith rule.history)) x.1 all_agree)
-          (λ (x : (j ≢ id) × (get_elem? s.views j ≡ some u)). rule.told j u x.1)
+          (λ (x : (j ≢ id) × (get_elem? s.views j ≡ some u)). rule.agrees j u x.1)
           (at_set s.views id j both u t.1))
           (at_set first other j [] u e);
       once = λ p. sum (accounts_of p) refl (count-append p w v) ∙ rule.once p;

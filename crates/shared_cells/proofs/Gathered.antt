@@ -98,7 +98,7 @@ closes n id v passes ws xs all same final =
       legal = subst (λ (es : List CellEvent). IsLegal es (stored_values 0 ws))
           (sym (same_events v rule.history)) legal;
       own = λ p.
-          own_by_place v rule.history (rule.told id v at)
+          own_by_place v rule.history (rule.agrees id v at)
           (λ m. let k = numbers m in let o = at_most_one (nat_lt m n) in omega arith)
           (λ m none. rule.known m (none_above n m (sym (numbers m) ∙ none))) p
           ∙ ap (λ (l : List (List CellEvent)). get_or l p []) same;

@@ -157,7 +157,7 @@ pub own_by_place : (v : List Account) (history : List Entry) → All (AgreesWith
     → ((m : ℕ) → accounts_of m v ≤ 1)
     → ((m : ℕ) → accounts_of m v ≡ 0 → events_by m history ≡ [])
     → (p : ℕ) → events_by p (by_place v history) ≡ get_or (events_known v) p []
-own_by_place v history told once known p = by (cases_lt p (length v))
+own_by_place v history agrees once known p = by (cases_lt p (length v))
   where
     some_account : Account
     some_account = record { number = 0; events = [] }
@@ -167,7 +167,7 @@ own_by_place v history told once known p = by (cases_lt p (length v))
     by (inl lt) =
         let x = get_or v p some_account in
         moved v p x.number history (place_is v p some_account lt (once x.number))
-        ∙ told p some_account lt ∙ sym (known_at v p some_account lt)
+        ∙ agrees p some_account lt ∙ sym (known_at v p some_account lt)
     by (inr le) =
         none_past v p history le known
         ∙ sym (past_end (events_known v) p [] (let l = length_known v in omega arith))

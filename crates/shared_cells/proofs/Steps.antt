@@ -93,7 +93,7 @@ one_acts {S} n slots id p made held cell op f room does s rule homes at small =
     let e : CellEvent = event cell op
     (reply_of (stored_value cell (slice_index s.words cell)) op) in
     let new = account p (made ++ e ∷ []) ∷ [] in
-    let mine = All-head (AgreesWith rule.history) (account p made) [] (rule.told id old at) in
+    let mine = All-head (AgreesWith rule.history) (account p made) [] (rule.agrees id old at) in
     let reply : e.reply ≡ reply_of value op =
     ap (λ (k : ℕ). reply_of k op) (ap (stored_value cell) (rule.stored cell room)
     ∙ stored_value-stored_word cell value) in
@@ -104,7 +104,7 @@ one_acts {S} n slots id p made held cell op f room does s rule homes at small =
     let most = at_most_one (nat_lt p n) in
     let me = itself p made in
     let nil : accounts_of p [] ≡ 0 = refl in
-    let told : (j : ℕ) (u : List Account) → get_elem? (set s.views id new) j ≡ some u
+    let agrees : (j : ℕ) (u : List Account) → get_elem? (set s.views id new) j ≡ some u
     → All (AgreesWith history) u = λ j u there.
     ⊎_elim
     (λ (t : (j ≡ id) × (new ≡ u)).
@@ -114,7 +114,7 @@ one_acts {S} n slots id p made held cell op f room does s rule homes at small =
     (All-nil (AgreesWith history))))
     (λ (t : (j ≢ id) × (get_elem? s.views j ≡ some u)).
     let two = two_seats (accounts_of p) s.views id j old u t.0 refl at t.1 in
-    others_agree p rule.history e u (omega arith) (rule.told j u t.1))
+    others_agree p rule.history e u (omega arith) (rule.agrees j u t.1))
     (at_set s.views id j new u there) in
     let known : (q : ℕ) → n ≤ q → events_by q history ≡ [] = λ q le.
     let count = sum_set (accounts_of p) s.views id old [] at in
@@ -140,7 +140,7 @@ one_acts {S} n slots id p made held cell op f room does s rule homes at small =
         words = length-set s.words cell (f (slice_index s.words cell)) ∙ rule.words;
         stored = stored_after s.words rule.values cell op f rule.words rule.cells room rule.stored
             does;
-        told = told;
+        agrees = agrees;
         once = once;
         whole = whole;
         known = known;
@@ -170,14 +170,14 @@ module _ {S : Type 0} {cells now : CellsView} {seat pass : PassView} {n slots id
     (seat_is : seat ≡ pass) (belongs : IsPassOf now pass) (many : cells.table.words ≡ 8192)
     (room : at < 8192) (one : KnowsOne me) (here : cell ≡ at) where
   -- the step of the call's operation
-  pub allowed : {asked : CellOp} (f : ℕ → ℕ) → op ≡ asked → DoesTo at f asked
+  pub allowed : {access : CellOp} (f : ℕ → ℕ) → op ≡ access → DoesTo at f access
       → (seat.table ≡ cells.table) × (at < cells.table.words)
       × Allows (HasHistory n) slots id me at f (Gains cell op me)
-  allowed {asked} f same does = (
+  allowed {access} f same does = (
     at_table cells_are seat_is belongs,
     omega (arith, many, room),
     subst (λ (x : ℕ × CellOp). Allows {S = S} (HasHistory n) slots id me at f (Gains x.0 x.1 me))
-        (λ i. (sym here i, sym same i)) (acts n slots id me at asked f one room does),
+        (λ i. (sym here i, sym same i)) (acts n slots id me at access f one room does),
   )
 
   -- a store finds nothing, and its reply doesn't depend on what it found

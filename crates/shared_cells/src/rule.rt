@@ -27,7 +27,7 @@ impl TableRule<(), View, usize> for OneHistory {
 }
 
 /// The cell and the operation of a step, which its call names.
-pub trait Asked {
+pub trait NamedAccess {
     ghost use Rattle.std.specs.Prelude.{ℕ};
     ghost use Rattle.cells.specs.declared.event.CellOp.{CellOp};
 
@@ -38,7 +38,7 @@ pub trait Asked {
 
 // The default of a call. `act` names its own cell and operation in its proof, so these two mean
 // nothing.
-impl Asked for Brand {
+impl NamedAccess for Brand {
     ghost use Rattle.cells.specs.declared.event.CellOp.TheVariants.{Load};
 
     ghost cell = { 0 };
@@ -47,11 +47,11 @@ impl Asked for Brand {
 }
 
 /// A step by which a pass gains its event.
-pub struct OneEvent<J: Asked> {
-    asked: PhantomData<J>,
+pub struct OneEvent<J: NamedAccess> {
+    access: PhantomData<J>,
 }
 
-impl<J: Asked> Play<(), View> for OneEvent<J> {
+impl<J: NamedAccess> Play<(), View> for OneEvent<J> {
     ghost use Rattle.shared_cells.specs.Rule.{Gains};
 
     ghost then = { λ s old found new. Gains J.cell J.op old found new };

@@ -5,7 +5,7 @@ ghost use Rattle.cells.specs.Events.{event, CanReply};
 ghost use Rattle.shared_cells.specs.Passes.{IsPassOf, Gained};
 
 use crate::pass::SharedPass;
-use crate::rule::{Asked, OneEvent, OneHistory, View};
+use crate::rule::{NamedAccess, OneEvent, OneHistory, View};
 use crate::word::{to_value, to_word};
 use atomic_table::Table;
 use cells::{CellNo, CellOp, CellSteps};
@@ -46,7 +46,7 @@ impl CellSteps for SharedCells {
 
 impl SharedCells {
     // One atomic step on the cell's word, of a kind for each operation.
-    fn act_as<J: Asked>(&self, pass: &mut SharedPass, cell: CellNo, op: CellOp) -> u64
+    fn act_as<J: NamedAccess>(&self, pass: &mut SharedPass, cell: CellNo, op: CellOp) -> u64
         requires cell { J.cell ≡ cell.number }
         requires op { J.op ≡ op }
         requires belongs { IsPassOf self.now pass.old }

@@ -5,7 +5,7 @@ use Rattle.std.specs.Prelude.{◌==◌, if◌then◌else◌, slice_get}
 use Rattle.std.proofs.lemmas.Bool.{cases_eq}
 use Rattle.cells.specs.declared.event.CellEvent.{CellEvent}
 use Rattle.shared_cells.specs.History.{Entry, events_by}
-use Rattle.world.specs.History.{asked_by, made_at}
+use Rattle.world.specs.History.{accesses_of, made_at}
 use Rattle.world.specs.World.{WorldState}
 use Rattle.world.specs.declared.event.Event.{Event}
 use Rattle.world.specs.declared.event.Event.TheVariants.{Start, Step, Finish, Swap}
@@ -47,11 +47,11 @@ one_made : (k : ℕ) (w : WorldState) (e : Event) → events_by k (entries_at w 
 one_made k w (Step j) = elim (cases_eq k j) [
   | inl same ↦
       let P : ℕ → Type 0 = λ (i : ℕ). events_by k (entries_at w (Step i)) ≡ made_at k w (Step i) in
-      let asked = asked_by w.cells (slice_get w.workers k) in
-      subst P same (own_entries k asked ∙ chosen (k == k) asked (same_number k))
+      let accesses = accesses_of w.cells (slice_get w.workers k) in
+      subst P same (own_entries k accesses ∙ chosen (k == k) accesses (same_number k))
   | inr other ↦
-      other_entries k j (asked_by w.cells (slice_get w.workers j)) other
-      ∙ left_out (j == k) (asked_by w.cells (slice_get w.workers k)) (other_number k j other)
+      other_entries k j (accesses_of w.cells (slice_get w.workers j)) other
+      ∙ left_out (j == k) (accesses_of w.cells (slice_get w.workers k)) (other_number k j other)
 ]
 one_made k w (Start j attrs) = refl
 one_made k w (Finish j) = refl

@@ -11,9 +11,9 @@ use Rattle.cells.specs.declared.event.CellEvent.{CellEvent}
 use Rattle.cells.specs.Events.{IsEvent}
 use Rattle.ruleset.specs.Rules.{Rules}
 use Rattle.shared_cells.specs.History.{Entry}
-use Rattle.world.specs.Counters.{asked, answered}
+use Rattle.world.specs.Counters.{accesses, answered}
 use Rattle.world.specs.Happens.{Answer, Happens, Plays, with_step}
-use Rattle.world.specs.History.{asked_by}
+use Rattle.world.specs.History.{accesses_of}
 use Rattle.world.specs.World.{WorldState, Worker, Running, Ended}
 use Rattle.world.specs.declared.event.Event.{Event}
 use Rattle.world.specs.declared.event.Event.TheVariants.{Step}
@@ -65,10 +65,10 @@ module _ (rs : List Rules) (v : WorldState) (k : ℕ) where
   -- the worker's access to the counters
   asks_so : (cells : List ℕ) (ws : List Worker) (n : ℕ) (p : ShapedProgram) (s : State)
       (o : Outcome) → slice_get ws k ≡ Some (Running n p s) → step p s ≡ o
-      → entries_at (world_of rs cells ws) (Step k) ≡ map (entry_by k) (asked cells o)
+      → entries_at (world_of rs cells ws) (Step k) ≡ map (entry_by k) (accesses cells o)
   asks_so cells ws n p s o is e =
-      ap (λ (x : Option Worker). map (entry_by k) (asked_by cells x)) is
-      ∙ ap (λ (x : Outcome). map (entry_by k) (asked cells x)) e
+      ap (λ (x : Option Worker). map (entry_by k) (accesses_of cells x)) is
+      ∙ ap (λ (x : Outcome). map (entry_by k) (accesses cells x)) e
 
   -- a step that touches no counter
   quietly : (history : List Entry) (cells : List ℕ) (ws : List Worker) (n : ℕ)

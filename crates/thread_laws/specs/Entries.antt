@@ -3,7 +3,7 @@ use Rattle.std.specs.Prelude.{◌≡◌, ℕ, List, [], ◌∷◌, ◌++◌, map
 use Rattle.cells.specs.declared.event.CellEvent.{CellEvent}
 use Rattle.shared_cells.specs.History.{Entry, events_by}
 use Rattle.world.specs.Happens.{Answer, Plays}
-use Rattle.world.specs.History.{asked_by, made_by}
+use Rattle.world.specs.History.{accesses_of, made_by}
 use Rattle.world.specs.World.{WorldState}
 use Rattle.world.specs.declared.event.Event.{Event}
 use Rattle.world.specs.declared.event.Event.TheVariants.{Start, Step, Finish, Swap}
@@ -14,7 +14,7 @@ entry_by k e = record { pass = k; event = e }
 
 -- the effect of an event of the world on them: only a Step has one, by its worker
 abbrev pub entries_at : WorldState → Event → List Entry
-entries_at w (Step k) = map (entry_by k) (asked_by w.cells (slice_get w.workers k))
+entries_at w (Step k) = map (entry_by k) (accesses_of w.cells (slice_get w.workers k))
 entries_at w (Start k attrs) = []
 entries_at w (Finish k) = []
 entries_at w (Swap rules) = []

@@ -20,7 +20,7 @@ use Rattle.cells.specs.declared.event.CellEvent.{CellEvent}
 use Rattle.thread_laws.specs.InTurn.{AreOfRuns, NoneAreOfRuns, OfRunsAppend, OfRunsStay}
 use Rattle.thread_laws.specs.Runs.{AppRun, IsWholeRun, AtEnd}
 use Rattle.world.specs.World.{ruleset_at, HasProgram}
-use Rattle.hot_swap.specs.Published.{Beginning, GoesOnwards, IsLatest, HasLast}
+use Rattle.hot_swap.specs.Published.{KnownPrefix, Extends, IsLatest, HasLast}
 use Rattle.omaha_json.specs.Request.{Request}
 use Rattle.ruleset.specs.Rules.{Rules, appid_of}
 use Rattle.workers.proofs.Turns.{turns_go_onwards}
@@ -128,7 +128,7 @@ module _ (law : Laws) (published : List Rules) (number : ℕ) (rules : Rules)
 
 -- ---- one answer
 
-module _ (law : Laws) (watcher : Beginning) (moment : ℤ) where
+module _ (law : Laws) (watcher : KnownPrefix) (moment : ℤ) where
   listed_as : (generation : ℕ) (rules : Rules) → IsLatest watcher generation rules
       → ruleset_at watcher.rulesets generation ≡ Some rules
   listed_as generation rules is =
@@ -163,8 +163,8 @@ module _ (law : Laws) (watcher : Beginning) (moment : ℤ) where
 
 -- ---- one answer after the other
 
-runs_stay : OfRunsStay → (v w : Beginning) (runs : List AppRun) (events : List CellEvent)
-    → GoesOnwards v w → AreOfRuns v.rulesets runs events → AreOfRuns w.rulesets runs events
+runs_stay : OfRunsStay → (v w : KnownPrefix) (runs : List AppRun) (events : List CellEvent)
+    → Extends v w → AreOfRuns v.rulesets runs events → AreOfRuns w.rulesets runs events
 runs_stay stay v w runs events goes of =
     subst (λ (l : List Rules). AreOfRuns l runs events) goes.onwards.1
     (stay v.rulesets goes.onwards.0 runs events of)

@@ -14,7 +14,7 @@ use Rattle.answering.specs.declared.answering.AnswerFault.{AnswerFault}
 use Rattle.answering.specs.declared.answering.AnswerFault.TheVariants.{Ended, Reading, Writing}
 use Rattle.cells.specs.Grown.{GrewBy, GrowsByAppend}
 use Rattle.cells.specs.declared.event.CellEvent.{CellEvent}
-use Rattle.hot_swap.specs.Published.{Beginning, GoesOnwards}
+use Rattle.hot_swap.specs.Published.{KnownPrefix, Extends}
 use Rattle.workers.proofs.Counts.{counts_on}
 use Rattle.workers.proofs.InPlace.{zip_through}
 use Rattle.workers.proofs.Onwards.{goes_nowhere}
@@ -29,7 +29,7 @@ use Rattle.workers.specs.declared.promise.WorkerPromises.{WorkerPromises}
 -- ---- one connection
 
 -- a reply to some bytes is also one without known bytes
-untold : (told : Option (List ℕ)) (w : Beginning) (moment : ℤ) (events : List CellEvent)
+untold : (told : Option (List ℕ)) (w : KnownPrefix) (moment : ℤ) (events : List CellEvent)
     (reply : HttpReply) → RepliesTo told w moment events reply
     → RepliesTo None w moment events reply
 untold told w moment events reply (taken body is replies) = taken body tt replies
@@ -39,8 +39,8 @@ abbrev IsAt : ℤ → WorkerAnswer → Type 0
 IsAt moment answer = answer.moment ≡ moment
 
 module _ {P : Type 0} (belongs : P → Type 0) (grew : P → CellEvent → P → Type 0)
-    (told : Option (List ℕ)) (v w : Beginning) (moment : ℤ) (p q : P) (here : belongs q)
-    (goes : GoesOnwards v w) where
+    (told : Option (List ℕ)) (v w : KnownPrefix) (moment : ℤ) (p q : P) (here : belongs q)
+    (goes : Extends v w) where
   by_reply : (reply : HttpReply) → RepliesByRuns grew told w moment p q reply
       → MomentBack belongs grew moment (p, v) (q, w)
   by_reply reply is =
@@ -90,7 +90,7 @@ module _ {P : Type 0} (belongs : P → Type 0) (grew : P → CellEvent → P →
 -- ---- one after the other
 
 module _ {P : Type 0} (belongs : P → Type 0) (grew : P → CellEvent → P → Type 0) where
-  pub back_at_once : (p : P) (w : Beginning) → belongs p → WorkerBack belongs grew (p, w) (p, w)
+  pub back_at_once : (p : P) (w : KnownPrefix) → belongs p → WorkerBack belongs grew (p, w) (p, w)
   back_at_once p w here = record {
     belongs_yet = here;
     answers = [];
@@ -98,7 +98,7 @@ module _ {P : Type 0} (belongs : P → Type 0) (grew : P → CellEvent → P →
     grown = refl;
   }
 
-  pub unread : (moment : ℤ) (p : P) (w : Beginning) → belongs p
+  pub unread : (moment : ℤ) (p : P) (w : KnownPrefix) → belongs p
       → MomentBack belongs grew moment (p, w) (p, w)
   unfolding back_at_once
   unread moment p w here = record {
@@ -106,7 +106,7 @@ module _ {P : Type 0} (belongs : P → Type 0) (grew : P → CellEvent → P →
     moments_are = All-nil (IsAt moment);
   }
 
-  pub back_later : GrowsByAppend grew → (a b c : P × Beginning) → WorkerBack belongs grew a b
+  pub back_later : GrowsByAppend grew → (a b c : P × KnownPrefix) → WorkerBack belongs grew a b
       → WorkerBack belongs grew b c → WorkerBack belongs grew a c
   back_later join a b c first last =
       let early = first.answers in
@@ -121,7 +121,7 @@ module _ {P : Type 0} (belongs : P → Type 0) (grew : P → CellEvent → P →
       }
 
   -- before any connection is taken
-  pub none_taken : (calls : ℕ) (p : P) (w : Beginning) → belongs p
+  pub none_taken : (calls : ℕ) (p : P) (w : KnownPrefix) → belongs p
       → ConnectionsBack belongs grew calls (p, w) (p, w)
   unfolding back_at_once
   none_taken calls p w here = record {
@@ -131,7 +131,7 @@ module _ {P : Type 0} (belongs : P → Type 0) (grew : P → CellEvent → P →
 
   -- one connection more
   pub one_taken : GrowsByAppend grew → (calls more : ℕ) → more ≡ min (calls + 1) (2 ^ 64 - 1)
-      → (a b c : P × Beginning) → ConnectionsBack belongs grew calls a b
+      → (a b c : P × KnownPrefix) → ConnectionsBack belongs grew calls a b
       → ConnectionBack belongs grew b c → ConnectionsBack belongs grew more a c
   unfolding back_later
   one_taken join calls more counts a b c old one =
@@ -148,7 +148,7 @@ module _ {P : Type 0} (belongs : P → Type 0) (grew : P → CellEvent → P →
 -- the same, if the cells are equal
 pub one_on : {X P : Type 0} (belongs : X → P → Type 0) (grew : P → CellEvent → P → Type 0)
     → GrowsByAppend grew → (first later : X) → later ≡ first → (calls more : ℕ)
-    → more ≡ min (calls + 1) (2 ^ 64 - 1) → (a b c : P × Beginning)
+    → more ≡ min (calls + 1) (2 ^ 64 - 1) → (a b c : P × KnownPrefix)
     → ConnectionsBack (belongs first) grew calls a b → ConnectionBack (belongs later) grew b c
     → ConnectionsBack (belongs first) grew more a c
 one_on belongs grew join first later same calls more counts a b c old one =
@@ -158,7 +158,7 @@ one_on belongs grew join first later same calls more counts a b c old one =
 -- ---- workers whose threads promised to return them
 
 abbrev WorkerThread : (X P : Type 0) → Type 0
-WorkerThread X P = PromisedHandle (P × Beginning) (WorkerPromise X P)
+WorkerThread X P = PromisedHandle (P × KnownPrefix) (WorkerPromise X P)
 
 -- what is kept for a promise's own cells and worker is kept for the equal ones
 kept_of : {X W : Type 0} (Kept : X → W → Type 0) (cells x : X) (given w : W) → x ≡ cells
@@ -168,36 +168,36 @@ kept_of Kept cells x given w over is kept =
 
 module _ {X P : Type 0} (belongs : X → P → Type 0) (grew : P → CellEvent → P → Type 0)
     (cells : X) where
-  is_back : (worker : P × Beginning) (promise : WorkerPromise X P) (back : P × Beginning)
+  is_back : (worker : P × KnownPrefix) (promise : WorkerPromise X P) (back : P × KnownPrefix)
       → IsPromiseOf cells worker promise
       → WorkerBack (belongs promise.cells.value) grew promise.given.value back
       → WorkerBack (belongs cells) grew worker back
   is_back worker promise back is =
-      kept_of (λ (x : X) (w : P × Beginning). WorkerBack (belongs x) grew w back)
+      kept_of (λ (x : X) (w : P × KnownPrefix). WorkerBack (belongs x) grew w back)
       cells promise.cells.value worker promise.given.value is.cells_are is.worker_is
 
-  pub all_back : (workers : List (P × Beginning)) (threads : List (WorkerThread X P))
-      (back : List (P × Beginning))
-      → AllZip (λ (worker : P × Beginning) (thread : WorkerThread X P).
+  pub all_back : (workers : List (P × KnownPrefix)) (threads : List (WorkerThread X P))
+      (back : List (P × KnownPrefix))
+      → AllZip (λ (worker : P × KnownPrefix) (thread : WorkerThread X P).
       IsPromiseOf cells worker thread.promise) workers threads
-      → AllZip (λ (thread : WorkerThread X P) (new : P × Beginning).
+      → AllZip (λ (thread : WorkerThread X P) (new : P × KnownPrefix).
       WorkerBack (belongs thread.promise.cells.value) grew thread.promise.given.value new)
       threads back
       → WorkersBack (belongs cells) grew workers back
   all_back = zip_through
-      (λ (worker : P × Beginning) (thread : WorkerThread X P).
+      (λ (worker : P × KnownPrefix) (thread : WorkerThread X P).
       IsPromiseOf cells worker thread.promise)
-      (λ (thread : WorkerThread X P) (new : P × Beginning).
+      (λ (thread : WorkerThread X P) (new : P × KnownPrefix).
       WorkerBack (belongs thread.promise.cells.value) grew thread.promise.given.value new)
       (WorkerBack (belongs cells) grew)
       (λ worker thread new is kept. is_back worker thread.promise new is kept)
 
   -- all workers of the thread that serves clients
-  pub are_back : (workers : Vec (P × Beginning) Global) (promise : WorkerPromises X P)
-      (back : List (P × Beginning)) → ArePromised cells workers promise
+  pub are_back : (workers : Vec (P × KnownPrefix) Global) (promise : WorkerPromises X P)
+      (back : List (P × KnownPrefix)) → ArePromised cells workers promise
       → WorkersBack (belongs promise.cells.value) grew promise.given.value.items back
       → WorkersBack (belongs cells) grew workers.items back
   are_back workers promise back are =
-      kept_of (λ (x : X) (ws : Vec (P × Beginning) Global).
+      kept_of (λ (x : X) (ws : Vec (P × KnownPrefix) Global).
       WorkersBack (belongs x) grew ws.items back)
       cells promise.cells.value workers promise.given.value are.cells_are are.workers_are

@@ -1,6 +1,6 @@
 -- Answers in turn: the known list only grows through them, and turns follow one another.
 use Rattle.std.proofs.Common.{List, [], ◌∷◌, ◌++◌}
-use Rattle.hot_swap.specs.Published.{Beginning, GoesOnwards}
+use Rattle.hot_swap.specs.Published.{KnownPrefix, Extends}
 use Rattle.workers.proofs.Onwards.{goes_further}
 use Rattle.workers.specs.Answers.{WorkerAnswer, AreInTurn, AnswersGoOnwards, AnswersStayInTurn}
 
@@ -15,13 +15,13 @@ turns_stay from to more (a ∷ later) turn goes =
     (turn.0, turns_stay a.known to more later turn.1 goes)
 
 -- answers in turn from a list are also in turn from a prefix of it
-turns_sooner : (before from to : Beginning) (answers : List WorkerAnswer)
-    → GoesOnwards before from → AreInTurn from answers to → AreInTurn before answers to
+turns_sooner : (before from to : KnownPrefix) (answers : List WorkerAnswer)
+    → Extends before from → AreInTurn from answers to → AreInTurn before answers to
 turns_sooner before from to [] goes turn = goes_further before from to goes turn
 turns_sooner before from to (a ∷ later) goes turn =
     (goes_further before from a.known goes turn.0, turn.1)
 
-pub turns_join : (from middle to : Beginning) (early late : List WorkerAnswer)
+pub turns_join : (from middle to : KnownPrefix) (early late : List WorkerAnswer)
     → AreInTurn from early middle → AreInTurn middle late to → AreInTurn from (early ++ late) to
 turns_join from middle to [] late first then_on = turns_sooner from middle to late first then_on
 turns_join from middle to (a ∷ early) late first then_on =

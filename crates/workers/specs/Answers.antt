@@ -3,24 +3,24 @@ use Rattle.std.specs.Prelude.{ℤ, List, [], ◌∷◌, None, flat_map}
 use Rattle.answering.specs.Answer.{RepliesTo}
 use Rattle.answering.specs.Reply.{HttpReply}
 use Rattle.cells.specs.declared.event.CellEvent.{CellEvent}
-use Rattle.hot_swap.specs.Published.{Beginning, GoesOnwards}
+use Rattle.hot_swap.specs.Published.{KnownPrefix, Extends}
 
 -- An answer: what the worker's watcher knew then, the moment, what its runs did to the counters,
 -- and the reply, sent whole or not. It is the answer to some request under the last ruleset known
 -- to the watcher, or a refusal; nothing shows which bytes were read, nor which moment it was. A
 -- connection that couldn't be read has none.
 pub record WorkerAnswer : Type 0 where
-  pub known : Beginning
+  pub known : KnownPrefix
   pub moment : ℤ
   pub events : List CellEvent
   pub reply : HttpReply
   pub replies : RepliesTo None known moment events reply
 
 -- One after the other: what the watcher knows never goes back, from `from` by each answer to `to`.
-abbrev pub AreInTurn : Beginning → List WorkerAnswer → Beginning → Type 0
-AreInTurn from [] to = GoesOnwards from to
+abbrev pub AreInTurn : KnownPrefix → List WorkerAnswer → KnownPrefix → Type 0
+AreInTurn from [] to = Extends from to
 AreInTurn from (answer ∷ later) to =
-    GoesOnwards from answer.known × AreInTurn answer.known later to
+    Extends from answer.known × AreInTurn answer.known later to
 
 -- what the answers did to the counters
 abbrev pub made_in_turn : List WorkerAnswer → List CellEvent
@@ -30,10 +30,10 @@ made_in_turn = flat_map (λ answer. answer.events)
 
 -- the list known before answers is a prefix of the list known after them
 abbrev pub AnswersGoOnwards : Type 0
-AnswersGoOnwards = (from to : Beginning) (answers : List WorkerAnswer)
-    → AreInTurn from answers to → GoesOnwards from to
+AnswersGoOnwards = (from to : KnownPrefix) (answers : List WorkerAnswer)
+    → AreInTurn from answers to → Extends from to
 
 -- answers stay in turn when the watcher knows more
 abbrev pub AnswersStayInTurn : Type 0
-AnswersStayInTurn = (from to later : Beginning) (answers : List WorkerAnswer)
-    → AreInTurn from answers to → GoesOnwards to later → AreInTurn from answers later
+AnswersStayInTurn = (from to later : KnownPrefix) (answers : List WorkerAnswer)
+    → AreInTurn from answers to → Extends to later → AreInTurn from answers later

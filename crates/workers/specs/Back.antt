@@ -7,14 +7,14 @@ use Rattle.cells.specs.Grown.{GrewBy}
 use Rattle.cells.specs.declared.event.CellEvent.{CellEvent}
 use Rattle.operator.specs.Control.{Controlled, Loading}
 use Rattle.operator.specs.Leading.{AnsweredLine, LinesLead}
-use Rattle.hot_swap.specs.Published.{Beginning, IsLatest}
+use Rattle.hot_swap.specs.Published.{KnownPrefix, IsLatest}
 use Rattle.ruleset.specs.Rules.{Rules, IsRuleset}
 use Rattle.workers.specs.Answers.{WorkerAnswer, AreInTurn, made_in_turn}
 use Rattle.workers.specs.declared.accept.OperatorEnd.{OperatorEnd}
 use Rattle.workers.specs.declared.returned.Returned.{Returned}
 
 -- each published ruleset is sound, and the last one is of this generation
-pub record IsPublished (published : Beginning) (generation : ℕ) : Type 0 where
+pub record IsPublished (published : KnownPrefix) (generation : ℕ) : Type 0 where
   pub sound : All IsRuleset published.rulesets
   pub rules : Rules
   pub last : IsLatest published generation rules
@@ -22,30 +22,30 @@ pub record IsPublished (published : Beginning) (generation : ℕ) : Type 0 where
 module _ {P : Type 0} (belongs : P → Type 0) (grew : P → CellEvent → P → Type 0) where
   -- A worker, its pass and its watcher, which gave these answers, one after the other. The pass
   -- belongs to the cells, and grew only by what the answers did.
-  pub record WorkerBack (old new : P × Beginning) : Type 0 where
+  pub record WorkerBack (old new : P × KnownPrefix) : Type 0 where
     pub belongs_yet : belongs new.0
     pub answers : List WorkerAnswer
     pub in_turn : AreInTurn old.1 answers new.1
     pub grown : GrewBy grew old.0 (made_in_turn answers) new.0
 
   -- the same for one connection, which has one answer, or none if it couldn't be read
-  pub record ConnectionBack (old new : P × Beginning) : Type 0 where
+  pub record ConnectionBack (old new : P × KnownPrefix) : Type 0 where
     pub back : WorkerBack old new
     pub once : length back.answers ≤ 1
 
   -- the same at a moment
-  pub record MomentBack (moment : ℤ) (old new : P × Beginning) : Type 0 where
+  pub record MomentBack (moment : ℤ) (old new : P × KnownPrefix) : Type 0 where
     pub connection : ConnectionBack old new
     pub moments_are : All (λ answer. answer.moment ≡ moment) connection.back.answers
 
   -- the same for the connections that were taken: there are no more answers than these, unless they
   -- overflow their count
-  pub record ConnectionsBack (taken : ℕ) (old new : P × Beginning) : Type 0 where
+  pub record ConnectionsBack (taken : ℕ) (old new : P × KnownPrefix) : Type 0 where
     pub back : WorkerBack old new
     pub at_most_one : taken < 2 ^ 64 - 1 → length back.answers ≤ taken
 
   -- all workers, in their order
-  abbrev pub WorkersBack : (old new : List (P × Beginning)) → Type 0
+  abbrev pub WorkersBack : (old new : List (P × KnownPrefix)) → Type 0
   WorkersBack old new = AllZip WorkerBack old new
 
   module _ {F : Type 0} (loads : Loading F) where
@@ -65,7 +65,7 @@ module _ {P : Type 0} (belongs : P → Type 0) (grew : P → CellEvent → P →
     -- All that a server returns which began with this pass of its operator, these workers and this
     -- control. The operator's lines, and nothing else, led from that control to the one at its end.
     -- What was published then is also returned.
-    pub record ServerBack (pass : P) (staff : List (P × Beginning)) (control : Controlled)
+    pub record ServerBack (pass : P) (staff : List (P × KnownPrefix)) (control : Controlled)
         (back : Returned P) : Type 0 where
       pub last : Controlled
       pub operator : OperatorBack back.end (pass, control) (back.operator, last)

@@ -10,7 +10,7 @@ use Rattle.attrs.specs.Facts.{attributes_of}
 use Rattle.attrs.specs.declared.facts.AppFacts.{AppFacts}
 use Rattle.attrs.specs.declared.facts.RequestFacts.{RequestFacts}
 use Rattle.cells.specs.declared.event.CellEvent.{CellEvent}
-use Rattle.hot_swap.specs.Published.{Beginning}
+use Rattle.hot_swap.specs.Published.{KnownPrefix}
 use Rattle.omaha_json.specs.Request.{Request}
 use Rattle.thread_laws.specs.InTurn.{AreOfRuns}
 use Rattle.thread_laws.specs.Runs.{AppRun, AtEnd}
@@ -42,7 +42,7 @@ module _ (number : ℕ) (facts : RequestFacts) (moment : ℤ) where
   runs_of_apps (apps.then {app = app} earlier one) = runs_of_apps earlier ++ runs_of_app app one
 
 -- the runs for a request: the number of its ruleset is the generation
-abbrev pub runs_of_request : {request : Request} {known : Beginning} {moment : ℤ}
+abbrev pub runs_of_request : {request : Request} {known : KnownPrefix} {moment : ℤ}
     {events : List CellEvent} {reply : HttpReply}
     → RepliesToRequest request known moment events reply → List AppRun
 runs_of_request {request = request} {moment = moment} (replied {generation = generation} is runs) =
@@ -53,7 +53,7 @@ runs_of_request {request = request} {moment = moment}
     runs_of_apps generation request.facts moment few.2
 
 -- the runs for a body: none if it isn't a request
-abbrev pub runs_of_body : {body : List ℕ} {known : Beginning} {moment : ℤ}
+abbrev pub runs_of_body : {body : List ℕ} {known : KnownPrefix} {moment : ℤ}
     {events : List CellEvent} {reply : HttpReply}
     → RepliesToBody body known moment events reply → List AppRun
 runs_of_body (accepted is replies) = runs_of_request replies
@@ -61,7 +61,7 @@ runs_of_body (refused fault is) = []
 runs_of_body unread = []
 
 -- the runs for a reply: none if no body was read
-abbrev pub runs_of_reply : {told : Option (List ℕ)} {known : Beginning} {moment : ℤ}
+abbrev pub runs_of_reply : {told : Option (List ℕ)} {known : KnownPrefix} {moment : ℤ}
     {events : List CellEvent} {reply : HttpReply}
     → RepliesTo told known moment events reply → List AppRun
 runs_of_reply (taken body is replies) = runs_of_body replies
@@ -76,5 +76,5 @@ runs_in_turn = flat_map (λ answer. runs_of_reply answer.replies)
 -- what answers in turn did to the counters is what their runs did; each run ended, under a ruleset
 -- that the watcher knows after them
 abbrev pub AnswersAreOfRuns : Type 0
-AnswersAreOfRuns = (from to : Beginning) (answers : List WorkerAnswer) → AreInTurn from answers to
+AnswersAreOfRuns = (from to : KnownPrefix) (answers : List WorkerAnswer) → AreInTurn from answers to
     → AreOfRuns to.rulesets (runs_in_turn answers) (made_in_turn answers)

@@ -97,13 +97,13 @@ where
 {
     growth::<C>();
     let mut log = Log::new(rt.alloc(), service.log);
-    let mut seen = ConnectionRecord::new(rt.alloc(), log.is_kept());
+    let mut recorded = ConnectionRecord::new(rt.alloc(), log.is_kept());
     for _ in rt.forever() {
         let Some(call) = calls.take(rt, &mut log) else {
             return;
         };
         gate.before(call.number);
-        let _attended = attend(rt, &call, seat, service, &mut log, &mut seen);
+        let _attended = attend(rt, &call, seat, service, &mut log, &mut recorded);
         gate.after(call.number);
     }
 }
@@ -115,7 +115,7 @@ fn attend<H, C>(
     seat: &mut WorkerSeat<'_, C>,
     service: ServeOptions<'_>,
     log: &mut Log<'_>,
-    seen: &mut ConnectionRecord,
+    recorded: &mut ConnectionRecord,
 ) -> io::Result<()>
 where
     H: Wait + AllocGlobal + Clock,
@@ -131,9 +131,9 @@ where
     let limits = Limits::begin(rt, service.timeout);
     let waited = micros_between(call.accepted, begun(limits));
     count_begun(service.log, waited);
-    seen.begin();
-    let outcome = answer_within(rt, &call.stream, seat, moment, limits, seen);
-    server_log::note_connection(rt, log, call.peer, waited, begun(limits), &outcome, seen);
+    recorded.begin();
+    let outcome = answer_within(rt, &call.stream, seat, moment, limits, recorded);
+    server_log::note_connection(rt, log, call.peer, waited, begun(limits), &outcome, recorded);
     let finished = finish(rt, &call.stream, &outcome);
     count_ended(service.log, &outcome);
     finished
@@ -147,7 +147,7 @@ fn answer_within<'x, H, C>(
     seat: &mut WorkerSeat<'_, C>,
     moment: i64,
     limits: Option<Limits>,
-    seen: &mut ConnectionRecord,
+    recorded: &mut ConnectionRecord,
 ) -> Result<Sent, AnswerFault>
 where
     H: AllocGlobal + Clock,
@@ -159,13 +159,13 @@ where
         (seat.old.pass, seat.old.watcher) (seat.new.pass, seat.new.watcher) }
 {
     let Some(limits) = limits else {
-        seen.fail("clock");
+        recorded.fail("clock");
         return Err(AnswerFault::Reading);
     };
     let alloc = rt.alloc();
     let from = Timed::new(stream, rt, limits.until());
     let into = from.opposite();
-    let mut reader = Counted::new(seen.recorder_of(from));
+    let mut reader = Counted::new(recorded.recorder_of(from));
     let mut writer = Counted::new(Recorder::new(alloc, into, false));
     let turn = Turn {
         alloc,
@@ -179,9 +179,9 @@ where
         &mut writer,
         &mut seat.pass,
         &mut seat.watcher,
-        seen,
+        recorded,
     );
-    seen.remember(reader.into_inner(), writer.into_inner());
+    recorded.remember(reader.into_inner(), writer.into_inner());
     outcome
 }
 

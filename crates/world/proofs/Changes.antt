@@ -8,7 +8,7 @@ use Rattle.std.proofs.lemmas.List.{set-get_or}
 use Rattle.std.proofs.lemmas.Option.{slice_get-get_or, slice_get_read, get_or_from_slice_get}
 use Rattle.world.specs.World.{WorldState, Worker, Idle, IsWorker, with_worker}
 use Rattle.world.specs.Happens.{Answer}
-use Rattle.world.specs.Seats.{SeatStandsFor, SeatKeeps, SeatIsOffered, StaysOffered}
+use Rattle.world.specs.Seats.{SeatStandsFor, IsSoundSeat, SeatIsOffered, StaysOffered}
 use Rattle.world.specs.StandsFor.{Parts, WorldStandsFor, AreKept, seat_at}
 use Rattle.world.specs.declared.seat.Seat.{Seat}
 use Rattle.world.specs.declared.seat.Seat.TheVariants.{Empty}
@@ -77,13 +77,13 @@ stands_with parts w old new k seat y within stands same here = record {
 }
 
 pub kept_with : (parts : Parts) (cells : List ℕ) (k : ℕ) (seat : Seat) → k < length parts.seats
-    → AreKept parts → SeatKeeps seat → SeatIsOffered parts.rulesets seat
+    → AreKept parts → IsSoundSeat seat → SeatIsOffered parts.rulesets seat
     → AreKept (with_seat parts cells k seat)
 kept_with parts cells k seat within kept keeps offered = record {
   ruled = kept.ruled;
   sound = kept.sound;
   kept =
-      each_with (λ s t. SeatKeeps s) parts.seats parts.seats k seat Empty seat Empty refl within
+      each_with (λ s t. IsSoundSeat s) parts.seats parts.seats k seat Empty seat Empty refl within
       keeps
       kept.kept;
   offered =
@@ -94,7 +94,7 @@ kept_with parts cells k seat within kept keeps offered = record {
 
 pub kept_after : (parts : Parts) (cells : List ℕ) (k : ℕ) (before after : Seat)
     → k < length parts.seats
-    → before ≡ get_or parts.seats k before → AreKept parts → SeatKeeps after
+    → before ≡ get_or parts.seats k before → AreKept parts → IsSoundSeat after
     → StaysOffered before after → AreKept (with_seat parts cells k after)
 kept_after parts cells k before after within found kept keeps offered =
     kept_with parts cells k after within kept keeps

@@ -11,7 +11,7 @@ use Rattle.world.specs.World.{WorldState, Worker, Idle, Running, Ended, IsWorker
 use Rattle.world.specs.World.{newest}
 use Rattle.world.specs.Happens.{Answer, StartsRun, StepsRun, EndsRun, Happens}
 use Rattle.world.specs.History.{made_at, EndsDuring}
-use Rattle.world.specs.OwnRun.{ComesTo}
+use Rattle.world.specs.OwnRun.{HasResult}
 use Rattle.world.specs.declared.event.Event.{Event}
 use Rattle.world.specs.declared.event.Event.TheVariants.{Start, Step, Finish, Swap}
 use Rattle.world.specs.declared.event.Effect.TheVariants as effect
@@ -21,7 +21,7 @@ use Rattle.world.proofs.Workers.{same_worker, within, get_set_same, stays_other,
 use Rattle.world.proofs.During.{made_by_other, made_idle, later_end, goes_during, ends_during}
 use Rattle.world.proofs.During.{RestsDuring, later_rest}
 
--- the same as `ComesTo`; also, a run that has ended makes no more events
+-- the same as `HasResult`; also, a run that has ended makes no more events
 abbrev pub Comes : WorldState → ℕ → Worker → List Event → List Answer → ℕ → ℕ
     → ℕ → Type 0
 Comes w k Idle es rs number choice instructions = ⊥
@@ -32,7 +32,7 @@ Comes w k (Ended n program a c m) es rs number choice instructions =
 
 pub comes_to : (w : WorldState) (k : ℕ) (x : Worker) (es : List Event) (rs : List Answer)
     (number choice instructions : ℕ) → Comes w k x es rs number choice instructions
-    → ComesTo w k x es rs number choice instructions
+    → HasResult w k x es rs number choice instructions
 comes_to w k Idle es rs number choice instructions comes = comes
 comes_to w k (Running n program s) es rs number choice instructions comes = comes
 comes_to w k (Ended n program a c m) es rs number choice instructions comes =

@@ -10,12 +10,12 @@ use Rattle.bpf_semantics.specs.Run.{Ends}
 use Rattle.cells.specs.declared.event.CellEvent.{CellEvent}
 use Rattle.cells.specs.Events.{AreCells}
 use Rattle.world.specs.World.{WorldState, Worker, Idle, Running, Ended, IsWorker, IsRunning}
-use Rattle.world.specs.Counters.{asked, answered}
+use Rattle.world.specs.Counters.{accesses, answered}
 use Rattle.world.specs.Happens.{Answer, Happens, Plays}
-use Rattle.world.specs.History.{asked_by, made_at, made_by, EndsDuring}
+use Rattle.world.specs.History.{accesses_of, made_at, made_by, EndsDuring}
 use Rattle.world.specs.declared.event.Event.{Event}
 use Rattle.world.specs.declared.event.Event.TheVariants.{Start, Step, Finish, Swap}
-use Rattle.world.proofs.Runs.{Laws, AllFit, all_fit, asked_fit, goes_from, ends_from}
+use Rattle.world.proofs.Runs.{Laws, AllFit, all_fit, accesses_fit, goes_from, ends_from}
 use Rattle.world.proofs.Safe.{AllSafe, happens_safe}
 use Rattle.world.proofs.Workers.{IsOf}
 
@@ -38,19 +38,19 @@ own_test k = grind arith
 -- nothing, if the event is of another worker
 pub made_by_other : (k : ℕ) (w : WorldState) (e : Event) → ¬ IsOf k e → made_at k w e ≡ []
 made_by_other k w (Step j) other =
-    if_false (j == k) (asked_by w.cells (slice_get w.workers k)) (other_test j k other)
+    if_false (j == k) (accesses_of w.cells (slice_get w.workers k)) (other_test j k other)
 made_by_other k w (Start j attrs) other = refl
 made_by_other k w (Finish j) other = refl
 made_by_other k w (Swap rules) other = refl
 
 made_by_own : (k : ℕ) (w : WorldState) (x : Worker) → IsWorker w k x
-    → made_at k w (Step k) ≡ asked_by w.cells (Some x)
+    → made_at k w (Step k) ≡ accesses_of w.cells (Some x)
 made_by_own k w x is =
-    if_true (k == k) (asked_by w.cells (slice_get w.workers k)) (own_test k)
-    ∙ ap (asked_by w.cells) is
+    if_true (k == k) (accesses_of w.cells (slice_get w.workers k)) (own_test k)
+    ∙ ap (accesses_of w.cells) is
 
 -- nothing, if its worker doesn't run
-idle_asks : (cells : List ℕ) (x : Worker) → ¬ IsRunning x → asked_by cells (Some x) ≡ []
+idle_asks : (cells : List ℕ) (x : Worker) → ¬ IsRunning x → accesses_of cells (Some x) ≡ []
 idle_asks cells Idle idle = refl
 idle_asks cells (Running number program s) idle = absurd (idle tt)
 idle_asks cells (Ended number program a choice instructions) idle = refl
@@ -135,19 +135,19 @@ ends_during w u k number r es rs p s choice happens is done rest = record {
       let more = made_by k u rest.world es rs rest.plays in
       subst (λ (xs : List CellEvent). Ends p s (xs ++ more) choice (s.count + 1))
       (sym (made_by_own k w (Running number p s) is))
-      (end_and_none p s (asked w.cells (step p s)) more choice (s.count + 1) rest.none
+      (end_and_none p s (accesses w.cells (step p s)) more choice (s.count + 1) rest.none
       (ends_from w.cells p s (step p s) choice refl done));
 }
 
 -- ---- replies that fit
 
-asked_by_fit : Laws → (cells : List ℕ) (o : Option Worker) → AreCells cells → AllFit
-    (asked_by cells o)
-asked_by_fit law cells None fit = tt
-asked_by_fit law cells (Some Idle) fit = tt
-asked_by_fit law cells (Some (Running number program s)) fit =
-    asked_fit law cells (step program s) fit
-asked_by_fit law cells (Some (Ended number program a choice instructions)) fit = tt
+accesses_of_fit : Laws → (cells : List ℕ) (o : Option Worker) → AreCells cells → AllFit
+    (accesses_of cells o)
+accesses_of_fit law cells None fit = tt
+accesses_of_fit law cells (Some Idle) fit = tt
+accesses_of_fit law cells (Some (Running number program s)) fit =
+    accesses_fit law cells (step program s) fit
+accesses_of_fit law cells (Some (Ended number program a choice instructions)) fit = tt
 
 if_fit : (b : Bool) (xs : List CellEvent) → AllFit xs → AllFit (if b then xs else [])
 if_fit true xs fit = fit
@@ -156,8 +156,8 @@ if_fit false xs fit = tt
 made_at_fit : Laws → (k : ℕ) (w : WorldState) (e : Event) → AreCells w.cells → AllFit
     (made_at k w e)
 made_at_fit law k w (Step j) fit =
-    if_fit (j == k) (asked_by w.cells (slice_get w.workers k))
-    (asked_by_fit law w.cells (slice_get w.workers k) fit)
+    if_fit (j == k) (accesses_of w.cells (slice_get w.workers k))
+    (accesses_of_fit law w.cells (slice_get w.workers k) fit)
 made_at_fit law k w (Start j attrs) fit = tt
 made_at_fit law k w (Finish j) fit = tt
 made_at_fit law k w (Swap rules) fit = tt

@@ -10,7 +10,7 @@ use Rattle.ruleset.specs.Rules.{Rules, IsRuleset, appid_of}
 use Rattle.world.specs.World.{WorldState, Worker, Idle, Running, Ended, HasProgram}
 use Rattle.world.specs.Safe.{IsSafeWorld}
 use Rattle.bpf_machine.specs.StandsFor.{Held}
-use Rattle.world.specs.Seats.{SeatStandsFor, SeatKeeps, SeatIsOffered, GoesAs, EndedAs}
+use Rattle.world.specs.Seats.{SeatStandsFor, IsSoundSeat, SeatIsOffered, ContinuesAs, EndedAs}
 use Rattle.world.specs.StandsFor.{Parts, WorldStandsFor, AreKept, seat_at}
 use Rattle.world.specs.Headline.{IsOnTheWay}
 use Rattle.world.specs.declared.seat.Seat.{Seat}
@@ -26,7 +26,7 @@ offered_as rulesets n m appid text p q number same program offered =
     (subst (λ (t : List ℕ). HasProgram rulesets m t p) same
     (subst (λ (i : ℕ). HasProgram rulesets i appid p) number offered))
 
-held_safe : (rulesets : List Rules) (seat : Seat) (x : Worker) → SeatKeeps seat
+held_safe : (rulesets : List Rules) (seat : Seat) (x : Worker) → IsSoundSeat seat
     → SeatIsOffered rulesets seat → SeatStandsFor seat x → SafeWorker rulesets x
 held_safe rulesets Empty Idle keeps offered stands = tt
 held_safe rulesets (Taken run n None) (Running number program s) keeps offered stands =
@@ -80,16 +80,16 @@ ended_as run n choice = record {
   count_is = refl;
 }
 
-worker_for : (seat : Seat) → SeatKeeps seat → (x : Worker) × SeatStandsFor seat x
+worker_for : (seat : Seat) → IsSoundSeat seat → (x : Worker) × SeatStandsFor seat x
 worker_for Empty keeps = (Idle, tt)
 worker_for (Taken run n None) keeps =
-    let run_is : GoesAs run n n run.program keeps.stands.0 =
+    let run_is : ContinuesAs run n n run.program keeps.stands.0 =
     record { number_is = refl; program_is = refl; stands = keeps.stands.1 } in
     (Running n run.program keeps.stands.0, run_is)
 worker_for (Taken run n (Some choice)) keeps =
     (Ended n run.program run.attributes choice (run.count + 1), ended_as run n choice)
 
-workers_for : (seats : List Seat) → ((k : ℕ) → SeatKeeps (get_or seats k Empty))
+workers_for : (seats : List Seat) → ((k : ℕ) → IsSoundSeat (get_or seats k Empty))
     → (ws : List Worker) × (length seats ≡ length ws) ×
     ((k : ℕ) → SeatStandsFor (get_or seats k Empty) (get_or ws k Idle))
 workers_for [] keeps = ([], refl, λ k. tt)

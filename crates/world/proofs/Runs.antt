@@ -17,7 +17,7 @@ use Rattle.cells.specs.declared.event.CellOp.TheVariants.{CompareExchange}
 use Rattle.cells.specs.declared.event.CellEvent.{CellEvent}
 use Rattle.cells.specs.Events.{width, limit, after, reply_of, CanReply, AreCells}
 use Rattle.cells.specs.Widths.{FitsWidths, EventsFit}
-use Rattle.world.specs.Counters.{asked, answered, cells_after}
+use Rattle.world.specs.Counters.{accesses, answered, cells_after}
 
 -- what the crates below promise of every step, and of every event on counters
 pub record Laws : Type 0 where
@@ -120,11 +120,11 @@ pub all_fit : (es ds : List CellEvent) → AllFit es → AllFit ds → AllFit (e
 all_fit [] ds first second = second
 all_fit (e ∷ es) ds first second = (first.0, all_fit es ds first.1 second)
 
-pub asked_fit : Laws → (cells : List ℕ) (o : Outcome) → AreCells cells → AllFit (asked cells o)
-asked_fit law cells (Going t) fit = tt
-asked_fit law cells (Asks cell op next) fit = (reply_fits law cells cell op fit, tt)
-asked_fit law cells (Done choice) fit = tt
-asked_fit law cells Trap fit = tt
+pub accesses_fit : Laws → (cells : List ℕ) (o : Outcome) → AreCells cells → AllFit (accesses cells o)
+accesses_fit law cells (Going t) fit = tt
+accesses_fit law cells (Asks cell op next) fit = (reply_fits law cells cell op fit, tt)
+accesses_fit law cells (Done choice) fit = tt
+accesses_fit law cells Trap fit = tt
 
 pub ends_well : (p : ShapedProgram) (s : State) (es : List CellEvent) (choice count : ℕ) → AllFit es
     → EndsWell p s → Ends p s es choice count
@@ -159,7 +159,7 @@ ends_well p s es choice count fit (asks {cell = cell} {op = op} {next = next} e 
 pub goes_from : (cells : List ℕ) (p : ShapedProgram) (s t : State) (o : Outcome)
     (es : List CellEvent)
     (choice count : ℕ) → step p s ≡ o → answered cells o ≡ Going t → Ends p t es choice count
-    → Ends p s (asked cells o ++ es) choice count
+    → Ends p s (accesses cells o ++ es) choice count
 goes_from cells p s t (Going u) es choice count e going rest =
     more e (subst (λ (x : State). Ends p x es choice count) (sym (same_state u t going)) rest)
 goes_from cells p s t (Asks cell op next) es choice count e going rest =
@@ -171,7 +171,7 @@ goes_from cells p s t Trap es choice count e going rest = absurd cc
 
 -- a step that ends has no event
 pub ends_from : (cells : List ℕ) (p : ShapedProgram) (s : State) (o : Outcome) (choice : ℕ)
-    → step p s ≡ o → o ≡ Done choice → Ends p s (asked cells o) choice (s.count + 1)
+    → step p s ≡ o → o ≡ Done choice → Ends p s (accesses cells o) choice (s.count + 1)
 ends_from cells p s (Done chosen) choice e done = last (e ∙ done) refl
 ends_from cells p s (Going t) choice e done = absurd cc
 ends_from cells p s (Asks cell op next) choice e done = absurd cc

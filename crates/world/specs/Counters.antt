@@ -7,12 +7,12 @@ use Rattle.cells.specs.Events.{limit, after, reply_of}
 
 -- the event of a step: its access to a counter, with the reply that the counter's value gives;
 -- other steps have none
-abbrev pub asked : List ℕ → Outcome → List CellEvent
-asked cells (Asks cell op next) =
+abbrev pub accesses : List ℕ → Outcome → List CellEvent
+accesses cells (Asks cell op next) =
     record { cell = cell; op = op; reply = reply_of (slice_index cells cell) op } ∷ []
-asked cells (Going t) = []
-asked cells (Done choice) = []
-asked cells Trap = []
+accesses cells (Going t) = []
+accesses cells (Done choice) = []
+accesses cells Trap = []
 
 -- the outcome of the step when its access got that reply
 abbrev pub answered : List ℕ → Outcome → Outcome

@@ -7,21 +7,21 @@ use Rattle.bpf_semantics.specs.Step.{step}
 use Rattle.bpf_semantics.specs.Run.{Ends}
 use Rattle.cells.specs.declared.event.CellEvent.{CellEvent}
 use Rattle.world.specs.World.{WorldState, Worker, Idle, Running, Ended}
-use Rattle.world.specs.Counters.{asked}
+use Rattle.world.specs.Counters.{accesses}
 use Rattle.world.specs.Happens.{Answer, Plays}
 use Rattle.world.specs.declared.event.Event.{Event}
 use Rattle.world.specs.declared.event.Event.TheVariants.{Start, Step, Finish, Swap}
 
 -- the counter access of a worker's next step, if it has one
-abbrev pub asked_by : List ℕ → Option Worker → List CellEvent
-asked_by cells (Some (Running number program s)) = asked cells (step program s)
-asked_by cells (Some Idle) = []
-asked_by cells (Some (Ended number program a choice instructions)) = []
-asked_by cells None = []
+abbrev pub accesses_of : List ℕ → Option Worker → List CellEvent
+accesses_of cells (Some (Running number program s)) = accesses cells (step program s)
+accesses_of cells (Some Idle) = []
+accesses_of cells (Some (Ended number program a choice instructions)) = []
+accesses_of cells None = []
 
 -- the counter access of an event for a worker: that of its own Step
 abbrev pub made_at : ℕ → WorldState → Event → List CellEvent
-made_at k w (Step j) = if j == k then asked_by w.cells (slice_get w.workers k) else []
+made_at k w (Step j) = if j == k then accesses_of w.cells (slice_get w.workers k) else []
 made_at k w (Start j attrs) = []
 made_at k w (Finish j) = []
 made_at k w (Swap rules) = []

@@ -60,12 +60,12 @@ pub record IsOwnRun (w : WorldState) (k : ℕ) (events : List Event) (answers : 
       program (opening (arc_value attrs)) choice instructions
 
 -- the result of a worker's run by these events
-abbrev pub ComesTo : WorldState → ℕ → Worker → List Event → List Answer → ℕ → ℕ → ℕ
+abbrev pub HasResult : WorldState → ℕ → Worker → List Event → List Answer → ℕ → ℕ → ℕ
     → Type 0
-ComesTo w k Idle events answers number choice instructions = ⊥
-ComesTo w k (Running n program s) events answers number choice instructions =
+HasResult w k Idle events answers number choice instructions = ⊥
+HasResult w k (Running n program s) events answers number choice instructions =
     (number ≡ n) × EndsDuring w k events answers program s choice instructions
-ComesTo w k (Ended n program a c m) events answers number choice instructions =
+HasResult w k (Ended n program a c m) events answers number choice instructions =
     (number ≡ n) × (choice ≡ c) × (instructions ≡ m)
 
 -- the number, the choice and the instructions are those of the run that the worker has before the
@@ -75,7 +75,7 @@ pub record IsEarlierRun (w : WorldState) (k : ℕ) (events : List Event) (answer
   pub worker : Worker
   pub is_worker : IsWorker w k worker
   pub none : HasNoStart k events answers place
-  pub comes : ComesTo w k worker (take place events) (take place answers)
+  pub comes : HasResult w k worker (take place events) (take place answers)
       number choice instructions
 
 -- the result of a Finish is that of its worker's own run: of the latest Start, or the earlier one

@@ -19,7 +19,7 @@ use Rattle.world.specs.declared.event.WorldFault.{WorldFault}
 use Rattle.world.specs.declared.event.WorldFault.TheVariants as fault
 
 -- a seat's run represents a worker's run that continues
-pub record GoesAs (run : Held) (held number : ℕ) (program : ShapedProgram)
+pub record ContinuesAs (run : Held) (held number : ℕ) (program : ShapedProgram)
     (s : State) : Type 0 where
   pub number_is : held ≡ number
   pub program_is : run.program ≡ program
@@ -37,7 +37,7 @@ pub record EndedAs (run : Held) (held chosen number : ℕ) (program : ShapedProg
 
 abbrev pub SeatStandsFor : Seat → Worker → Type 0
 SeatStandsFor Empty Idle = Unit {0}
-SeatStandsFor (Taken run held None) (Running number program s) = GoesAs run held number program s
+SeatStandsFor (Taken run held None) (Running number program s) = ContinuesAs run held number program s
 SeatStandsFor (Taken run held (Some chosen)) (Ended number program a choice instructions) =
     EndedAs run held chosen number program a choice instructions
 SeatStandsFor seat worker = ⊥
@@ -49,14 +49,14 @@ pub record GoesWell (run : Held) : Type 0 where
   pub ends : (s : State) → machine.RunStandsFor run s → EndsWell run.program s
 
 -- a run that has ended with its choice, none or a release, in time
-pub record KeepsChoice (run : Held) (choice : ℕ) : Type 0 where
+pub record EndedWithChoice (run : Held) (choice : ℕ) : Type 0 where
   pub release : choice ≤ run.program.shape.releases
   pub short : run.count + 1 ≤ length run.program.code
 
-abbrev pub SeatKeeps : Seat → Type 0
-SeatKeeps Empty = Unit {0}
-SeatKeeps (Taken run number None) = GoesWell run
-SeatKeeps (Taken run number (Some choice)) = KeepsChoice run choice
+abbrev pub IsSoundSeat : Seat → Type 0
+IsSoundSeat Empty = Unit {0}
+IsSoundSeat (Taken run number None) = GoesWell run
+IsSoundSeat (Taken run number (Some choice)) = EndedWithChoice run choice
 
 -- a seat's run is of the program that its ruleset has for the app
 abbrev pub SeatIsOffered : List Rules → Seat → Type 0
@@ -90,7 +90,7 @@ WorkerSteps old x (Err fault.Idle) new y = (¬ IsRunning x) × (new ≡ old) × 
 WorkerSteps old x answer new y = ⊥
 
 -- it returns the result of its run, and is idle
-pub record WorkerGives (number choice instructions answered chosen counted : ℕ)
+pub record WorkerReturns (number choice instructions answered chosen counted : ℕ)
     (y : Worker) : Type 0 where
   pub number_is : answered ≡ number
   pub choice_is : chosen ≡ choice
@@ -100,7 +100,7 @@ pub record WorkerGives (number choice instructions answered chosen counted : ℕ
 abbrev pub WorkerFinishes : Worker → Answer → Worker → Type 0
 WorkerFinishes (Ended number program a choice instructions)
     (Ok (effect.Finished chosen counted answered)) y =
-    WorkerGives number choice instructions answered chosen counted y
+    WorkerReturns number choice instructions answered chosen counted y
 WorkerFinishes x (Err fault.Idle) y = IsIdle x × (y ≡ x)
 WorkerFinishes x (Err fault.NotDone) y = IsRunning x × (y ≡ x)
 WorkerFinishes x answer y = ⊥
@@ -117,9 +117,9 @@ SeatFinishes before answer after = (x : Worker) → SeatStandsFor before x
     → (y : Worker) × WorkerFinishes x answer y × SeatStandsFor after y
 
 -- the result of a finish: then the worker is idle, or as it was
-abbrev pub SeatGives : Seat → Answer → Type 0
-SeatGives seat (Ok e) = (x : Worker) → SeatStandsFor seat x → WorkerFinishes x (Ok e) Idle
-SeatGives seat (Err e) = (x : Worker) → SeatStandsFor seat x → WorkerFinishes x (Err e) x
+abbrev pub SeatReturns : Seat → Answer → Type 0
+SeatReturns seat (Ok e) = (x : Worker) → SeatStandsFor seat x → WorkerFinishes x (Ok e) Idle
+SeatReturns seat (Err e) = (x : Worker) → SeatStandsFor seat x → WorkerFinishes x (Err e) x
 
 -- what stays true of a seat's run for all rulesets
 abbrev pub StaysOffered : Seat → Seat → Type 0

@@ -6,7 +6,7 @@ use Rattle.std.specs.declared.alloc.Global.{Global}
 use Rattle.std.specs.declared.sync.Arc.{Arc}
 use Rattle.ruleset.specs.Rules.{Rules, IsRuleset}
 use Rattle.world.specs.World.{WorldState, Idle, opening_world}
-use Rattle.world.specs.Seats.{SeatStandsFor, SeatKeeps, SeatIsOffered}
+use Rattle.world.specs.Seats.{SeatStandsFor, IsSoundSeat, SeatIsOffered}
 use Rattle.world.specs.declared.seat.Seat.{Seat}
 use Rattle.world.specs.declared.seat.Seat.TheVariants.{Empty}
 
@@ -41,5 +41,5 @@ IsOpening parts rules workers = WorldStandsFor parts (opening_world rules worker
 pub record AreKept (parts : Parts) : Type 0 where
   pub ruled : 0 < length parts.rulesets
   pub sound : All IsRuleset parts.rulesets
-  pub kept : (k : ℕ) → SeatKeeps (seat_at parts k)
+  pub kept : (k : ℕ) → IsSoundSeat (seat_at parts k)
   pub offered : (k : ℕ) → SeatIsOffered parts.rulesets (seat_at parts k)

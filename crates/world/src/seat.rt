@@ -20,8 +20,8 @@ pub enum Seat {
 
 impl Seat {
     ghost use Rattle.world.specs.World.{Worker, IsIdle};
-    ghost use Rattle.world.specs.Seats.{SeatStandsFor, SeatKeeps, StaysOffered};
-    ghost use Rattle.world.specs.Seats.{SeatSteps, SeatFinishes, SeatGives};
+    ghost use Rattle.world.specs.Seats.{SeatStandsFor, IsSoundSeat, StaysOffered};
+    ghost use Rattle.world.specs.Seats.{SeatSteps, SeatFinishes, SeatReturns};
 
     /// Whether it has a run, even one that has ended.
     pub fn is_taken(&self) -> bool
@@ -37,11 +37,11 @@ impl Seat {
     /// One instruction, with the reply of a counter if it accesses one. Returns E3 if no run
     /// continues.
     pub fn step(&mut self, cells: &PlainCells, pass: &mut PlainPass) -> Result<Effect, WorldFault>
-        requires { SeatKeeps self.old }
+        requires { IsSoundSeat self.old }
         ensures same { IfErr result (λ e. self.new ≡ self.old) }
         ensures unasked { IfErr result (λ e. pass.new ≡ pass.old) }
         ensures steps { SeatSteps pass.old self.old result pass.new self.new }
-        ensures keeps { SeatKeeps self.new }
+        ensures keeps { IsSoundSeat self.new }
         ensures offered { StaysOffered self.old self.new }
     {
         match self {
@@ -69,10 +69,10 @@ impl Seat {
     /// Returns the choice of a run that has ended, and leaves the seat empty. Returns E3 if it was
     /// empty, and E5 if the run hasn't ended.
     pub fn finish(&mut self) -> Result<Effect, WorldFault>
-        requires { SeatKeeps self.old }
+        requires { IsSoundSeat self.old }
         ensures same { IfErr result (λ e. self.new ≡ self.old) }
         ensures finishes { SeatFinishes self.old result self.new }
-        ensures keeps { SeatKeeps self.new }
+        ensures keeps { IsSoundSeat self.new }
         ensures offered { StaysOffered self.old self.new }
     {
         let finished = self.finished()?;
@@ -82,8 +82,8 @@ impl Seat {
 
     // The result of a finish.
     fn finished(&self) -> Result<Effect, WorldFault>
-        requires { SeatKeeps self.now }
-        ensures { SeatGives self.now result }
+        requires { IsSoundSeat self.now }
+        ensures { SeatReturns self.now result }
     {
         match self {
             Seat::Empty => Err(WorldFault::Idle),

@@ -1,6 +1,6 @@
 use Rattle.std.proofs.Common.{◌≡◌, ap, sym, ◌∙◌}
 use Rattle.hot_swap.proofs.Published.{stamp_of, brought, applied_last, brings, told}
-use Rattle.hot_swap.proofs.Telling.{turns}
+use Rattle.hot_swap.proofs.KnownPublisher.{turns}
 use Rattle.hot_swap.proofs.showing.publish.Goals as goal
 
 pub publish_as-requires : goal.publish_as-requires

@@ -1,5 +1,5 @@
 use Rattle.std.proofs.Common.{refl}
-use Rattle.hot_swap.proofs.Telling.{turns}
+use Rattle.hot_swap.proofs.KnownPublisher.{turns}
 use Rattle.hot_swap.proofs.watcher.look.Goals as goal
 
 pub enter_as-requires : goal.enter_as-requires

@@ -9,4 +9,4 @@ returns-in-Ok-clause-seen c = λ known.
     let size = c.requires.generation in
     let less : c.in-Ok.seen ≤ c.args.generation = leb-true _ _ known in
     has_seen c.generations_go_onwards.ensures.begins _ _ _ _ _ _ c.learn.ensures.onwards
-    c.learn.ensures.told c.in-Ok.ensures.onwards newest (omega (arith, size, less))
+    c.learn.ensures.noticed c.in-Ok.ensures.onwards newest (omega (arith, size, less))

@@ -1,6 +1,6 @@
 use Rattle.std.proofs.Common.{[], ◌∷◌, All, sym, ap, subst, ◌∙◌, arith}
 use Rattle.hot_swap.specs.Latest.{Publishing}
-use Rattle.hot_swap.specs.Published.{Beginning}
+use Rattle.hot_swap.specs.Published.{KnownPrefix}
 use Rattle.ruleset.specs.Rules.{Rules}
 use Rattle.serving.specs.Staff.{IsNewWorker}
 use Rattle.serving.proofs.Leaving.{knows_first}
@@ -18,9 +18,9 @@ invariant_of-result g c =
     c.in-Ok-new.made.1.items c.pop.new.self.items c.in-Some.pass workers
     (made.many ∙ sym made.all) made.each c.in-Some.ensures.items
     c.in-Ok-worker_list.ensures.all
-    (λ new. subst (λ (b : Beginning). All (IsNewWorker cells.table b) workers) (sym known)
+    (λ new. subst (λ (b : KnownPrefix). All (IsNewWorker cells.table b) workers) (sym known)
     (c.in-Ok-worker_list.ensures.each cells.table new)) in
-    let listed = ap (λ (b : Beginning). b.rulesets) known ∙ c.in-Ok-new-2.ensures.listed
+    let listed = ap (λ (b : KnownPrefix). b.rulesets) known ∙ c.in-Ok-new-2.ensures.listed
     ∙ ap (λ (r : Rules). r ∷ []) c.in-Ok.ensures.ok in
     let all = is.all in
     let many = made.many in

@@ -2,7 +2,7 @@ use Rattle.std.proofs.Common.{List, length, sym, ap, subst, ◌∙◌, arith}
 use Rattle.std.specs.List.{AllZip}
 use Rattle.std.specs.declared.thread.PromisedHandle.{PromisedHandle}
 use Rattle.std.proofs.lemmas.List.Elements.{All-rest}
-use Rattle.hot_swap.specs.Published.{Beginning}
+use Rattle.hot_swap.specs.Published.{KnownPrefix}
 use Rattle.workers.specs.Promised.{IsPromiseOf}
 use Rattle.workers.specs.declared.promise.WorkerPromise.{WorkerPromise}
 use Rattle.workers.proofs.InPlace.{all_have, one_more}
@@ -26,9 +26,9 @@ loop-worker-preserved g c =
 pub returns : goal.returns
 returns g c =
     let P = g.row.C-Pass.Denot in
-    let K = PromisedHandle (P × Beginning) (WorkerPromise g.row.C.Denot P) in
+    let K = PromisedHandle (P × KnownPrefix) (WorkerPromise g.row.C.Denot P) in
     let i = c.loop-worker.invariant in
     let gives = c.into_iter-worker-iterator.ensures.into_iter_gives in
-    subst (λ (ws : List (P × Beginning)). AllZip (λ (w : P × Beginning) (thread : K).
+    subst (λ (ws : List (P × KnownPrefix)). AllZip (λ (w : P × KnownPrefix) (thread : K).
     IsPromiseOf c.args.cells.now w thread.promise) ws c.loop-worker.threads.items) gives.0
     (all_have _ _ _ _ _ i.started (sym i.left ∙ c.in-None.ensures.steps.0))

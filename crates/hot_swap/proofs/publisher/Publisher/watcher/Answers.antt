@@ -1,4 +1,4 @@
-use Rattle.hot_swap.proofs.Telling.{admits, forks, merges}
+use Rattle.hot_swap.proofs.KnownPublisher.{admits, forks, merges}
 use Rattle.hot_swap.proofs.publisher.Publisher.watcher.Goals as goal
 
 pub reader-requires : goal.reader-requires

@@ -1,6 +1,6 @@
 use Rattle.std.proofs.Common.{◌≡◌, ℕ, ◌+◌, length, sym, ap, ◌∙◌, arith}
 use Rattle.std.proofs.lemmas.Slice.Zip.{AllZip-long}
-use Rattle.hot_swap.specs.Published.{Beginning}
+use Rattle.hot_swap.specs.Published.{KnownPrefix}
 use Rattle.serving.proofs.Ending.{are_of_server, has_looked, new_belong}
 use Rattle.serving.proofs.Leaving.{leaves}
 use Rattle.serving.proofs.Turns.{did_in_turn}
@@ -28,7 +28,7 @@ close_cells-closed-requires-clause-workers g c =
     are_of_server c.answers_are_runs.ensures.onwards c.args.self.cells
     c.args.self.control.publishing.known c.in-Ok.back.published.publisher
     c.args.self.workers.items c.in-Ok.back.workers.items
-    (ap (λ (b : Beginning). b.publisher) back.published_are ∙ onwards.publisher)
+    (ap (λ (b : KnownPrefix). b.publisher) back.published_are ∙ onwards.publisher)
     c.args.self.staff.each back.workers
 
 pub close_cells-closed-requires-clause-generation :
@@ -71,6 +71,6 @@ returns-then-is_known-clause-world g c =
     }) server.cells known c.in-Ok.back.published published.rules c.in-Ok.back.operator
     server.workers.items c.in-Ok.back.workers.items c.close_cells-closed.result.0
     published.last.rules_are published.sound looked
-    (ap (λ (b : Beginning). b.publisher) back.published_are ∙ onwards.publisher)
+    (ap (λ (b : KnownPrefix). b.publisher) back.published_are ∙ onwards.publisher)
     server.staff.each back.workers (done.seen c.if-is_known.true) done.passes done.history
     done.quotas)

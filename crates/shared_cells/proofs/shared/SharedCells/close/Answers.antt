@@ -60,15 +60,15 @@ left_by c =
     c.close_with-table.ensures.values.2
 
 -- the passes of the closed cells are those that were passed in
-told : (c : After-drop-passes) → c.of-all.result.value.items ≡ c.args.passes.items
-told c = ap (λ (v : Vec PassView Global). v.items) c.of-all.ensures
+agrees : (c : After-drop-passes) → c.of-all.result.value.items ≡ c.args.passes.items
+agrees c = ap (λ (v : Vec PassView Global). v.items) c.of-all.ensures
 
 pub returns-clause-passes : goal.returns-clause-passes
-returns-clause-passes c = told c
+returns-clause-passes c = agrees c
 
 pub returns-clause-history : goal.returns-clause-history
-returns-clause-history c = rw (told c) (left_by c)
+returns-clause-history c = rw (agrees c) (left_by c)
 
 pub returns-clause-quotas : goal.returns-clause-quotas
-returns-clause-quotas c = rw (told c) (exact c.args.passes.items
+returns-clause-quotas c = rw (agrees c) (exact c.args.passes.items
     (stored_values 0 c.close_with-table.result.words.items) (left_by c))

@@ -1,7 +1,7 @@
 use Rattle.std.proofs.Common.{ℕ, sym, ap, subst}
 use Rattle.std.specs.Prelude.{Vec}
 use Rattle.std.specs.declared.alloc.Global.{Global}
-use Rattle.hot_swap.specs.Published.{Beginning}
+use Rattle.hot_swap.specs.Published.{KnownPrefix}
 use Rattle.workers.specs.Back.{WorkersBack}
 use Rattle.workers.proofs.Lines.{returned_by}
 use Rattle.workers.proofs.Served.{are_back}
@@ -21,7 +21,7 @@ returns g c =
         operator = returned_by _ grew (belongs cells) _ _ _ _ _ _ back.operator back.end
             c.operate_beside-ended.ensures;
         workers = subst (WorkersBack (belongs cells) grew old)
-            (sym (ap (λ (v : Vec (P × Beginning) Global). v.items) back.workers))
+            (sym (ap (λ (v : Vec (P × KnownPrefix) Global). v.items) back.workers))
             (are_back belongs grew cells c.captures.workers c.in-Ok.serving.promise
             c.in-Ok-join.workers.items c.in-Ok.ensures c.in-Ok-join.ensures);
         directory = back.directory;

@@ -19,32 +19,32 @@ pub type Generation = u64;
 
 /// The list itself exists only in the proofs; what is kept is its length.
 #[derive(Drop)]
-pub(crate) struct Beginning {
+pub(crate) struct KnownPrefix {
     generation: Generation,
     seen: Seen<Ruleset, u64, CountsRulesets>,
 }
 
-impl Model for Beginning {
+impl Model for KnownPrefix {
     ghost use Rattle.std.specs.Prelude.{◌≡◌, length};
     ghost use Rattle.hot_swap.specs.Book.{id_of};
-    ghost use Rattle.hot_swap.specs.Published.{Beginning};
+    ghost use Rattle.hot_swap.specs.Published.{KnownPrefix};
 
-    ghost Value = { Beginning };
+    ghost Value = { KnownPrefix };
 
     ghost view = { λ k. record { publisher = id_of k.seen.book; rulesets = k.seen.log } };
 
     ghost invariant = { λ k. k.generation ≡ length k.seen.log };
 }
 
-impl Beginning {
+impl KnownPrefix {
     /// The empty list of a new publisher, and its end.
-    pub(crate) fn open() -> (Beginning, ListEnd)
+    pub(crate) fn open() -> (KnownPrefix, ListEnd)
         ensures empty { result.0.rulesets ≡ [] }
         ensures publisher { id_of result.1.word.book ≡ result.0.publisher }
     {
         let (seen, mut first, _second) = Seen::open(Start::alone(), 0, 0);
         let end = ListEnd::new(Word::tracked(0, &mut first));
-        let known = Beginning {
+        let known = KnownPrefix {
             generation: 0,
             seen,
         };
@@ -59,17 +59,17 @@ impl Beginning {
     }
 
     /// A copy.
-    pub(crate) fn again(&self) -> Beginning
+    pub(crate) fn copy(&self) -> KnownPrefix
         ensures { result ≡ self.now }
     {
-        Beginning {
+        KnownPrefix {
             generation: self.generation,
             seen: self.seen.again(),
         }
     }
 
     /// Keeps the longer of the two lists.
-    pub(crate) fn learn(&mut self, other: &Beginning)
+    pub(crate) fn learn(&mut self, other: &KnownPrefix)
         requires { other.now.publisher ≡ self.old.publisher }
         ensures publisher { self.new.publisher ≡ self.old.publisher }
         ensures mine { IsPrefix self.old.rulesets self.new.rulesets }
@@ -81,7 +81,7 @@ impl Beginning {
         let mut both = self.seen.again();
         both.learn(&other.seen);
         if self.generation <= other.generation {
-            *self = other.again();
+            *self = other.copy();
         }
     }
 

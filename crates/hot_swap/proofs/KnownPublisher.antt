@@ -7,7 +7,7 @@ use Rattle.left_right.specs.Register.{Admits, TurnsAt, Forks, Merges}
 use Rattle.atomic_table.proofs.Lists.{at_set, at_snoc}
 use Rattle.hot_swap.specs.Seats.{KnowOnePublisher, TellsPublisher}
 use Rattle.hot_swap.specs.declared.publisher_id.PublisherId.{PublisherId}
-use Rattle.hot_swap.specs.declared.shown.Shown.{Shown}
+use Rattle.hot_swap.specs.declared.published_ruleset.PublishedRuleset.{PublishedRuleset}
 
 abbrev Views : Type 0
 Views = List (Option PublisherId)
@@ -23,7 +23,7 @@ admits x views h seat id at =
     (at_snoc views None (Some id) seat at)
 
 -- what is published is of the same publisher as before
-pub turns : (seat : ℕ) (v : Option PublisherId) (x y : Shown)
+pub turns : (seat : ℕ) (v : Option PublisherId) (x y : PublishedRuleset)
     → y.known.publisher ≡ x.known.publisher
     → TurnsAt KnowOnePublisher seat v x y TellsPublisher
 turns seat v x y same views h at =

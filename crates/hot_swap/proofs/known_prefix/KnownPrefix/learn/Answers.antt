@@ -1,7 +1,7 @@
 use Rattle.std.proofs.Common.{◌≡◌, ◌≤◌, ap, subst, sym, ◌∙◌, arith, length, List}
 use mathlib.Core.List.{IsPrefix}
 use Rattle.hot_swap.proofs.Prefixes.{prefix_shorter}
-use Rattle.hot_swap.proofs.beginning.Beginning.learn.Goals as goal
+use Rattle.hot_swap.proofs.known_prefix.KnownPrefix.learn.Goals as goal
 use Rattle.ruleset.specs.Rules.{Rules}
 
 pub returns-then-self-other-clause-mine : goal.returns-then-self-other-clause-mine
@@ -14,7 +14,7 @@ returns-then-self-other-clause-mine c =
     c.learn.ensures.2 in
     let less : length own ≤ length told = omega (arith, c.self.invariant, c.other.invariant) in
     let same : told ≡ c.drop.inside.seen.log =
-    ap (λ k. k.rulesets) (c.other.view_is ∙ (sym c.again.ensures ∙ sym c.drop.view_is)) in
+    ap (λ k. k.rulesets) (c.other.view_is ∙ (sym c.copy.ensures ∙ sym c.drop.view_is)) in
     rw (← c.self.view_is) (subst (λ (l : List Rules). IsPrefix own l) same
     (prefix_shorter own told both mine c.learn.ensures.3 less))
 

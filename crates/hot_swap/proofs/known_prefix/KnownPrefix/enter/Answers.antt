@@ -1,6 +1,6 @@
 use Rattle.std.proofs.Common.{sym, ◌∙◌, ap}
 use Rattle.hot_swap.proofs.Entering.{enters_moves, same_book}
-use Rattle.hot_swap.proofs.beginning.Beginning.enter.Goals as goal
+use Rattle.hot_swap.proofs.known_prefix.KnownPrefix.enter.Goals as goal
 
 pub compare_exchange-found-requires : goal.compare_exchange-found-requires
 compare_exchange-found-requires c =

@@ -1,6 +1,6 @@
 use Rattle.std.proofs.Common.{◌≡◌, ◌+◌, length, ap, sym, ◌∙◌, arith}
 use Rattle.hot_swap.proofs.Prefixes.{one_more}
-use Rattle.hot_swap.proofs.shown.Shown.grown.Goals as goal
+use Rattle.hot_swap.proofs.published_ruleset.PublishedRuleset.list_up_to.Goals as goal
 
 pub returns : goal.returns
 returns c =
