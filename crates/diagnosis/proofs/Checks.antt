@@ -14,25 +14,25 @@ use Rattle.manifest.specs.declared.fault.ManifestFault.{ManifestFault}
 use Rattle.bounded_files.specs.Files.{KnownFile}
 use Rattle.load.specs.declared.fault.LoadFault.{LoadFault}
 use Rattle.load.specs.declared.fault.LoadFault.TheVariants.{Memory}
-use Rattle.load.specs.declared.gathering.Gathered.{Gathered}
+use Rattle.load.specs.declared.sources.Sources.{Sources}
 use Rattle.load.specs.Digest.{digest_of, framed_files}
-use Rattle.load.specs.Gathered.{AreTaken, IsGathered}
-use Rattle.load.specs.Judged.{GatheredIsLoaded}
+use Rattle.load.specs.Sources.{AreTaken, AreSources}
+use Rattle.load.specs.Judged.{SourcesAreLoaded}
 use Rattle.load.specs.OneLoad.{HasOneLoad}
 use Rattle.ruleset.specs.Rules.{AppRule, Rules}
 use Rattle.diagnosis.specs.Check.{FailsCheck, PassesCheck}
-use Rattle.diagnosis.specs.OneCheck.{AreToldAlike, HasOneCheck}
+use Rattle.diagnosis.specs.OneCheck.{AreReportedAlike, HasOneCheck}
 use Rattle.diagnosis.specs.Texts.{accepted_text}
 use Rattle.diagnosis.proofs.OneDigest.{files_once, one_digest}
-use Rattle.diagnosis.proofs.OneTold.{warned_once}
+use Rattle.diagnosis.proofs.OneReport.{warned_once}
 use Rattle.diagnosis.specs.declared.accepted.CheckedManifest.{CheckedManifest}
-use Rattle.diagnosis.specs.declared.told.Refused.{Refused}
+use Rattle.diagnosis.specs.declared.refused.Refused.{Refused}
 
 empty : IsDirectory []
 empty = record {
   names = λ i j a b at there same. absurd (none-some a at);
   places = λ i a at. absurd (none-some a at);
-  room = λ w. omega arith;
+  budget = λ w. omega arith;
   ranges = All-nil _;
 }
 
@@ -52,7 +52,7 @@ is_memory : (e : LoadFault) → (e ≢ Memory → ⊥) → e ≡ Memory
 is_memory Memory h = refl
 is_memory e h = absurd (h (λ x. absurd cc))
 
-module _ (load : HasOneLoad) (gathered : GatheredIsLoaded)
+module _ (load : HasOneLoad) (sources : SourcesAreLoaded)
     (reading : (bytes : List ℕ) → HasOneManifest bytes)
     (verdict : (s : AppShape) (text : Text) → RuleHasOneVerdict s text)
     (files : List ℕ → Option KnownFile) (bytes : List ℕ) where
@@ -62,8 +62,8 @@ module _ (load : HasOneLoad) (gathered : GatheredIsLoaded)
       ap (λ (r : Result Manifest ManifestFault). manifest_in r other)
       (reading bytes (Ok m) (Ok other) h k (λ x. absurd cc) (λ x. absurd cc))
 
-  same_files : (old other : List CellArray) (g h : Gathered)
-      → IsGathered (Some files) old bytes g → IsGathered (Some files) other bytes h
+  same_files : (old other : List CellArray) (g h : Sources)
+      → AreSources (Some files) old bytes g → AreSources (Some files) other bytes h
       → framed_files g.apps.items ≡ framed_files h.apps.items
   same_files old other g h p q =
       let read : p.manifest ≡ q.manifest = same_manifest p.manifest q.manifest p.read q.read in
@@ -73,42 +73,42 @@ module _ (load : HasOneLoad) (gathered : GatheredIsLoaded)
       AreTaken (Some files) g.directory p.numbers 0 m.apps g.apps.items g.unread) read p.apps_are)
       q.apps_are
 
-  same_digest : (old other : List CellArray) (g h : Gathered) (first second : List ℕ)
-      → IsGathered (Some files) old bytes g → IsGathered (Some files) other bytes h
+  same_digest : (old other : List CellArray) (g h : Sources) (first second : List ℕ)
+      → AreSources (Some files) old bytes g → AreSources (Some files) other bytes h
       → digest_of bytes g.apps.items ≡ Some first → digest_of bytes h.apps.items ≡ Some second
       → first ≡ second
   same_digest old other g h first second p q a b =
       one_digest bytes g.apps.items h.apps.items first second (same_files old other g h p q) a b
 
-  same_told : (told other : CheckedManifest) → PassesCheck (Some files) bytes told
-      → PassesCheck (Some files) bytes other → AreToldAlike told other
-  same_told told other p q =
+  same_reported : (reported other : CheckedManifest) → PassesCheck (Some files) bytes reported
+      → PassesCheck (Some files) bytes other → AreReportedAlike reported other
+  same_reported reported other p q =
       let loads = load files [] bytes (Ok p.rules) (Ok q.rules) p.g.directory q.g.directory empty
       p.loaded q.loaded (λ x. absurd cc) (λ x. absurd cc) in
       let same : p.rules ≡ q.rules =
       ap (λ (r : Result Rules LoadFault). rules_in r q.rules) loads.0 in
-      let apps : told.apps.items ≡ other.apps.items =
+      let apps : reported.apps.items ≡ other.apps.items =
       p.apps_are ∙ ap (λ (r : Rules). r.apps) same ∙ sym q.apps_are in
-      let read : p.gathered.manifest ≡ q.gathered.manifest =
-      same_manifest p.gathered.manifest q.gathered.manifest p.gathered.read q.gathered.read in
-      let arrays : told.arrays.items ≡ other.arrays.items =
+      let read : p.sources.manifest ≡ q.sources.manifest =
+      same_manifest p.sources.manifest q.sources.manifest p.sources.read q.sources.read in
+      let arrays : reported.arrays.items ≡ other.arrays.items =
       p.arrays_are ∙ ap (λ (m : Manifest). m.arrays) read ∙ sym q.arrays_are in
       record {
         arrays = arrays;
         apps = apps;
         text = p.passes.text_is
-            ∙ ap (λ (d : List Declaration). accepted_text d told.apps.items) arrays
+            ∙ ap (λ (d : List Declaration). accepted_text d reported.apps.items) arrays
             ∙ ap (λ (a : List AppRule). accepted_text other.arrays.items a) apps
             ∙ sym q.passes.text_is;
         warnings = warned_once verdict files bytes p.g q.g p.passes.programs q.passes.programs
-            told.warnings.items other.warnings.items p.gathered q.gathered
-            ((gathered.manifest (Some files) [] bytes p.g p.gathered).gathered p.passes.programs
+            reported.warnings.items other.warnings.items p.sources q.sources
+            ((sources.manifest (Some files) [] bytes p.g p.sources).sources p.passes.programs
             p.passes.judged)
-            ((gathered.manifest (Some files) [] bytes q.g q.gathered).gathered q.passes.programs
+            ((sources.manifest (Some files) [] bytes q.g q.sources).sources q.passes.programs
             q.passes.judged)
             read loads.1 (sym p.passes.apps_are ∙ apps ∙ q.passes.apps_are) p.passes.judged
             q.passes.judged p.passes.warned q.passes.warned;
-        digest = same_digest [] [] p.g q.g told.digest other.digest p.gathered q.gathered
+        digest = same_digest [] [] p.g q.g reported.digest other.digest p.sources q.sources
             p.passes.digest_is q.passes.digest_is;
       }
 
@@ -120,19 +120,19 @@ module _ (load : HasOneLoad) (gathered : GatheredIsLoaded)
       (k.refused, refl) (λ x. known (ap fault_in x)) (λ x. also (ap fault_in x)) in
       ap fault_in loads.0
 
-  not_both : (told : CheckedManifest) (r : Refused) → PassesCheck (Some files) bytes told
+  not_both : (reported : CheckedManifest) (r : Refused) → PassesCheck (Some files) bytes reported
       → FailsCheck (Some files) bytes r → r.fault ≢ Memory → ⊥
-  not_both told r p h known =
+  not_both reported r p h known =
       let loads = load files [] bytes (Ok p.rules) (Err r.fault) p.g.directory [] empty p.loaded
       (h.refused, refl) (λ x. absurd cc) (λ x. known (ap fault_in x)) in
       let same = loads.0 in absurd cc
 
   pub one_check : HasOneCheck files bytes
   one_check = record {
-    passes = same_told;
+    passes = same_reported;
     fault = same_fault;
-    either = λ told r p h. is_memory r.fault (not_both told r p h);
-    digest = λ told old g made p is of_it.
-        same_digest [] old p.g g told.digest made.digest p.gathered is p.passes.digest_is
+    either = λ reported r p h. is_memory r.fault (not_both reported r p h);
+    digest = λ reported old g made p is of_it.
+        same_digest [] old p.g g reported.digest made.digest p.sources is p.passes.digest_is
         of_it.digest_is;
   }

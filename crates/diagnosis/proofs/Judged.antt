@@ -5,11 +5,11 @@ use Rattle.diagnosis.specs.Further.{AreFaultsOf, JudgesApp, fault_of_app}
 use Rattle.diagnosis.specs.Further.AreFaultsOf.{none, next}
 use Rattle.load.specs.declared.fault.AppFault.{AppFault}
 use Rattle.load.specs.declared.fault.LoadFault.{LoadFault}
-use Rattle.load.specs.declared.gathering.GatheredApp.{GatheredApp}
+use Rattle.load.specs.declared.sources.AppSources.{AppSources}
 
 -- one more app
-pub judged_more : (number : ℕ) (judged : Option AppFault) (app : GatheredApp)
-    (left others : List GatheredApp) (old new rest : List LoadFault)
+pub judged_more : (number : ℕ) (judged : Option AppFault) (app : AppSources)
+    (left others : List AppSources) (old new rest : List LoadFault)
     (all : List LoadFault → Type 0)
     → ((more : List LoadFault) → AreFaultsOf number left more → all (old ++ more))
     → JudgesApp app judged → left ≡ app ∷ others → new ≡ old ++ fault_of_app number judged
@@ -22,7 +22,7 @@ judged_more number judged app left others old new rest all so_far judges left_is
     (so_far (fault_of_app number judged ++ rest) faults)
 
 -- no app is left
-pub judged_all : (number : ℕ) (left : List GatheredApp) (faults : List LoadFault)
+pub judged_all : (number : ℕ) (left : List AppSources) (faults : List LoadFault)
     (all : List LoadFault → Type 0)
     → ((more : List LoadFault) → AreFaultsOf number left more → all (faults ++ more))
     → left ≡ [] → all faults

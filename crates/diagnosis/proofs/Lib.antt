@@ -1,11 +1,11 @@
 mod Parts
 mod Slots
-mod AppsTold
-mod OneTold
+mod AppWarnings
+mod OneReport
 mod OneDigest
 mod Passing
 mod Checks
 mod Judged
 mod Declared
-mod FaultsTold
+mod FaultReports
 mod Long

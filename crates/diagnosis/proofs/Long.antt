@@ -1,27 +1,27 @@
 -- A manifest that is too long fails with this fault, whatever its bytes are.
 use Rattle.std.proofs.Common.{◌≡◌, [], refl, sym, subst}
 use Rattle.load.specs.Load.{IsLoadFault, of_bytes}
-use Rattle.load.specs.Gathered.{AreArraysBeside, IsParsedBeside}
+use Rattle.load.specs.Sources.{AreArraysBeside, IsParsedBeside}
 use Rattle.load.specs.declared.fault.LoadFault.{LoadFault}
 use Rattle.load.specs.declared.fault.LoadFault.TheVariants.{Manifest}
 use Rattle.manifest.specs.declared.fault.ManifestFault.TheVariants.{Toml}
 use Rattle.manifest.specs.declared.fault.TomlFault.TheVariants.{TooLong}
 use Rattle.manifest.specs.declared.refused.Parsed.TheVariants.{Nothing}
 use Rattle.diagnosis.specs.Check.{FailsIfLong, no_file}
-use Rattle.diagnosis.specs.Told.{TellsRefused}
-use Rattle.diagnosis.specs.declared.told.Refused.{Refused}
+use Rattle.diagnosis.specs.Reported.{TellsRefused}
+use Rattle.diagnosis.specs.declared.refused.Refused.{Refused}
 
 pub fails_if_long : (r : Refused) → r.fault ≡ Manifest (Toml TooLong)
     → TellsRefused Nothing [] [] 0 r → FailsIfLong r
-fails_if_long r is told known bytes long = record {
+fails_if_long r is reported known bytes long = record {
   refused = subst (λ (f : LoadFault). IsLoadFault known [] bytes f) (sym is) (of_bytes long);
   parsed = Nothing;
   parsed_is = subst (λ (f : LoadFault). IsParsedBeside bytes f Nothing) (sym is) tt;
   arrays = [];
   apps = [];
   unread = 0;
-  seen = no_file (λ any.
+  read_until = no_file (λ any.
       subst (λ (f : LoadFault). IsLoadFault any [] bytes f) (sym is) (of_bytes long))
       (subst (λ (f : LoadFault). AreArraysBeside bytes f []) (sym is) refl);
-  told = told;
+  reported = reported;
 }

@@ -12,10 +12,10 @@ use Rattle.cells.specs.declared.array.CellArray.{CellArray}
 use Rattle.manifest.specs.App.{AppEntry}
 use Rattle.manifest.specs.declared.app.ProgramSource.{ProgramSource}
 use Rattle.load.specs.Digest.{digest_of, framed, framed_file, framed_files}
-use Rattle.load.specs.Gathered.{AreTaken}
-use Rattle.load.specs.Gathered.AreTaken.{next_read, not_read}
+use Rattle.load.specs.Sources.{AreTaken}
+use Rattle.load.specs.Sources.AreTaken.{next_read, not_read}
 use Rattle.load.specs.Kept.{IsKeptFrom, long_count, most_of}
-use Rattle.load.specs.declared.gathering.GatheredApp.{GatheredApp}
+use Rattle.load.specs.declared.sources.AppSources.{AppSources}
 
 -- two results of keeping the same file
 record IsKeptAlike (a b : Option KeptBytes) : Type 0 where
@@ -35,7 +35,7 @@ kept_once most bytes (Longer v count is_text) (Longer w other also_text) h k = r
   long_is = h.2 ∙ sym k.2;
 }
 
-framed_more : (a b : GatheredApp) (apps others : List GatheredApp)
+framed_more : (a b : AppSources) (apps others : List AppSources)
     → framed_file a.kept ≡ framed_file b.kept → framed_files apps ≡ framed_files others
     → framed_files (a ∷ apps) ≡ framed_files (b ∷ others)
 unfolding framed_files
@@ -57,7 +57,7 @@ module _ (files : List ℕ → Option KnownFile) where
       (same_Some h.0 k.0 (sym h.1 ∙ k.1)) h.2) k.2
 
   module _ (directory other : List CellArray) (numbers more : List ArrayNo) where
-    pub files_once : (long : ℕ) (entries : List AppEntry) (apps others : List GatheredApp)
+    pub files_once : (long : ℕ) (entries : List AppEntry) (apps others : List AppSources)
         (unread also : ℕ) → AreTaken (Some files) directory numbers long entries apps unread
         → AreTaken (Some files) other more long entries others also
         → framed_files apps ≡ framed_files others
@@ -77,7 +77,7 @@ module _ (files : List ℕ → Option KnownFile) where
         (subst (λ (n : ℕ). AreTaken (Some files) directory numbers (long + n) entries apps unread)
         kept.long_is later) behind)
 
-pub one_digest : (bytes : List ℕ) (apps others : List GatheredApp) (first second : List ℕ)
+pub one_digest : (bytes : List ℕ) (apps others : List AppSources) (first second : List ℕ)
     → framed_files apps ≡ framed_files others → digest_of bytes apps ≡ Some first
     → digest_of bytes others ≡ Some second → first ≡ second
 one_digest bytes apps others first second same h k =

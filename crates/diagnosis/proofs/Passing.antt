@@ -3,28 +3,28 @@ use Rattle.std.proofs.Common.{◌≡◌, ℕ, List, [], ◌++◌, length, string
 use Rattle.std.proofs.Common.{refl, sym, Result, Ok, Err, IfOk, IfErr, Some, inl, inr}
 use Rattle.diagnosis.specs.Check.{FailsApps, FailsCheck, PassesApps, PassesCheck, files, no_file}
 use Rattle.diagnosis.specs.Texts.{accepted_text}
-use Rattle.diagnosis.specs.Told.{TellsRefused}
+use Rattle.diagnosis.specs.Reported.{TellsRefused}
 use Rattle.diagnosis.specs.Unused.{unused_from}
 use Rattle.diagnosis.specs.Warned.{WarnsOfApps}
 use Rattle.diagnosis.specs.declared.accepted.CheckedManifest.{CheckedManifest}
-use Rattle.diagnosis.specs.declared.told.Refused.{Refused}
+use Rattle.diagnosis.specs.declared.refused.Refused.{Refused}
 use Rattle.bpf_semantics.specs.Program.{ShapedProgram}
 use Rattle.bounded_files.specs.Files.{KnownFiles}
 use Rattle.cells.specs.Directory.{Declaration}
 use Rattle.cells.specs.declared.array.CellArray.{CellArray}
 use Rattle.load.specs.Digest.{digest_of}
-use Rattle.load.specs.Gathered.{AreArraysBeside, IsGathered, IsParsedBeside, IsGatherRefusal}
+use Rattle.load.specs.Sources.{AreArraysBeside, AreSources, IsParsedBeside, IsSourcesRefusal}
 use Rattle.load.specs.Judged.{AreJudged, IsLoadOf, RefusesFirst, apps_of}
 use Rattle.load.specs.Load.{IsLoadFault}
 use Rattle.load.specs.declared.fault.LoadFault.{LoadFault}
 use Rattle.load.specs.declared.fault.LoadFault.TheVariants.{Manifest as NoManifest, File, Program}
 use Rattle.load.specs.declared.fault.LoadFault.TheVariants.{Rule, Cells, Memory}
-use Rattle.load.specs.declared.gathering.Gathered.{Gathered}
-use Rattle.load.specs.declared.gathering.GatheredApp.{GatheredApp}
-use Rattle.load.specs.declared.gathering.GatherRefusal.{GatherRefusal}
+use Rattle.load.specs.declared.sources.Sources.{Sources}
+use Rattle.load.specs.declared.sources.AppSources.{AppSources}
+use Rattle.load.specs.declared.sources.SourcesRefusal.{SourcesRefusal}
 use Rattle.manifest.specs.declared.refused.Parsed.TheVariants.{Nothing}
 use Rattle.ruleset.specs.Rules.{AppRule}
-use Rattle.warnings.specs.Asked.{all_room}
+use Rattle.warnings.specs.RuleWarnings.{whole_budget}
 use Rattle.warnings.specs.declared.warning.Warning.{Warning}
 
 pub ok_by : {X E : Type 0} {P Q : X → Type 0} (r : Result X E) → ((x : X) → P x → Q x)
@@ -37,18 +37,18 @@ pub err_by : {X E : Type 0} {P Q : E → Type 0} (r : Result X E) → ((e : E) �
 err_by (Ok x) f h = tt
 err_by (Err e) f h = f e h
 
-pub passes_apps : (bytes : List ℕ) (g : Gathered) (programs : List ShapedProgram)
-    (gone : List GatheredApp) (told : CheckedManifest) (asked lent : List Warning)
+pub passes_apps : (bytes : List ℕ) (g : Sources) (programs : List ShapedProgram)
+    (gone : List AppSources) (reported : CheckedManifest) (by_rule lent : List Warning)
     (directory : List CellArray) (shown : List Declaration) (supplied other : List AppRule)
     → AreJudged g.apps.items programs → gone ≡ g.apps.items → directory ≡ g.directory
-    → told.arrays.items ≡ g.arrays.items → shown ≡ told.arrays.items
-    → supplied ≡ told.apps.items → other ≡ told.apps.items
-    → told.apps.items ≡ apps_of g.apps.items programs
-    → string_bytes told.text ≡ accepted_text shown supplied
-    → WarnsOfApps 1 all_room gone asked → lent ≡ asked
-    → told.warnings.items ≡ unused_from 0 directory other ++ lent
-    → digest_of bytes g.apps.items ≡ Some told.digest → PassesApps bytes g told
-passes_apps bytes g programs gone told asked lent directory shown supplied other judged gone_are
+    → reported.arrays.items ≡ g.arrays.items → shown ≡ reported.arrays.items
+    → supplied ≡ reported.apps.items → other ≡ reported.apps.items
+    → reported.apps.items ≡ apps_of g.apps.items programs
+    → string_bytes reported.text ≡ accepted_text shown supplied
+    → WarnsOfApps 1 whole_budget gone by_rule → lent ≡ by_rule
+    → reported.warnings.items ≡ unused_from 0 directory other ++ lent
+    → digest_of bytes g.apps.items ≡ Some reported.digest → PassesApps bytes g reported
+passes_apps bytes g programs gone reported by_rule lent directory shown supplied other judged gone_are
     directory_is arrays_are shown_are supplied_are other_are apps_are text_is of_apps same
     warnings_are digest_is = record {
       programs = programs;
@@ -56,10 +56,10 @@ passes_apps bytes g programs gone told asked lent directory shown supplied other
       arrays_are = arrays_are;
       apps_are = apps_are;
       text_is = text_is ∙ ap (λ (l : List Declaration). accepted_text l supplied) shown_are
-          ∙ ap (λ (l : List AppRule). accepted_text told.arrays.items l) supplied_are;
+          ∙ ap (λ (l : List AppRule). accepted_text reported.arrays.items l) supplied_are;
       warned = record {
-        told = asked;
-        of_apps = subst (λ (l : List GatheredApp). WarnsOfApps 1 all_room l asked) gone_are of_apps;
+        reported = by_rule;
+        of_apps = subst (λ (l : List AppSources). WarnsOfApps 1 whole_budget l by_rule) gone_are of_apps;
         warnings_are = warnings_are
             ∙ ap (λ (l : List CellArray). unused_from 0 l other ++ lent) directory_is
             ∙ ap (λ (l : List AppRule). unused_from 0 g.directory l ++ lent) (other_are ∙ apps_are)
@@ -69,7 +69,7 @@ passes_apps bytes g programs gone told asked lent directory shown supplied other
     }
 
 -- with an app's fault nothing was parsed
-none_parsed : (bytes : List ℕ) (apps : List GatheredApp) (fault : LoadFault)
+none_parsed : (bytes : List ℕ) (apps : List AppSources) (fault : LoadFault)
     → RefusesFirst apps fault → IsParsedBeside bytes fault Nothing
 none_parsed bytes apps (NoManifest fault) refuses = absurd refuses
 none_parsed bytes apps (File number) refuses = refl
@@ -78,12 +78,12 @@ none_parsed bytes apps (Rule number fault) refuses = refl
 none_parsed bytes apps (Cells number fault) refuses = refl
 none_parsed bytes apps Memory refuses = refl
 
-module _ (known : KnownFiles) (bytes : List ℕ) (g : Gathered) (is : IsGathered known [] bytes g)
+module _ (known : KnownFiles) (bytes : List ℕ) (g : Sources) (is : AreSources known [] bytes g)
     (load : IsLoadOf known [] bytes g is) where
-  pub passes : (told : CheckedManifest) → PassesApps bytes g told → PassesCheck known bytes told
-  passes told h = record {
+  pub passes : (reported : CheckedManifest) → PassesApps bytes g reported → PassesCheck known bytes reported
+  passes reported h = record {
     g = g;
-    gathered = is;
+    sources = is;
     passes = h;
     rules = record { server = is.manifest.server; apps = apps_of g.apps.items h.programs };
     loaded = load.supplied h.programs h.judged;
@@ -99,43 +99,43 @@ module _ (known : KnownFiles) (bytes : List ℕ) (g : Gathered) (is : IsGathered
     arrays = g.arrays.items;
     apps = g.apps.items;
     unread = g.unread;
-    seen = files g is h.refused;
-    told = h.told;
+    read_until = files g is h.refused;
+    reported = h.reported;
   }
 
-pub fails_early : (known : KnownFiles) (bytes : List ℕ) (u : GatherRefusal) (r : Refused)
-    → IsGatherRefusal [] bytes u → r.fault ≡ u.fault → TellsRefused u.parsed u.arrays.items [] 0 r
+pub fails_early : (known : KnownFiles) (bytes : List ℕ) (u : SourcesRefusal) (r : Refused)
+    → IsSourcesRefusal [] bytes u → r.fault ≡ u.fault → TellsRefused u.parsed u.arrays.items [] 0 r
     → FailsCheck known bytes r
-fails_early known bytes u r h is told = record {
+fails_early known bytes u r h is reported = record {
   refused = subst (λ (f : LoadFault). IsLoadFault known [] bytes f) (sym is) (h.fault_is known);
   parsed = u.parsed;
   parsed_is = subst (λ (f : LoadFault). IsParsedBeside bytes f u.parsed) (sym is) h.parsed_is;
   arrays = u.arrays.items;
   apps = [];
   unread = 0;
-  seen = no_file (λ any.
+  read_until = no_file (λ any.
       subst (λ (f : LoadFault). IsLoadFault any [] bytes f) (sym is) (h.fault_is any))
       (subst (λ (f : LoadFault). AreArraysBeside bytes f u.arrays.items) (sym is) h.arrays_are);
-  told = told;
+  reported = reported;
 }
 
 -- the fault of the first app without a program, and the report on it
-pub fails_by : (g : Gathered) (lent : List GatheredApp) (fault : LoadFault) (r : Refused)
+pub fails_by : (g : Sources) (lent : List AppSources) (fault : LoadFault) (r : Refused)
     → RefusesFirst lent fault → lent ≡ g.apps.items → r.fault ≡ fault
     → TellsRefused Nothing g.arrays.items g.apps.items g.unread r → FailsApps g r
-fails_by g lent fault r refuses same is told = record {
+fails_by g lent fault r refuses same is reported = record {
   refused = subst (λ (f : LoadFault). RefusesFirst g.apps.items f) (sym is)
-      (subst (λ (l : List GatheredApp). RefusesFirst l fault) same refuses);
-  told = told;
+      (subst (λ (l : List AppSources). RefusesFirst l fault) same refuses);
+  reported = reported;
 }
 
 -- out of memory, which is reported without lines
-pub nothing_told : (g : Gathered) (r : Refused) → r.fault ≡ Memory → string_bytes r.reason ≡ []
+pub nothing_reported : (g : Sources) (r : Refused) → r.fault ≡ Memory → string_bytes r.reason ≡ []
     → string_bytes r.own ≡ [] → r.further.items ≡ [] → r.left_out ≡ 0
     → r.read ≡ length g.apps.items → r.unread ≡ g.unread → FailsApps g r
-nothing_told g r is reason own further left_out read unread = record {
+nothing_reported g r is reason own further left_out read unread = record {
   refused = subst (λ (f : LoadFault). RefusesFirst g.apps.items f) (sym is) tt;
-  told = record {
+  reported = record {
     own = inl own;
     further = inl (further, left_out);
     read_is = read;

@@ -1,17 +1,17 @@
 -- A hint printed with a schema error: for an unknown member, the known members; for a list of
 -- tables, how its tables begin.
 use Rattle.std.specs.Prelude.{ℕ, List, [], codes}
-use Rattle.manifest.specs.declared.misfit.AppError.{AppError}
-use Rattle.manifest.specs.declared.misfit.AppError.TheVariants as app
-use Rattle.manifest.specs.declared.misfit.ArrayError.{ArrayError}
-use Rattle.manifest.specs.declared.misfit.ArrayError.TheVariants as array
-use Rattle.manifest.specs.declared.misfit.InList.TheVariants.{Count, At}
-use Rattle.manifest.specs.declared.misfit.SchemaError.{SchemaError}
-use Rattle.manifest.specs.declared.misfit.SchemaError.TheVariants as misfit
-use Rattle.manifest.specs.declared.misfit.PackageError.{PackageError}
-use Rattle.manifest.specs.declared.misfit.PackageError.TheVariants as the_package
-use Rattle.manifest.specs.declared.misfit.ReleaseError.{ReleaseError}
-use Rattle.manifest.specs.declared.misfit.ReleaseError.TheVariants as release
+use Rattle.manifest.specs.declared.schema_error.AppError.{AppError}
+use Rattle.manifest.specs.declared.schema_error.AppError.TheVariants as app
+use Rattle.manifest.specs.declared.schema_error.ArrayError.{ArrayError}
+use Rattle.manifest.specs.declared.schema_error.ArrayError.TheVariants as array
+use Rattle.manifest.specs.declared.schema_error.InList.TheVariants.{Count, At}
+use Rattle.manifest.specs.declared.schema_error.SchemaError.{SchemaError}
+use Rattle.manifest.specs.declared.schema_error.SchemaError.TheVariants as schema_error
+use Rattle.manifest.specs.declared.schema_error.PackageError.{PackageError}
+use Rattle.manifest.specs.declared.schema_error.PackageError.TheVariants as the_package
+use Rattle.manifest.specs.declared.schema_error.ReleaseError.{ReleaseError}
+use Rattle.manifest.specs.declared.schema_error.ReleaseError.TheVariants as release
 
 abbrev pub package_advice : PackageError → List ℕ
 package_advice (the_package.Unknown key) =
@@ -37,9 +37,9 @@ array_advice (array.Unknown key) = codes "the members of an array: name, width, 
 array_advice m = []
 
 unfoldable pub advice : SchemaError → List ℕ
-advice (misfit.Unknown key) = codes "the members of a manifest: server, array, app\n"
-advice (misfit.Arrays Count) = codes "each array begins with [[array]]\n"
-advice (misfit.Arrays (At number m)) = array_advice m
-advice (misfit.Apps Count) = codes "each app begins with [[app]]\n"
-advice (misfit.Apps (At number m)) = app_advice m
+advice (schema_error.Unknown key) = codes "the members of a manifest: server, array, app\n"
+advice (schema_error.Arrays Count) = codes "each array begins with [[array]]\n"
+advice (schema_error.Arrays (At number m)) = array_advice m
+advice (schema_error.Apps Count) = codes "each app begins with [[app]]\n"
+advice (schema_error.Apps (At number m)) = app_advice m
 advice m = []

@@ -4,18 +4,18 @@ use Rattle.std.specs.Prelude.{◌≡◌, ◌<◌, ℕ, List, [], length, string_
 use Rattle.bpf_semantics.specs.Program.{ShapedProgram}
 use Rattle.cells.specs.Directory.{Declaration}
 use Rattle.diagnosis.specs.Texts.{accepted_text}
-use Rattle.diagnosis.specs.Told.{TellsRefused}
+use Rattle.diagnosis.specs.Reported.{TellsRefused}
 use Rattle.diagnosis.specs.Warned.{WarnsOf}
 use Rattle.diagnosis.specs.declared.accepted.CheckedManifest.{CheckedManifest}
-use Rattle.diagnosis.specs.declared.told.Refused.{Refused}
+use Rattle.diagnosis.specs.declared.refused.Refused.{Refused}
 use Rattle.bounded_files.specs.Files.{KnownFiles}
 use Rattle.load.specs.Digest.{digest_of}
-use Rattle.load.specs.Gathered.{AreArraysBeside, IsGathered, IsParsedBeside}
+use Rattle.load.specs.Sources.{AreArraysBeside, AreSources, IsParsedBeside}
 use Rattle.load.specs.Judged.{AreJudged, RefusesFirst, apps_of}
 use Rattle.load.specs.Load.{IsRulesetOf, IsLoadFault}
 use Rattle.load.specs.declared.fault.LoadFault.{LoadFault}
-use Rattle.load.specs.declared.gathering.Gathered.{Gathered}
-use Rattle.load.specs.declared.gathering.GatheredApp.{GatheredApp}
+use Rattle.load.specs.declared.sources.Sources.{Sources}
+use Rattle.load.specs.declared.sources.AppSources.{AppSources}
 use Rattle.manifest.specs.declared.refused.Parsed.{Parsed}
 use Rattle.manifest.specs.declared.refused.Parsed.TheVariants.{Nothing}
 use Rattle.ruleset.specs.Rules.{Rules}
@@ -24,43 +24,43 @@ use Rattle.ruleset.specs.Rules.{Rules}
 
 -- each app has its program; the report has these arrays and apps, their lines, the warnings, and
 -- the digest of the manifest's bytes and of its files
-pub record PassesApps (bytes : List ℕ) (g : Gathered) (told : CheckedManifest) : Type 0 where
+pub record PassesApps (bytes : List ℕ) (g : Sources) (reported : CheckedManifest) : Type 0 where
   pub programs : List ShapedProgram
   pub judged : AreJudged g.apps.items programs
-  pub arrays_are : told.arrays.items ≡ g.arrays.items
-  pub apps_are : told.apps.items ≡ apps_of g.apps.items programs
-  pub text_is : string_bytes told.text ≡ accepted_text told.arrays.items told.apps.items
-  pub warned : WarnsOf g programs told.warnings.items
-  pub digest_is : digest_of bytes g.apps.items ≡ Some told.digest
+  pub arrays_are : reported.arrays.items ≡ g.arrays.items
+  pub apps_are : reported.apps.items ≡ apps_of g.apps.items programs
+  pub text_is : string_bytes reported.text ≡ accepted_text reported.arrays.items reported.apps.items
+  pub warned : WarnsOf g programs reported.warnings.items
+  pub digest_is : digest_of bytes g.apps.items ≡ Some reported.digest
 
 -- the first app without a program has this fault; the report is about it, the further faults, and
 -- the apps whose files aren't read
-pub record FailsApps (g : Gathered) (r : Refused) : Type 0 where
+pub record FailsApps (g : Sources) (r : Refused) : Type 0 where
   pub refused : RefusesFirst g.apps.items r.fault
-  pub told : TellsRefused Nothing g.arrays.items g.apps.items g.unread r
+  pub reported : TellsRefused Nothing g.arrays.items g.apps.items g.unread r
 
 -- ---- the manifest
 
 module _ (known : KnownFiles) (bytes : List ℕ) where
   -- it loads as a ruleset with these arrays and apps
-  pub record PassesCheck (told : CheckedManifest) : Type 0 where
-    pub g : Gathered
-    pub gathered : IsGathered known [] bytes g
-    pub passes : PassesApps bytes g told
+  pub record PassesCheck (reported : CheckedManifest) : Type 0 where
+    pub g : Sources
+    pub sources : AreSources known [] bytes g
+    pub passes : PassesApps bytes g reported
     pub rules : Rules
     pub loaded : IsRulesetOf known [] bytes rules g.directory
-    pub arrays_are : told.arrays.items ≡ gathered.manifest.arrays
-    pub apps_are : told.apps.items ≡ rules.apps
+    pub arrays_are : reported.arrays.items ≡ sources.manifest.arrays
+    pub apps_are : reported.apps.items ≡ rules.apps
 
   -- the arrays and apps that were gathered from a manifest with this fault, and how many apps have
   -- files that aren't read. Either the manifest has the fault whatever its files give, and these
   -- arrays are known then; or its first app without a program has it
-  pub data IsSeen (fault : LoadFault) : List Declaration → List GatheredApp → (unread : ℕ)
+  pub data IsReadUntil (fault : LoadFault) : List Declaration → List AppSources → (unread : ℕ)
       → Type 0 where
     no_file : {arrays : List Declaration} → ((any : KnownFiles) → IsLoadFault any [] bytes fault)
-        → AreArraysBeside bytes fault arrays → IsSeen fault arrays [] 0
-    files : (g : Gathered) → IsGathered known [] bytes g → RefusesFirst g.apps.items fault
-        → IsSeen fault g.arrays.items g.apps.items g.unread
+        → AreArraysBeside bytes fault arrays → IsReadUntil fault arrays [] 0
+    files : (g : Sources) → AreSources known [] bytes g → RefusesFirst g.apps.items fault
+        → IsReadUntil fault g.arrays.items g.apps.items g.unread
 
   -- it has this fault; the report is about it and the further faults, from what the bytes were
   -- parsed as and what was gathered, which has this fault
@@ -69,10 +69,10 @@ module _ (known : KnownFiles) (bytes : List ℕ) where
     pub parsed : Parsed
     pub parsed_is : IsParsedBeside bytes r.fault parsed
     pub arrays : List Declaration
-    pub apps : List GatheredApp
+    pub apps : List AppSources
     pub unread : ℕ
-    pub seen : IsSeen r.fault arrays apps unread
-    pub told : TellsRefused parsed arrays apps unread r
+    pub read_until : IsReadUntil r.fault arrays apps unread
+    pub reported : TellsRefused parsed arrays apps unread r
 
 -- every manifest of more than 1048576 bytes fails like this, whatever its files give
 abbrev pub FailsIfLong : Refused → Type 0

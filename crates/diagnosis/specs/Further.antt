@@ -5,16 +5,16 @@
 use Rattle.std.specs.Prelude.{◌≡◌, ◌≢◌, ℕ, ◌+◌, List, [], ◌∷◌, ◌++◌, drop, Option, Some, None}
 use Rattle.bpf_semantics.specs.Program.{ShapedProgram}
 use Rattle.cells.specs.Directory.{Declaration}
-use Rattle.diagnosis.specs.Others.{AreOtherMisfits, AreOtherTwice}
+use Rattle.diagnosis.specs.Others.{AreOtherSchemaErrors, AreOtherDuplicates}
 use Rattle.diagnosis.specs.Undeclared.{AreUndeclared}
 use Rattle.load.specs.Apps.{in_app}
-use Rattle.load.specs.Judged.{IsJudged, RefusesGathered}
+use Rattle.load.specs.Judged.{IsJudged, RefusesSources}
 use Rattle.load.specs.declared.fault.AppFault.{AppFault}
 use Rattle.load.specs.declared.fault.AppFault.TheVariants as app
 use Rattle.load.specs.declared.fault.LoadFault.{LoadFault}
 use Rattle.load.specs.declared.fault.LoadFault.TheVariants.{Manifest as NoManifest, File, Program}
 use Rattle.load.specs.declared.fault.LoadFault.TheVariants.{Rule, Cells, Memory}
-use Rattle.load.specs.declared.gathering.GatheredApp.{GatheredApp}
+use Rattle.load.specs.declared.sources.AppSources.{AppSources}
 use Rattle.manifest.specs.declared.fault.ManifestFault.TheVariants as unread
 use Rattle.manifest.specs.declared.refused.Parsed.{Parsed}
 
@@ -24,31 +24,31 @@ fault_of_app number None = []
 fault_of_app number (Some fault) = in_app number fault ∷ []
 
 -- the verdict on an app by itself: a program, or a fault
-pub data JudgesApp (one : GatheredApp) : Option AppFault → Type 0 where
+pub data JudgesApp (one : AppSources) : Option AppFault → Type 0 where
   supplied : (program : ShapedProgram) → IsJudged one program → JudgesApp one None
-  refused : (fault : AppFault) → fault ≢ app.Memory → RefusesGathered one fault
+  refused : (fault : AppFault) → fault ≢ app.Memory → RefusesSources one fault
       → JudgesApp one (Some fault)
 
 -- the faults of these apps, the first of which has this number
-pub data AreFaultsOf : ℕ → List GatheredApp → List LoadFault → Type 0 where
+pub data AreFaultsOf : ℕ → List AppSources → List LoadFault → Type 0 where
   none : {number : ℕ} → AreFaultsOf number [] []
-  next : {number : ℕ} {one : GatheredApp} {apps : List GatheredApp} {faults : List LoadFault}
+  next : {number : ℕ} {one : AppSources} {apps : List AppSources} {faults : List LoadFault}
       (judged : Option AppFault) → JudgesApp one judged → AreFaultsOf (number + 1) apps faults
       → AreFaultsOf number (one ∷ apps) (fault_of_app number judged ++ faults)
 
 -- the faults of the apps after the one with this number
-abbrev pub AreBehind : List GatheredApp → ℕ → List LoadFault → Type 0
-AreBehind apps number faults = AreFaultsOf (number + 1) (drop number apps) faults
+abbrev pub AreFaultsAfter : List AppSources → ℕ → List LoadFault → Type 0
+AreFaultsAfter apps number faults = AreFaultsOf (number + 1) (drop number apps) faults
 
-module _ (parsed : Parsed) (arrays : List Declaration) (apps : List GatheredApp) where
+module _ (parsed : Parsed) (arrays : List Declaration) (apps : List AppSources) where
   -- the faults after this fault of a manifest, from what its bytes were parsed as and what was
   -- gathered
   abbrev pub AreFurther : LoadFault → List LoadFault → Type 0
-  AreFurther (File number) faults = AreBehind apps number faults
-  AreFurther (Program number fault) faults = AreBehind apps number faults
-  AreFurther (Rule number fault) faults = AreBehind apps number faults
-  AreFurther (NoManifest (unread.Field misfit)) faults = AreOtherMisfits parsed faults
-  AreFurther (NoManifest (unread.Duplicate twice)) faults = AreOtherTwice parsed faults
+  AreFurther (File number) faults = AreFaultsAfter apps number faults
+  AreFurther (Program number fault) faults = AreFaultsAfter apps number faults
+  AreFurther (Rule number fault) faults = AreFaultsAfter apps number faults
+  AreFurther (NoManifest (unread.Field schema_error)) faults = AreOtherSchemaErrors parsed faults
+  AreFurther (NoManifest (unread.Duplicate duplicate)) faults = AreOtherDuplicates parsed faults
   AreFurther (NoManifest fault) faults = faults ≡ []
   AreFurther (Cells number fault) faults = AreUndeclared arrays number faults
   AreFurther Memory faults = faults ≡ []

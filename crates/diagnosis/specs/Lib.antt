@@ -4,12 +4,12 @@ pub mod Inside
 pub mod Shown
 pub mod Unused
 pub mod Warned
-pub mod Asked
+pub mod Added
 pub mod Reason
 pub mod Lines
 pub mod Undeclared
 pub mod Others
 pub mod Further
-pub mod Told
+pub mod Reported
 pub mod Check
 pub mod OneCheck

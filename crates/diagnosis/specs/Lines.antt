@@ -5,7 +5,7 @@ use Rattle.std.specs.Prelude.{string_bytes}
 use Rattle.load.specs.Texts.{load_fault_text}
 use Rattle.load.specs.declared.fault.LoadFault.{LoadFault}
 use Rattle.diagnosis.specs.Texts.{unread_line}
-use Rattle.diagnosis.specs.declared.told.ToldFault.{ToldFault}
+use Rattle.diagnosis.specs.declared.refused.FaultReport.{FaultReport}
 use Rattle.ruleset.specs.Texts.{line}
 
 -- the line by which a manifest is refused
@@ -13,8 +13,8 @@ abbrev pub refusal_line : LoadFault → List ℕ
 refusal_line fault = line (codes "refused " ++ load_fault_text fault)
 
 -- a further fault: the line of its refusal, then where and why
-abbrev pub fault_lines : ToldFault → List ℕ
-fault_lines told = refusal_line told.fault ++ string_bytes told.reason
+abbrev pub fault_lines : FaultReport → List ℕ
+fault_lines reported = refusal_line reported.fault ++ string_bytes reported.reason
 
 -- how many more faults there are, if any
 abbrev pub more_line : ℕ → List ℕ
@@ -28,12 +28,12 @@ unread_lines read (suc left) = unread_line read
 
 -- all lines
 abbrev pub refused_lines :
-    (own : List ℕ) → List ToldFault → (left_out read unread : ℕ) → List ℕ
+    (own : List ℕ) → List FaultReport → (left_out read unread : ℕ) → List ℕ
 refused_lines own further left_out read unread =
     own ++ flat_map fault_lines further ++ more_line left_out ++ unread_lines read unread
 
 -- all lines; or, if out of memory, only those of the first fault, or none
 abbrev pub AreRefusalLines :
-    (own : List ℕ) → List ToldFault → (left_out read unread : ℕ) → List ℕ → Type 0
+    (own : List ℕ) → List FaultReport → (left_out read unread : ℕ) → List ℕ → Type 0
 AreRefusalLines own further left_out read unread text =
     (text ≡ refused_lines own further left_out read unread) ⊎ ((text ≡ own) ⊎ (text ≡ []))

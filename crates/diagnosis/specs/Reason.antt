@@ -13,7 +13,7 @@ use Rattle.ruleset.specs.Texts.{line}
 use Rattle.load.specs.declared.fault.LoadFault.{LoadFault}
 use Rattle.load.specs.declared.fault.LoadFault.TheVariants.{Manifest as NoManifest, Cells, File}
 use Rattle.load.specs.declared.fault.LoadFault.TheVariants.{Program, Rule, Memory}
-use Rattle.load.specs.declared.gathering.GatheredApp.{GatheredApp}
+use Rattle.load.specs.declared.sources.AppSources.{AppSources}
 use Rattle.bpf_checks.specs.declared.refusal.Refusal.TheVariants as verify
 use Rattle.acceptance.specs.declared.fault.ProgramFault.{ProgramFault}
 use Rattle.acceptance.specs.declared.fault.ProgramFault.TheVariants.{Flow, Verify}
@@ -21,7 +21,7 @@ use Rattle.acceptance.specs.declared.fault.RuleTextFault.{RuleTextFault}
 use Rattle.acceptance.specs.declared.fault.RuleTextFault.TheVariants.{Text}
 use Rattle.flow_check.specs.declared.fault.FlowFault.TheVariants as flow
 use Rattle.rule_lang.specs.declared.fault.RuleFault.TheVariants as rule
-use Rattle.manifest.specs.Texts.{misfit_text, twice_text}
+use Rattle.manifest.specs.Texts.{schema_error_text, duplicate_text}
 use Rattle.manifest.specs.declared.fault.ManifestFault.{ManifestFault}
 use Rattle.manifest.specs.declared.fault.ManifestFault.TheVariants as unread
 use Rattle.manifest.specs.declared.fault.TomlFault.{TomlFault}
@@ -42,9 +42,9 @@ IsTomlReason toml.Text text = (said : List ℕ) × (text ≡ printed_lines said 
 
 abbrev pub IsManifestReason : ManifestFault → List ℕ → Type 0
 IsManifestReason (unread.Toml fault) text = IsTomlReason fault text
-IsManifestReason (unread.Field misfit) text =
-    text ≡ line (misfit_text misfit) ++ advice misfit
-IsManifestReason (unread.Duplicate twice) text = text ≡ twice_text twice ++ codes " stands twice\n"
+IsManifestReason (unread.Field schema_error) text =
+    text ≡ line (schema_error_text schema_error) ++ advice schema_error
+IsManifestReason (unread.Duplicate duplicate) text = text ≡ duplicate_text duplicate ++ codes " stands twice\n"
 IsManifestReason unread.Memory text = text ≡ []
 
 -- for an array with too few cells left; over no arrays, arrays have no other fault
@@ -68,21 +68,21 @@ rule_place (Text (rule.At line kind)) = InRule line kind
 rule_place fault = Whole
 
 -- the name of the file, and what is shown of it
-pub record IsTold (number : ℕ) (place : Place) (app : GatheredApp) (text : List ℕ) : Type 0 where
+pub record IsReported (number : ℕ) (place : Place) (app : AppSources) (text : List ℕ) : Type 0 where
   pub place_text : List ℕ
   pub shows : ShowsPlace app place place_text
   pub text_is : text ≡ file_line number app.entry.source ++ place_text
 
 -- for the app with this number, from 1
-pub record IsFileReason (apps : List GatheredApp) (number : ℕ) (place : Place) (text : List ℕ)
+pub record IsFileReason (apps : List AppSources) (number : ℕ) (place : Place) (text : List ℕ)
     : Type 0 where
-  pub app : GatheredApp
+  pub app : AppSources
   pub stands : slice_get apps (number - 1) ≡ Some app
-  pub told : IsTold number place app text
+  pub reported : IsReported number place app text
 
 -- ---- the lines that explain a refusal, from what was gathered
 
-module _ (arrays : List Declaration) (apps : List GatheredApp) where
+module _ (arrays : List Declaration) (apps : List AppSources) where
   abbrev pub IsReason : LoadFault → List ℕ → Type 0
   IsReason (NoManifest fault) text = IsManifestReason fault text
   IsReason (Cells number fault) text = IsCellsReason arrays number fault text

@@ -19,7 +19,7 @@ use Rattle.ruleset.specs.Texts.{line}
 use Rattle.rule_diagnosis.specs.Places.{line_text}
 use Rattle.rule_diagnosis.specs.Told.{IsRuleTold, rule_too_long}
 use Rattle.load.specs.Source.{file_of}
-use Rattle.load.specs.declared.gathering.GatheredApp.{GatheredApp}
+use Rattle.load.specs.declared.sources.AppSources.{AppSources}
 use Rattle.bounded_files.specs.declared.kept.KeptBytes.{KeptBytes}
 use Rattle.bounded_files.specs.declared.kept.KeptBytes.TheVariants.{Longer, Whole as WholeFile}
 
@@ -80,12 +80,12 @@ IsKeptShown s place (Some (Longer v count is_text)) text =
     IsLongShown place v.items is_text text
 
 -- the file of an app is in the manifest's folder, by its name and with no symbolic link in its path
-abbrev pub lies_inside : GatheredApp → Bool
+abbrev pub lies_inside : AppSources → Bool
 lies_inside app = is_inside (file_of app.entry.source) && not app.behind_link
 
 -- the file is inside, and its place is shown; or nothing is: the file is outside, memory ran out,
 -- or there is no such place
-pub data ShowsPlace (app : GatheredApp) (place : Place) : List ℕ → Type 0 where
+pub data ShowsPlace (app : AppSources) (place : Place) : List ℕ → Type 0 where
   nothing : ShowsPlace app place []
   shown : {text : List ℕ} → lies_inside app ≡ true
       → IsKeptShown app.shape place app.kept text → ShowsPlace app place text

@@ -9,11 +9,11 @@ use Rattle.manifest.specs.declared.app.ProgramSource.{ProgramSource}
 use Rattle.manifest.specs.declared.app.ProgramSource.TheVariants.{Program, Rule}
 use Rattle.load.specs.Judged.{apps_of}
 use Rattle.load.specs.Kept.{whole_file}
-use Rattle.load.specs.declared.gathering.Gathered.{Gathered}
-use Rattle.load.specs.declared.gathering.GatheredApp.{GatheredApp}
+use Rattle.load.specs.declared.sources.Sources.{Sources}
+use Rattle.load.specs.declared.sources.AppSources.{AppSources}
 use Rattle.diagnosis.specs.Unused.{unused_from}
-use Rattle.warnings.specs.Asked.{all_room, room_left, rule_warnings}
-use Rattle.warnings.specs.Asking.{RuleOfApp}
+use Rattle.warnings.specs.RuleWarnings.{whole_budget, budget_left, rule_warnings}
+use Rattle.warnings.specs.Evaluation.{RuleOfApp}
 use Rattle.warnings.specs.Releases.{appid_warning, releases_from}
 use Rattle.warnings.specs.declared.warning.Warning.{Warning}
 
@@ -25,7 +25,7 @@ app_warnings number entry =
 
 -- ---- the rule of an app, by its text, which is kept whole
 
-abbrev pub app_rule : GatheredApp → List Statement → RuleOfApp
+abbrev pub app_rule : AppSources → List Statement → RuleOfApp
 app_rule app rule = record {
   appid = app.entry.appid;
   shape = app.shape;
@@ -34,40 +34,40 @@ app_rule app rule = record {
 }
 
 -- the warnings on the rule, and the budget left for the rules of other apps
-pub record AsksRule (number room : ℕ) (app : GatheredApp) (asked : List Warning) (left : ℕ) : Type 0
+pub record WarnsOfRule (number budget : ℕ) (app : AppSources) (by_rule : List Warning) (left : ℕ) : Type 0
   where
     pub text : List ℕ
     pub kept_is : whole_file app.kept ≡ Some text
     pub rule : List Statement
     pub spelled : IsTextOf text app.shape rule
-    pub asked_is : asked ≡ rule_warnings number room (app_rule app rule)
-    pub left_is : left ≡ room_left room (app_rule app rule)
+    pub by_rule_is : by_rule ≡ rule_warnings number budget (app_rule app rule)
+    pub left_is : left ≡ budget_left budget (app_rule app rule)
 
-abbrev pub AsksApp : (number room : ℕ) → ProgramSource → GatheredApp → List Warning → (left : ℕ)
+abbrev pub WarnsOfSource : (number budget : ℕ) → ProgramSource → AppSources → List Warning → (left : ℕ)
     → Type 0
-AsksApp number room (Program file) app asked left = (asked ≡ []) × (left ≡ room)
-AsksApp number room (Rule file) app asked left = AsksRule number room app asked left
+WarnsOfSource number budget (Program file) app by_rule left = (by_rule ≡ []) × (left ≡ budget)
+WarnsOfSource number budget (Rule file) app by_rule left = WarnsOfRule number budget app by_rule left
 
 -- for an app: the warnings on its appid and its releases, then on its rule
-pub record WarnsOfApp (number room : ℕ) (app : GatheredApp) (told : List Warning) (left : ℕ)
+pub record WarnsOfApp (number budget : ℕ) (app : AppSources) (reported : List Warning) (left : ℕ)
     : Type 0
   where
-    pub asked : List Warning
-    pub asks : AsksApp number room app.entry.source app asked left
-    pub told_is : told ≡ app_warnings number app.entry ++ asked
+    pub by_rule : List Warning
+    pub rule_warns : WarnsOfSource number budget app.entry.source app by_rule left
+    pub reported_is : reported ≡ app_warnings number app.entry ++ by_rule
 
 -- for these apps, the first of which has this number
-pub data WarnsOfApps : (number room : ℕ) → List GatheredApp → List Warning → Type 0 where
-  no_app : {number room : ℕ} → WarnsOfApps number room [] []
-  next : {number room left : ℕ} {app : GatheredApp} {apps : List GatheredApp}
-      {told rest : List Warning} → WarnsOfApp number room app told left
+pub data WarnsOfApps : (number budget : ℕ) → List AppSources → List Warning → Type 0 where
+  no_app : {number budget : ℕ} → WarnsOfApps number budget [] []
+  next : {number budget left : ℕ} {app : AppSources} {apps : List AppSources}
+      {reported rest : List Warning} → WarnsOfApp number budget app reported left
       → WarnsOfApps (number + 1) left apps rest
-      → WarnsOfApps number room (app ∷ apps) (told ++ rest)
+      → WarnsOfApps number budget (app ∷ apps) (reported ++ rest)
 
 -- on the arrays, then on the apps
-pub record WarnsOf (g : Gathered) (programs : List ShapedProgram) (warnings : List Warning) : Type 0
+pub record WarnsOf (g : Sources) (programs : List ShapedProgram) (warnings : List Warning) : Type 0
   where
-    pub told : List Warning
-    pub of_apps : WarnsOfApps 1 all_room g.apps.items told
+    pub reported : List Warning
+    pub of_apps : WarnsOfApps 1 whole_budget g.apps.items reported
     pub warnings_are : warnings
-        ≡ unused_from 0 g.directory (apps_of g.apps.items programs) ++ told
+        ≡ unused_from 0 g.directory (apps_of g.apps.items programs) ++ reported

@@ -4,13 +4,13 @@ ghost use Rattle.std.specs.Prelude.{◌≡◌, flat_map, All, IfOk, OnOk, string
 ghost use Rattle.printing.specs.Pushed.{Puts};
 ghost use Rattle.diagnosis.specs.Check.{PassesApps};
 ghost use Rattle.diagnosis.specs.Texts.{accepted_text, array_line, printed_app_line};
-ghost use Rattle.load.specs.Gathered.{HasItsReleases};
+ghost use Rattle.load.specs.Sources.{HasItsReleases};
 ghost use Rattle.load.specs.Judged.{AreJudged};
 
-use crate::warned::{tell_warnings, told_of_apps};
+use crate::warned::{tell_warnings, warnings_of_apps};
 use bpf_verify::Verified;
 use declarations::ArrayDeclaration;
-use load::{Gathered, judged_digest, supply};
+use load::{Sources, judged_digest, supply};
 use printing::Printed;
 use ruleset::App;
 use std::alloc::{AllocError, Global};
@@ -38,25 +38,25 @@ pub struct CheckedManifest {
 pub(crate) fn tell_accepted(
     alloc: Global,
     manifest: &[u8],
-    gathered: Gathered,
+    sources: Sources,
     programs: Vec<Verified>,
 ) -> Result<CheckedManifest, AllocError>
-    requires shaped { All HasItsReleases gathered.apps.items }
-    requires judged { AreJudged gathered.apps.items programs.items }
-    ensures { IfOk result (PassesApps manifest.now gathered) }
+    requires shaped { All HasItsReleases sources.apps.items }
+    requires judged { AreJudged sources.apps.items programs.items }
+    ensures { IfOk result (PassesApps manifest.now sources) }
 {
-    let told = told_of_apps(alloc, gathered.apps.as_slice())?;
-    let digest = judged_digest(manifest, &gathered.apps, &programs);
-    let Gathered {
+    let reported = warnings_of_apps(alloc, sources.apps.as_slice())?;
+    let digest = judged_digest(manifest, &sources.apps, &programs);
+    let Sources {
         server: _server,
         arrays,
         directory,
-        apps: gathered_apps,
+        apps: collected_apps,
         unread: _unread,
-    } = gathered;
-    let apps = supply(alloc, gathered_apps, programs)?;
+    } = sources;
+    let apps = supply(alloc, collected_apps, programs)?;
     let text = tell_loaded(alloc, arrays.as_slice(), apps.as_slice())?;
-    let warnings = tell_warnings(alloc, directory.arrays(), apps.as_slice(), told.as_slice())?;
+    let warnings = tell_warnings(alloc, directory.arrays(), apps.as_slice(), reported.as_slice())?;
     Ok(CheckedManifest {
         arrays,
         apps,
@@ -75,7 +75,7 @@ fn tell_loaded(
 {
     let mut text = String::new(alloc);
     tell_arrays(&mut text, arrays)?;
-    tell_apps(&mut text, apps)?;
+    push_app_lines(&mut text, apps)?;
     Ok(text)
 }
 
@@ -94,7 +94,7 @@ fn tell_array(text: &mut String, array: &ArrayDeclaration) -> Result<(), AllocEr
     writeln!(text, "array {array}")
 }
 
-fn tell_apps(text: &mut String, apps: &[App]) -> Result<(), AllocError>
+fn push_app_lines(text: &mut String, apps: &[App]) -> Result<(), AllocError>
     ensures { OnOk result (Puts text.old text.new (flat_map printed_app_line apps.now)) }
 {
     for app in apps {

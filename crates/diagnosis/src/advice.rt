@@ -6,10 +6,10 @@ ghost use Rattle.diagnosis.specs.Advice as specs;
 
 use manifest::{AppError, ArrayError, InList, PackageError, ReleaseError, SchemaError};
 
-fn package_advice(misfit: &PackageError) -> &'static str
-    ensures { result.now ≡ specs.package_advice misfit.now }
+fn package_advice(schema_error: &PackageError) -> &'static str
+    ensures { result.now ≡ specs.package_advice schema_error.now }
 {
-    match misfit {
+    match schema_error {
         PackageError::Unknown(_) => {
             "the members of a package: name, hash_sha256, size, required\n"
         }
@@ -17,34 +17,34 @@ fn package_advice(misfit: &PackageError) -> &'static str
     }
 }
 
-fn release_advice(misfit: &ReleaseError) -> &'static str
-    ensures { result.now ≡ specs.release_advice misfit.now }
+fn release_advice(schema_error: &ReleaseError) -> &'static str
+    ensures { result.now ≡ specs.release_advice schema_error.now }
 {
-    match misfit {
+    match schema_error {
         ReleaseError::Unknown(_) => "the members of a release: version, codebase, package\n",
         ReleaseError::Packages(InList::Count) => {
             "each package begins with [[app.release.package]]\n"
         }
-        ReleaseError::Packages(InList::At(_, misfit)) => package_advice(misfit),
+        ReleaseError::Packages(InList::At(_, schema_error)) => package_advice(schema_error),
         _ => "",
     }
 }
 
-fn app_advice(misfit: &AppError) -> &'static str
-    ensures { result.now ≡ specs.app_advice misfit.now }
+fn app_advice(schema_error: &AppError) -> &'static str
+    ensures { result.now ≡ specs.app_advice schema_error.now }
 {
-    match misfit {
+    match schema_error {
         AppError::Unknown(_) => "the members of an app: appid, program or rule, release\n",
         AppError::Releases(InList::Count) => "each release begins with [[app.release]]\n",
-        AppError::Releases(InList::At(_, misfit)) => release_advice(misfit),
+        AppError::Releases(InList::At(_, schema_error)) => release_advice(schema_error),
         _ => "",
     }
 }
 
-fn array_advice(misfit: &ArrayError) -> &'static str
-    ensures { result.now ≡ specs.array_advice misfit.now }
+fn array_advice(schema_error: &ArrayError) -> &'static str
+    ensures { result.now ≡ specs.array_advice schema_error.now }
 {
-    match misfit {
+    match schema_error {
         ArrayError::Unknown(_) => "the members of an array: name, width, length, quota\n",
         _ => "",
     }
@@ -52,15 +52,15 @@ fn array_advice(misfit: &ArrayError) -> &'static str
 
 /// A line, or the empty text.
 #[tactic(auto, unfolding(crate::specs::Advice::advice))]
-pub(crate) fn advice(misfit: &SchemaError) -> &'static str
-    ensures { result.now ≡ specs.advice misfit.now }
+pub(crate) fn advice(schema_error: &SchemaError) -> &'static str
+    ensures { result.now ≡ specs.advice schema_error.now }
 {
-    match misfit {
+    match schema_error {
         SchemaError::Unknown(_) => "the members of a manifest: server, array, app\n",
         SchemaError::Arrays(InList::Count) => "each array begins with [[array]]\n",
-        SchemaError::Arrays(InList::At(_, misfit)) => array_advice(misfit),
+        SchemaError::Arrays(InList::At(_, schema_error)) => array_advice(schema_error),
         SchemaError::Apps(InList::Count) => "each app begins with [[app]]\n",
-        SchemaError::Apps(InList::At(_, misfit)) => app_advice(misfit),
+        SchemaError::Apps(InList::At(_, schema_error)) => app_advice(schema_error),
         _ => "",
     }
 }

@@ -3,15 +3,15 @@
 ghost use Rattle.std.specs.Prelude.{◌≡◌, [], length, All, IfOk, IfErr};
 ghost use Rattle.diagnosis.specs.Check.{FailsApps, FailsCheck, FailsIfLong, PassesApps};
 ghost use Rattle.diagnosis.specs.Check.{PassesCheck};
-ghost use Rattle.diagnosis.specs.Told.{TellsRefused};
-ghost use Rattle.load.specs.Gathered.{HasItsReleases};
-ghost use Rattle.load.specs.declared.gathering.Gathered.{Gathered};
+ghost use Rattle.diagnosis.specs.Reported.{TellsRefused};
+ghost use Rattle.load.specs.Sources.{HasItsReleases};
+ghost use Rattle.load.specs.declared.sources.Sources.{Sources};
 
 use crate::accepted::{CheckedManifest, tell_accepted};
-use crate::telling::tell_refused;
-use crate::told::Refused;
+use crate::refusal_report::tell_refused;
+use crate::refused::Refused;
 use cells::Directory;
-use load::{Files, GatherRefusal, Gathered, LoadFault, gather, gathered_is_loaded, judge};
+use load::{Files, LoadFault, Sources, SourcesRefusal, collect_sources, judge, sources_are_loaded};
 use manifest::{ManifestFault, Parsed, TomlFault};
 use std::alloc::Global;
 
@@ -73,13 +73,13 @@ pub fn check<F: Files>(
     ensures passes { IfOk result (PassesCheck (F.known files.old) manifest.now) }
     ensures fails { IfErr result (FailsCheck (F.known files.old) manifest.now) }
 {
-    gathered_is_loaded();
+    sources_are_loaded();
     let directory = Directory::new(alloc);
-    match gather(alloc, manifest, files, &directory) {
-        Ok(gathered) => check_apps(alloc, manifest, gathered),
-        Err(ungathered) => {
+    match collect_sources(alloc, manifest, files, &directory) {
+        Ok(sources) => check_apps(alloc, manifest, sources),
+        Err(refused_sources) => {
             let is_link = files.is_manifest_link();
-            Err(refuse_ungathered(alloc, is_link, ungathered))
+            Err(refuse_without_sources(alloc, is_link, refused_sources))
         }
     }
 }
@@ -88,56 +88,56 @@ pub fn check<F: Files>(
 fn check_apps(
     alloc: Global,
     manifest: &[u8],
-    gathered: Gathered,
+    sources: Sources,
 ) -> Result<CheckedManifest, Refused>
-    requires { All HasItsReleases gathered.apps.items }
-    ensures passes { IfOk result (PassesApps manifest.now gathered) }
-    ensures fails { IfErr result (FailsApps gathered) }
+    requires { All HasItsReleases sources.apps.items }
+    ensures passes { IfOk result (PassesApps manifest.now sources) }
+    ensures fails { IfErr result (FailsApps sources) }
 {
-    let read = gathered.apps.len();
-    let unread = gathered.unread;
-    match judge(alloc, gathered.apps.as_slice()) {
-        Ok(programs) => match tell_accepted(alloc, manifest, gathered, programs) {
-            Ok(told) => Ok(told),
+    let read = sources.apps.len();
+    let unread = sources.unread;
+    match judge(alloc, sources.apps.as_slice()) {
+        Ok(programs) => match tell_accepted(alloc, manifest, sources, programs) {
+            Ok(reported) => Ok(reported),
             Err(_) => Err(out_of_memory(alloc, read, unread)),
         },
-        Err(fault) => Err(refuse_gathered(alloc, &gathered, fault)),
+        Err(fault) => Err(refuse_sources(alloc, &sources, fault)),
     }
 }
 
-fn refuse_gathered(alloc: Global, gathered: &Gathered, fault: LoadFault) -> Refused
+fn refuse_sources(alloc: Global, sources: &Sources, fault: LoadFault) -> Refused
     ensures fault { result.fault ≡ fault }
-    ensures told { TellsRefused Parsed.Nothing gathered.now.arrays.items gathered.now.apps.items
-        gathered.now.unread result }
+    ensures reported { TellsRefused Parsed.Nothing sources.now.arrays.items sources.now.apps.items
+        sources.now.unread result }
 {
-    let arrays = gathered.arrays.as_slice();
-    let apps = gathered.apps.as_slice();
+    let arrays = sources.arrays.as_slice();
+    let apps = sources.apps.as_slice();
     tell_refused(
         alloc,
         &Parsed::Nothing,
         false,
         arrays,
         apps,
-        gathered.unread,
+        sources.unread,
         fault,
     )
 }
 
-fn refuse_ungathered(alloc: Global, is_link: bool, ungathered: GatherRefusal) -> Refused
-    ensures fault { result.fault ≡ ungathered.fault }
-    ensures told { TellsRefused ungathered.parsed ungathered.arrays.items [] 0 result }
+fn refuse_without_sources(alloc: Global, is_link: bool, refused_sources: SourcesRefusal) -> Refused
+    ensures fault { result.fault ≡ refused_sources.fault }
+    ensures reported { TellsRefused refused_sources.parsed refused_sources.arrays.items [] 0 result }
 {
-    let GatherRefusal {
+    let SourcesRefusal {
         fault,
         arrays,
         parsed,
-    } = ungathered;
+    } = refused_sources;
     tell_refused(alloc, &parsed, is_link, arrays.as_slice(), &[], 0, fault)
 }
 
 fn out_of_memory(alloc: Global, read: usize, unread: usize) -> Refused
     ensures fault { result.fault ≡ LoadFault.Memory }
-    ensures told { (g : Gathered) → read ≡ length g.apps.items → unread ≡ g.unread
+    ensures reported { (g : Sources) → read ≡ length g.apps.items → unread ≡ g.unread
         → FailsApps g result }
 {
     Refused {

@@ -2,14 +2,14 @@
 
 ghost use Rattle.std.specs.Prelude.{◌≡◌, OnOk, IfSome, string_bytes};
 ghost use Rattle.printing.specs.Pushed.{Puts};
-ghost use Rattle.diagnosis.specs.Reason.{IsFileReason, IsTold};
+ghost use Rattle.diagnosis.specs.Reason.{IsFileReason, IsReported};
 ghost use Rattle.diagnosis.specs.Shown.{ShowsPlace};
 ghost use Rattle.diagnosis.specs.Texts.{file_line, source_key};
 ghost use Rattle.diagnosis.specs.Shown as specs;
 
 use crate::inside::is_inside;
 use crate::shown::{Place, show};
-use load::{GatheredApp, file_of};
+use load::{AppSources, file_of};
 use manifest::ProgramSource;
 use printing::Printed;
 use std::alloc::{AllocError, Global};
@@ -19,7 +19,7 @@ use std::fmt::Write;
 /// fails.
 pub(crate) fn tell_file(
     alloc: Global,
-    apps: &[GatheredApp],
+    apps: &[AppSources],
     number: usize,
     place: Place,
 ) -> Option<String>
@@ -31,8 +31,8 @@ pub(crate) fn tell_file(
     tell_app(alloc, number, place, app)
 }
 
-fn tell_app(alloc: Global, number: usize, place: Place, app: &GatheredApp) -> Option<String>
-    ensures { IfSome result (λ text. IsTold number place app.now (string_bytes text)) }
+fn tell_app(alloc: Global, number: usize, place: Place, app: &AppSources) -> Option<String>
+    ensures { IfSome result (λ text. IsReported number place app.now (string_bytes text)) }
 {
     let mut text = String::new(alloc);
     let Ok(()) = tell_name(&mut text, number, app.entry.source()) else {
@@ -63,7 +63,7 @@ fn key_of(source: &ProgramSource) -> &'static str
 }
 
 // The place in the file, if the file is in the manifest's folder.
-fn show_inside(alloc: Global, place: Place, app: &GatheredApp) -> String
+fn show_inside(alloc: Global, place: Place, app: &AppSources) -> String
     ensures { ShowsPlace app.now place (string_bytes result) }
 {
     if place == Place::Whole {
@@ -79,7 +79,7 @@ fn show_inside(alloc: Global, place: Place, app: &GatheredApp) -> String
 }
 
 // Whether the file is in the manifest's folder, by its name and with no symbolic link in its path.
-fn lies_inside(app: &GatheredApp) -> bool
+fn lies_inside(app: &AppSources) -> bool
     ensures { result ≡ specs.lies_inside app.now }
 {
     is_inside(file_of(app.entry.source())) && !app.behind_link

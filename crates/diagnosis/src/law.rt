@@ -2,7 +2,7 @@
 
 ghost use Rattle.diagnosis.specs.OneCheck.{ChecksOneWay};
 
-use load::{gathered_is_loaded, one_load};
+use load::{one_load, sources_are_loaded};
 use manifest::one_reading;
 use rule_lang::one_verdict;
 
@@ -13,7 +13,7 @@ pub fn one_check()
     ensures { ChecksOneWay }
 {
     one_load();
-    gathered_is_loaded();
+    sources_are_loaded();
     one_reading();
     one_verdict();
 }

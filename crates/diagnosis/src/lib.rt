@@ -19,23 +19,23 @@
 
 mod accepted;
 mod advice;
-mod asked;
-mod behind;
 mod checking;
 mod file;
 mod inside;
+mod later_faults;
 mod law;
 mod lines;
 mod others;
 mod reason;
+mod refusal_report;
+mod refused;
 mod shown;
-mod telling;
-mod told;
 mod undeclared;
 mod unused;
 mod warned;
+mod warned_app;
 
 pub use accepted::CheckedManifest;
 pub use checking::{check, too_long};
 pub use law::one_check;
-pub use told::{Refused, ToldFault};
+pub use refused::{FaultReport, Refused};

@@ -6,7 +6,7 @@ ghost use Rattle.diagnosis.specs.Lines.{fault_lines, more_line, refused_lines, u
 ghost use Rattle.diagnosis.specs.Lines.{AreRefusalLines, refusal_line};
 ghost use Rattle.diagnosis.specs.Texts as texts;
 
-use crate::told::ToldFault;
+use crate::refused::FaultReport;
 use load::LoadFault;
 use std::alloc::{AllocError, Global};
 use std::fmt::Write;
@@ -16,7 +16,7 @@ use std::fmt::Write;
 pub(crate) fn lines_of(
     alloc: Global,
     own: &str,
-    further: &[ToldFault],
+    further: &[FaultReport],
     left_out: usize,
     read: usize,
     unread: usize,
@@ -41,7 +41,7 @@ fn own_lines(alloc: Global, own: &str) -> String
 fn all_lines(
     alloc: Global,
     own: &str,
-    further: &[ToldFault],
+    further: &[FaultReport],
     left_out: usize,
     read: usize,
     unread: usize,
@@ -57,22 +57,22 @@ fn all_lines(
     Ok(text)
 }
 
-fn push_faults(text: &mut String, further: &[ToldFault]) -> Result<(), AllocError>
+fn push_faults(text: &mut String, further: &[FaultReport]) -> Result<(), AllocError>
     ensures { OnOk result (Puts text.old text.new (flat_map fault_lines further.now)) }
 {
     let mut left = further;
-    while let [told, others @ ..] = left {
-        push_fault(text, told)?;
+    while let [reported, others @ ..] = left {
+        push_fault(text, reported)?;
         left = others;
     }
     Ok(())
 }
 
-fn push_fault(text: &mut String, told: &ToldFault) -> Result<(), AllocError>
-    ensures { OnOk result (Puts text.old text.new (fault_lines told.now)) }
+fn push_fault(text: &mut String, reported: &FaultReport) -> Result<(), AllocError>
+    ensures { OnOk result (Puts text.old text.new (fault_lines reported.now)) }
 {
-    push_refusal(text, &told.fault)?;
-    text.push_str(told.reason.as_str())
+    push_refusal(text, &reported.fault)?;
+    text.push_str(reported.reason.as_str())
 }
 
 // The line of a refusal, such as `refused M6 Rule L2 Shape at line 3 in app 3`.

@@ -1,12 +1,12 @@
 //! The further faults of a manifest itself: schema errors and duplicate names.
 
 ghost use Rattle.std.specs.Prelude.{◌≡◌, map, drop, IfOk, IfSome};
-ghost use Rattle.diagnosis.specs.Others.{AreOtherMisfits, AreOtherTwice};
+ghost use Rattle.diagnosis.specs.Others.{AreOtherDuplicates, AreOtherSchemaErrors};
 ghost use Rattle.diagnosis.specs.Others as specs;
 ghost use Rattle.load.specs.declared.fault.LoadFault.{LoadFault};
 
 use load::LoadFault;
-use manifest::{DuplicateName, ManifestFault, Parsed, SchemaError, all_misfits, all_twice};
+use manifest::{DuplicateName, ManifestFault, Parsed, SchemaError, all_duplicates, all_schema_errors};
 use std::alloc::{AllocError, Global};
 
 /// A reason why a document isn't a manifest.
@@ -18,7 +18,7 @@ trait Unfit: Drop {
 }
 
 impl Unfit for SchemaError {
-    ghost fault_of = { specs.fault_of_misfit };
+    ghost fault_of = { specs.fault_of_schema_error };
 
     fn fault(self) -> LoadFault {
         LoadFault::Manifest(ManifestFault::Field(self))
@@ -26,7 +26,7 @@ impl Unfit for SchemaError {
 }
 
 impl Unfit for DuplicateName {
-    ghost fault_of = { specs.fault_of_twice };
+    ghost fault_of = { specs.fault_of_duplicate };
 
     fn fault(self) -> LoadFault {
         LoadFault::Manifest(ManifestFault::Duplicate(self))
@@ -34,32 +34,32 @@ impl Unfit for DuplicateName {
 }
 
 /// All schema errors but the first; None if an allocation fails, or without a document.
-pub(crate) fn other_misfits(alloc: Global, parsed: &Parsed) -> Option<Vec<LoadFault>>
-    ensures { IfSome result (λ v. AreOtherMisfits parsed.now v.items) }
+pub(crate) fn other_schema_errors(alloc: Global, parsed: &Parsed) -> Option<Vec<LoadFault>>
+    ensures { IfSome result (λ v. AreOtherSchemaErrors parsed.now v.items) }
 {
     let Parsed::Document(document) = parsed else {
         return None;
     };
-    let Ok(misfits) = all_misfits(alloc, document) else {
+    let Ok(schema_errors) = all_schema_errors(alloc, document) else {
         return None;
     };
-    let Ok(faults) = faults_but_first(alloc, misfits) else {
+    let Ok(faults) = faults_but_first(alloc, schema_errors) else {
         return None;
     };
     Some(faults)
 }
 
 /// All duplicate names but the first; None if an allocation fails, or without a document.
-pub(crate) fn other_twice(alloc: Global, parsed: &Parsed) -> Option<Vec<LoadFault>>
-    ensures { IfSome result (λ v. AreOtherTwice parsed.now v.items) }
+pub(crate) fn other_duplicates(alloc: Global, parsed: &Parsed) -> Option<Vec<LoadFault>>
+    ensures { IfSome result (λ v. AreOtherDuplicates parsed.now v.items) }
 {
     let Parsed::Document(document) = parsed else {
         return None;
     };
-    let Some(twices) = all_twice(alloc, document) else {
+    let Some(duplicates) = all_duplicates(alloc, document) else {
         return None;
     };
-    let Ok(faults) = faults_but_first(alloc, twices) else {
+    let Ok(faults) = faults_but_first(alloc, duplicates) else {
         return None;
     };
     Some(faults)

@@ -8,7 +8,7 @@ ghost use Rattle.diagnosis.specs.Reason as specs;
 ghost use Rattle.diagnosis.specs.Texts.{cells_line};
 ghost use Rattle.diagnosis.specs.Advice.{advice};
 ghost use Rattle.diagnosis.specs.Texts as texts;
-ghost use Rattle.manifest.specs.Texts.{misfit_text};
+ghost use Rattle.manifest.specs.Texts.{schema_error_text};
 ghost use Rattle.ruleset.specs.Texts.{line};
 
 use crate::advice::advice;
@@ -19,7 +19,7 @@ use bpf_verify::Refusal;
 use cells::CellsFault;
 use declarations::ArrayDeclaration;
 use flow_check::FlowFault;
-use load::{GatheredApp, LoadFault};
+use load::{AppSources, LoadFault};
 use manifest::{ManifestFault, Parsed, SchemaError, TomlFault};
 use printing::PrintedLines;
 use rule_compile::CompileFault;
@@ -33,7 +33,7 @@ pub(crate) fn reason_of(
     parsed: &Parsed,
     is_link: bool,
     arrays: &[ArrayDeclaration],
-    apps: &[GatheredApp],
+    apps: &[AppSources],
     fault: &LoadFault,
 ) -> String
     ensures { (string_bytes result ≡ [])
@@ -50,7 +50,7 @@ fn tell_reason(
     parsed: &Parsed,
     is_link: bool,
     arrays: &[ArrayDeclaration],
-    apps: &[GatheredApp],
+    apps: &[AppSources],
     fault: &LoadFault,
 ) -> Option<String>
     ensures { IfSome result (λ text.
@@ -77,29 +77,29 @@ fn tell_manifest(
 {
     match fault {
         ManifestFault::Toml(fault) => tell_toml(alloc, parsed, is_link, *fault),
-        ManifestFault::Field(misfit) => tell_misfit(alloc, misfit),
-        ManifestFault::Duplicate(twice) => format!(in alloc; "{twice} stands twice\n").ok(),
+        ManifestFault::Field(schema_error) => tell_schema_error(alloc, schema_error),
+        ManifestFault::Duplicate(duplicate) => format!(in alloc; "{duplicate} stands twice\n").ok(),
         ManifestFault::Memory => None,
     }
 }
 
-fn tell_misfit(alloc: Global, misfit: &SchemaError) -> Option<String>
+fn tell_schema_error(alloc: Global, schema_error: &SchemaError) -> Option<String>
     ensures { IfSome result (λ text.
-        string_bytes text ≡ line (misfit_text misfit.now) ++ advice misfit.now) }
+        string_bytes text ≡ line (schema_error_text schema_error.now) ++ advice schema_error.now) }
 {
     let mut text = String::new(alloc);
-    match push_misfit(&mut text, misfit) {
+    match push_schema_error(&mut text, schema_error) {
         Ok(()) => Some(text),
         Err(_) => None,
     }
 }
 
-fn push_misfit(text: &mut String, misfit: &SchemaError) -> Result<(), AllocError>
+fn push_schema_error(text: &mut String, schema_error: &SchemaError) -> Result<(), AllocError>
     ensures { OnOk result
-        (Puts text.old text.new (line (misfit_text misfit.now) ++ advice misfit.now)) }
+        (Puts text.old text.new (line (schema_error_text schema_error.now) ++ advice schema_error.now)) }
 {
-    writeln!(text, "{misfit}")?;
-    text.push_str(advice(misfit))
+    writeln!(text, "{schema_error}")?;
+    text.push_str(advice(schema_error))
 }
 
 // That there are too many bytes, or the error of the TOML reader, which has its own line ends. That

@@ -4,7 +4,7 @@ ghost use Rattle.std.specs.Prelude.{◌≡◌, IfSome, string_bytes, if◌then�
 ghost use Rattle.diagnosis.specs.Shown.{IsInsnShown, IsKeptShown, IsLongShown};
 ghost use Rattle.diagnosis.specs.Shown.{IsRefusedInsnShown, IsShown, IsTextShown};
 ghost use Rattle.diagnosis.specs.Shown as specs;
-ghost use Rattle.rule_diagnosis.specs.Told as told;
+ghost use Rattle.rule_diagnosis.specs.Told as reported;
 
 use bounded_files::KeptBytes;
 use bpf_insn::decode_at;
@@ -69,7 +69,7 @@ fn show_longer(alloc: Global, place: Place, beginning: &[u8], is_text: bool) -> 
 
 fn show_long_rule(alloc: Global, is_text: bool) -> Option<String>
     ensures { IfSome result (λ text.
-        string_bytes text ≡ (if is_text then told.rule_too_long else specs.no_text_line)) }
+        string_bytes text ≡ (if is_text then reported.rule_too_long else specs.no_text_line)) }
 {
     if is_text {
         match String::from_str(alloc, rule_too_long()) {
@@ -194,7 +194,7 @@ fn show_text(
         IsTextShown shape.now line kind text.now (string_bytes shown)) }
 {
     match tell_rule_fault(alloc, text, shape, line, kind) {
-        Some(told) => Some(told),
+        Some(reported) => Some(reported),
         None => show_line(alloc, line, text),
     }
 }

@@ -12,7 +12,7 @@ use std::alloc::{AllocError, Global};
 
 /// The faults of the arrays after the one with this number; None if an allocation fails, or there
 /// is no such array.
-pub(crate) fn faults_behind_array(
+pub(crate) fn faults_after_array(
     alloc: Global,
     arrays: &[ArrayDeclaration],
     array: usize,

@@ -3,46 +3,46 @@
 ghost use Rattle.std.specs.Prelude.{◌≡◌, ◌++◌, IfOk};
 ghost use Rattle.diagnosis.specs.Unused.{unused_from};
 ghost use Rattle.diagnosis.specs.Warned.{WarnsOfApps};
-ghost use Rattle.warnings.specs.Asked.{all_room};
+ghost use Rattle.warnings.specs.RuleWarnings.{whole_budget};
 
-use crate::asked::tell_app;
+use crate::warned_app::tell_app;
 use crate::unused::tell_unused;
 use cells::CellArray;
-use load::GatheredApp;
+use load::AppSources;
 use ruleset::App;
 use std::alloc::{AllocError, Global};
 use warnings::Warning;
 
 /// The budget for evaluating the rules of a manifest: how many steps of conditions are evaluated in
 /// all, each at one version for 10,000 buckets.
-const ROOM: u64 = 10000;
+const BUDGET: u64 = 10000;
 
 /// The warnings on arrays, followed by those on apps.
 pub(crate) fn tell_warnings(
     alloc: Global,
     arrays: &[CellArray],
     apps: &[App],
-    told: &[Warning],
+    reported: &[Warning],
 ) -> Result<Vec<Warning>, AllocError>
     ensures { IfOk result (λ warnings.
-        warnings.items ≡ unused_from 0 arrays.now apps.now ++ told.now) }
+        warnings.items ≡ unused_from 0 arrays.now apps.now ++ reported.now) }
 {
     let mut warnings = Vec::new(alloc);
     tell_unused(&mut warnings, arrays, apps)?;
-    warnings.extend_from_slice(told)?;
+    warnings.extend_from_slice(reported)?;
     Ok(warnings)
 }
 
 /// The warnings on apps, in their order.
-pub(crate) fn told_of_apps(alloc: Global, apps: &[GatheredApp]) -> Result<Vec<Warning>, AllocError>
-    ensures { IfOk result (λ warnings. WarnsOfApps 1 all_room apps.now warnings.items) }
+pub(crate) fn warnings_of_apps(alloc: Global, apps: &[AppSources]) -> Result<Vec<Warning>, AllocError>
+    ensures { IfOk result (λ warnings. WarnsOfApps 1 whole_budget apps.now warnings.items) }
 {
     let mut warnings = Vec::new(alloc);
     let mut number = 1;
-    let mut room = ROOM;
+    let mut budget = BUDGET;
     let mut left = apps;
     while let [app, others @ ..] = left {
-        room = tell_app(alloc, &mut warnings, number, room, app)?;
+        budget = tell_app(alloc, &mut warnings, number, budget, app)?;
         number += 1;
         left = others;
     }

@@ -7,14 +7,14 @@ use Rattle.bpf_semantics.specs.Program.{ShapedProgram}
 use Rattle.cells.specs.Arrays.{AppShape}
 use Rattle.cells.specs.declared.array.CellArray.{CellArray}
 use Rattle.acceptance.specs.Rule.{IsTextOf}
-use Rattle.load.specs.Gathered.{IsGathered}
+use Rattle.load.specs.Sources.{AreSources}
 use Rattle.load.specs.Judged.{AreJudged, apps_of, no_program, next_program}
 use Rattle.load.specs.Kept.{IsProgramKept}
 use Rattle.load.specs.Folder.{known_beside}
 use Rattle.load.specs.Loaded.{IsLoadedFrom}
-use Rattle.load.specs.Made.{GatheredIsMade, IsMadeFrom, IsMadeOf}
-use Rattle.load.specs.declared.gathering.Gathered.{Gathered}
-use Rattle.load.specs.declared.gathering.GatheredApp.{GatheredApp}
+use Rattle.load.specs.Made.{SourcesAreMade, IsMadeFrom, IsMadeOf}
+use Rattle.load.specs.declared.sources.Sources.{Sources}
+use Rattle.load.specs.declared.sources.AppSources.{AppSources}
 use Rattle.bounded_files.specs.declared.kept.KeptBytes.{KeptBytes}
 use Rattle.bounded_files.specs.declared.kept.KeptBytes.TheVariants.{Whole, Longer}
 use Rattle.ruleset.specs.declared.loaded.LoadedRuleset.{LoadedRuleset}
@@ -50,24 +50,24 @@ no_body known manifest request rules arrays why is wanting =
 
 -- ---- with the rules of its apps
 
-load_of : (known : KnownFiles) (path : List ℕ) (made : LoadedRuleset) → GatheredIsMade
+load_of : (known : KnownFiles) (path : List ℕ) (made : LoadedRuleset) → SourcesAreMade
     → IsMadeFrom known path [] made → IsLoadedFrom known path [] made.rules made.directory
 load_of known path made makes from = record {
   bytes = from.bytes;
   given = from.given;
-  loaded = (makes (known_beside known path) [] from.bytes from.gathered from.is_gathered).made made
+  loaded = (makes (known_beside known path) [] from.bytes from.sources from.are_sources).made made
       from.made_of;
 }
 
 pub no_body_why : (known : KnownFiles) (manifest request : List ℕ) (made : LoadedRuleset)
-    (rules : List KnownRule) (why : DryRunFault) → GatheredIsMade
+    (rules : List KnownRule) (why : DryRunFault) → SourcesAreMade
     → IsLoadedWhy known manifest made rules → IsBodyFault known request why
     → IsOpenFault known manifest request why
 no_body_why known manifest request made rules why makes is wanting =
     no_body known manifest request made.rules made.directory why
     (load_of known manifest made makes is.made_from) wanting
 
-pub opens_the_same : GatheredIsMade → OpensTheSame
+pub opens_the_same : SourcesAreMade → OpensTheSame
 opens_the_same makes known manifest request o is = record {
   loaded = load_of known manifest (made_in o) makes is.loaded.made_from;
   given = is.read.given;
@@ -88,7 +88,7 @@ rule_from (source.Rule file) (Some (Whole v)) shape program rule is same read = 
   read is.rule (subst (λ (s : AppShape). IsTextOf v.items s is.rule) same is.text),
 )
 
-pub rules_in : {apps : List GatheredApp} {programs : List ShapedProgram} {rules : List KnownRule}
+pub rules_in : {apps : List AppSources} {programs : List ShapedProgram} {rules : List KnownRule}
     → AreJudged apps programs → AreReadFrom apps rules → AreRulesKept apps programs rules
 rules_in no_program nothing_read = no_rule
 rules_in (next_program {app} {program} judged others) (next_read {rule} read more) =
@@ -105,7 +105,7 @@ has_meaning (source.Rule file) (Some (Longer v count is_text)) program rule is =
 has_meaning (source.Rule file) (Some (Whole v)) program rule is =
     subst (HasMeaning program) (sym is.1) is.0.means
 
-pub have_meanings : {apps : List GatheredApp} {programs : List ShapedProgram}
+pub have_meanings : {apps : List AppSources} {programs : List ShapedProgram}
     {rules : List KnownRule} → AreRulesKept apps programs rules
     → HaveMeanings (apps_of apps programs) rules
 have_meanings no_rule = no_meaning
@@ -114,16 +114,16 @@ have_meanings (next_rule {app} {program} {rule} is more) =
 
 -- ---- a load
 
-pub loaded : (known : KnownFiles) (path bytes : List ℕ) (g : Gathered) (made : LoadedRuleset)
+pub loaded : (known : KnownFiles) (path bytes : List ℕ) (g : Sources) (made : LoadedRuleset)
     (rules : List KnownRule) → Gives (regular_files known) path (Some bytes)
-    → IsGathered (known_beside known path) [] bytes g → IsMadeOf bytes g made
+    → AreSources (known_beside known path) [] bytes g → IsMadeOf bytes g made
     → AreReadFrom g.apps.items rules → IsLoadedWhy known path made rules
 loaded known path bytes g made rules given is of read = record {
   made_from = record {
     bytes = bytes;
     given = given;
-    gathered = g;
-    is_gathered = is;
+    sources = g;
+    are_sources = is;
     made_of = of;
   };
   rules_are = rules_in of.judged read;
@@ -139,8 +139,8 @@ opened_why known manifest request made o rules arrays digest is read = record {
     made_from = record {
       bytes = is.made_from.bytes;
       given = is.made_from.given;
-      gathered = is.made_from.gathered;
-      is_gathered = is.made_from.is_gathered;
+      sources = is.made_from.sources;
+      are_sources = is.made_from.are_sources;
       made_of = record {
         programs = is.made_from.made_of.programs;
         judged = is.made_from.made_of.judged;
@@ -155,7 +155,7 @@ opened_why known manifest request made o rules arrays digest is read = record {
   read = read;
 }
 
-pub loaded_meanings : (bytes : List ℕ) (g : Gathered) (made : LoadedRuleset)
+pub loaded_meanings : (bytes : List ℕ) (g : Sources) (made : LoadedRuleset)
     (rules : List KnownRule) → IsMadeOf bytes g made → AreReadFrom g.apps.items rules
     → HaveMeanings made.rules.apps rules
 loaded_meanings bytes g made rules of read =

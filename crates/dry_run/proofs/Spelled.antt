@@ -10,7 +10,7 @@ use Rattle.rule_lang.specs.Verdicts.{IsVerdict, IsRuleFault, RuleHasOneVerdict}
 use Rattle.rule_lang.specs.declared.fault.RuleFault.TheVariants.{At}
 use Rattle.rule_lang.specs.declared.fault.RuleFaultKind.{RuleFaultKind}
 use Rattle.rule_lang.specs.declared.rule.Statement.{Statement}
-use Rattle.load.specs.declared.gathering.GatheredApp.{GatheredApp}
+use Rattle.load.specs.declared.sources.AppSources.{AppSources}
 use Rattle.dry_run.specs.KeptRules.{AreReadFrom, IsReadFrom, IsRuleOfText}
 use Rattle.dry_run.specs.KeptRules.{nothing_read, next_read}
 use Rattle.dry_run.specs.Meanings.{KnownRule}
@@ -48,8 +48,8 @@ no_text s bytes not_text spelled other = absurd (not_text other.utf8)
 
 -- ---- the rules of apps, one more app
 
-pub read_more : (all left behind : List GatheredApp) (rules more : List KnownRule)
-    (app : GatheredApp) (rule : KnownRule)
+pub read_more : (all left behind : List AppSources) (rules more : List KnownRule)
+    (app : AppSources) (rule : KnownRule)
     → ((rest : List KnownRule) → AreReadFrom left rest → AreReadFrom all (rules ++ rest))
     → left ≡ app ∷ behind → more ≡ rules ++ rule ∷ [] → IsReadFrom app rule
     → (rest : List KnownRule) → AreReadFrom behind rest → AreReadFrom all (more ++ rest)
@@ -58,17 +58,17 @@ read_more all left behind rules more app rule so_far is pushed read rest others 
     (sym (append_assoc rules (rule ∷ []) rest)
     ∙ ap (λ (l : List KnownRule). l ++ rest) (sym pushed))
     (so_far (rule ∷ rest)
-    (subst (λ (l : List GatheredApp). AreReadFrom l (rule ∷ rest)) (sym is)
+    (subst (λ (l : List AppSources). AreReadFrom l (rule ∷ rest)) (sym is)
     (next_read read others)))
 
-pub read_all : (all left : List GatheredApp) (rules : List KnownRule)
+pub read_all : (all left : List AppSources) (rules : List KnownRule)
     → ((rest : List KnownRule) → AreReadFrom left rest → AreReadFrom all (rules ++ rest))
     → length left < 1 → AreReadFrom all rules
 read_all all [] rules so_far few =
     subst (AreReadFrom all) (append-nil rules) (so_far [] nothing_read)
 read_all all (app ∷ apps) rules so_far few = absurd (omega (arith, few))
 
-pub first_rest : (xs : List GatheredApp) (x : GatheredApp) → 0 < length xs → x ≡ get_or xs 0 x
+pub first_rest : (xs : List AppSources) (x : AppSources) → 0 < length xs → x ≡ get_or xs 0 x
     → xs ≡ x ∷ take (length xs - 1) (drop 1 xs)
 first_rest [] x some is = absurd (omega (arith, some))
 first_rest (y ∷ ys) x some is =

@@ -2,7 +2,7 @@
 use Rattle.std.specs.Prelude.{◌≡◌, ℕ, List, [], ◌∷◌, Option, Some, None}
 use Rattle.acceptance.specs.Rule.{IsTextOf}
 use Rattle.cells.specs.Arrays.{AppShape}
-use Rattle.load.specs.declared.gathering.GatheredApp.{GatheredApp}
+use Rattle.load.specs.declared.sources.AppSources.{AppSources}
 use Rattle.bounded_files.specs.declared.kept.KeptBytes.{KeptBytes}
 use Rattle.bounded_files.specs.declared.kept.KeptBytes.TheVariants.{Whole}
 use Rattle.manifest.specs.declared.app.ProgramSource.{ProgramSource}
@@ -26,12 +26,12 @@ abbrev pub IsReadOf : ProgramSource → Option KeptBytes → AppShape → KnownR
 IsReadOf (source.Program file) kept shape rule = rule ≡ None
 IsReadOf (source.Rule file) kept shape rule = IsReadOfKept kept shape rule
 
-abbrev pub IsReadFrom : GatheredApp → KnownRule → Type 0
+abbrev pub IsReadFrom : AppSources → KnownRule → Type 0
 IsReadFrom app rule = IsReadOf app.entry.source app.kept app.shape rule
 
 -- for each app
-pub data AreReadFrom : List GatheredApp → List KnownRule → Type 0 where
+pub data AreReadFrom : List AppSources → List KnownRule → Type 0 where
   nothing_read : AreReadFrom [] []
-  next_read : {app : GatheredApp} {rule : KnownRule} {apps : List GatheredApp}
+  next_read : {app : AppSources} {rule : KnownRule} {apps : List AppSources}
       {rules : List KnownRule} → IsReadFrom app rule → AreReadFrom apps rules
       → AreReadFrom (app ∷ apps) (rule ∷ rules)

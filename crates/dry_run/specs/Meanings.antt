@@ -6,7 +6,7 @@ use Rattle.acceptance.specs.Rule.{IsProgramOfRule}
 use Rattle.bounded_files.specs.Files.{KnownFiles}
 use Rattle.bpf_semantics.specs.Program.{ShapedProgram}
 use Rattle.load.specs.Made.{IsMadeFrom}
-use Rattle.load.specs.declared.gathering.GatheredApp.{GatheredApp}
+use Rattle.load.specs.declared.sources.AppSources.{AppSources}
 use Rattle.bounded_files.specs.declared.kept.KeptBytes.{KeptBytes}
 use Rattle.bounded_files.specs.declared.kept.KeptBytes.TheVariants.{Whole}
 use Rattle.ruleset.specs.declared.loaded.LoadedRuleset.{LoadedRuleset}
@@ -49,10 +49,10 @@ IsRuleKept (source.Rule file) (Some (Whole v)) program rule =
 IsRuleKept (source.Rule file) kept program rule = ⊥
 
 -- for each gathered app, with its program
-pub data AreRulesKept : List GatheredApp → List ShapedProgram → List KnownRule → Type 0 where
+pub data AreRulesKept : List AppSources → List ShapedProgram → List KnownRule → Type 0 where
   no_rule : AreRulesKept [] [] []
-  next_rule : {app : GatheredApp} {program : ShapedProgram} {rule : KnownRule}
-      {apps : List GatheredApp} {programs : List ShapedProgram} {rules : List KnownRule}
+  next_rule : {app : AppSources} {program : ShapedProgram} {rule : KnownRule}
+      {apps : List AppSources} {programs : List ShapedProgram} {rules : List KnownRule}
       → IsRuleKept app.entry.source app.kept program rule → AreRulesKept apps programs rules
       → AreRulesKept (app ∷ apps) (program ∷ programs) (rule ∷ rules)
 
@@ -61,7 +61,7 @@ pub data AreRulesKept : List GatheredApp → List ShapedProgram → List KnownRu
 pub record IsLoadedWhy (known : KnownFiles) (manifest : List ℕ) (made : LoadedRuleset)
     (known_rules : List KnownRule) : Type 0 where
   pub made_from : IsMadeFrom known manifest [] made
-  pub rules_are : AreRulesKept made_from.gathered.apps.items made_from.made_of.programs known_rules
+  pub rules_are : AreRulesKept made_from.sources.apps.items made_from.made_of.programs known_rules
 
 -- the ruleset, the arrays and the digest of what was opened
 abbrev pub made_in : OpenedWhy → LoadedRuleset

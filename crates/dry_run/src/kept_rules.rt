@@ -6,7 +6,7 @@ ghost use Rattle.dry_run.specs.KeptRules as specs;
 
 use bounded_files::KeptBytes;
 use cells::Shape;
-use load::GatheredApp;
+use load::AppSources;
 use manifest::ProgramSource;
 use rule_lang::{Rule, RuleFault, one_verdict, parse};
 use std::alloc::{AllocError, Global};
@@ -16,7 +16,7 @@ use std::str;
 #[tactic(auto, using(crate::proofs::Spelled::read_all))]
 pub(crate) fn read_rules(
     alloc: Global,
-    apps: &[GatheredApp],
+    apps: &[AppSources],
 ) -> Result<Vec<Option<Rule>>, AllocError>
     ensures { IfOk result (λ rules. specs.AreReadFrom apps.now rules.items) }
 {
@@ -30,7 +30,7 @@ pub(crate) fn read_rules(
     Ok(rules)
 }
 
-fn rule_of_app(alloc: Global, app: &GatheredApp) -> Result<Option<Rule>, AllocError>
+fn rule_of_app(alloc: Global, app: &AppSources) -> Result<Option<Rule>, AllocError>
     ensures { IfOk result (specs.IsReadFrom app.now) }
 {
     rule_from(alloc, app.entry.source(), &app.kept, &app.shape)

@@ -6,7 +6,7 @@ ghost use Rattle.dry_run.specs.Noted.{MembersAreNoted, ReadMembersAreTold};
 ghost use Rattle.dry_run.specs.Sent as specs;
 ghost use Rattle.dry_run.specs.Why.{TellsTheReply};
 
-use load::gathered_is_made;
+use load::sources_are_made;
 
 /// Law: the texts that a server with this newest ruleset may send as Omaha's reply are exactly
 /// those that answer the request's apps under it. A server may also refuse, if out of memory or
@@ -44,7 +44,7 @@ pub fn tells_the_reply()
 pub fn opens_the_same()
     ensures { OpensTheSame }
 {
-    gathered_is_made();
+    sources_are_made();
 }
 
 /// Law: a member of a request or of an app that is present without a line counts, and a member with

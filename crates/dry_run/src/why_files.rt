@@ -11,7 +11,7 @@ use crate::kept_rules::read_rules;
 use bounded_files::{Disk, ResourceFault};
 use cells::Directory;
 use load::{
-    FolderFiles, GatherRefusal, PathFault, gather, gathered_is_loaded, gathered_is_made,
+    FolderFiles, SourcesRefusal, PathFault, collect_sources, sources_are_loaded, sources_are_made,
     make_ruleset, manifest_bytes,
 };
 use rule_lang::Rule;
@@ -51,7 +51,7 @@ pub fn open_why<D: Disk>(
     ensures meanings { IfOk result (λ o. specs.HaveMeanings o.rules.apps o.known_rules.items) }
     ensures fault { IfErr result (IsOpenFault (D.known disk.now) manifest.now request.now) }
 {
-    gathered_is_made();
+    sources_are_made();
     let LoadedWhy { made, known_rules } = match load_why(alloc, disk, manifest) {
         Ok(loaded) => loaded,
         Err(fault) => return Err(DryRunFault::Manifest(fault)),
@@ -82,22 +82,22 @@ fn load_why<D: Disk>(alloc: Global, disk: &D, path: &str) -> Result<LoadedWhy, P
         specs.HaveMeanings l.made.rules.apps l.known_rules.items) }
     ensures fault { IfErr result (RefusesPath (D.known disk.now) path.now []) }
 {
-    gathered_is_loaded();
-    gathered_is_made();
+    sources_are_loaded();
+    sources_are_made();
     let bytes = match manifest_bytes(disk, path) {
         Ok(bytes) => bytes,
         Err(fault) => return Err(fault),
     };
     let mut files = FolderFiles::in_folder_of(alloc, disk, path);
     let none = Directory::new(alloc);
-    let gathered = match gather(alloc, &bytes, &mut files, &none) {
-        Ok(gathered) => gathered,
-        Err(GatherRefusal { fault, .. }) => return Err(PathFault::Load(fault)),
+    let sources = match collect_sources(alloc, &bytes, &mut files, &none) {
+        Ok(sources) => sources,
+        Err(SourcesRefusal { fault, .. }) => return Err(PathFault::Load(fault)),
     };
-    let Ok(known_rules) = read_rules(alloc, &gathered.apps) else {
+    let Ok(known_rules) = read_rules(alloc, &sources.apps) else {
         return Err(PathFault::Resource(ResourceFault::Memory));
     };
-    match make_ruleset(alloc, &bytes, gathered) {
+    match make_ruleset(alloc, &bytes, sources) {
         Ok(made) => Ok(LoadedWhy { made, known_rules }),
         Err(fault) => Err(PathFault::Load(fault)),
     }

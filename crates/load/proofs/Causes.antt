@@ -8,7 +8,7 @@ use Rattle.bounded_files.specs.Files.{KnownFiles}
 use Rattle.cells.specs.Directory.{Declaration}
 use Rattle.cells.specs.declared.array.CellArray.{CellArray}
 use Rattle.load.specs.Cause.{IsCause, RefusesTelling, cause_in, cause_of}
-use Rattle.load.specs.Gathered.{AreArraysBeside}
+use Rattle.load.specs.Sources.{AreArraysBeside}
 use Rattle.load.specs.Loaded.{RefusesPath}
 use Rattle.load.specs.declared.fault.LoadFault.{LoadFault}
 use Rattle.load.specs.declared.fault.LoadFault.TheVariants as load

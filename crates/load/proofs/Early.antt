@@ -12,9 +12,9 @@ use Rattle.manifest.specs.declared.refused.RefusedManifest.{RefusedManifest}
 use Rattle.load.specs.declared.fault.LoadFault.{LoadFault}
 use Rattle.load.specs.declared.fault.LoadFault.TheVariants.{Manifest as NoManifest, File, Program}
 use Rattle.load.specs.declared.fault.LoadFault.TheVariants.{Rule, Cells, Memory}
-use Rattle.load.specs.declared.gathering.GatherRefusal.{GatherRefusal}
-use Rattle.load.specs.Gathered.{AreArraysBeside, AreArraysOf, IsParsedBeside, IsGatherRefusal}
-use Rattle.load.specs.Gathered.{of_manifest}
+use Rattle.load.specs.declared.sources.SourcesRefusal.{SourcesRefusal}
+use Rattle.load.specs.Sources.{AreArraysBeside, AreArraysOf, IsParsedBeside, IsSourcesRefusal}
+use Rattle.load.specs.Sources.{of_manifest}
 use Rattle.load.specs.Load.{IsLoadFault, RefusesArrays, RefusesManifest, of_bytes}
 
 -- with an array's fault nothing is parsed
@@ -43,15 +43,15 @@ known_arrays bytes old arrays shown Memory refuses are = inr are
 refused_as : (bytes : List ℕ) (fault : ManifestFault) → ReadsManifest bytes (Err fault)
     → RefusesManifest bytes (of_manifest fault)
 refused_as bytes (unread.Toml fault) h = h
-refused_as bytes (unread.Field misfit) h = h
-refused_as bytes (unread.Duplicate twice) h = h
+refused_as bytes (unread.Field schema_error) h = h
+refused_as bytes (unread.Duplicate duplicate) h = h
 refused_as bytes unread.Memory h = tt
 
 parsed_as : (bytes : List ℕ) (fault : ManifestFault) (parsed : Parsed) → IsParsed bytes fault parsed
     → IsParsedBeside bytes (of_manifest fault) parsed
 parsed_as bytes (unread.Toml fault) parsed h = h
-parsed_as bytes (unread.Field misfit) parsed h = h
-parsed_as bytes (unread.Duplicate twice) parsed h = h
+parsed_as bytes (unread.Field schema_error) parsed h = h
+parsed_as bytes (unread.Duplicate duplicate) parsed h = h
 parsed_as bytes unread.Memory (Document table) h = absurd h
 parsed_as bytes unread.Memory (Error error) h = absurd h
 parsed_as bytes unread.Memory Nothing h = refl
@@ -59,13 +59,13 @@ parsed_as bytes unread.Memory Nothing h = refl
 no_arrays : (bytes : List ℕ) (fault : ManifestFault) (arrays : List Declaration) → arrays ≡ []
     → AreArraysBeside bytes (of_manifest fault) arrays
 no_arrays bytes (unread.Toml fault) arrays none = none
-no_arrays bytes (unread.Field misfit) arrays none = none
-no_arrays bytes (unread.Duplicate twice) arrays none = none
+no_arrays bytes (unread.Field schema_error) arrays none = none
+no_arrays bytes (unread.Duplicate duplicate) arrays none = none
 no_arrays bytes unread.Memory arrays none = inl none
 
-pub early : (old : List CellArray) (bytes : List ℕ) (refused : RefusedManifest) (u : GatherRefusal)
+pub early : (old : List CellArray) (bytes : List ℕ) (refused : RefusedManifest) (u : SourcesRefusal)
     → IsNoManifest bytes refused → u.fault ≡ of_manifest refused.fault → u.arrays.items ≡ []
-    → u.parsed ≡ refused.parsed → IsGatherRefusal old bytes u
+    → u.parsed ≡ refused.parsed → IsSourcesRefusal old bytes u
 early old bytes refused u h fault arrays parsed = record {
   fault_is = λ known.
       subst (λ (f : LoadFault). IsLoadFault known old bytes f) (sym fault)

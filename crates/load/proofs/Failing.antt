@@ -10,12 +10,12 @@ use Rattle.manifest.specs.declared.app.ProgramSource.{ProgramSource}
 use Rattle.load.specs.declared.fault.AppFault.TheVariants as app
 use Rattle.load.specs.declared.fault.LoadFault.{LoadFault}
 use Rattle.load.specs.declared.fault.LoadFault.TheVariants as load
-use Rattle.load.specs.Gathered.{AreArraysBeside, IsGathered, failures_in}
+use Rattle.load.specs.Sources.{AreArraysBeside, AreSources, failures_in}
 use Rattle.load.specs.Judged.{AreJudged, next_program, IsFirstRefused, here, there, RefusesFirst}
 use Rattle.load.specs.Judged.{CountsFault}
 use Rattle.load.specs.Kept.{CountsFile, IsProgramKept, is_unread}
-use Rattle.load.specs.declared.gathering.Gathered.{Gathered}
-use Rattle.load.specs.declared.gathering.GatheredApp.{GatheredApp}
+use Rattle.load.specs.declared.sources.Sources.{Sources}
+use Rattle.load.specs.declared.sources.AppSources.{AppSources}
 use Rattle.bounded_files.specs.declared.kept.KeptBytes.{KeptBytes}
 use Rattle.bounded_files.specs.declared.kept.KeptBytes.TheVariants.{Whole, Longer}
 use Rattle.load.proofs.LongBytes.{file_is_unread}
@@ -28,31 +28,31 @@ counted : (old new : ℕ) (kept : Option KeptBytes) → CountsFile old new kept
 counted old new None count = count
 counted old new (Some kept) count = omega (arith, count)
 
-pub none_failed : (start : ℕ) (apps : List GatheredApp) → apps ≡ []
+pub none_failed : (start : ℕ) (apps : List AppSources) → apps ≡ []
     → start ≡ start + failures_in apps
 none_failed start [] is = omega arith
 none_failed start (a ∷ apps) is = absurd cc
 
-pub failed_more : (start old new : ℕ) (apps more : List GatheredApp) (one : GatheredApp)
+pub failed_more : (start old new : ℕ) (apps more : List AppSources) (one : AppSources)
     → old ≡ start + failures_in apps → CountsFile old new one.kept → more ≡ apps ++ one ∷ []
     → new ≡ start + failures_in more
 failed_more start old new apps more one so_far count more_is =
     let all : failures_in more ≡ failures_in apps + failures_in (one ∷ []) =
-    ap (λ (l : List GatheredApp). failures_in l) more_is
-    ∙ sum_by-append (λ (a : GatheredApp). failures_of a.kept) apps (one ∷ []) in
+    ap (λ (l : List AppSources). failures_in l) more_is
+    ∙ sum_by-append (λ (a : AppSources). failures_of a.kept) apps (one ∷ []) in
     let last : failures_in (one ∷ []) ≡ failures_of one.kept = omega arith in
     omega (arith, so_far, counted old new one.kept count, all, last)
 
 -- ---- a file is the fault of the first app without a program
 
-parted : (a : GatheredApp) (apps : List GatheredApp)
+parted : (a : AppSources) (apps : List AppSources)
     → failures_in (a ∷ apps) ≡ failures_of a.kept + failures_in apps
 parted a apps =
     let all : failures_in (a ∷ apps) ≡ failures_in (a ∷ []) + failures_in apps =
-    sum_by-append (λ (x : GatheredApp). failures_of x.kept) (a ∷ []) apps in
+    sum_by-append (λ (x : AppSources). failures_of x.kept) (a ∷ []) apps in
     let one : failures_in (a ∷ []) ≡ failures_of a.kept = omega arith in omega (arith, all, one)
 
-pub first_failed : (apps : List GatheredApp) {number : ℕ} → IsFirstRefused apps number app.File
+pub first_failed : (apps : List AppSources) {number : ℕ} → IsFirstRefused apps number app.File
     → 0 < failures_in apps
 first_failed [] refused = elim refused [ ]
 first_failed (a ∷ apps) (here refused) =
@@ -71,7 +71,7 @@ none_unread from None p h = absurd h
 none_unread from (Some (Whole v)) p h = refl
 none_unread from (Some (Longer v n is_text)) p h = refl
 
-pub all_read : (apps : List GatheredApp) (programs : List ShapedProgram) → AreJudged apps programs
+pub all_read : (apps : List AppSources) (programs : List ShapedProgram) → AreJudged apps programs
     → failures_in apps ≡ 0
 all_read [] programs judged = refl
 all_read (a ∷ apps) [] judged = elim judged [ ]
@@ -82,18 +82,18 @@ all_read (a ∷ apps) (p ∷ programs) (next_program j rest) =
 -- ---- how the count changes with the fault
 
 module _ (known : KnownFiles) (directory : List CellArray) (bytes : List ℕ) (old new : ℕ) where
-  pub judged_counts : (g : Gathered) (fault : LoadFault) → IsGathered known directory bytes g
+  pub judged_counts : (g : Sources) (fault : LoadFault) → AreSources known directory bytes g
       → new ≡ old + failures_in g.apps.items → RefusesFirst g.apps.items fault
       → CountsFault known directory bytes old new fault
   judged_counts g (load.File number) is count refused =
       let some = first_failed g.apps.items refused in (
-        record { gathered = g; is_gathered = is; refused = refused; count = count },
+        record { sources = g; are_sources = is; refused = refused; count = count },
         omega (arith, count, some),
       )
   judged_counts g (load.Program number fault) is count refused =
-      record { gathered = g; is_gathered = is; refused = refused; count = count }
+      record { sources = g; are_sources = is; refused = refused; count = count }
   judged_counts g (load.Rule number fault) is count refused =
-      record { gathered = g; is_gathered = is; refused = refused; count = count }
+      record { sources = g; are_sources = is; refused = refused; count = count }
   judged_counts g load.Memory is count refused = tt
   judged_counts g (load.Manifest fault) is count refused = absurd refused
   judged_counts g (load.Cells number fault) is count refused = absurd refused

@@ -6,14 +6,14 @@ use Rattle.sha2.specs.Hashers.{Holds256}
 use Rattle.sha2.specs.Sha256.{sha256}
 use Rattle.sha2.specs.declared.Sha256.{Sha256}
 use Rattle.load.specs.Digest.{framed, framed_file, framed_files}
-use Rattle.load.specs.declared.gathering.GatheredApp.{GatheredApp}
+use Rattle.load.specs.declared.sources.AppSources.{AppSources}
 
 -- the digest of a message followed by these files
-abbrev pub digest_behind : List ℕ → List GatheredApp → Option (List ℕ)
+abbrev pub digest_behind : List ℕ → List AppSources → Option (List ℕ)
 digest_behind message left = option_map (λ files. sha256 (message ++ files)) (framed_files left)
 
 -- The hasher holds a message, which together with the files that are left gives the digest of all.
-pub record GoesOn (hasher : Sha256) (left : List GatheredApp) (all : Option (List ℕ)) : Type 0
+pub record GoesOn (hasher : Sha256) (left : List AppSources) (all : Option (List ℕ)) : Type 0
   where
     pub message : List ℕ
     pub held : Holds256 hasher message
@@ -26,7 +26,7 @@ behind message file (Some files) =
     ap (λ (l : List ℕ). Some (sha256 l)) (sym (append_assoc message file files))
 behind message file None = refl
 
-chosen : (message : List ℕ) (apps : List GatheredApp) (app : GatheredApp) (file : List ℕ)
+chosen : (message : List ℕ) (apps : List AppSources) (app : AppSources) (file : List ℕ)
     → framed_file app.kept ≡ Some file
     → digest_behind message (app ∷ apps) ≡ digest_behind (message ++ file) apps
 unfolding framed_files
@@ -35,8 +35,8 @@ chosen message apps app file is =
     (option_and_then (λ one. option_map (λ files. one ++ files) (framed_files apps)) kept)) is
     ∙ behind message file (framed_files apps)
 
-pub one_file : {h new : Sha256} {all : Option (List ℕ)} (left apps : List GatheredApp)
-    (app : GatheredApp) (piece : List ℕ) → left ≡ app ∷ apps
+pub one_file : {h new : Sha256} {all : Option (List ℕ)} (left apps : List AppSources)
+    (app : AppSources) (piece : List ℕ) → left ≡ app ∷ apps
     → framed_file app.kept ≡ Some (framed piece)
     → ((m : List ℕ) → Holds256 h m → Holds256 new (m ++ framed piece))
     → GoesOn h left all → GoesOn new apps all
@@ -48,8 +48,8 @@ one_file {h} {new} {all} left apps app piece left_is is adds goes = record {
       ∙ sym (ap (digest_behind goes.message) left_is) ∙ goes.is;
 }
 
-pub no_file : {h : Sha256} {all : Option (List ℕ)} (left apps : List GatheredApp)
-    (app : GatheredApp) → left ≡ app ∷ apps → framed_file app.kept ≡ None → GoesOn h left all
+pub no_file : {h : Sha256} {all : Option (List ℕ)} (left apps : List AppSources)
+    (app : AppSources) → left ≡ app ∷ apps → framed_file app.kept ≡ None → GoesOn h left all
     → None ≡ all
 unfolding framed_files
 no_file {h} {all} left apps app left_is is goes =
@@ -58,7 +58,7 @@ no_file {h} {all} left apps app left_is is goes =
     (option_and_then (λ one. option_map (λ files. one ++ files) (framed_files apps)) kept)) is)
     ∙ goes.is
 
-pub all_files : {h : Sha256} {all : Option (List ℕ)} (left : List GatheredApp) (digest : List ℕ)
+pub all_files : {h : Sha256} {all : Option (List ℕ)} (left : List AppSources) (digest : List ℕ)
     → left ≡ [] → ((m : List ℕ) → Holds256 h m → digest ≡ sha256 m) → GoesOn h left all
     → Some digest ≡ all
 unfolding framed_files

@@ -13,15 +13,15 @@ use Rattle.load.specs.declared.fault.AppFault.TheVariants as app
 use Rattle.load.specs.declared.fault.LoadFault.{LoadFault}
 use Rattle.load.specs.declared.fault.LoadFault.TheVariants.{Manifest as NoManifest, File, Program}
 use Rattle.load.specs.declared.fault.LoadFault.TheVariants.{Rule, Cells, Memory}
-use Rattle.load.specs.declared.gathering.Gathered.{Gathered}
-use Rattle.load.specs.declared.gathering.GatheredApp.{GatheredApp}
+use Rattle.load.specs.declared.sources.Sources.{Sources}
+use Rattle.load.specs.declared.sources.AppSources.{AppSources}
 use Rattle.load.specs.App.{IsAppOf, IsShapeOf, RefusesApp}
 use Rattle.load.specs.Apps.{AreAppsOf, none, next, IsRefusedApp}
-use Rattle.load.specs.Gathered.{AreGathered, no_app, next_app, HasItsReleases, IsGathered}
-use Rattle.load.specs.Gathered.{AreTaken, all_read, not_read, next_read, IsGatheredApp, most_long}
-use Rattle.load.specs.Judged.{AreJudged, next_program, IsJudged, RefusesGathered}
+use Rattle.load.specs.Sources.{AreAllSources, no_app, next_app, HasItsReleases, AreSources}
+use Rattle.load.specs.Sources.{AreTaken, all_read, not_read, next_read, AreAppSources, most_long}
+use Rattle.load.specs.Judged.{AreJudged, next_program, IsJudged, RefusesSources}
 use Rattle.load.specs.Judged.{IsFirstRefused, here, there, RefusesFirst, app_of, apps_of}
-use Rattle.load.specs.Judged.{GatheredIsLoaded}
+use Rattle.load.specs.Judged.{SourcesAreLoaded}
 use Rattle.load.specs.Kept.{IsKeptFrom, long_count}
 use Rattle.load.specs.Load.{IsLoadFault, of_apps}
 use Rattle.load.specs.Source.{IsProgramIn, RefusesSource}
@@ -32,26 +32,26 @@ use Rattle.load.proofs.Keeping.{fault_of, none_long, program_of}
 
 module _ (known : KnownFiles) (directory : List CellArray) (numbers : List ArrayNo) where
   -- reading the entries that are left, after these apps, completes the reading of all
-  abbrev pub ReadsOn : List AppEntry → List GatheredApp → (long : ℕ) → List AppEntry → Type 0
+  abbrev pub ReadsOn : List AppEntry → List AppSources → (long : ℕ) → List AppEntry → Type 0
   ReadsOn entries apps long left =
-      (more : List GatheredApp) (unread : ℕ)
+      (more : List AppSources) (unread : ℕ)
       → AreTaken known directory numbers long left more unread
       → AreTaken known directory numbers 0 entries (apps ++ more) unread
 
-  pub read_none : (entries left : List AppEntry) (apps : List GatheredApp) → left ≡ entries
+  pub read_none : (entries left : List AppEntry) (apps : List AppSources) → left ≡ entries
       → apps ≡ [] → ReadsOn entries apps 0 left
   read_none entries left apps same empty = λ more unread h.
       subst
-      (λ (l : List GatheredApp).
+      (λ (l : List AppSources).
       AreTaken known directory numbers 0 entries (l ++ more) unread)
       (sym empty)
       (subst (λ (l : List AppEntry). AreTaken known directory numbers 0 l more unread) same h)
 
-  module _ (entries left : List AppEntry) (apps : List GatheredApp) (long : ℕ)
+  module _ (entries left : List AppEntry) (apps : List AppSources) (long : ℕ)
       (so_far : ReadsOn entries apps long left) where
-    pub read_more : (entry : AppEntry) (rest : List AppEntry) (one : GatheredApp)
-        (new : List GatheredApp) (sum : ℕ) → left ≡ entry ∷ rest → long ≤ most_long
-        → IsGatheredApp known directory numbers entry one → new ≡ apps ++ one ∷ []
+    pub read_more : (entry : AppEntry) (rest : List AppEntry) (one : AppSources)
+        (new : List AppSources) (sum : ℕ) → left ≡ entry ∷ rest → long ≤ most_long
+        → AreAppSources known directory numbers entry one → new ≡ apps ++ one ∷ []
         → sum ≡ long + long_count one.kept → ReadsOn entries new sum rest
     read_more entry rest one new sum is few h new_is sum_is = λ more unread later.
         let behind : AreTaken known directory numbers (long + long_count one.kept) rest more
@@ -60,19 +60,19 @@ module _ (known : KnownFiles) (directory : List CellArray) (numbers : List Array
         let all = so_far (one ∷ more) unread
         (subst (λ (l : List AppEntry). AreTaken known directory numbers long l (one ∷ more) unread)
         (sym is) (next_read few h behind)) in
-        subst (λ (l : List GatheredApp). AreTaken known directory numbers 0 entries l unread)
+        subst (λ (l : List AppSources). AreTaken known directory numbers 0 entries l unread)
         (sym (append_assoc apps (one ∷ []) more) ∙ ap (λ l. l ++ more) (sym new_is)) all
 
     pub read_enough : (unread : ℕ) → most_long < long → unread ≡ length left
         → AreTaken known directory numbers 0 entries apps unread
     read_enough unread much is =
         subst (λ (n : ℕ). AreTaken known directory numbers 0 entries apps n) (sym is)
-        (subst (λ (l : List GatheredApp). AreTaken known directory numbers 0 entries l
+        (subst (λ (l : List AppSources). AreTaken known directory numbers 0 entries l
         (length left)) (append-nil apps) (so_far [] (length left) (not_read much)))
 
     pub read_all : left ≡ [] → AreTaken known directory numbers 0 entries apps 0
     read_all is =
-        subst (λ (l : List GatheredApp). AreTaken known directory numbers 0 entries l 0)
+        subst (λ (l : List AppSources). AreTaken known directory numbers 0 entries l 0)
         (append-nil apps)
         (so_far [] 0 (subst (λ (l : List AppEntry). AreTaken known directory numbers long l [] 0)
         (sym is) all_read))
@@ -80,7 +80,7 @@ module _ (known : KnownFiles) (directory : List CellArray) (numbers : List Array
 -- ---- the load
 
 module _ (known : KnownFiles) (directory : List CellArray) (numbers : List ArrayNo)
-    (entry : AppEntry) (one : GatheredApp) (h : IsGatheredApp known directory numbers entry one)
+    (entry : AppEntry) (one : AppSources) (h : AreAppSources known directory numbers entry one)
   where
     kept : IsKeptFrom known one.entry.source one.kept
     kept = subst (λ (e : AppEntry). IsKeptFrom known e.source one.kept) (sym h.entry_is) h.kept_is
@@ -96,13 +96,13 @@ module _ (known : KnownFiles) (directory : List CellArray) (numbers : List Array
           (program_of known one.entry.source one.kept kept program judged.program_is);
     }
 
-    source_refused : (fault : AppFault) → RefusesGathered one fault
+    source_refused : (fault : AppFault) → RefusesSources one fault
         → RefusesSource known entry.source one.shape fault
     source_refused fault refused =
         subst (λ (e : AppEntry). RefusesSource known e.source one.shape fault) h.entry_is
         (fault_of known one.entry.source one.kept kept one.shape fault refused)
 
-    app_refused : (fault : AppFault) → RefusesGathered one fault
+    app_refused : (fault : AppFault) → RefusesSources one fault
         → RefusesApp known directory numbers entry fault
     app_refused app.Memory refused = tt
     app_refused app.File refused = (one.shape, h.shape_is, source_refused app.File refused)
@@ -113,28 +113,28 @@ module _ (known : KnownFiles) (directory : List CellArray) (numbers : List Array
 
 module _ (known : KnownFiles) (directory : List CellArray) (numbers : List ArrayNo) where
   -- a file that gives a program isn't longer than it may be
-  still_few : (long : ℕ) (one : GatheredApp) (p : ShapedProgram) → IsJudged one p
+  still_few : (long : ℕ) (one : AppSources) (p : ShapedProgram) → IsJudged one p
       → long ≤ most_long → long + long_count one.kept ≤ most_long
   still_few long one p j few =
       let none = none_long one.entry.source one.kept p j.program_is in omega (arith, few, none)
 
-  all_gathered : (long : ℕ) (entries : List AppEntry) (apps : List GatheredApp)
+  all_collected : (long : ℕ) (entries : List AppEntry) (apps : List AppSources)
       (programs : List ShapedProgram) {unread : ℕ} → long ≤ most_long
       → AreTaken known directory numbers long entries apps unread → AreJudged apps programs
-      → AreGathered known directory numbers entries apps
-  all_gathered long [] [] programs few are judged = no_app
-  all_gathered long [] (a ∷ apps) programs few are judged = elim are [ ]
-  all_gathered long (e ∷ entries) [] programs few (not_read much) judged =
+      → AreAllSources known directory numbers entries apps
+  all_collected long [] [] programs few are judged = no_app
+  all_collected long [] (a ∷ apps) programs few are judged = elim are [ ]
+  all_collected long (e ∷ entries) [] programs few (not_read much) judged =
       absurd (omega (arith, few, much))
-  all_gathered long (e ∷ entries) (a ∷ apps) [] few are judged = elim judged [ ]
-  all_gathered long (e ∷ entries) (a ∷ apps) (p ∷ programs) few (next_read same h more)
+  all_collected long (e ∷ entries) (a ∷ apps) [] few are judged = elim judged [ ]
+  all_collected long (e ∷ entries) (a ∷ apps) (p ∷ programs) few (next_read same h more)
       (next_program j rest) =
       next_app h
-      (all_gathered (long + long_count a.kept) entries apps programs
+      (all_collected (long + long_count a.kept) entries apps programs
       (still_few long a p j few) more rest)
 
-  are_apps : (entries : List AppEntry) (apps : List GatheredApp) (programs : List ShapedProgram)
-      → AreGathered known directory numbers entries apps → AreJudged apps programs
+  are_apps : (entries : List AppEntry) (apps : List AppSources) (programs : List ShapedProgram)
+      → AreAllSources known directory numbers entries apps → AreJudged apps programs
       → AreAppsOf known directory numbers entries (apps_of apps programs)
   are_apps [] [] programs no_app judged = none
   are_apps [] (a ∷ apps) programs are judged = elim are [ ]
@@ -143,7 +143,7 @@ module _ (known : KnownFiles) (directory : List CellArray) (numbers : List Array
   are_apps (e ∷ entries) (a ∷ apps) (p ∷ programs) (next_app h more) (next_program j rest) =
       next (is_app known directory numbers e a h p j) (are_apps entries apps programs more rest)
 
-  are_shaped : (long : ℕ) (entries : List AppEntry) (apps : List GatheredApp) {unread : ℕ}
+  are_shaped : (long : ℕ) (entries : List AppEntry) (apps : List AppSources) {unread : ℕ}
       → AreTaken known directory numbers long entries apps unread → All HasItsReleases apps
   are_shaped long entries [] are = All-nil HasItsReleases
   are_shaped long [] (a ∷ apps) are = elim are [ ]
@@ -153,7 +153,7 @@ module _ (known : KnownFiles) (directory : List CellArray) (numbers : List Array
       ∙ ap (λ (x : AppEntry). length x.releases) (sym h.entry_is))
       (are_shaped (long + long_count a.kept) entries apps more)
 
-  refused_app : (long : ℕ) (entries : List AppEntry) (apps : List GatheredApp) {unread number : ℕ}
+  refused_app : (long : ℕ) (entries : List AppEntry) (apps : List AppSources) {unread number : ℕ}
       {fault : AppFault} → AreTaken known directory numbers long entries apps unread
       → IsFirstRefused apps number fault
       → IsRefusedApp known directory numbers entries number fault
@@ -183,12 +183,12 @@ module _ (known : KnownFiles) (directory : List CellArray) (numbers : List Array
         refused = rest.refused;
       }
 
-module _ (known : KnownFiles) (old : List CellArray) (bytes : List ℕ) (g : Gathered)
-    (is : IsGathered known old bytes g) where
+module _ (known : KnownFiles) (old : List CellArray) (bytes : List ℕ) (g : Sources)
+    (is : AreSources known old bytes g) where
   all_of : (programs : List ShapedProgram) → AreJudged g.apps.items programs
-      → AreGathered known g.directory is.numbers is.manifest.apps g.apps.items
+      → AreAllSources known g.directory is.numbers is.manifest.apps g.apps.items
   all_of programs judged =
-      all_gathered known g.directory is.numbers 0 is.manifest.apps g.apps.items programs
+      all_collected known g.directory is.numbers 0 is.manifest.apps g.apps.items programs
       (omega arith) is.apps_are judged
 
   load_refused : (fault : LoadFault) → RefusesFirst g.apps.items fault
@@ -206,15 +206,15 @@ module _ (known : KnownFiles) (old : List CellArray) (bytes : List ℕ) (g : Gat
   load_refused (NoManifest fault) h = absurd h
   load_refused (Cells number fault) h = absurd h
 
-pub gathered_is_loaded : GatheredIsLoaded
-gathered_is_loaded = record {
+pub sources_are_loaded : SourcesAreLoaded
+sources_are_loaded = record {
   app = λ known directory numbers entry one h. record {
     supplied = is_app known directory numbers entry one h;
     refused = app_refused known directory numbers entry one h;
   };
   manifest = λ known old bytes g is. record {
     shaped = are_shaped known g.directory is.numbers 0 is.manifest.apps g.apps.items is.apps_are;
-    gathered = all_of known old bytes g is;
+    sources = all_of known old bytes g is;
     supplied = λ programs judged. record {
       manifest = is.manifest;
       read = is.read;

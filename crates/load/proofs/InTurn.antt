@@ -7,16 +7,16 @@ use Rattle.ruleset.specs.Rules.{AppRule}
 use Rattle.load.specs.declared.fault.AppFault.{AppFault}
 use Rattle.load.specs.declared.fault.AppFault.TheVariants as app
 use Rattle.load.specs.declared.fault.LoadFault.{LoadFault}
-use Rattle.load.specs.declared.gathering.GatheredApp.{GatheredApp}
+use Rattle.load.specs.declared.sources.AppSources.{AppSources}
 use Rattle.load.specs.Apps.{in_app}
-use Rattle.load.specs.Gathered.{HasItsReleases}
-use Rattle.load.specs.Judged.{AreJudged, no_program, next_program, IsJudged, RefusesGathered}
+use Rattle.load.specs.Sources.{HasItsReleases}
+use Rattle.load.specs.Judged.{AreJudged, no_program, next_program, IsJudged, RefusesSources}
 use Rattle.load.specs.Judged.{IsFirstRefused, here, there, RefusesFirst, app_of, apps_of}
 
 -- ---- judged in order
 
-pub judged_more : (all left behind : List GatheredApp) (old new : List ShapedProgram)
-    (one : GatheredApp) (program : ShapedProgram)
+pub judged_more : (all left behind : List AppSources) (old new : List ShapedProgram)
+    (one : AppSources) (program : ShapedProgram)
     → ((rest : List ShapedProgram) → AreJudged left rest → AreJudged all (old ++ rest))
     → left ≡ one ∷ behind → new ≡ old ++ program ∷ [] → IsJudged one program
     → (rest : List ShapedProgram) → AreJudged behind rest → AreJudged all (new ++ rest)
@@ -27,7 +27,7 @@ judged_more all left behind old new one program so_far left_is new_is judged res
     ∙ append_assoc old (program ∷ []) rest))
     (so_far (program ∷ rest) programs)
 
-pub judged_all : (all left : List GatheredApp) (programs : List ShapedProgram)
+pub judged_all : (all left : List AppSources) (programs : List ShapedProgram)
     → ((rest : List ShapedProgram) → AreJudged left rest → AreJudged all (programs ++ rest))
     → left ≡ [] → AreJudged all programs
 judged_all all left programs so_far is =
@@ -35,7 +35,7 @@ judged_all all left programs so_far is =
     subst (λ (ps : List ShapedProgram). AreJudged all ps) (append-nil programs)
     (so_far [] nothing)
 
-pub refused_more : (all left behind : List GatheredApp) (count more : ℕ) (one : GatheredApp)
+pub refused_more : (all left behind : List AppSources) (count more : ℕ) (one : AppSources)
     (program : ShapedProgram)
     → ((number : ℕ) (fault : AppFault) → IsFirstRefused left number fault
     → IsFirstRefused all (count + number) fault)
@@ -48,19 +48,19 @@ refused_more all left behind count more one program so_far left_is more_is judge
     let same : count + suc number ≡ more + number = omega (arith, more_is) in
     subst (λ (n : ℕ). IsFirstRefused all n fault) same (so_far (suc number) fault first)
 
-in_first : (apps : List GatheredApp) (number : ℕ) (fault : AppFault)
+in_first : (apps : List AppSources) (number : ℕ) (fault : AppFault)
     → IsFirstRefused apps number fault → RefusesFirst apps (in_app number fault)
 in_first apps number app.File h = h
 in_first apps number (app.Program fault) h = h
 in_first apps number (app.Rule fault) h = h
 in_first apps number app.Memory h = tt
 
-pub refused_here : (all left behind : List GatheredApp) (count number : ℕ) (one : GatheredApp)
+pub refused_here : (all left behind : List AppSources) (count number : ℕ) (one : AppSources)
     (fault : AppFault) (told : LoadFault)
     → ((number : ℕ) (fault : AppFault) → IsFirstRefused left number fault
     → IsFirstRefused all (count + number) fault)
     → left ≡ one ∷ behind → number ≡ count + 1 → told ≡ in_app number fault
-    → RefusesGathered one fault → RefusesFirst all told
+    → RefusesSources one fault → RefusesFirst all told
 refused_here all left behind count number one fault told so_far left_is is told_is refused =
     let first : IsFirstRefused left 1 fault = rw left_is (here refused) in
     subst (λ (f : LoadFault). RefusesFirst all f) (sym told_is)
@@ -69,13 +69,13 @@ refused_here all left behind count number one fault told so_far left_is is told_
 
 -- ---- each with its program
 
-module _ (apps rest : List GatheredApp) (programs more : List ShapedProgram) (one : GatheredApp)
+module _ (apps rest : List AppSources) (programs more : List ShapedProgram) (one : AppSources)
     (program : ShapedProgram) (apps_are : apps ≡ one ∷ rest)
     (programs_are : programs ≡ program ∷ more) where
   judged_pair : AreJudged apps programs → AreJudged (one ∷ rest) (program ∷ more)
   judged_pair h =
       subst (λ (ps : List ShapedProgram). AreJudged (one ∷ rest) ps) programs_are
-      (subst (λ (l : List GatheredApp). AreJudged l programs) apps_are h)
+      (subst (λ (l : List AppSources). AreJudged l programs) apps_are h)
 
   pub judged_head : AreJudged apps programs → IsJudged one program
   judged_head h = first (judged_pair h)
@@ -92,12 +92,12 @@ module _ (apps rest : List GatheredApp) (programs more : List ShapedProgram) (on
   pub shaped_head : All HasItsReleases apps → HasItsReleases one
   shaped_head h =
       All-head HasItsReleases one rest
-      (subst (λ (l : List GatheredApp). All HasItsReleases l) apps_are h)
+      (subst (λ (l : List AppSources). All HasItsReleases l) apps_are h)
 
   pub shaped_tail : All HasItsReleases apps → All HasItsReleases rest
   shaped_tail h =
       All-tail HasItsReleases one rest
-      (subst (λ (l : List GatheredApp). All HasItsReleases l) apps_are h)
+      (subst (λ (l : List AppSources). All HasItsReleases l) apps_are h)
 
   pub supplied_more : (old new all : List AppRule) (added : AppRule)
       → old ++ apps_of apps programs ≡ all → new ≡ old ++ added ∷ [] → added ≡ app_of one program
@@ -106,6 +106,6 @@ module _ (apps rest : List GatheredApp) (programs more : List ShapedProgram) (on
       ap (λ (l : List AppRule). l ++ apps_of rest more) new_is
       ∙ append_assoc old (added ∷ []) (apps_of rest more)
       ∙ ap (λ (x : AppRule). old ++ x ∷ apps_of rest more) is
-      ∙ sym (ap (λ (l : List GatheredApp). old ++ apps_of l programs) apps_are
+      ∙ sym (ap (λ (l : List AppSources). old ++ apps_of l programs) apps_are
       ∙ ap (λ (ps : List ShapedProgram). old ++ apps_of (one ∷ rest) ps) programs_are)
       ∙ so_far

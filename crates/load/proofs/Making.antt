@@ -9,31 +9,31 @@ use Rattle.declarations.specs.Order.{AreDeclared}
 use Rattle.ruleset.specs.Rules.{AppRule, HasDuplicate, KnowsOnly, Rules, appids_of}
 use Rattle.load.specs.Apps.{AreAppsOf}
 use Rattle.load.specs.Folder.{known_beside}
-use Rattle.load.specs.Gathered.{IsGathered}
+use Rattle.load.specs.Sources.{AreSources}
 use Rattle.load.specs.Judged.{AreJudged, IsLoadOf, apps_of}
 use Rattle.load.specs.Load.{IsRulesetOf}
 use Rattle.load.specs.Loaded.{IsLoadedFrom}
-use Rattle.load.specs.Made.{GatheredIsMade, IsMadeFrom, IsMadeOf, IsMadeOver}
-use Rattle.load.specs.declared.gathering.Gathered.{Gathered}
+use Rattle.load.specs.Made.{SourcesAreMade, IsMadeFrom, IsMadeOf, IsMadeOver}
+use Rattle.load.specs.declared.sources.Sources.{Sources}
 use Rattle.ruleset.specs.declared.loaded.LoadedRuleset.{LoadedRuleset}
-use Rattle.load.proofs.Gathers.{gathered_is_loaded}
+use Rattle.load.proofs.Gathers.{sources_are_loaded}
 use Rattle.load.proofs.Knowing.{apps_know}
-use Rattle.load.proofs.Names.{never_twice}
+use Rattle.load.proofs.Names.{never_duplicate}
 
-module _ (known : KnownFiles) (old : List CellArray) (bytes : List ℕ) (g : Gathered)
-    (is : IsGathered known old bytes g) where
+module _ (known : KnownFiles) (old : List CellArray) (bytes : List ℕ) (g : Sources)
+    (is : AreSources known old bytes g) where
   of_programs : (programs : List ShapedProgram) → AreJudged g.apps.items programs
       → IsRulesetOf known old bytes
       (record { server = is.manifest.server; apps = apps_of g.apps.items programs }) g.directory
   of_programs programs judged =
-      let load : IsLoadOf known old bytes g is = gathered_is_loaded.manifest known old bytes g is in
+      let load : IsLoadOf known old bytes g is = sources_are_loaded.manifest known old bytes g is in
       load.supplied programs judged
 
   once : (programs : List ShapedProgram) → AreJudged g.apps.items programs
       → ¬ HasDuplicate (appids_of (apps_of g.apps.items programs))
   once programs judged =
       let r = of_programs programs judged in
-      never_twice known g.directory r.numbers r.manifest (apps_of g.apps.items programs) r.read.1
+      never_duplicate known g.directory r.numbers r.manifest (apps_of g.apps.items programs) r.read.1
       r.apps_are
 
   is_ruleset : (made : LoadedRuleset) → IsMadeOf bytes g made
@@ -56,8 +56,8 @@ module _ (known : KnownFiles) (old : List CellArray) (bytes : List ℕ) (g : Gat
             (sym m.directory_is) apps;
       }
 
-pub gathered_is_made : GatheredIsMade
-gathered_is_made = λ known old bytes g is. record {
+pub sources_are_made : SourcesAreMade
+sources_are_made = λ known old bytes g is. record {
   once = once known old bytes g is;
   made = is_ruleset known old bytes g is;
 }
@@ -74,7 +74,7 @@ pub is_loaded : (known : KnownFiles) (path : List ℕ) (old : List CellArray) (m
 is_loaded known path old made from = record {
   bytes = from.bytes;
   given = from.given;
-  loaded = is_ruleset (known_beside known path) old from.bytes from.gathered from.is_gathered made
+  loaded = is_ruleset (known_beside known path) old from.bytes from.sources from.are_sources made
       from.made_of;
 }
 
@@ -84,7 +84,7 @@ pub from_path : (known : KnownFiles) (path : List ℕ) (old : List CellArray) (b
 from_path known path old bytes file made same given over = record {
   bytes = bytes;
   given = subst (λ (b : List ℕ). Gives (regular_files known) path (Some b)) (sym same) given;
-  gathered = over.gathered;
-  is_gathered = over.is_gathered;
+  sources = over.sources;
+  are_sources = over.are_sources;
   made_of = over.made_of;
 }

@@ -55,10 +55,10 @@ none_in (Some x) fault other y e = absurd cc
 
 -- so the apps of a manifest with distinct names have no duplicate appid
 module _ (known : KnownFiles) (directory : List CellArray) (numbers : List ArrayNo) where
-  pub never_twice : (manifest : Manifest) (apps : List AppRule) → once manifest ≡ Ok manifest
+  pub never_duplicate : (manifest : Manifest) (apps : List AppRule) → once manifest ≡ Ok manifest
       → AreAppsOf known directory numbers manifest.apps apps → ¬ HasDuplicate (appids_of apps)
-  never_twice manifest apps is are twice =
+  never_duplicate manifest apps is are duplicate =
       let arrays = none_in _ _ _ _ is in
       let appids = none_in _ _ _ _ arrays.1 in
-      let h = rw (same_appids known directory numbers manifest.apps apps are) at twice in
+      let h = rw (same_appids known directory numbers manifest.apps apps are) at duplicate in
       apart_names (entry_appids manifest.apps) appids.0 h.first h.second h.apart h.within h.same

@@ -13,12 +13,12 @@ use Rattle.load.specs.declared.fault.AppFault.TheVariants as app
 use Rattle.load.specs.declared.fault.LoadFault.{LoadFault}
 use Rattle.load.specs.declared.fault.LoadFault.TheVariants.{Manifest as NoManifest, Cells, File}
 use Rattle.load.specs.declared.fault.LoadFault.TheVariants.{Program as NoProgram, Rule, Memory}
-use Rattle.load.specs.declared.gathering.GatheredApp.{GatheredApp}
+use Rattle.load.specs.declared.sources.AppSources.{AppSources}
 use Rattle.bounded_files.specs.declared.kept.KeptBytes.{KeptBytes}
 use Rattle.bounded_files.specs.declared.kept.KeptBytes.TheVariants.{Whole, Longer}
 use Rattle.manifest.specs.declared.app.ProgramSource.{ProgramSource}
 use Rattle.load.specs.Apps.{in_app}
-use Rattle.load.specs.Judged.{AreJudged, next_program, IsJudged, RefusesGathered}
+use Rattle.load.specs.Judged.{AreJudged, next_program, IsJudged, RefusesSources}
 use Rattle.load.specs.Judged.{IsFirstRefused, here, there}
 use Rattle.load.specs.Kept.{IsProgramKept, RefusesKept}
 use Rattle.load.specs.OneLoad.{HasOneJudgement, Judges}
@@ -106,30 +106,30 @@ module _ (judged : (p : Program) (shape : AppShape) → verify.ProgramHasOneVerd
       (longer_bytes from v count is_text shape r h)
       (longer_bytes from v count is_text shape s k) (known r other) (known s also))
 
-  same_of : (one : GatheredApp) (r s : Result ShapedProgram AppFault)
+  same_of : (one : AppSources) (r s : Result ShapedProgram AppFault)
       → Comes one.entry.source one.kept one.shape r → Comes one.entry.source one.kept one.shape s
       → r ≢ Err app.Memory → s ≢ Err app.Memory → r ≡ s
   same_of one r s = same_kept one.entry.source one.kept one.shape r s
 
-  same_one : (one : GatheredApp) (p q : ShapedProgram) → IsJudged one p → IsJudged one q → p ≡ q
+  same_one : (one : AppSources) (p q : ShapedProgram) → IsJudged one p → IsJudged one q → p ≡ q
   same_one one p q h k =
       ap (λ (r : Result ShapedProgram AppFault). program_in r q)
       (same_of one (Ok p) (Ok q) (h.shape_is, h.program_is) (k.shape_is, k.program_is)
       (λ e. absurd cc) (λ e. absurd cc))
 
-  not_refused : (one : GatheredApp) (p : ShapedProgram) (fault : AppFault) → IsJudged one p
-      → RefusesGathered one fault → fault ≢ app.Memory → ⊥
+  not_refused : (one : AppSources) (p : ShapedProgram) (fault : AppFault) → IsJudged one p
+      → RefusesSources one fault → fault ≢ app.Memory → ⊥
   not_refused one p fault h k other =
       let same = same_of one (Ok p) (Err fault) (h.shape_is, h.program_is) k (λ e. absurd cc)
       (λ e. other (ap fault_in e)) in absurd cc
 
-  same_fault : (one : GatheredApp) (e f : AppFault) → RefusesGathered one e
-      → RefusesGathered one f → e ≢ app.Memory → f ≢ app.Memory → e ≡ f
+  same_fault : (one : AppSources) (e f : AppFault) → RefusesSources one e
+      → RefusesSources one f → e ≢ app.Memory → f ≢ app.Memory → e ≡ f
   same_fault one e f h k other also =
       ap fault_in (same_of one (Err e) (Err f) h k (λ x. other (ap fault_in x))
       (λ x. also (ap fault_in x)))
 
-  same_programs : (apps : List GatheredApp) (ps qs : List ShapedProgram)
+  same_programs : (apps : List AppSources) (ps qs : List ShapedProgram)
       → AreJudged apps ps → AreJudged apps qs → ps ≡ qs
   same_programs [] [] [] h k = refl
   same_programs [] [] (q ∷ qs) h k = elim k [ ]
@@ -140,7 +140,7 @@ module _ (judged : (p : Program) (shape : AppShape) → verify.ProgramHasOneVerd
       let first = same_one a p q h k in
       let rest = same_programs apps ps qs hs ks in cc
 
-  same_first : (apps : List GatheredApp) {m n : ℕ} {e f : AppFault}
+  same_first : (apps : List AppSources) {m n : ℕ} {e f : AppFault}
       → IsFirstRefused apps m e → IsFirstRefused apps n f
       → e ≢ app.Memory → f ≢ app.Memory → (m ≡ n) × (e ≡ f)
   same_first [] h k other also = elim h [ ]
@@ -154,7 +154,7 @@ module _ (judged : (p : Program) (shape : AppShape) → verify.ProgramHasOneVerd
       let same = same_first apps more rest other also in
       (ap (λ (n : ℕ). suc n) same.0, same.1)
 
-  not_both : (apps : List GatheredApp) (ps : List ShapedProgram) {n : ℕ} {e : AppFault}
+  not_both : (apps : List AppSources) (ps : List ShapedProgram) {n : ℕ} {e : AppFault}
       → AreJudged apps ps → IsFirstRefused apps n e
       → e ≢ app.Memory → ⊥
   not_both [] ps h r other = elim r [ ]
@@ -165,12 +165,12 @@ module _ (judged : (p : Program) (shape : AppShape) → verify.ProgramHasOneVerd
       not_both apps ps hs more other
 
   -- a verdict, by its first fault, if it has one
-  data Found (apps : List GatheredApp) : Result (List ShapedProgram) LoadFault → Type 0 where
+  data Found (apps : List AppSources) : Result (List ShapedProgram) LoadFault → Type 0 where
     programs : (ps : List ShapedProgram) → AreJudged apps ps → Found apps (Ok ps)
     refused : (n : ℕ) (e : AppFault) → IsFirstRefused apps n e → e ≢ app.Memory
         → Found apps (Err (in_app n e))
 
-  found : (apps : List GatheredApp) (r : Result (List ShapedProgram) LoadFault) → Judges apps r
+  found : (apps : List AppSources) (r : Result (List ShapedProgram) LoadFault) → Judges apps r
       → r ≢ Err Memory → Found apps r
   found apps (Ok ps) h other = programs ps h
   found apps (Err (File n)) h other = refused n app.File h (λ e. absurd cc)
@@ -180,7 +180,7 @@ module _ (judged : (p : Program) (shape : AppShape) → verify.ProgramHasOneVerd
   found apps (Err (NoManifest fault)) h other = absurd h
   found apps (Err (Cells n fault)) h other = absurd h
 
-  same_found : (apps : List GatheredApp) {r s : Result (List ShapedProgram) LoadFault}
+  same_found : (apps : List AppSources) {r s : Result (List ShapedProgram) LoadFault}
       → Found apps r → Found apps s → r ≡ s
   same_found apps (programs ps h) (programs qs k) =
       ap (λ x. Ok x) (same_programs apps ps qs h k)

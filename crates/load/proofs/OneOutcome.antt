@@ -64,10 +64,10 @@ module _ (files : List ℕ → Option KnownFile) (old : List CellArray) (bytes :
       → Staged (Err fault) old
   by_bytes (NoManifest (manifest.Toml fault)) h known =
       no_manifest (manifest.Toml fault) h (λ e. absurd cc)
-  by_bytes (NoManifest (manifest.Field misfit)) h known =
-      no_manifest (manifest.Field misfit) h (λ e. absurd cc)
-  by_bytes (NoManifest (manifest.Duplicate twice)) h known =
-      no_manifest (manifest.Duplicate twice) h (λ e. absurd cc)
+  by_bytes (NoManifest (manifest.Field schema_error)) h known =
+      no_manifest (manifest.Field schema_error) h (λ e. absurd cc)
+  by_bytes (NoManifest (manifest.Duplicate duplicate)) h known =
+      no_manifest (manifest.Duplicate duplicate) h (λ e. absurd cc)
   by_bytes Memory h known = absurd (known refl)
   by_bytes fault h known = absurd h
 

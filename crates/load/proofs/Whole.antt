@@ -8,7 +8,7 @@ use Rattle.sha2.specs.Sha256.{sha256}
 use Rattle.load.specs.Digest.{digest_of, framed, framed_file, framed_files}
 use Rattle.load.specs.Judged.{AreJudged, next_program}
 use Rattle.load.specs.Kept.{IsProgramKept}
-use Rattle.load.specs.declared.gathering.GatheredApp.{GatheredApp}
+use Rattle.load.specs.declared.sources.AppSources.{AppSources}
 use Rattle.bounded_files.specs.declared.kept.KeptBytes.{KeptBytes}
 use Rattle.bounded_files.specs.declared.kept.KeptBytes.TheVariants.{Whole, Longer}
 
@@ -24,7 +24,7 @@ both (Some one) (Some more) first rest = refl
 both (Some one) None first rest = absurd cc
 both None files first rest = absurd cc
 
-all_framed : (apps : List GatheredApp) (programs : List ShapedProgram) → AreJudged apps programs
+all_framed : (apps : List AppSources) (programs : List ShapedProgram) → AreJudged apps programs
     → IsSome (framed_files apps)
 unfolding framed_files
 all_framed [] programs are = refl
@@ -37,7 +37,7 @@ mapped : (f : List ℕ → List ℕ) (o : Option (List ℕ)) → IsSome o → Is
 mapped f (Some x) h = refl
 mapped f None h = absurd cc
 
-pub all_digested : (manifest : List ℕ) (apps : List GatheredApp) (programs : List ShapedProgram)
+pub all_digested : (manifest : List ℕ) (apps : List AppSources) (programs : List ShapedProgram)
     → AreJudged apps programs → IsSome (digest_of manifest apps)
 all_digested manifest apps programs are =
     mapped (λ files. sha256 (framed manifest ++ files)) (framed_files apps)

@@ -11,7 +11,7 @@ use Rattle.cells.specs.declared.fault.CellsFault.TheVariants as cells
 use Rattle.cells.specs.Directory.{Declaration, declaration, array_named}
 use Rattle.declarations.specs.Texts.{declaration_text}
 use Rattle.manifest.specs.Manifest.{Manifest, ReadsManifest}
-use Rattle.manifest.specs.Texts.{misfit_text, twice_text}
+use Rattle.manifest.specs.Texts.{schema_error_text, duplicate_text}
 use Rattle.manifest.specs.declared.fault.ManifestFault.{ManifestFault}
 use Rattle.manifest.specs.declared.fault.ManifestFault.TheVariants as unread
 use Rattle.load.specs.Folder.{known_beside}
@@ -27,8 +27,8 @@ use Rattle.load.specs.declared.refusal.LoadRefusal.{LoadRefusal}
 
 -- the wrong member, and what is expected there; or the duplicate name
 abbrev pub manifest_cause : ManifestFault → Option (List ℕ)
-manifest_cause (unread.Field misfit) = Some (misfit_text misfit)
-manifest_cause (unread.Duplicate twice) = Some (twice_text twice)
+manifest_cause (unread.Field schema_error) = Some (schema_error_text schema_error)
+manifest_cause (unread.Duplicate duplicate) = Some (duplicate_text duplicate)
 manifest_cause fault = None
 
 -- an array as it would be declared

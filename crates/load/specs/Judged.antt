@@ -11,40 +11,40 @@ use Rattle.load.specs.declared.fault.AppFault.TheVariants as app
 use Rattle.load.specs.declared.fault.LoadFault.{LoadFault}
 use Rattle.load.specs.declared.fault.LoadFault.TheVariants.{Manifest as NoManifest, Cells, Memory}
 use Rattle.load.specs.declared.fault.LoadFault.TheVariants.{File, Program, Rule}
-use Rattle.load.specs.declared.gathering.Gathered.{Gathered}
-use Rattle.load.specs.declared.gathering.GatheredApp.{GatheredApp}
+use Rattle.load.specs.declared.sources.Sources.{Sources}
+use Rattle.load.specs.declared.sources.AppSources.{AppSources}
 use Rattle.load.specs.App.{IsAppOf, RefusesApp}
-use Rattle.load.specs.Gathered.{AreGathered, HasItsReleases, IsGathered, IsGatheredApp}
-use Rattle.load.specs.Gathered.{failures_in}
+use Rattle.load.specs.Sources.{AreAllSources, HasItsReleases, AreSources, AreAppSources}
+use Rattle.load.specs.Sources.{failures_in}
 use Rattle.load.specs.Kept.{IsProgramKept, RefusesKept}
 use Rattle.load.specs.Load.{IsLoadFault, IsRulesetOf}
 
 -- the program of an app, from what is kept of its file
-pub record IsJudged (app : GatheredApp) (program : ShapedProgram) : Type 0 where
+pub record IsJudged (app : AppSources) (program : ShapedProgram) : Type 0 where
   pub shape_is : program.shape ≡ app.shape
   pub program_is : IsProgramKept app.entry.source app.kept program
 
 -- why the app has no program
-abbrev pub RefusesGathered : GatheredApp → AppFault → Type 0
-RefusesGathered app fault = RefusesKept app.entry.source app.kept app.shape fault
+abbrev pub RefusesSources : AppSources → AppFault → Type 0
+RefusesSources app fault = RefusesKept app.entry.source app.kept app.shape fault
 
 -- each app has its program
-pub data AreJudged : List GatheredApp → List ShapedProgram → Type 0 where
+pub data AreJudged : List AppSources → List ShapedProgram → Type 0 where
   no_program : AreJudged [] []
-  next_program : {apps : List GatheredApp} {programs : List ShapedProgram} {app : GatheredApp}
+  next_program : {apps : List AppSources} {programs : List ShapedProgram} {app : AppSources}
       {program : ShapedProgram} → IsJudged app program → AreJudged apps programs
       → AreJudged (app ∷ apps) (program ∷ programs)
 
 -- the first app without a program has this number, from 1
-pub data IsFirstRefused : List GatheredApp → ℕ → AppFault → Type 0 where
-  here : {app : GatheredApp} {behind : List GatheredApp} {fault : AppFault}
-      → RefusesGathered app fault → IsFirstRefused (app ∷ behind) 1 fault
-  there : {app : GatheredApp} {behind : List GatheredApp} {number : ℕ} {fault : AppFault}
+pub data IsFirstRefused : List AppSources → ℕ → AppFault → Type 0 where
+  here : {app : AppSources} {behind : List AppSources} {fault : AppFault}
+      → RefusesSources app fault → IsFirstRefused (app ∷ behind) 1 fault
+  there : {app : AppSources} {behind : List AppSources} {number : ℕ} {fault : AppFault}
       (program : ShapedProgram) → IsJudged app program → IsFirstRefused behind number fault
       → IsFirstRefused (app ∷ behind) (suc number) fault
 
 -- the fault of the first app without a program; running out of memory is always allowed
-abbrev pub RefusesFirst : List GatheredApp → LoadFault → Type 0
+abbrev pub RefusesFirst : List AppSources → LoadFault → Type 0
 RefusesFirst apps (File number) = IsFirstRefused apps number app.File
 RefusesFirst apps (Program number fault) = IsFirstRefused apps number (app.Program fault)
 RefusesFirst apps (Rule number fault) = IsFirstRefused apps number (app.Rule fault)
@@ -57,10 +57,10 @@ module _ (known : KnownFiles) (directory : List CellArray) (bytes : List ℕ) (o
   -- the manifest is gathered, its first app without a program has this fault, and the count grows
   -- by the number of its unreadable files
   pub record CountsFailures (fault : LoadFault) : Type 0 where
-    pub gathered : Gathered
-    pub is_gathered : IsGathered known directory bytes gathered
-    pub refused : RefusesFirst gathered.apps.items fault
-    pub count : new ≡ old + failures_in gathered.apps.items
+    pub sources : Sources
+    pub are_sources : AreSources known directory bytes sources
+    pub refused : RefusesFirst sources.apps.items fault
+    pub count : new ≡ old + failures_in sources.apps.items
 
   -- M1 to M3, M7: no file is read; M4 to M6: each unreadable file is counted, and M4 is returned
   -- only if there is one; M8 is left open
@@ -80,30 +80,30 @@ module _ (known : KnownFiles) (directory : List CellArray) (bytes : List ℕ) (o
 -- ---- the verdict on what is gathered is that of the load
 
 -- an app with its program
-abbrev pub app_of : GatheredApp → ShapedProgram → AppRule
+abbrev pub app_of : AppSources → ShapedProgram → AppRule
 app_of app program = record {
   appid = app.entry.appid;
   program = program;
   releases = app.entry.releases;
 }
 
-abbrev pub apps_of : List GatheredApp → List ShapedProgram → List AppRule
+abbrev pub apps_of : List AppSources → List ShapedProgram → List AppRule
 apps_of (app ∷ apps) (program ∷ programs) = app_of app program ∷ apps_of apps programs
 apps_of apps programs = []
 
 pub record IsLoadedApp (known : KnownFiles) (directory : List CellArray) (numbers : List ArrayNo)
-    (entry : AppEntry) (app : GatheredApp) : Type 0 where
+    (entry : AppEntry) (app : AppSources) : Type 0 where
   pub supplied : (program : ShapedProgram) → IsJudged app program
       → IsAppOf known directory numbers entry (app_of app program)
-  pub refused : (fault : AppFault) → RefusesGathered app fault
+  pub refused : (fault : AppFault) → RefusesSources app fault
       → RefusesApp known directory numbers entry fault
 
-pub record IsLoadOf (known : KnownFiles) (old : List CellArray) (bytes : List ℕ) (g : Gathered)
-    (is : IsGathered known old bytes g) : Type 0 where
+pub record IsLoadOf (known : KnownFiles) (old : List CellArray) (bytes : List ℕ) (g : Sources)
+    (is : AreSources known old bytes g) : Type 0 where
   pub shaped : All HasItsReleases g.apps.items
   -- if each app has its program, no file was left unread
-  pub gathered : (programs : List ShapedProgram) → AreJudged g.apps.items programs
-      → AreGathered known g.directory is.numbers is.manifest.apps g.apps.items
+  pub sources : (programs : List ShapedProgram) → AreJudged g.apps.items programs
+      → AreAllSources known g.directory is.numbers is.manifest.apps g.apps.items
   pub supplied : (programs : List ShapedProgram) → AreJudged g.apps.items programs
       → IsRulesetOf known old bytes
       (record { server = is.manifest.server; apps = apps_of g.apps.items programs }) g.directory
@@ -113,9 +113,9 @@ pub record IsLoadOf (known : KnownFiles) (old : List CellArray) (bytes : List �
   pub failed : (number : ℕ) → RefusesFirst g.apps.items (File number)
       → 0 < failures_in g.apps.items
 
-pub record GatheredIsLoaded : Type 0 where
+pub record SourcesAreLoaded : Type 0 where
   pub app : (known : KnownFiles) (directory : List CellArray) (numbers : List ArrayNo)
-      (entry : AppEntry) (app : GatheredApp) → IsGatheredApp known directory numbers entry app
+      (entry : AppEntry) (app : AppSources) → AreAppSources known directory numbers entry app
       → IsLoadedApp known directory numbers entry app
-  pub manifest : (known : KnownFiles) (old : List CellArray) (bytes : List ℕ) (g : Gathered)
-      (is : IsGathered known old bytes g) → IsLoadOf known old bytes g is
+  pub manifest : (known : KnownFiles) (old : List CellArray) (bytes : List ℕ) (g : Sources)
+      (is : AreSources known old bytes g) → IsLoadOf known old bytes g is

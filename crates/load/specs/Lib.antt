@@ -7,7 +7,7 @@ pub mod Apps
 pub mod Load
 pub mod Loaded
 pub mod Cause
-pub mod Gathered
+pub mod Sources
 pub mod Digest
 pub mod Judged
 pub mod Made

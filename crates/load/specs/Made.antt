@@ -6,16 +6,16 @@ use Rattle.bpf_semantics.specs.Program.{ShapedProgram}
 use Rattle.cells.specs.declared.array.CellArray.{CellArray}
 use Rattle.load.specs.Digest.{digest_of}
 use Rattle.load.specs.Folder.{known_beside}
-use Rattle.load.specs.Gathered.{IsGathered}
+use Rattle.load.specs.Sources.{AreSources}
 use Rattle.load.specs.Judged.{AreJudged, apps_of}
 use Rattle.load.specs.Load.{IsRulesetOf}
-use Rattle.load.specs.declared.gathering.Gathered.{Gathered}
+use Rattle.load.specs.declared.sources.Sources.{Sources}
 use Rattle.ruleset.specs.declared.loaded.LoadedRuleset.{LoadedRuleset}
 use Rattle.ruleset.specs.Rules.{HasDuplicate, appids_of}
 
 -- Each app has the program that its file is judged to be; the digest is that of the manifest's
 -- bytes and of exactly the bytes that were judged.
-pub record IsMadeOf (bytes : List ℕ) (g : Gathered) (made : LoadedRuleset) : Type 0 where
+pub record IsMadeOf (bytes : List ℕ) (g : Sources) (made : LoadedRuleset) : Type 0 where
   pub programs : List ShapedProgram
   pub judged : AreJudged g.apps.items programs
   pub server_is : made.rules.server ≡ g.server
@@ -27,9 +27,9 @@ pub record IsMadeOf (bytes : List ℕ) (g : Gathered) (made : LoadedRuleset) : T
 -- arrays.
 pub record IsMadeOver (known : KnownFiles) (old : List CellArray) (bytes : List ℕ)
     (made : LoadedRuleset) : Type 0 where
-  pub gathered : Gathered
-  pub is_gathered : IsGathered known old bytes gathered
-  pub made_of : IsMadeOf bytes gathered made
+  pub sources : Sources
+  pub are_sources : AreSources known old bytes sources
+  pub made_of : IsMadeOf bytes sources made
 
 -- The file at a path gives these bytes. The ruleset is made of what is gathered from them and from
 -- the files of its folder, over the existing arrays.
@@ -37,20 +37,20 @@ pub record IsMadeFrom (known : KnownFiles) (path : List ℕ) (old : List CellArr
     (made : LoadedRuleset) : Type 0 where
   pub bytes : List ℕ
   pub given : Gives (regular_files known) path (Some bytes)
-  pub gathered : Gathered
-  pub is_gathered : IsGathered (known_beside known path) old bytes gathered
-  pub made_of : IsMadeOf bytes gathered made
+  pub sources : Sources
+  pub are_sources : AreSources (known_beside known path) old bytes sources
+  pub made_of : IsMadeOf bytes sources made
 
 -- ---- the ruleset made of what was gathered is the one that is loaded
 
 -- whatever its programs, no appid is a duplicate; and the ruleset made of it is the manifest's
-pub record IsMadeLoad (known : KnownFiles) (old : List CellArray) (bytes : List ℕ) (g : Gathered)
+pub record IsMadeLoad (known : KnownFiles) (old : List CellArray) (bytes : List ℕ) (g : Sources)
     : Type 0 where
   pub once : (programs : List ShapedProgram) → AreJudged g.apps.items programs
       → ¬ HasDuplicate (appids_of (apps_of g.apps.items programs))
   pub made : (made : LoadedRuleset) → IsMadeOf bytes g made
       → IsRulesetOf known old bytes made.rules made.directory
 
-abbrev pub GatheredIsMade : Type 0
-GatheredIsMade = (known : KnownFiles) (old : List CellArray) (bytes : List ℕ) (g : Gathered)
-    → IsGathered known old bytes g → IsMadeLoad known old bytes g
+abbrev pub SourcesAreMade : Type 0
+SourcesAreMade = (known : KnownFiles) (old : List CellArray) (bytes : List ℕ) (g : Sources)
+    → AreSources known old bytes g → IsMadeLoad known old bytes g

@@ -10,7 +10,7 @@ use Rattle.load.specs.declared.fault.LoadFault.TheVariants.{Memory}
 use Rattle.load.specs.declared.fault.PathFault.{PathFault}
 use Rattle.load.specs.declared.fault.PathFault.TheVariants as path
 use Rattle.bounded_files.specs.declared.fault.ResourceFault.TheVariants as resource
-use Rattle.load.specs.declared.gathering.GatheredApp.{GatheredApp}
+use Rattle.load.specs.declared.sources.AppSources.{AppSources}
 use Rattle.load.specs.Judged.{AreJudged, RefusesFirst}
 use Rattle.load.specs.Load.{Loads}
 use Rattle.load.specs.Loaded.{LoadsFrom}
@@ -24,13 +24,13 @@ HasOneLoad = (files : List ℕ → Option KnownFile) (old : List CellArray) (byt
     → r ≢ Err Memory → s ≢ Err Memory → (r ≡ s) × (new ≡ last)
 
 -- the verdict on gathered apps: a program for each, or the first fault
-abbrev pub Judges : List GatheredApp → Result (List ShapedProgram) LoadFault → Type 0
+abbrev pub Judges : List AppSources → Result (List ShapedProgram) LoadFault → Type 0
 Judges apps (Ok programs) = AreJudged apps programs
 Judges apps (Err fault) = RefusesFirst apps fault
 
 -- there is only one verdict, unless memory runs out
 abbrev pub HasOneJudgement : Type 0
-HasOneJudgement = (apps : List GatheredApp) (r s : Result (List ShapedProgram) LoadFault)
+HasOneJudgement = (apps : List AppSources) (r s : Result (List ShapedProgram) LoadFault)
     → Judges apps r → Judges apps s → r ≢ Err Memory → s ≢ Err Memory → r ≡ s
 
 -- no allocation failed for it

@@ -34,8 +34,8 @@ fn manifest_cause(alloc: Global, fault: &ManifestFault) -> Option<String>
     ensures { IfSome result (λ text. specs.manifest_cause fault.now ≡ Some (string_bytes text)) }
 {
     match fault {
-        ManifestFault::Field(misfit) => misfit.to_string(alloc).ok(),
-        ManifestFault::Duplicate(twice) => twice.to_string(alloc).ok(),
+        ManifestFault::Field(schema_error) => schema_error.to_string(alloc).ok(),
+        ManifestFault::Duplicate(duplicate) => duplicate.to_string(alloc).ok(),
         _ => None,
     }
 }

@@ -8,7 +8,7 @@ ghost use Rattle.sha2.specs.Hashers.{Holds256};
 ghost use Rattle.load.specs.Digest as specs;
 ghost use Rattle.load.specs.Judged.{AreJudged};
 
-use crate::gathering::GatheredApp;
+use crate::sources::AppSources;
 use crate::kept::whole_file;
 use bpf_verify::Verified;
 use sha2::{Digest, Sha256};
@@ -16,7 +16,7 @@ use sha2::{Digest, Sha256};
 /// SHA-256 (FIPS 180-4) of a manifest's bytes and the bytes of its apps' files, in order. Each
 /// piece follows its length in 8 bytes, high byte first. None if not all bytes of some file are
 /// kept.
-pub fn digest_of(manifest: &[u8], apps: &[GatheredApp]) -> Option<[u8; 32]>
+pub fn digest_of(manifest: &[u8], apps: &[AppSources]) -> Option<[u8; 32]>
     ensures digest { result ≡ specs.digest_of manifest.now apps.now }
     // If each app has its program, all bytes of each file are kept, so there is a digest.
     ensures judged { (programs : List ShapedProgram) → AreJudged apps.now programs
@@ -36,7 +36,7 @@ pub fn digest_of(manifest: &[u8], apps: &[GatheredApp]) -> Option<[u8; 32]>
 }
 
 /// The digest of a manifest and of apps with these programs; it always exists.
-pub fn judged_digest(manifest: &[u8], apps: &[GatheredApp], programs: &[Verified]) -> [u8; 32]
+pub fn judged_digest(manifest: &[u8], apps: &[AppSources], programs: &[Verified]) -> [u8; 32]
     requires { AreJudged apps.now programs.now }
     ensures { specs.digest_of manifest.now apps.now ≡ Some result }
 {

@@ -4,7 +4,7 @@
 ghost use Rattle.std.specs.Prelude.{◌≡◌, ◌^◌, ◌-◌, ◌<◌, IfOk, option_copied};
 ghost use Rattle.load.specs.Kept.{CountsKept, IsKeptFrom};
 ghost use Rattle.load.specs.Kept as specs;
-ghost use Rattle.load.specs.Source as sources;
+ghost use Rattle.load.specs.Source as source_specs;
 
 use crate::files::Files;
 use bounded_files::{KeptBytes, ResourceFault};
@@ -16,13 +16,13 @@ const MOST_PROGRAM: u32 = flow_check::MOST_PROGRAM as u32;
 const MOST_RULE: u32 = rule_lang::MOST_RULE as u32;
 
 /// Reads the file of an app; None if it can't be read.
-pub(crate) fn gather_file<F: Files>(
+pub(crate) fn collect_file<F: Files>(
     files: &mut F,
     source: &ProgramSource,
 ) -> Result<Option<KeptBytes>, AllocError>
     requires { F.failed files.old < 2 ^ 64 - 1 }
     ensures known { F.known files.new ≡ F.known files.old }
-    ensures gathered { IfOk result (IsKeptFrom (F.known files.old) source.now) }
+    ensures sources { IfOk result (IsKeptFrom (F.known files.old) source.now) }
     ensures count { CountsKept (F.failed files.old) (F.failed files.new) result }
 {
     match files.keep(file_of(source), most_of(source)) {
@@ -66,7 +66,7 @@ pub fn whole_file(kept: &Option<KeptBytes>) -> Option<&[u8]>
 
 /// The name of the file of an app, as the manifest has it.
 pub fn file_of(source: &ProgramSource) -> &str
-    ensures { result.now ≡ sources.file_of source.now }
+    ensures { result.now ≡ source_specs.file_of source.now }
 {
     match source {
         ProgramSource::Program(file) => file.as_str(),

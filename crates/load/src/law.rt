@@ -1,7 +1,7 @@
 //! Laws of the definitions: a manifest has one load, and what is gathered of it leads to that.
 
-ghost use Rattle.load.specs.Judged.{GatheredIsLoaded};
-ghost use Rattle.load.specs.Made.{GatheredIsMade};
+ghost use Rattle.load.specs.Judged.{SourcesAreLoaded};
+ghost use Rattle.load.specs.Made.{SourcesAreMade};
 ghost use Rattle.load.specs.OneLoad.{HasOneJudgement, HasOneLoad, HasOneLoadFrom};
 
 use declarations::lists_declare_one_way;
@@ -24,11 +24,11 @@ pub fn one_load()
 
 /// Law: the verdict on a gathered manifest and its files is that of their load, and the verdict on
 /// each app that on its entry.
-pub fn gathered_is_loaded()
-    ensures { GatheredIsLoaded }
+pub fn sources_are_loaded()
+    ensures { SourcesAreLoaded }
 {}
 
 /// Law: the ruleset made of a gathered manifest is the one that its load gives.
-pub fn gathered_is_made()
-    ensures { GatheredIsMade }
+pub fn sources_are_made()
+    ensures { SourcesAreMade }
 {}

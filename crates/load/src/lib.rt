@@ -3,7 +3,7 @@
 //! See docs/DECISIONS.md, "Manifests".
 #![tactic(auto)]
 
-// How a load works. First everything is gathered (`gathering.rt`). The manifest is read, and its
+// How a load works. First everything is gathered (`sources.rt`). The manifest is read, and its
 // arrays are declared in a copy of the directory. The arrays and the number of an app's releases
 // make the app's shape. Then as much of each app's file is kept as judging takes (`kept.rt`). What
 // was gathered is judged in the order of the apps (`programs.rt`), any number of times, without
@@ -29,7 +29,6 @@ mod digest;
 mod fault;
 mod files;
 mod folder;
-mod gathering;
 mod judging;
 mod kept;
 mod law;
@@ -38,17 +37,18 @@ mod made;
 mod path;
 mod programs;
 mod refusal;
+mod sources;
 
 pub use bounded_files::{Device, Disk};
 pub use digest::{digest_of, judged_digest};
 pub use fault::{AppFault, LoadFault, PathFault};
 pub use files::Files;
 pub use folder::FolderFiles;
-pub use gathering::{GatherRefusal, Gathered, GatheredApp, gather};
 pub use kept::{file_of, whole_file};
-pub use law::{gathered_is_loaded, gathered_is_made, one_load};
+pub use law::{one_load, sources_are_loaded, sources_are_made};
 pub use loading::{load_over, load_ruleset};
 pub use made::make_ruleset;
 pub use path::{MOST_MANIFEST, load_path, load_with_digest, manifest_bytes};
 pub use programs::{in_app, judge, judge_app, supply};
 pub use refusal::LoadRefusal;
+pub use sources::{AppSources, Sources, SourcesRefusal, collect_sources};

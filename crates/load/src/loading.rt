@@ -4,7 +4,7 @@ ghost use Rattle.std.specs.Prelude.{◌≡◌, ℕ, List, IfOk, IfErr, None};
 ghost use mathlib.Core.List.{IsPrefix};
 ghost use Rattle.bounded_files.specs.Files.{KnownFiles};
 ghost use Rattle.load.specs.Cause.{IsFaultWithCause};
-ghost use Rattle.load.specs.Gathered.{IsGatherRefusal};
+ghost use Rattle.load.specs.Sources.{IsSourcesRefusal};
 ghost use Rattle.load.specs.Judged.{CountsFault, CountsLoad};
 ghost use Rattle.load.specs.Load.{IsRulesetOf, Loads, LoadsOver};
 ghost use Rattle.load.specs.Made.{IsMadeOver};
@@ -13,8 +13,8 @@ ghost use Rattle.ruleset.specs.Rules.{KnowsOnly};
 use crate::cause::cause_of;
 use crate::fault::LoadFault;
 use crate::files::Files;
-use crate::gathering::{GatherRefusal, gather};
-use crate::law::{gathered_is_loaded, gathered_is_made};
+use crate::sources::{SourcesRefusal, collect_sources};
+use crate::law::{sources_are_loaded, sources_are_made};
 use crate::made::make_ruleset;
 use cells::{Directory, arrays_stay};
 use ruleset::{LoadedRuleset, Ruleset};
@@ -55,8 +55,8 @@ pub fn load_ruleset<F: Files>(
 /// - app by app, M4 if its file can't be read, M5 if its bytes aren't a program, or M6 if they
 ///   don't spell a rule.
 ///
-/// All files are read before the first is judged, as in `gather`. Returns M8 if an allocation fails
-/// or the count of unreadable files overflows.
+/// All files are read before the first is judged, as in `collect_sources`. Returns M8 if an
+/// allocation fails or the count of unreadable files overflows.
 // open: whether an allocation fails (M8), and for M8 how far the count of unreadable files grew;
 // what a device's files contain.
 pub fn load_over<F: Files>(
@@ -115,29 +115,29 @@ pub(crate) fn load_bytes<F: Files>(
     ensures failed { IfErr result (λ refused. CountsFault (F.known files.old) directory.now
         manifest.now (F.failed files.old) (F.failed files.new) refused.fault) }
 {
-    gathered_is_loaded();
-    gathered_is_made();
+    sources_are_loaded();
+    sources_are_made();
     arrays_stay();
-    match gather(alloc, manifest, files, directory) {
-        Ok(gathered) => {
-            let _arrays = gathered.directory.arrays();
-            match make_ruleset(alloc, manifest, gathered) {
+    match collect_sources(alloc, manifest, files, directory) {
+        Ok(sources) => {
+            let _arrays = sources.directory.arrays();
+            match make_ruleset(alloc, manifest, sources) {
                 Ok(made) => Ok(made),
                 Err(fault) => Err(BytesRefusal { fault, cause: None }),
             }
         }
-        Err(ungathered) => Err(refused(alloc, directory, ungathered)),
+        Err(refused_sources) => Err(refused(alloc, directory, refused_sources)),
     }
 }
 
 // Why nothing is gathered from a manifest's bytes, with the cause.
-fn refused(alloc: Global, directory: &Directory, ungathered: GatherRefusal) -> BytesRefusal
-    ensures fault { result.fault ≡ ungathered.fault }
+fn refused(alloc: Global, directory: &Directory, refused_sources: SourcesRefusal) -> BytesRefusal
+    ensures fault { result.fault ≡ refused_sources.fault }
     ensures cause { (known : KnownFiles) (bytes : List ℕ)
-        → IsGatherRefusal directory.now bytes ungathered
+        → IsSourcesRefusal directory.now bytes refused_sources
         → IsFaultWithCause known directory.now bytes result.fault result.cause }
 {
-    let GatherRefusal { fault, arrays, .. } = ungathered;
+    let SourcesRefusal { fault, arrays, .. } = refused_sources;
     let cause = cause_of(alloc, directory, &arrays, &fault);
     BytesRefusal { fault, cause }
 }

@@ -2,15 +2,15 @@
 
 ghost use Rattle.std.specs.Prelude.{All, List, IfOk, IfErr};
 ghost use Rattle.bpf_semantics.specs.Program.{ShapedProgram};
-ghost use Rattle.load.specs.Gathered.{HasItsReleases};
+ghost use Rattle.load.specs.Sources.{HasItsReleases};
 ghost use Rattle.load.specs.Judged.{AreJudged, RefusesFirst, apps_of};
 ghost use Rattle.load.specs.Made.{IsMadeOf};
 ghost use Rattle.ruleset.specs.Rules.{HasDuplicate, appids_of};
 
 use crate::digest::judged_digest;
 use crate::fault::LoadFault;
-use crate::gathering::Gathered;
 use crate::programs::{judge, supply};
+use crate::sources::Sources;
 use ruleset::{LoadedRuleset, Ruleset};
 use std::alloc::Global;
 
@@ -20,28 +20,28 @@ use std::alloc::Global;
 pub fn make_ruleset(
     alloc: Global,
     manifest: &[u8],
-    gathered: Gathered,
+    sources: Sources,
 ) -> Result<LoadedRuleset, LoadFault>
-    requires shaped { All HasItsReleases gathered.apps.items }
-    requires once { (programs : List ShapedProgram) → AreJudged gathered.apps.items programs
-        → ¬ HasDuplicate (appids_of (apps_of gathered.apps.items programs)) }
-    ensures made { IfOk result (IsMadeOf manifest.now gathered) }
-    ensures fault { IfErr result (RefusesFirst gathered.apps.items) }
+    requires shaped { All HasItsReleases sources.apps.items }
+    requires once { (programs : List ShapedProgram) → AreJudged sources.apps.items programs
+        → ¬ HasDuplicate (appids_of (apps_of sources.apps.items programs)) }
+    ensures made { IfOk result (IsMadeOf manifest.now sources) }
+    ensures fault { IfErr result (RefusesFirst sources.apps.items) }
 {
-    let programs = judge(alloc, &gathered.apps)?;
-    let digest = judged_digest(manifest, &gathered.apps, &programs);
-    let Gathered {
+    let programs = judge(alloc, &sources.apps)?;
+    let digest = judged_digest(manifest, &sources.apps, &programs);
+    let Sources {
         server,
         arrays: _arrays,
         directory,
         apps,
         unread: _unread,
-    } = gathered;
+    } = sources;
     let Ok(apps) = supply(alloc, apps, programs) else {
         return Err(LoadFault::Memory);
     };
     Ok(LoadedRuleset {
-        rules: Ruleset::known(server.into_string(), apps),
+        rules: Ruleset::from_distinct(server.into_string(), apps),
         directory,
         digest,
     })

@@ -2,12 +2,12 @@
 
 ghost use Rattle.std.specs.Prelude.{◌≡◌, All, IfOk, IfErr};
 ghost use Rattle.load.specs.Apps as specs;
-ghost use Rattle.load.specs.Gathered.{HasItsReleases};
-ghost use Rattle.load.specs.Judged.{AreJudged, IsJudged, RefusesFirst, RefusesGathered};
+ghost use Rattle.load.specs.Sources.{HasItsReleases};
+ghost use Rattle.load.specs.Judged.{AreJudged, IsJudged, RefusesFirst, RefusesSources};
 ghost use Rattle.load.specs.Judged.{app_of, apps_of};
 
 use crate::fault::{AppFault, LoadFault};
-use crate::gathering::GatheredApp;
+use crate::sources::AppSources;
 use crate::judging::judge_file;
 use bpf_verify::Verified;
 use manifest::AppParts;
@@ -17,7 +17,7 @@ use std::sync::Arc;
 
 /// The programs of all apps, in order, or the fault of the first app without one.
 // open: whether an allocation fails (M8).
-pub fn judge(alloc: Global, apps: &[GatheredApp]) -> Result<Vec<Verified>, LoadFault>
+pub fn judge(alloc: Global, apps: &[AppSources]) -> Result<Vec<Verified>, LoadFault>
     ensures programs { IfOk result (λ v. AreJudged apps.now v.items) }
     ensures fault { IfErr result (RefusesFirst apps.now) }
 {
@@ -38,9 +38,9 @@ pub fn judge(alloc: Global, apps: &[GatheredApp]) -> Result<Vec<Verified>, LoadF
 
 /// The program of one app, or its fault.
 // open: whether an allocation fails (M8).
-pub fn judge_app(alloc: Global, app: &GatheredApp) -> Result<Verified, AppFault>
+pub fn judge_app(alloc: Global, app: &AppSources) -> Result<Verified, AppFault>
     ensures program { IfOk result (IsJudged app.now) }
-    ensures fault { IfErr result (RefusesGathered app.now) }
+    ensures fault { IfErr result (RefusesSources app.now) }
 {
     judge_file(alloc, app.entry.source(), &app.kept, &app.shape)
 }
@@ -61,7 +61,7 @@ pub fn in_app(app: usize, fault: AppFault) -> LoadFault
 // open: whether an allocation fails, its only error.
 pub fn supply(
     alloc: Global,
-    apps: Vec<GatheredApp>,
+    apps: Vec<AppSources>,
     programs: Vec<Verified>,
 ) -> Result<Vec<App>, AllocError>
     requires shaped { All HasItsReleases apps.items }
@@ -80,12 +80,12 @@ pub fn supply(
     Ok(supplied)
 }
 
-fn with_program(alloc: Global, app: GatheredApp, program: Verified) -> Result<App, AllocError>
+fn with_program(alloc: Global, app: AppSources, program: Verified) -> Result<App, AllocError>
     requires shaped { HasItsReleases app }
     requires judged { IsJudged app program }
     ensures { IfOk result (λ supplied. supplied ≡ app_of app program) }
 {
-    let GatheredApp {
+    let AppSources {
         entry,
         shape: _shape,
         kept: _kept,

@@ -10,26 +10,26 @@ use Rattle.toml.specs.Data.{Data, Members, get_member, as_str}
 use Rattle.cells.specs.Directory.{Declaration}
 use Rattle.manifest.specs.declared.kind.Kind.TheVariants as kind
 use Rattle.manifest.specs.declared.fault.DuplicateName.{DuplicateName}
-use Rattle.manifest.specs.declared.fault.DuplicateName.TheVariants as twice
-use Rattle.manifest.specs.declared.misfit.InList.{InList}
-use Rattle.manifest.specs.declared.misfit.InList.TheVariants.{Count}
-use Rattle.manifest.specs.declared.misfit.AppError.{AppError}
-use Rattle.manifest.specs.declared.misfit.ArrayError.{ArrayError}
-use Rattle.manifest.specs.declared.misfit.SchemaError.{SchemaError}
-use Rattle.manifest.specs.declared.misfit.SchemaError.TheVariants as misfit
-use Rattle.manifest.specs.AllTwice.{all_twice}
+use Rattle.manifest.specs.declared.fault.DuplicateName.TheVariants as duplicate
+use Rattle.manifest.specs.declared.schema_error.InList.{InList}
+use Rattle.manifest.specs.declared.schema_error.InList.TheVariants.{Count}
+use Rattle.manifest.specs.declared.schema_error.AppError.{AppError}
+use Rattle.manifest.specs.declared.schema_error.ArrayError.{ArrayError}
+use Rattle.manifest.specs.declared.schema_error.SchemaError.{SchemaError}
+use Rattle.manifest.specs.declared.schema_error.SchemaError.TheVariants as schema_error
+use Rattle.manifest.specs.AllDuplicates.{all_duplicates}
 use Rattle.manifest.specs.App.{AppEntry, app_of}
 use Rattle.manifest.specs.Array.{array_of}
-use Rattle.manifest.specs.FirstFault.{HasMisfitFirst, HasTwiceFirst}
+use Rattle.manifest.specs.FirstFault.{HasSchemaErrorFirst, HasDuplicateFirst}
 use Rattle.manifest.specs.Kind.{only_or, unknown_member}
 use Rattle.manifest.specs.Manifest.{Manifest, IsTree, arrays_of, apps_of, none_of, once}
 use Rattle.manifest.specs.Manifest.{tables_of}
 use Rattle.manifest.specs.Member.{fits, needs, required}
-use Rattle.manifest.specs.Misfits.{misfit_in, misfits_between, misfits_from, misfits_of}
-use Rattle.manifest.specs.Misfits.{app_misfits, array_misfits, misfits_of_rows, server_of}
+use Rattle.manifest.specs.SchemaErrors.{schema_error_in, schema_errors_between, schema_errors_from, schema_errors_of}
+use Rattle.manifest.specs.SchemaErrors.{app_schema_errors, array_schema_errors, schema_errors_of_rows, server_of}
 use Rattle.manifest.specs.Rows.{are_between, item_of, items_from, items_in, rows_of, some_rows}
 use Rattle.manifest.specs.Rows.{with_first}
-use Rattle.manifest.specs.DuplicateNames.{names_twice, names_without, repeated}
+use Rattle.manifest.specs.DuplicateNames.{duplicate_names, names_without, repeated}
 
 abbrev first : {X : Type 0} → List X → Option X
 first [] = None
@@ -61,17 +61,17 @@ begins (y ∷ ys) x is = (ys, ap (λ z. z ∷ ys) (same_Some y x is))
 
 first_of_two : {X M : Type 0} (r : Result X M) (behind : List M) (rest : Result (List X) M)
     → first behind ≡ fault_in rest
-    → first (misfit_in r ++ behind) ≡ fault_in (with_first r rest)
+    → first (schema_error_in r ++ behind) ≡ fault_in (with_first r rest)
 first_of_two (Err m) behind rest same = refl
 first_of_two (Ok x) behind (Err m) same = same
 first_of_two (Ok x) behind (Ok xs) same = same
 
 module _ {X M : Type 0} (row_of : Members → Result X M) where
   first_from : (n : ℕ) (ds : List Data)
-      → first (misfits_from row_of n ds) ≡ fault_in (items_from row_of n ds)
+      → first (schema_errors_from row_of n ds) ≡ fault_in (items_from row_of n ds)
   first_from n [] = refl
   first_from n (d ∷ ds) =
-      first_of_two (item_of row_of n d) (misfits_from row_of (n + 1) ds)
+      first_of_two (item_of row_of n d) (schema_errors_from row_of (n + 1) ds)
       (items_from row_of (n + 1) ds) (first_from (n + 1) ds)
 
   first_if : (fit : Bool) (ms : List (InList M)) (r : Result (List X) (InList M))
@@ -81,14 +81,14 @@ module _ {X M : Type 0} (row_of : Members → Result X M) where
   first_if false ms r same = refl
 
   first_between : (from to : ℕ) (list : Option (List Data))
-      → first (misfits_between row_of from to list) ≡ fault_in (some_rows row_of from to list)
+      → first (schema_errors_between row_of from to list) ≡ fault_in (some_rows row_of from to list)
   first_between from to None = refl
   first_between from to (Some ds) =
-      first_if (are_between from to ds) (misfits_from row_of 1 ds) (items_from row_of 1 ds)
+      first_if (are_between from to ds) (schema_errors_from row_of 1 ds) (items_from row_of 1 ds)
       (first_from 1 ds)
 
   first_row : (from to : ℕ) (value : Option Data)
-      → first (misfits_of_rows row_of from to value) ≡ fault_in (rows_of row_of from to value)
+      → first (schema_errors_of_rows row_of from to value) ≡ fault_in (rows_of row_of from to value)
   first_row from to None = first_if (from == 0) [] (Ok []) refl
   first_row from to (Some value) = first_between from to (items_in value)
 
@@ -97,13 +97,13 @@ module _ {X M : Type 0} (row_of : Members → Result X M) where
 first_of_parts : (key server : Option (List ℕ))
     (arrays : Result (List Declaration) (InList ArrayError))
     (apps : Result (List AppEntry) (InList AppError))
-    → or_else (or_else (or_else (first (map misfit.Unknown (option_to_list key)))
+    → or_else (or_else (or_else (first (map schema_error.Unknown (option_to_list key)))
     (first (server_of server)))
-    (option_map misfit.Arrays (fault_in arrays))) (option_map misfit.Apps (fault_in apps))
-    ≡ fault_in {X = Manifest} (only_or key misfit.Unknown (
-    needs server misfit.Server (λ server.
-    fits arrays misfit.Arrays (λ arrays.
-    fits apps misfit.Apps (λ apps.
+    (option_map schema_error.Arrays (fault_in arrays))) (option_map schema_error.Apps (fault_in apps))
+    ≡ fault_in {X = Manifest} (only_or key schema_error.Unknown (
+    needs server schema_error.Server (λ server.
+    fits arrays schema_error.Arrays (λ arrays.
+    fits apps schema_error.Apps (λ apps.
     Ok (record { server = server; arrays = arrays; apps = apps }))))))
 first_of_parts (Some key) server arrays apps = refl
 first_of_parts None None arrays apps = refl
@@ -111,21 +111,21 @@ first_of_parts None (Some server) (Err m) apps = refl
 first_of_parts None (Some server) (Ok arrays) (Err m) = refl
 first_of_parts None (Some server) (Ok arrays) (Ok apps) = refl
 
-first_of_tree : (tree : Members) → first (misfits_of tree) ≡ fault_in (tables_of tree)
+first_of_tree : (tree : Members) → first (schema_errors_of tree) ≡ fault_in (tables_of tree)
 first_of_tree tree =
-    let unknown = map misfit.Unknown (option_to_list (unknown_member kind.Manifest tree)) in
+    let unknown = map schema_error.Unknown (option_to_list (unknown_member kind.Manifest tree)) in
     let server = server_of (required as_str (codes "server") tree) in
-    let arrays = map misfit.Arrays (array_misfits tree) in
-    let apps = map misfit.Apps (app_misfits tree) in
+    let arrays = map schema_error.Arrays (array_schema_errors tree) in
+    let apps = map schema_error.Apps (app_schema_errors tree) in
     first-append ((unknown ++ server) ++ arrays) apps
     ∙ ap (λ o. or_else o (first apps)) (first-append (unknown ++ server) arrays
     ∙ ap (λ o. or_else o (first arrays)) (first-append unknown server))
     ∙ ap (λ o. or_else (or_else (or_else (first unknown) (first server)) o) (first apps))
-    (first-map misfit.Arrays (array_misfits tree) ∙ ap (option_map misfit.Arrays)
+    (first-map schema_error.Arrays (array_schema_errors tree) ∙ ap (option_map schema_error.Arrays)
     (first_row array_of 0 64 (get_member (codes "array") tree)))
     ∙ ap (λ o. or_else (or_else (or_else (first unknown) (first server))
-    (option_map misfit.Arrays (fault_in (arrays_of tree)))) o)
-    (first-map misfit.Apps (app_misfits tree) ∙ ap (option_map misfit.Apps)
+    (option_map schema_error.Arrays (fault_in (arrays_of tree)))) o)
+    (first-map schema_error.Apps (app_schema_errors tree) ∙ ap (option_map schema_error.Apps)
     (first_row app_of 1 256 (get_member (codes "app") tree)))
     ∙ first_of_parts (unknown_member kind.Manifest tree) (required as_str (codes "server") tree)
     (arrays_of tree) (apps_of tree)
@@ -138,29 +138,29 @@ first_name_of : (again : Bool) (name : List ℕ) (some all : List (List ℕ))
 first_name_of true name some all r same = refl
 first_name_of false name some all r same = same
 
-first_name : (names : List (List ℕ)) → first (names_twice names) ≡ repeated names
+first_name : (names : List (List ℕ)) → first (duplicate_names names) ≡ repeated names
 first_name [] = refl
 first_name (name ∷ rest) =
-    first_name_of (list_any (bytes_eq name) rest) name (names_without name (names_twice rest))
-    (names_twice rest) (repeated rest) (first_name rest)
+    first_name_of (list_any (bytes_eq name) rest) name (names_without name (duplicate_names rest))
+    (duplicate_names rest) (repeated rest) (first_name rest)
 
 first_of_names : (manifest : Manifest) (array app : Option (List ℕ))
-    → or_else (option_map twice.Array array) (option_map twice.App app)
-    ≡ fault_in (none_of array twice.Array (none_of app twice.App (Ok manifest)))
+    → or_else (option_map duplicate.Array array) (option_map duplicate.App app)
+    ≡ fault_in (none_of array duplicate.Array (none_of app duplicate.App (Ok manifest)))
 first_of_names manifest (Some name) app = refl
 first_of_names manifest None (Some appid) = refl
 first_of_names manifest None None = refl
 
-first_of_once : (manifest : Manifest) → first (all_twice manifest) ≡ fault_in (once manifest)
+first_of_once : (manifest : Manifest) → first (all_duplicates manifest) ≡ fault_in (once manifest)
 first_of_once manifest =
     let arrays = map (λ (a : Declaration). a.name) manifest.arrays in
     let apps = map (λ (a : AppEntry). a.appid) manifest.apps in
-    first-append (map twice.Array (names_twice arrays)) (map twice.App (names_twice apps))
-    ∙ ap (λ o. or_else o (first (map twice.App (names_twice apps))))
-    (first-map twice.Array (names_twice arrays)
-    ∙ ap (option_map twice.Array) (first_name arrays))
-    ∙ ap (λ o. or_else (option_map twice.Array (repeated arrays)) o)
-    (first-map twice.App (names_twice apps) ∙ ap (option_map twice.App) (first_name apps))
+    first-append (map duplicate.Array (duplicate_names arrays)) (map duplicate.App (duplicate_names apps))
+    ∙ ap (λ o. or_else o (first (map duplicate.App (duplicate_names apps))))
+    (first-map duplicate.Array (duplicate_names arrays)
+    ∙ ap (option_map duplicate.Array) (first_name arrays))
+    ∙ ap (λ o. or_else (option_map duplicate.Array (repeated arrays)) o)
+    (first-map duplicate.App (duplicate_names apps) ∙ ap (option_map duplicate.App) (first_name apps))
     ∙ first_of_names manifest (repeated arrays) (repeated apps)
 
 -- ---- bytes
@@ -168,22 +168,22 @@ first_of_once manifest =
 one_tree : (bytes : List ℕ) (t u : Members) → IsTree bytes t → IsTree bytes u → t ≡ u
 one_tree bytes t u is are = same_Some t u (sym is.document ∙ are.document)
 
-pub misfit_first : (bytes : List ℕ) → HasMisfitFirst bytes
-misfit_first bytes misfit tree read is =
-    begins (misfits_of tree) misfit
+pub schema_error_first : (bytes : List ℕ) → HasSchemaErrorFirst bytes
+schema_error_first bytes schema_error tree read is =
+    begins (schema_errors_of tree) schema_error
     (first_of_tree tree
     ∙ ap (λ t. fault_in (tables_of t)) (one_tree bytes tree read.tree is read.spelled)
     ∙ ap fault_in read.tables_are)
 
-abbrev twice_in : Result Manifest SchemaError → Option DuplicateName
-twice_in (Ok manifest) = fault_in (once manifest)
-twice_in (Err misfit) = None
+abbrev duplicate_in : Result Manifest SchemaError → Option DuplicateName
+duplicate_in (Ok manifest) = fault_in (once manifest)
+duplicate_in (Err schema_error) = None
 
-pub twice_first : (bytes : List ℕ) → HasTwiceFirst bytes
-twice_first bytes twice tree twices read is has =
-    begins twices twice
-    (ap first has.twices_are ∙ first_of_once has.manifest
-    ∙ ap twice_in (sym has.tables_are)
-    ∙ ap (λ t. twice_in (tables_of t)) (one_tree bytes tree read.1.tree is read.1.spelled)
-    ∙ ap twice_in read.1.tables_are
+pub duplicate_first : (bytes : List ℕ) → HasDuplicateFirst bytes
+duplicate_first bytes duplicate tree duplicates read is has =
+    begins duplicates duplicate
+    (ap first has.duplicates_are ∙ first_of_once has.manifest
+    ∙ ap duplicate_in (sym has.tables_are)
+    ∙ ap (λ t. duplicate_in (tables_of t)) (one_tree bytes tree read.1.tree is read.1.spelled)
+    ∙ ap duplicate_in read.1.tables_are
     ∙ ap fault_in read.2)

@@ -9,8 +9,8 @@ use Rattle.std.proofs.lemmas.List.Folds.{list_any-append}
 use Rattle.std.proofs.lemmas.Slice.Eq.{bytes_eq-Decides}
 use Rattle.std.specs.List.{All, filter, list_any}
 use Rattle.std.specs.Str.{bytes_eq}
-use Rattle.manifest.proofs.Walks.{taken, told_both}
-use Rattle.manifest.specs.DuplicateNames.{names_twice, names_without}
+use Rattle.manifest.proofs.Walks.{taken, reported_both}
+use Rattle.manifest.specs.DuplicateNames.{duplicate_names, names_without}
 
 -- the names that didn't occur before
 abbrev pub names_new : (before names : List (List ℕ)) → List (List ℕ)
@@ -63,11 +63,11 @@ all_other name true x names one all =
 all_other name false x names one all = all
 
 are_other : (name : List ℕ) (names : List (List ℕ)) → list_any (bytes_eq name) names ≡ false
-    → All (IsOther name) (names_twice names)
+    → All (IsOther name) (duplicate_names names)
 are_other name [] none = All-nil (IsOther name)
 are_other name (x ∷ names) none =
     let parts = or_parts (bytes_eq name x) (list_any (bytes_eq name) names) none in
-    all_other name (list_any (bytes_eq x) names) x (names_twice names)
+    all_other name (list_any (bytes_eq x) names) x (duplicate_names names)
     (not_from_false (bytes_eq x name) (bytes_eq-sym x name ∙ parts.0))
     (are_other name names parts.1)
 
@@ -93,49 +93,49 @@ begun true false x f some names all e same none = none refl
 begun false false x f some names all e same none = none refl
 
 next : (name : List ℕ) (before rest : List (List ℕ))
-    → names_new before (names_twice (name ∷ rest))
+    → names_new before (duplicate_names (name ∷ rest))
     ≡ cond (not (list_any (bytes_eq name) before) && list_any (bytes_eq name) rest)
     (name ∷ []) []
-    ++ names_new (before ++ name ∷ []) (names_twice rest)
+    ++ names_new (before ++ name ∷ []) (duplicate_names rest)
 next name before rest =
     begun (list_any (bytes_eq name) before) (list_any (bytes_eq name) rest) name
     (λ other. not (list_any (bytes_eq other) before))
-    (names_without name (names_twice rest)) (names_twice rest)
-    (names_new (before ++ name ∷ []) (names_twice rest)) refl
-    (new-without name before (names_twice rest))
+    (names_without name (duplicate_names rest)) (duplicate_names rest)
+    (names_new (before ++ name ∷ []) (duplicate_names rest)) refl
+    (new-without name before (duplicate_names rest))
     (λ none. ap (names_new before)
-    (sym (without-other name (names_twice rest) (are_other name rest none)))
-    ∙ new-without name before (names_twice rest))
+    (sym (without-other name (duplicate_names rest) (are_other name rest none)))
+    ∙ new-without name before (duplicate_names rest))
 
 -- the duplicates so far, with those of the next item and of the later ones, are all duplicates
-pub next_told : {X Y : Type 0} (told : List ℕ → Y) (name_of : X → List ℕ)
+pub next_reported : {X Y : Type 0} (reported : List ℕ → Y) (name_of : X → List ℕ)
     (done new all : List Y)
     (list left before : List X) (place : ℕ) (x : X) (after : List X)
     → left ≡ x ∷ after → take place list ++ left ≡ list
     → place + length left ≡ length list
     → before ≡ take place list
-    → done ++ map told
-    (names_new (map name_of (take place list)) (names_twice (map name_of left))) ≡ all
-    → new ≡ done ++ map told (cond (not (list_any (bytes_eq (name_of x)) (map name_of before))
+    → done ++ map reported
+    (names_new (map name_of (take place list)) (duplicate_names (map name_of left))) ≡ all
+    → new ≡ done ++ map reported (cond (not (list_any (bytes_eq (name_of x)) (map name_of before))
     && list_any (bytes_eq (name_of x)) (map name_of after)) (name_of x ∷ []) [])
-    → new ++ map told
-    (names_new (map name_of (take (place + 1) list)) (names_twice (map name_of after))) ≡ all
-next_told told name_of done new all list left before place x after
+    → new ++ map reported
+    (names_new (map name_of (take (place + 1) list)) (duplicate_names (map name_of after))) ≡ all
+next_reported reported name_of done new all list left before place x after
     is whole within at so_far pushed =
     let seen = map name_of (take place list) in
     let rest = map name_of after in
     let here = cond (not (list_any (bytes_eq (name_of x)) seen)
     && list_any (bytes_eq (name_of x)) rest) (name_of x ∷ []) [] in
-    let step : new ≡ done ++ map told here =
-    pushed ∙ ap (λ xs. done ++ map told
+    let step : new ≡ done ++ map reported here =
+    pushed ∙ ap (λ xs. done ++ map reported
     (cond (not (list_any (bytes_eq (name_of x)) (map name_of xs))
     && list_any (bytes_eq (name_of x)) rest) (name_of x ∷ []) [])) at in
     let front : map name_of (take (place + 1) list) ≡ seen ++ name_of x ∷ [] =
     ap (map name_of) (taken list left place x after is whole within)
     ∙ map-append name_of (take place list) (x ∷ []) in
-    ap (λ xs. new ++ map told (names_new xs (names_twice rest))) front
-    ∙ ap (λ xs. xs ++ map told (names_new (seen ++ name_of x ∷ []) (names_twice rest))) step
-    ∙ told_both told done here (names_new (seen ++ name_of x ∷ []) (names_twice rest))
-    ∙ ap (λ xs. done ++ map told xs) (sym (next (name_of x) seen rest))
-    ∙ ap (λ xs. done ++ map told (names_new seen (names_twice (map name_of xs)))) (sym is)
+    ap (λ xs. new ++ map reported (names_new xs (duplicate_names rest))) front
+    ∙ ap (λ xs. xs ++ map reported (names_new (seen ++ name_of x ∷ []) (duplicate_names rest))) step
+    ∙ reported_both reported done here (names_new (seen ++ name_of x ∷ []) (duplicate_names rest))
+    ∙ ap (λ xs. done ++ map reported xs) (sym (next (name_of x) seen rest))
+    ∙ ap (λ xs. done ++ map reported (names_new seen (duplicate_names (map name_of xs)))) (sym is)
     ∙ so_far

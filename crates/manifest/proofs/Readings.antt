@@ -8,7 +8,7 @@ use Rattle.manifest.specs.declared.fault.ManifestFault.TheVariants.{Toml, Field,
 use Rattle.manifest.specs.declared.fault.TomlFault.{TomlFault}
 use Rattle.manifest.specs.declared.fault.TomlFault.TheVariants.{TooLong, Text}
 use Rattle.manifest.specs.declared.fault.DuplicateName.{DuplicateName}
-use Rattle.manifest.specs.declared.misfit.SchemaError.{SchemaError}
+use Rattle.manifest.specs.declared.schema_error.SchemaError.{SchemaError}
 use Rattle.manifest.specs.Manifest.{Manifest, IsTree, HasNoTree, ReadsManifest}
 use Rattle.manifest.specs.Manifest.{tables_of, once}
 use Rattle.manifest.specs.OneReading.{HasOneManifest}
@@ -16,11 +16,11 @@ use Rattle.manifest.specs.OneReading.{HasOneManifest}
 -- the result of a tree's tables
 abbrev of_names : Result Manifest DuplicateName → Result Manifest ManifestFault
 of_names (Ok manifest) = Ok manifest
-of_names (Err twice) = Err (Duplicate twice)
+of_names (Err duplicate) = Err (Duplicate duplicate)
 
 abbrev of_tables : Result Manifest SchemaError → Result Manifest ManifestFault
 of_tables (Ok manifest) = of_names (once manifest)
-of_tables (Err misfit) = Err (Field misfit)
+of_tables (Err schema_error) = Err (Field schema_error)
 
 -- a reading, by its source
 data Found (bytes : List ℕ) : Result Manifest ManifestFault → Type 0 where
@@ -34,10 +34,10 @@ found bytes (Ok manifest) h given =
     tree (Ok manifest) h.0.tree h.0.spelled
     (sym (ap of_tables h.0.tables_are ∙ ap of_names h.1))
 found bytes (Err (Toml fault)) h given = no_tree fault h
-found bytes (Err (Field misfit)) h given =
-    tree (Err (Field misfit)) h.tree h.spelled (sym (ap of_tables h.tables_are))
-found bytes (Err (Duplicate twice)) h given =
-    tree (Err (Duplicate twice)) h.1.tree h.1.spelled
+found bytes (Err (Field schema_error)) h given =
+    tree (Err (Field schema_error)) h.tree h.spelled (sym (ap of_tables h.tables_are))
+found bytes (Err (Duplicate duplicate)) h given =
+    tree (Err (Duplicate duplicate)) h.1.tree h.1.spelled
     (sym (ap of_tables h.1.tables_are ∙ ap of_names h.2))
 found bytes (Err Memory) h given = absurd (given refl)
 

@@ -43,8 +43,8 @@ within_next left place total x after is within =
     omega arith
 
 -- the reports of an item and of those after it
-pub told_both : {X Y : Type 0} (told : X → Y) (done : List Y) (here behind : List X)
-    → (done ++ map told here) ++ map told behind ≡ done ++ map told (here ++ behind)
-told_both told done here behind =
-    append_assoc done (map told here) (map told behind)
-    ∙ ap (λ ys. done ++ ys) (sym (map-append told here behind))
+pub reported_both : {X Y : Type 0} (reported : X → Y) (done : List Y) (here behind : List X)
+    → (done ++ map reported here) ++ map reported behind ≡ done ++ map reported (here ++ behind)
+reported_both reported done here behind =
+    append_assoc done (map reported here) (map reported behind)
+    ∙ ap (λ ys. done ++ ys) (sym (map-append reported here behind))

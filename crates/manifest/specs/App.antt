@@ -7,10 +7,10 @@ use Rattle.releases.specs.Release.{Release}
 use Rattle.manifest.specs.declared.app.ProgramSource.{ProgramSource}
 use Rattle.manifest.specs.declared.app.ProgramSource.TheVariants.{Program, Rule}
 use Rattle.manifest.specs.declared.kind.Kind.TheVariants as kind
-use Rattle.manifest.specs.declared.misfit.InList.{InList}
-use Rattle.manifest.specs.declared.misfit.AppError.{AppError}
-use Rattle.manifest.specs.declared.misfit.AppError.TheVariants as misfit
-use Rattle.manifest.specs.declared.misfit.ReleaseError.{ReleaseError}
+use Rattle.manifest.specs.declared.schema_error.InList.{InList}
+use Rattle.manifest.specs.declared.schema_error.AppError.{AppError}
+use Rattle.manifest.specs.declared.schema_error.AppError.TheVariants as schema_error
+use Rattle.manifest.specs.declared.schema_error.ReleaseError.{ReleaseError}
 use Rattle.manifest.specs.Kind.{only}
 use Rattle.manifest.specs.Member.{required, text_that, needs, fits}
 use Rattle.manifest.specs.Rows.{rows_of}
@@ -37,7 +37,7 @@ source_of (Some program) (Some rule) = None
 abbrev pub source_in : Members → Result ProgramSource AppError
 source_in table =
     needs (source_of (get_member (codes "program") table) (get_member (codes "rule") table))
-    misfit.ProgramSource (λ source. Ok source)
+    schema_error.ProgramSource (λ source. Ok source)
 
 -- at most 64 releases
 abbrev pub releases_of : Members → Result (List Release) (InList ReleaseError)
@@ -46,8 +46,8 @@ releases_of table = rows_of release_of 0 64 (get_member (codes "release") table)
 -- the app of a table, or its first schema error
 abbrev pub app_of : Members → Result AppEntry AppError
 app_of table =
-    only kind.App table misfit.Unknown (
-    needs (required (text_that is_appid) (codes "appid") table) misfit.Appid (λ appid.
-    fits (source_in table) (λ misfit. misfit) (λ source.
-    fits (releases_of table) misfit.Releases (λ releases.
+    only kind.App table schema_error.Unknown (
+    needs (required (text_that is_appid) (codes "appid") table) schema_error.Appid (λ appid.
+    fits (source_in table) (λ schema_error. schema_error) (λ source.
+    fits (releases_of table) schema_error.Releases (λ releases.
     Ok (record { appid = appid; source = source; releases = releases })))))

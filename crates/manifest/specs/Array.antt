@@ -7,8 +7,8 @@ use Rattle.cells.specs.declared.array.CellWidth.TheVariants.{Bits32, Bits64}
 use Rattle.cells.specs.Directory.{Declaration, declaration}
 use Rattle.declarations.specs.Spec.{is_name}
 use Rattle.manifest.specs.declared.kind.Kind.TheVariants as kind
-use Rattle.manifest.specs.declared.misfit.ArrayError.{ArrayError}
-use Rattle.manifest.specs.declared.misfit.ArrayError.TheVariants as misfit
+use Rattle.manifest.specs.declared.schema_error.ArrayError.{ArrayError}
+use Rattle.manifest.specs.declared.schema_error.ArrayError.TheVariants as schema_error
 use Rattle.manifest.specs.Kind.{only}
 use Rattle.manifest.specs.Member.{required, number, text_that, needs}
 
@@ -28,9 +28,9 @@ quota_of Bits32 (Some value) = None
 -- the array of a table, or its first schema error
 abbrev pub array_of : Members → Result Declaration ArrayError
 array_of table =
-    only kind.Array table misfit.Unknown (
-    needs (required (text_that is_name) (codes "name") table) misfit.Name (λ name.
-    needs (required width_of (codes "width") table) misfit.Width (λ width.
-    needs (required (number 1 4096) (codes "length") table) misfit.Length (λ length.
-    needs (quota_of width (get_member (codes "quota") table)) misfit.Quota (λ quota.
+    only kind.Array table schema_error.Unknown (
+    needs (required (text_that is_name) (codes "name") table) schema_error.Name (λ name.
+    needs (required width_of (codes "width") table) schema_error.Width (λ width.
+    needs (required (number 1 4096) (codes "length") table) schema_error.Length (λ length.
+    needs (quota_of width (get_member (codes "quota") table)) schema_error.Quota (λ quota.
     Ok (declaration name width length quota))))))

@@ -12,8 +12,8 @@ abbrev pub names_without : List ℕ → List (List ℕ) → List (List ℕ)
 names_without name names = filter (λ other. not (bytes_eq other name)) names
 
 -- each name that occurs again later, once, in the order of first occurrences
-abbrev pub names_twice : List (List ℕ) → List (List ℕ)
-names_twice [] = []
-names_twice (name ∷ rest) =
-    if list_any (bytes_eq name) rest then name ∷ names_without name (names_twice rest)
-    else names_twice rest
+abbrev pub duplicate_names : List (List ℕ) → List (List ℕ)
+duplicate_names [] = []
+duplicate_names (name ∷ rest) =
+    if list_any (bytes_eq name) rest then name ∷ names_without name (duplicate_names rest)
+    else duplicate_names rest

@@ -9,13 +9,13 @@ use Rattle.manifest.specs.declared.fault.ManifestFault.TheVariants.{Toml, Field,
 use Rattle.manifest.specs.declared.fault.TomlFault.{TomlFault}
 use Rattle.manifest.specs.declared.fault.TomlFault.TheVariants.{TooLong, Text}
 use Rattle.manifest.specs.declared.fault.DuplicateName.{DuplicateName}
-use Rattle.manifest.specs.declared.fault.DuplicateName.TheVariants as twice
+use Rattle.manifest.specs.declared.fault.DuplicateName.TheVariants as duplicate
 use Rattle.manifest.specs.declared.kind.Kind.TheVariants as kind
-use Rattle.manifest.specs.declared.misfit.InList.{InList}
-use Rattle.manifest.specs.declared.misfit.AppError.{AppError}
-use Rattle.manifest.specs.declared.misfit.ArrayError.{ArrayError}
-use Rattle.manifest.specs.declared.misfit.SchemaError.{SchemaError}
-use Rattle.manifest.specs.declared.misfit.SchemaError.TheVariants as misfit
+use Rattle.manifest.specs.declared.schema_error.InList.{InList}
+use Rattle.manifest.specs.declared.schema_error.AppError.{AppError}
+use Rattle.manifest.specs.declared.schema_error.ArrayError.{ArrayError}
+use Rattle.manifest.specs.declared.schema_error.SchemaError.{SchemaError}
+use Rattle.manifest.specs.declared.schema_error.SchemaError.TheVariants as schema_error
 use Rattle.manifest.specs.Kind.{only}
 use Rattle.manifest.specs.Member.{required, needs, fits}
 use Rattle.manifest.specs.Rows.{rows_of}
@@ -39,10 +39,10 @@ apps_of table = rows_of app_of 1 256 (get_member (codes "app") table)
 -- the manifest of a document's table, or its first schema error
 abbrev pub tables_of : Members → Result Manifest SchemaError
 tables_of table =
-    only kind.Manifest table misfit.Unknown (
-    needs (required as_str (codes "server") table) misfit.Server (λ server.
-    fits (arrays_of table) misfit.Arrays (λ arrays.
-    fits (apps_of table) misfit.Apps (λ apps.
+    only kind.Manifest table schema_error.Unknown (
+    needs (required as_str (codes "server") table) schema_error.Server (λ server.
+    fits (arrays_of table) schema_error.Arrays (λ arrays.
+    fits (apps_of table) schema_error.Apps (λ apps.
     Ok (record { server = server; arrays = arrays; apps = apps })))))
 
 -- continues if there is nothing wrong
@@ -53,8 +53,8 @@ none_of (Some x) fault next = Err (fault x)
 -- the manifest, if the names of its arrays are distinct, and so are its appids
 abbrev pub once : Manifest → Result Manifest DuplicateName
 once manifest =
-    none_of (repeated (map (λ (a : Declaration). a.name) manifest.arrays)) twice.Array (
-    none_of (repeated (map (λ (a : AppEntry). a.appid) manifest.apps)) twice.App (
+    none_of (repeated (map (λ (a : Declaration). a.name) manifest.arrays)) duplicate.Array (
+    none_of (repeated (map (λ (a : AppEntry). a.appid) manifest.apps)) duplicate.App (
     Ok manifest))
 
 -- ---- the bytes
@@ -81,7 +81,7 @@ pub record HasTables (bytes : List ℕ) (tables : Result Manifest SchemaError) :
 abbrev pub ReadsManifest : List ℕ → Result Manifest ManifestFault → Type 0
 ReadsManifest bytes (Ok manifest) = HasTables bytes (Ok manifest) × (once manifest ≡ Ok manifest)
 ReadsManifest bytes (Err (Toml fault)) = HasNoTree bytes fault
-ReadsManifest bytes (Err (Field misfit)) = HasTables bytes (Err misfit)
-ReadsManifest bytes (Err (Duplicate twice)) =
-    (manifest : Manifest) × HasTables bytes (Ok manifest) × (once manifest ≡ Err twice)
+ReadsManifest bytes (Err (Field schema_error)) = HasTables bytes (Err schema_error)
+ReadsManifest bytes (Err (Duplicate duplicate)) =
+    (manifest : Manifest) × HasTables bytes (Ok manifest) × (once manifest ≡ Err duplicate)
 ReadsManifest bytes (Err Memory) = Unit {0}

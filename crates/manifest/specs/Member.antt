@@ -30,5 +30,5 @@ needs (Some x) fault next = next x
 -- continues with the value, or else with the schema error inside it
 abbrev pub fits :
     {X Y E F : Type 0} → Result X E → (E → F) → (X → Result Y F) → Result Y F
-fits (Err misfit) fault next = Err (fault misfit)
+fits (Err schema_error) fault next = Err (fault schema_error)
 fits (Ok x) fault next = next x

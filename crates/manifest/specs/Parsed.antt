@@ -11,8 +11,8 @@ use Rattle.manifest.specs.Manifest.{IsTree, ReadsManifest}
 
 -- the document of the bytes, if they are one; an error, unspecified; or nothing
 abbrev pub IsParsed : List ℕ → ManifestFault → Parsed → Type 0
-IsParsed bytes (Field misfit) (Document table) = IsTree bytes (table_view table)
-IsParsed bytes (Duplicate twice) (Document table) = IsTree bytes (table_view table)
+IsParsed bytes (Field schema_error) (Document table) = IsTree bytes (table_view table)
+IsParsed bytes (Duplicate duplicate) (Document table) = IsTree bytes (table_view table)
 IsParsed bytes (Toml Text) (Error error) = Unit {0}
 IsParsed bytes (Toml TooLong) Nothing = Unit {0}
 IsParsed bytes Memory Nothing = Unit {0}

@@ -4,10 +4,10 @@ use Rattle.toml.specs.Data.{Members, get_member, as_str}
 use Rattle.attrs.specs.Version.{version_of}
 use Rattle.releases.specs.Release.{Package, Release}
 use Rattle.manifest.specs.declared.kind.Kind.TheVariants as kind
-use Rattle.manifest.specs.declared.misfit.InList.{InList}
-use Rattle.manifest.specs.declared.misfit.PackageError.{PackageError}
-use Rattle.manifest.specs.declared.misfit.ReleaseError.{ReleaseError}
-use Rattle.manifest.specs.declared.misfit.ReleaseError.TheVariants as misfit
+use Rattle.manifest.specs.declared.schema_error.InList.{InList}
+use Rattle.manifest.specs.declared.schema_error.PackageError.{PackageError}
+use Rattle.manifest.specs.declared.schema_error.ReleaseError.{ReleaseError}
+use Rattle.manifest.specs.declared.schema_error.ReleaseError.TheVariants as schema_error
 use Rattle.manifest.specs.Kind.{only}
 use Rattle.manifest.specs.Member.{required, text_that, needs, fits}
 use Rattle.manifest.specs.Rows.{rows_of}
@@ -24,8 +24,8 @@ packages_of table = rows_of package_of 1 16 (get_member (codes "package") table)
 -- the release of a table, or its first schema error
 abbrev pub release_of : Members → Result Release ReleaseError
 release_of table =
-    only kind.Release table misfit.Unknown (
-    needs (required (text_that is_version_text) (codes "version") table) misfit.Version (λ version.
-    needs (required as_str (codes "codebase") table) misfit.Codebase (λ codebase.
-    fits (packages_of table) misfit.Packages (λ packages.
+    only kind.Release table schema_error.Unknown (
+    needs (required (text_that is_version_text) (codes "version") table) schema_error.Version (λ version.
+    needs (required as_str (codes "codebase") table) schema_error.Codebase (λ codebase.
+    fits (packages_of table) schema_error.Packages (λ packages.
     Ok (record { version = version; codebase = codebase; packages = packages })))))

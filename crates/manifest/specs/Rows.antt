@@ -3,8 +3,8 @@ use Rattle.std.specs.Prelude.{ℕ, ◌+◌, Bool, ◌==◌, ◌&&◌, nat_le}
 use Rattle.std.specs.Prelude.{if◌then◌else◌, List, [], ◌∷◌, length}
 use Rattle.std.specs.Prelude.{Option, Some, None, option_map, Result, Ok, Err}
 use Rattle.toml.specs.Data.{Data, Items, no_items, item, Members, as_array, as_table}
-use Rattle.manifest.specs.declared.misfit.InList.{InList}
-use Rattle.manifest.specs.declared.misfit.InList.TheVariants.{Count, NoTable, At}
+use Rattle.manifest.specs.declared.schema_error.InList.{InList}
+use Rattle.manifest.specs.declared.schema_error.InList.TheVariants.{Count, NoTable, At}
 
 -- the items of a list
 abbrev pub data_of : Items → List Data
@@ -21,7 +21,7 @@ are_between from to xs = nat_le from (length xs) && nat_le (length xs) to
 -- the result of a table, with its number in a list
 abbrev pub at_place : {X M : Type 0} → ℕ → Result X M → Result X (InList M)
 at_place n (Ok x) = Ok x
-at_place n (Err misfit) = Err (At n misfit)
+at_place n (Err schema_error) = Err (At n schema_error)
 
 -- the first fault, or all rows
 abbrev pub with_first : {X E : Type 0} → Result X E → Result (List X) E → Result (List X) E

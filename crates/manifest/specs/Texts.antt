@@ -4,19 +4,19 @@ use Rattle.std.specs.Prelude.{ℕ, List, ◌++◌, codes, decimal}
 use Rattle.manifest.specs.declared.fault.ManifestFault.{ManifestFault}
 use Rattle.manifest.specs.declared.fault.ManifestFault.TheVariants as unread
 use Rattle.manifest.specs.declared.fault.DuplicateName.{DuplicateName}
-use Rattle.manifest.specs.declared.fault.DuplicateName.TheVariants as twice
-use Rattle.manifest.specs.declared.misfit.InList.{InList}
-use Rattle.manifest.specs.declared.misfit.InList.TheVariants.{Count, NoTable, At}
-use Rattle.manifest.specs.declared.misfit.AppError.{AppError}
-use Rattle.manifest.specs.declared.misfit.AppError.TheVariants as app
-use Rattle.manifest.specs.declared.misfit.ArrayError.{ArrayError}
-use Rattle.manifest.specs.declared.misfit.ArrayError.TheVariants as array
-use Rattle.manifest.specs.declared.misfit.SchemaError.{SchemaError}
-use Rattle.manifest.specs.declared.misfit.SchemaError.TheVariants as misfit
-use Rattle.manifest.specs.declared.misfit.PackageError.{PackageError}
-use Rattle.manifest.specs.declared.misfit.PackageError.TheVariants as the_package
-use Rattle.manifest.specs.declared.misfit.ReleaseError.{ReleaseError}
-use Rattle.manifest.specs.declared.misfit.ReleaseError.TheVariants as release
+use Rattle.manifest.specs.declared.fault.DuplicateName.TheVariants as duplicate
+use Rattle.manifest.specs.declared.schema_error.InList.{InList}
+use Rattle.manifest.specs.declared.schema_error.InList.TheVariants.{Count, NoTable, At}
+use Rattle.manifest.specs.declared.schema_error.AppError.{AppError}
+use Rattle.manifest.specs.declared.schema_error.AppError.TheVariants as app
+use Rattle.manifest.specs.declared.schema_error.ArrayError.{ArrayError}
+use Rattle.manifest.specs.declared.schema_error.ArrayError.TheVariants as array
+use Rattle.manifest.specs.declared.schema_error.SchemaError.{SchemaError}
+use Rattle.manifest.specs.declared.schema_error.SchemaError.TheVariants as schema_error
+use Rattle.manifest.specs.declared.schema_error.PackageError.{PackageError}
+use Rattle.manifest.specs.declared.schema_error.PackageError.TheVariants as the_package
+use Rattle.manifest.specs.declared.schema_error.ReleaseError.{ReleaseError}
+use Rattle.manifest.specs.declared.schema_error.ReleaseError.TheVariants as release
 use Rattle.printing.specs.Printed.{printed}
 
 -- the path in the list with this key
@@ -24,8 +24,8 @@ abbrev pub list_text : {M : Type 0} → (M → List ℕ) → (key wanted : List 
 list_text text_of key wanted Count = key ++ codes ": " ++ wanted
 list_text text_of key wanted (NoTable number) =
     key ++ codes "[" ++ decimal number ++ codes "]: a table"
-list_text text_of key wanted (At number misfit) =
-    key ++ codes "[" ++ decimal number ++ codes "]." ++ text_of misfit
+list_text text_of key wanted (At number schema_error) =
+    key ++ codes "[" ++ decimal number ++ codes "]." ++ text_of schema_error
 
 abbrev pub package_text : PackageError → List ℕ
 package_text (the_package.Unknown key) = printed key ++ codes ": no member of a package"
@@ -59,24 +59,24 @@ array_text array.Quota =
     codes "quota: a whole number from 1 to 9223372036854775807, with width 64 alone"
 
 -- the path of the wrong member, and what is expected there
-abbrev pub misfit_text : SchemaError → List ℕ
-misfit_text (misfit.Unknown key) = printed key ++ codes ": no member of a manifest"
-misfit_text misfit.Server = codes "server: a text"
-misfit_text (misfit.Arrays list) =
+abbrev pub schema_error_text : SchemaError → List ℕ
+schema_error_text (schema_error.Unknown key) = printed key ++ codes ": no member of a manifest"
+schema_error_text schema_error.Server = codes "server: a text"
+schema_error_text (schema_error.Arrays list) =
     list_text array_text (codes "array") (codes "at most 64 tables") list
-misfit_text (misfit.Apps list) = list_text app_text (codes "app") (codes "1 to 256 tables") list
+schema_error_text (schema_error.Apps list) = list_text app_text (codes "app") (codes "1 to 256 tables") list
 
 -- ---- duplicates
 
 -- a duplicate name
-abbrev pub twice_text : DuplicateName → List ℕ
-twice_text (twice.Array name) = codes "array " ++ printed name
-twice_text (twice.App appid) = codes "app " ++ printed appid
+abbrev pub duplicate_text : DuplicateName → List ℕ
+duplicate_text (duplicate.Array name) = codes "array " ++ printed name
+duplicate_text (duplicate.App appid) = codes "app " ++ printed appid
 
 -- ---- a refusal, only by number and name
 
 abbrev pub manifest_fault_text : ManifestFault → List ℕ
 manifest_fault_text (unread.Toml fault) = codes "M1 Toml"
-manifest_fault_text (unread.Field misfit) = codes "M2 Field"
-manifest_fault_text (unread.Duplicate twice) = codes "M3 Duplicate"
+manifest_fault_text (unread.Field schema_error) = codes "M2 Field"
+manifest_fault_text (unread.Duplicate duplicate) = codes "M3 Duplicate"
 manifest_fault_text unread.Memory = codes "M8 Memory"

@@ -10,7 +10,7 @@ ghost use Rattle.manifest.specs.App as specs;
 
 use crate::kind::{Kind, unknown_member};
 use crate::member::{member, text};
-use crate::misfit::{AppError, InList, ReleaseError};
+use crate::schema_error::{AppError, InList, ReleaseError};
 use crate::rows::{TableRow, read_rows};
 use crate::table_fault::{TableFault, copy, quote};
 use attrs::Text;
@@ -123,8 +123,8 @@ fn read_app(alloc: Global, table: &Table) -> Result<AppEntry, TableFault<AppErro
     let source = read_source(alloc, table)?;
     let releases = match read_releases(alloc, table) {
         Ok(releases) => releases,
-        Err(TableFault::SchemaError(misfit)) => return Err(TableFault::SchemaError(
-            AppError::Releases(misfit),
+        Err(TableFault::SchemaError(schema_error)) => return Err(TableFault::SchemaError(
+            AppError::Releases(schema_error),
         )),
         Err(TableFault::Memory) => return Err(TableFault::Memory),
     };

@@ -10,7 +10,7 @@ ghost use Rattle.manifest.specs.Array as specs;
 
 use crate::kind::{Kind, unknown_member};
 use crate::member::{member, number, number_of, text};
-use crate::misfit::ArrayError;
+use crate::schema_error::ArrayError;
 use crate::rows::TableRow;
 use crate::table_fault::{TableFault, quote};
 use cells::{ArrayName, CellArray, CellWidth};

@@ -1,10 +1,10 @@
 //! Why a manifest is refused.
 
 ghost use Rattle.std.specs.Prelude.{Some};
-ghost use Rattle.manifest.specs.Texts.{manifest_fault_text, twice_text};
+ghost use Rattle.manifest.specs.Texts.{duplicate_text, manifest_fault_text};
 
-use crate::misfit::SchemaError;
 use crate::quote::Quote;
+use crate::schema_error::SchemaError;
 use std::error::Error;
 use std::fmt;
 use std::fmt::{Display, Formatter, Write};
@@ -57,7 +57,7 @@ pub enum DuplicateName {
 }
 
 impl Display for DuplicateName {
-    ghost output = { λ twice. Some (twice_text twice) };
+    ghost output = { λ duplicate. Some (duplicate_text duplicate) };
 
     fn fmt<W: Write>(&self, f: &mut Formatter<W>) -> fmt::Result {
         match self {

@@ -2,7 +2,7 @@
 //! fault is the first of all faults.
 
 ghost use Rattle.std.specs.Prelude.{List, ℕ};
-ghost use Rattle.manifest.specs.FirstFault.{HasMisfitFirst, HasTwiceFirst};
+ghost use Rattle.manifest.specs.FirstFault.{HasDuplicateFirst, HasSchemaErrorFirst};
 ghost use Rattle.manifest.specs.OneReading.{HasOneManifest};
 
 /// Law: bytes have one manifest, or one fault.
@@ -11,11 +11,11 @@ pub fn one_reading()
 {}
 
 /// Law: the reported schema error is the first of all schema errors.
-pub fn first_misfit()
-    ensures { (bytes : List ℕ) → HasMisfitFirst bytes }
+pub fn first_schema_error()
+    ensures { (bytes : List ℕ) → HasSchemaErrorFirst bytes }
 {}
 
 /// Law: the reported duplicate is the first of all duplicate names.
-pub fn first_twice()
-    ensures { (bytes : List ℕ) → HasTwiceFirst bytes }
+pub fn first_duplicate()
+    ensures { (bytes : List ℕ) → HasDuplicateFirst bytes }
 {}

@@ -35,13 +35,12 @@
 
 mod app;
 mod array;
+mod duplicate;
 mod fault;
 mod kind;
 mod law;
 mod manifest;
 mod member;
-mod misfit;
-mod misfits;
 mod package;
 mod quote;
 mod read;
@@ -49,16 +48,17 @@ mod refused;
 mod release;
 mod repeats;
 mod rows;
+mod schema_error;
+mod schema_errors;
 mod table_fault;
-mod twice;
 
 pub use app::{AppEntry, AppParts, ProgramSource};
 pub use fault::{DuplicateName, ManifestFault, TomlFault};
-pub use law::{first_misfit, first_twice, one_reading};
+pub use law::{first_duplicate, first_schema_error, one_reading};
 pub use manifest::{Manifest, ManifestParts};
-pub use misfit::{AppError, ArrayError, InList, PackageError, ReleaseError, SchemaError};
-pub use misfits::all_misfits;
 pub use quote::Quote;
 pub use read::{MOST_MANIFEST, parse_manifest, read_manifest};
 pub use refused::{Parsed, RefusedManifest};
-pub use repeats::all_twice;
+pub use repeats::all_duplicates;
+pub use schema_error::{AppError, ArrayError, InList, PackageError, ReleaseError, SchemaError};
+pub use schema_errors::all_schema_errors;

@@ -9,10 +9,10 @@ use crate::app::AppEntry;
 use crate::fault::DuplicateName;
 use crate::kind::{Kind, unknown_member};
 use crate::member::text;
-use crate::misfit::{AppError, ArrayError, InList, SchemaError};
+use crate::schema_error::{AppError, ArrayError, InList, SchemaError};
 use crate::rows::read_rows;
 use crate::table_fault::{TableFault, copy, quote};
-use crate::twice::repeated_name;
+use crate::duplicate::repeated_name;
 use attrs::Text;
 use declarations::ArrayDeclaration;
 use releases::MOST_APPS;
@@ -100,15 +100,15 @@ pub(crate) fn read_tables(alloc: Global, table: &Table) -> Result<Manifest, Tabl
     };
     let arrays = match read_arrays(alloc, table) {
         Ok(arrays) => arrays,
-        Err(TableFault::SchemaError(misfit)) => return Err(TableFault::SchemaError(
-            SchemaError::Arrays(misfit),
+        Err(TableFault::SchemaError(schema_error)) => return Err(TableFault::SchemaError(
+            SchemaError::Arrays(schema_error),
         )),
         Err(TableFault::Memory) => return Err(TableFault::Memory),
     };
     let apps = match read_apps(alloc, table) {
         Ok(apps) => apps,
-        Err(TableFault::SchemaError(misfit)) => return Err(TableFault::SchemaError(
-            SchemaError::Apps(misfit),
+        Err(TableFault::SchemaError(schema_error)) => return Err(TableFault::SchemaError(
+            SchemaError::Apps(schema_error),
         )),
         Err(TableFault::Memory) => return Err(TableFault::Memory),
     };

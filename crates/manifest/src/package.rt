@@ -9,8 +9,8 @@ ghost use Rattle.manifest.specs.Package as specs;
 
 use crate::kind::{Kind, unknown_member};
 use crate::member::{number, text, truth};
-use crate::misfit::PackageError;
 use crate::rows::TableRow;
+use crate::schema_error::PackageError;
 use crate::table_fault::{TableFault, copy, quote};
 use releases::Package;
 use std::alloc::Global;

@@ -34,7 +34,7 @@ pub fn read_manifest(alloc: Global, bytes: &[u8]) -> Result<Manifest, ManifestFa
 }
 
 /// Reads a manifest as `read_manifest` does. If it is refused, also returns what its bytes were
-/// parsed as, from which `all_misfits` and `all_twice` continue.
+/// parsed as, from which `all_schema_errors` and `all_duplicates` continue.
 // open: whether an allocation fails (M8); what the error of M1 says.
 pub fn parse_manifest(alloc: Global, bytes: &[u8]) -> Result<Manifest, RefusedManifest>
     ensures manifest { IfOk result (λ manifest. ReadsManifest bytes.now (Ok manifest)) }
@@ -43,15 +43,15 @@ pub fn parse_manifest(alloc: Global, bytes: &[u8]) -> Result<Manifest, RefusedMa
     let table = parse_document(alloc, bytes)?;
     let manifest = match read_tables(alloc, &table) {
         Ok(manifest) => manifest,
-        Err(TableFault::SchemaError(misfit)) => return Err(unfit(
-            ManifestFault::Field(misfit),
+        Err(TableFault::SchemaError(schema_error)) => return Err(unfit(
+            ManifestFault::Field(schema_error),
             table,
         )),
         Err(TableFault::Memory) => return Err(unparsed(ManifestFault::Memory)),
     };
     match without_duplicates(alloc, manifest) {
         Ok(manifest) => Ok(manifest),
-        Err(TableFault::SchemaError(twice)) => Err(unfit(ManifestFault::Duplicate(twice), table)),
+        Err(TableFault::SchemaError(duplicate)) => Err(unfit(ManifestFault::Duplicate(duplicate), table)),
         Err(TableFault::Memory) => Err(unparsed(ManifestFault::Memory)),
     }
 }

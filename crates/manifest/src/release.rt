@@ -8,7 +8,7 @@ ghost use Rattle.manifest.specs.Release as specs;
 
 use crate::kind::{Kind, unknown_member};
 use crate::member::text;
-use crate::misfit::{InList, PackageError, ReleaseError};
+use crate::schema_error::{InList, PackageError, ReleaseError};
 use crate::rows::{TableRow, read_rows};
 use crate::table_fault::{TableFault, copy, quote};
 use attrs::read_version;
@@ -42,8 +42,8 @@ fn read_release(alloc: Global, table: &Table) -> Result<Release, TableFault<Rele
     };
     let packages = match read_packages(alloc, table) {
         Ok(packages) => packages,
-        Err(TableFault::SchemaError(misfit)) => {
-            return Err(TableFault::SchemaError(ReleaseError::Packages(misfit)));
+        Err(TableFault::SchemaError(schema_error)) => {
+            return Err(TableFault::SchemaError(ReleaseError::Packages(schema_error)));
         }
         Err(TableFault::Memory) => return Err(TableFault::Memory),
     };

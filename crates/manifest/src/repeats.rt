@@ -2,12 +2,12 @@
 
 ghost use Rattle.std.specs.Prelude.{◌≡◌, IfOk, IfSome};
 ghost use Rattle.toml.specs.View.{table_view};
-ghost use Rattle.manifest.specs.AllTwice.{HasAllTwice};
-ghost use Rattle.manifest.specs.AllTwice as specs;
+ghost use Rattle.manifest.specs.AllDuplicates.{HasAllDuplicates};
+ghost use Rattle.manifest.specs.AllDuplicates as specs;
 
+use crate::duplicate::push_duplicate_names;
 use crate::fault::DuplicateName;
 use crate::manifest::{Manifest, read_tables};
-use crate::twice::push_names_twice;
 use std::alloc::{AllocError, Global};
 use toml::Table;
 
@@ -15,23 +15,23 @@ use toml::Table;
 /// the first one is that of `read_manifest`. Returns `None` if an allocation fails, or if there is
 /// a schema error.
 // open: when the result is None: if an allocation fails, or the document has a schema error.
-pub fn all_twice(alloc: Global, document: &Table) -> Option<Vec<DuplicateName>>
-    ensures { IfSome result (λ v. HasAllTwice (table_view document.now) v.items) }
+pub fn all_duplicates(alloc: Global, document: &Table) -> Option<Vec<DuplicateName>>
+    ensures { IfSome result (λ v. HasAllDuplicates (table_view document.now) v.items) }
 {
     let Ok(manifest) = read_tables(alloc, document) else {
         return None;
     };
     match twices_of(alloc, &manifest) {
-        Ok(twices) => Some(twices),
+        Ok(duplicates) => Some(duplicates),
         Err(_) => None,
     }
 }
 
 fn twices_of(alloc: Global, manifest: &Manifest) -> Result<Vec<DuplicateName>, AllocError>
-    ensures { IfOk result (λ v. v.items ≡ specs.all_twice manifest.now) }
+    ensures { IfOk result (λ v. v.items ≡ specs.all_duplicates manifest.now) }
 {
-    let mut twices = Vec::new(alloc);
-    push_names_twice(alloc, &mut twices, manifest.arrays())?;
-    push_names_twice(alloc, &mut twices, manifest.apps())?;
-    Ok(twices)
+    let mut duplicates = Vec::new(alloc);
+    push_duplicate_names(alloc, &mut duplicates, manifest.arrays())?;
+    push_duplicate_names(alloc, &mut duplicates, manifest.apps())?;
+    Ok(duplicates)
 }

@@ -7,7 +7,7 @@ ghost use Rattle.manifest.specs.Rows.{rows_of, items_in, are_between, items_from
 ghost use Rattle.manifest.specs.TableFault.{ReadsAs, ReadsListAs};
 
 use crate::member::member;
-use crate::misfit::InList;
+use crate::schema_error::InList;
 use crate::table_fault::TableFault;
 use std::alloc::Global;
 use toml::{Table, Value};
@@ -98,8 +98,8 @@ pub(crate) fn read_item<R: TableRow>(
     };
     match R::read(alloc, table) {
         Ok(row) => Ok(row),
-        Err(TableFault::SchemaError(misfit)) => Err(TableFault::SchemaError(InList::At(
-            number, misfit,
+        Err(TableFault::SchemaError(schema_error)) => Err(TableFault::SchemaError(InList::At(
+            number, schema_error,
         ))),
         Err(TableFault::Memory) => Err(TableFault::Memory),
     }

@@ -20,11 +20,11 @@ pub accepted_more : (known : KnownFiles) (strict : Bool) (allowed : List (Bor (L
     → AddsAccepted path one old new → AddsChecked known strict allowed path old new
 accepted_more known strict allowed path one old new checked added = record {
   text = titled path (string_bytes one.text);
-  beside = titled_if_any path (string_bytes one.beside);
+  stderr = titled_if_any path (string_bytes one.stderr);
   one = one.passes;
   checked = accepted one checked;
   text_is = added.text_is;
-  beside_is = added.beside_is;
+  stderr_is = added.stderr_is;
   passes_is = added.passes_is;
 }
 
@@ -38,12 +38,12 @@ pub refused_more : (known : KnownFiles) (strict : Bool) (allowed : List (Bor (Li
     → AddsChecked known strict allowed path old new
 refused_more known strict allowed path fault old new checked added = record {
   text = [];
-  beside = titled path (refusal_text fault);
+  stderr = titled path (refusal_text fault);
   one = false;
   checked = refused fault checked;
   text_is =
       ap (λ t. string_bytes t) added.text_is ∙ sym (append-nil (string_bytes old.text));
-  beside_is = added.beside_is;
+  stderr_is = added.stderr_is;
   passes_is = added.passes_is ∙ sym (and_no old.passes);
 }
 
@@ -54,12 +54,12 @@ abbrev pub AreCheckedSoFar : KnownFiles → (strict : Bool) → (allowed paths :
     → (n : ℕ) → CheckOutput → Type 0
 AreCheckedSoFar known strict allowed paths n output =
     AreCheckedEach known strict allowed (take n paths) (string_bytes output.text)
-    (string_bytes output.beside) output.passes
+    (string_bytes output.stderr) output.passes
 
 pub none_checked : (known : KnownFiles) (strict : Bool) (allowed paths : List (Bor (List ℕ)))
-    (text beside : List ℕ) → text ≡ [] → beside ≡ []
-    → AreCheckedEach known strict allowed (take 0 paths) text beside true
-none_checked known strict allowed paths text beside no_text nothing = rw (no_text, nothing) none
+    (text stderr : List ℕ) → text ≡ [] → stderr ≡ []
+    → AreCheckedEach known strict allowed (take 0 paths) text stderr true
+none_checked known strict allowed paths text stderr no_text nothing = rw (no_text, nothing) none
 
 pub one_more_checked : (known : KnownFiles) (strict : Bool) (allowed paths : List (Bor (List ℕ)))
     (n : ℕ) (d : Bor (List ℕ)) (old new : CheckOutput)
@@ -69,6 +69,6 @@ pub one_more_checked : (known : KnownFiles) (strict : Bool) (allowed paths : Lis
 one_more_checked known strict allowed paths n d old new so_far within added =
     let paths_are : take (n + 1) paths ≡ take n paths ++ get_or paths n d ∷ [] =
     rw add-one (take-suc paths n d within) in
-    rw (paths_are, added.text_is, added.beside_is, added.passes_is)
-    (next (take n paths) (get_or paths n d) (string_bytes old.text) (string_bytes old.beside)
-    added.text added.beside old.passes added.one so_far added.checked)
+    rw (paths_are, added.text_is, added.stderr_is, added.passes_is)
+    (next (take n paths) (get_or paths n d) (string_bytes old.text) (string_bytes old.stderr)
+    added.text added.stderr old.passes added.one so_far added.checked)

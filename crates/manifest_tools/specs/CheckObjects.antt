@@ -10,8 +10,8 @@ use Rattle.cells.specs.Directory.{Declaration}
 use Rattle.cells.specs.declared.array.CellWidth.{CellWidth}
 use Rattle.cells.specs.declared.array.CellWidth.TheVariants.{Bits32, Bits64}
 use Rattle.diagnosis.specs.declared.accepted.CheckedManifest.{CheckedManifest}
-use Rattle.diagnosis.specs.declared.told.Refused.{Refused}
-use Rattle.diagnosis.specs.declared.told.ToldFault.{ToldFault}
+use Rattle.diagnosis.specs.declared.refused.Refused.{Refused}
+use Rattle.diagnosis.specs.declared.refused.FaultReport.{FaultReport}
 use Rattle.hex.specs.Hex.{encode_lower}
 use Rattle.load.specs.Texts.{load_fault_text}
 use Rattle.manifest_tools.specs.Checks.{AreCheckRefusal, AreChecked, passes}
@@ -88,7 +88,7 @@ fault_object refusal reason = object (
     member (codes "refusal") (string refusal)
     no_members))
 
-abbrev pub further_object : ToldFault → Data
+abbrev pub further_object : FaultReport → Data
 further_object further = fault_object (load_fault_text further.fault) (string_bytes further.reason)
 
 -- the fault for which it is refused, and further ones
@@ -144,12 +144,12 @@ module _ (known : KnownFiles) (strict : Bool) (allowed : List (Bor (List ℕ))) 
         → IsCheckObject path.now value one
         → AreCheckObjects (paths ++ path ∷ []) (values ++ value ∷ []) (all && one)
 
-  -- a line of JSON, and nothing in `beside`
+  -- a line of JSON, and nothing in `stderr`
   pub record AreCheckedAsJson (paths : List (Bor (List ℕ))) (output : CheckOutput) : Type 0 where
     pub values : List Data
     pub objects : AreCheckObjects paths values output.passes
     pub text_is : string_bytes output.text ≡ json_line (checks_object values output.passes)
-    pub beside_is : string_bytes output.beside ≡ []
+    pub stderr_is : string_bytes output.stderr ≡ []
 
 -- ---- as lines, or as JSON
 

@@ -31,7 +31,7 @@ digest_line digest = line (codes "digest " ++ encode_lower digest)
 pub record TellsChecked (strict : Bool) (allowed : List (Bor (List ℕ))) (one : CheckedManifest)
     (output : CheckOutput) : Type 0 where
   pub text_is : string_bytes output.text ≡ string_bytes one.text ++ digest_line one.digest
-  pub beside_is : string_bytes output.beside ≡ warnings_text one.warnings.items
+  pub stderr_is : string_bytes output.stderr ≡ warnings_text one.warnings.items
   pub passes_is : output.passes ≡ passes strict allowed one.warnings.items
 
 -- the report on a refused manifest: the line of its refusal, followed by where and why
@@ -57,16 +57,16 @@ titled_if_any path (c ∷ cs) = titled path (c ∷ cs)
 -- adds an accepted manifest: its lines, and those of its warnings
 pub record AddsAccepted (path : List ℕ) (one old new : CheckOutput) : Type 0 where
   pub text_is : string_bytes new.text ≡ string_bytes old.text ++ titled path (string_bytes one.text)
-  pub beside_is : string_bytes new.beside
-      ≡ string_bytes old.beside ++ titled_if_any path (string_bytes one.beside)
+  pub stderr_is : string_bytes new.stderr
+      ≡ string_bytes old.stderr ++ titled_if_any path (string_bytes one.stderr)
   pub passes_is : new.passes ≡ (old.passes && one.passes)
 
 -- adds a refused manifest: why it is refused
 pub record AddsRefused (path : List ℕ) (why : ManifestToolFault) (old new : CheckOutput) : Type 0
   where
     pub text_is : new.text ≡ old.text
-    pub beside_is : string_bytes new.beside
-        ≡ string_bytes old.beside ++ titled path (refusal_text why)
+    pub stderr_is : string_bytes new.stderr
+        ≡ string_bytes old.stderr ++ titled path (refusal_text why)
     pub passes_is : new.passes ≡ false
 
 -- ---- which manifests are reported
@@ -78,38 +78,38 @@ module _ (known : KnownFiles) (strict : Bool) (allowed : List (Bor (List ℕ))) 
     pub checked : IsChecked known path one
     pub tells : TellsChecked strict allowed one output
 
-  -- one of several: its lines, those in `beside`, and whether it passes
-  pub data IsCheckedAmong (path : List ℕ) : (text beside : List ℕ) → (passes : Bool) → Type 0
+  -- one of several: its lines, those in `stderr`, and whether it passes
+  pub data IsCheckedAmong (path : List ℕ) : (text stderr : List ℕ) → (passes : Bool) → Type 0
     where
       accepted : (output : CheckOutput) → IsCheckedAlone path output
           → IsCheckedAmong path (titled path (string_bytes output.text))
-          (titled_if_any path (string_bytes output.beside)) output.passes
+          (titled_if_any path (string_bytes output.stderr)) output.passes
       refused : (why : ManifestToolFault) → IsCheckRefusal known path why
           → IsCheckedAmong path [] (titled path (refusal_text why)) false
 
   -- adds one more manifest; all have to pass
   pub record AddsChecked (path : List ℕ) (old new : CheckOutput) : Type 0 where
     pub text : List ℕ
-    pub beside : List ℕ
+    pub stderr : List ℕ
     pub one : Bool
-    pub checked : IsCheckedAmong path text beside one
+    pub checked : IsCheckedAmong path text stderr one
     pub text_is : string_bytes new.text ≡ string_bytes old.text ++ text
-    pub beside_is : string_bytes new.beside ≡ string_bytes old.beside ++ beside
+    pub stderr_is : string_bytes new.stderr ≡ string_bytes old.stderr ++ stderr
     pub passes_is : new.passes ≡ (old.passes && one)
 
   -- several manifests, in order
-  pub data AreCheckedEach : List (Bor (List ℕ)) → (text beside : List ℕ) → (passes : Bool)
+  pub data AreCheckedEach : List (Bor (List ℕ)) → (text stderr : List ℕ) → (passes : Bool)
       → Type 0 where
     none : AreCheckedEach [] [] [] true
     next : (paths : List (Bor (List ℕ))) (path : Bor (List ℕ))
-        (texts besides text beside : List ℕ) (all one : Bool)
-        → AreCheckedEach paths texts besides all → IsCheckedAmong path.now text beside one
-        → AreCheckedEach (paths ++ path ∷ []) (texts ++ text) (besides ++ beside) (all && one)
+        (texts errors_before text stderr : List ℕ) (all one : Bool)
+        → AreCheckedEach paths texts errors_before all → IsCheckedAmong path.now text stderr one
+        → AreCheckedEach (paths ++ path ∷ []) (texts ++ text) (errors_before ++ stderr) (all && one)
 
   abbrev pub AreChecked : List (Bor (List ℕ)) → CheckOutput → Type 0
   AreChecked (path ∷ []) output = IsCheckedAlone path.now output
   AreChecked paths output =
-      AreCheckedEach paths (string_bytes output.text) (string_bytes output.beside) output.passes
+      AreCheckedEach paths (string_bytes output.text) (string_bytes output.stderr) output.passes
 
 -- a single manifest is refused; for several, each is reported, unless memory runs out
 abbrev pub AreCheckRefusal : KnownFiles → List (Bor (List ℕ)) → ManifestToolFault → Type 0

@@ -36,7 +36,7 @@ pub(crate) fn check_as_json<D: Disk>(
     let text = json_line(alloc, &value)?;
     Ok(CheckOutput {
         text,
-        beside: String::new(alloc),
+        stderr: String::new(alloc),
         passes,
     })
 }

@@ -9,7 +9,7 @@ use crate::fault::ManifestToolFault;
 use bpf_verify::Verified;
 use cells::CellWidth;
 use declarations::ArrayDeclaration;
-use diagnosis::{CheckedManifest, Refused, ToldFault};
+use diagnosis::{CheckedManifest, FaultReport, Refused};
 use ruleset::App;
 use serde_json::{Value, json};
 use simulate::push_value;
@@ -192,7 +192,7 @@ fn diagnosed_objects(alloc: Global, refused: &Refused) -> Result<Vec<Value>, All
     Ok(values)
 }
 
-fn push_further(values: &mut Vec<Value>, further: &[ToldFault]) -> Result<(), AllocError>
+fn push_further(values: &mut Vec<Value>, further: &[FaultReport]) -> Result<(), AllocError>
     ensures { OnOk result (map view values.new.items
         ≡ map view values.old.items ++ map specs.further_object further.now) }
 {
@@ -203,7 +203,7 @@ fn push_further(values: &mut Vec<Value>, further: &[ToldFault]) -> Result<(), Al
     Ok(())
 }
 
-fn further_object(alloc: Global, further: &ToldFault) -> Result<Value, AllocError>
+fn further_object(alloc: Global, further: &FaultReport) -> Result<Value, AllocError>
     ensures { IfOk result (λ value. view value ≡ specs.further_object further.now) }
 {
     let refusal = further.fault.to_string(alloc)?;

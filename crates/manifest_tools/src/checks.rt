@@ -23,7 +23,7 @@ pub struct CheckOutput {
     pub text: String,
     /// What goes to standard error: the warnings, and why manifests are refused. These are lines,
     /// each ended by a line feed.
-    pub beside: String,
+    pub stderr: String,
     /// No manifest is refused, and no warning counts.
     pub passes: bool,
 }
@@ -34,8 +34,8 @@ pub struct CheckOutput {
 /// For one manifest, the text has its lines, then the digest of it and of its files in 64
 /// hexadecimal digits; a refusal is returned as a fault. For several, each is reported under a line
 /// `manifest PATH`, in either text that has lines about it. A refused manifest is reported in
-/// `beside`, by the line of its refusal and its reason. With `json` the text is one line of JSON,
-/// also for refused manifests, and `beside` is empty.
+/// `stderr`, by the line of its refusal and its reason. With `json` the text is one line of JSON,
+/// also for refused manifests, and `stderr` is empty.
 // open: what `check_file` leaves open.
 pub fn check_files<D: Disk>(
     alloc: Global,
@@ -106,13 +106,13 @@ fn tell_alone(
     ensures { IfOk result (specs.TellsChecked strict allowed.now checked) }
 {
     let passes = passes(strict, allowed, checked.warnings.as_slice());
-    let mut beside = String::new(alloc);
-    push_warnings(&mut beside, checked.warnings.as_slice())?;
+    let mut stderr = String::new(alloc);
+    push_warnings(&mut stderr, checked.warnings.as_slice())?;
     let mut text = checked.text;
     push_digest(&mut text, checked.digest)?;
     Ok(CheckOutput {
         text,
-        beside,
+        stderr,
         passes,
     })
 }
@@ -134,11 +134,11 @@ fn check_each<D: Disk>(
     allowed: &[&str],
 ) -> Result<CheckOutput, AllocError>
     ensures { IfOk result (λ output. specs.AreCheckedEach (D.known disk.now) strict allowed.now
-        paths.now (string_bytes output.text) (string_bytes output.beside) output.passes) }
+        paths.now (string_bytes output.text) (string_bytes output.stderr) output.passes) }
 {
     let mut output = CheckOutput {
         text: String::new(alloc),
-        beside: String::new(alloc),
+        stderr: String::new(alloc),
         passes: true,
     };
     for path in paths {
@@ -184,7 +184,7 @@ fn add_accepted(
     ensures { IfOk result (specs.AddsAccepted path.now one.now output) }
 {
     push_titled(&mut output.text, path, one.text.as_str())?;
-    push_if_any(&mut output.beside, path, one.beside.as_str())?;
+    push_if_any(&mut output.stderr, path, one.stderr.as_str())?;
     output.passes = output.passes && one.passes;
     Ok(output)
 }
@@ -197,8 +197,8 @@ fn add_refused(
 ) -> Result<CheckOutput, AllocError>
     ensures { IfOk result (specs.AddsRefused path.now fault.now output) }
 {
-    push_title(&mut output.beside, path)?;
-    push_refusal(&mut output.beside, fault)?;
+    push_title(&mut output.stderr, path)?;
+    push_refusal(&mut output.stderr, fault)?;
     output.passes = false;
     Ok(output)
 }

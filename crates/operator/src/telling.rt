@@ -11,7 +11,7 @@ ghost use Rattle.cells.specs.Grown.{Grows};
 
 use cells::{CellArray, CellNo, CellOp, CellSteps, growth};
 use hot_swap::Generation;
-use ruleset::{Ruleset, tell_apps};
+use ruleset::{Ruleset, push_app_lines};
 use std::alloc::{AllocError, Global};
 use std::fmt::Write;
 
@@ -25,7 +25,7 @@ pub fn ruleset_lines(
         (λ text. string_bytes text ≡ ruleset_text (latest generation rules.now)) }
 {
     let mut text = format!(in alloc; "generation {generation}\n")?;
-    tell_apps(&mut text, rules.apps())?;
+    push_app_lines(&mut text, rules.apps())?;
     Ok(text)
 }
 

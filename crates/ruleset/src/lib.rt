@@ -5,11 +5,11 @@
 #![tactic(auto)]
 
 mod app;
+mod app_lines;
 mod loaded;
 mod ruleset;
-mod telling;
 
 pub use app::App;
+pub use app_lines::push_app_lines;
 pub use loaded::LoadedRuleset;
 pub use ruleset::Ruleset;
-pub use telling::tell_apps;

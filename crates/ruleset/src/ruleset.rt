@@ -43,7 +43,7 @@ impl Ruleset {
     }
 
     /// A ruleset of apps that are known to have distinct appids.
-    pub fn known(server: String, apps: Vec<App>) -> Ruleset
+    pub fn from_distinct(server: String, apps: Vec<App>) -> Ruleset
         requires { ¬ HasDuplicate (appids_of apps.items) }
         ensures apps { result.apps ≡ apps.items }
         ensures server { result.server ≡ string_bytes server }

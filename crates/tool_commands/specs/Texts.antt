@@ -30,7 +30,7 @@ output_text (output.Why text) = string_bytes text
 
 -- what goes to standard error with an output: the warnings of a check
 abbrev pub warnings_of : ToolOutput → List ℕ
-warnings_of (output.Checked checked) = string_bytes checked.beside
+warnings_of (output.Checked checked) = string_bytes checked.stderr
 warnings_of other = []
 
 -- a check may find warnings that count, and a simulation lost releases; any other output passes

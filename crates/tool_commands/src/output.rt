@@ -51,7 +51,7 @@ impl ToolOutput {
         ensures { result.now ≡ warnings_of self.now }
     {
         match self {
-            ToolOutput::Checked(output) => output.beside.as_str(),
+            ToolOutput::Checked(output) => output.stderr.as_str(),
             _ => "",
         }
     }

@@ -18,4 +18,4 @@ all_named kind.NeverHolds = refl
 all_named kind.NoBucket = refl
 all_named kind.OfferedAgain = refl
 all_named kind.OfferedLower = refl
-all_named kind.NotAsked = refl
+all_named kind.NotEvaluated = refl

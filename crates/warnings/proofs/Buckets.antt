@@ -3,7 +3,7 @@ use Rattle.std.proofs.Common.{◌≡◌, ℕ, zero, suc, ◌+◌, ◌<◌, List,
 use Rattle.std.proofs.Common.{Option, refl, sym, ap, ◌∙◌, subst, arith, inl, inr, add-one}
 use Rattle.std.proofs.lemmas.Bool.{cases_Bool, cases_lt, or_right}
 use Rattle.attrs.specs.Attributes.{Attributes, plain}
-use Rattle.warnings.specs.Asking.{RuleOfApp, any_below, in_some_bucket}
+use Rattle.warnings.specs.Evaluation.{RuleOfApp, any_below, in_some_bucket}
 
 -- ---- numbers
 

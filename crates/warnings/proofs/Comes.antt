@@ -133,8 +133,8 @@ by_day last r day n within =
 -- ---- an app that the evaluation stands for
 
 -- the bucket is that of the evaluation, and days are in their ranges
-pub record IsOneOf (spot : Spot) (asked a : Attributes) : Type 0 where
-  pub bucket : a.context.bucket ≡ asked.context.bucket
+pub record IsOneOf (spot : Spot) (evaluated a : Attributes) : Type 0 where
+  pub bucket : a.context.bucket ≡ evaluated.context.bucket
   pub today : a.context.today ≤ 2919382
   pub install_day : a.context.install_day ≤ 4294967295
 
@@ -143,20 +143,20 @@ abbrev pub AnswersAlike : Spot → (version : List ℕ) → Test → Type 0
 AnswersAlike spot version (test.Version r w) = spot_cmp spot (spot_at w) ≡ version_cmp version w
 AnswersAlike spot version t = Unit {0}
 
-module _ (spot : Spot) (asked a : Attributes) (is : IsOneOf spot asked a) (s : AppShape) where
-  same_bucket : (salt : Option ℕ) → bucket_by a salt ≡ bucket_by asked salt
+module _ (spot : Spot) (evaluated a : Attributes) (is : IsOneOf spot evaluated a) (s : AppShape) where
+  same_bucket : (salt : Option ℕ) → bucket_by a salt ≡ bucket_by evaluated salt
   same_bucket None = is.bucket
   same_bucket (Some salt) =
       ap (λ b. fnv1a (four_digits b ++ to_le_bytes w64 salt) % 10000) is.bucket
 
   pub test_comes : (t : Test) → AnswersAlike spot a.context.version t
-      → Comes (open_possible spot asked s t) (test_then a s t)
+      → Comes (open_possible spot evaluated s t) (test_then a s t)
   test_comes (test.Version r w) alike =
       by_decided (allows r (version_cmp a.context.version w)) (allows r (spot_cmp spot (spot_at w)))
       (ap (allows r) (sym alike))
   test_comes (test.Bucket salt modulus r n) alike =
       by_decided (allows r (nat_cmp (remainder modulus (bucket_by a salt)) n))
-      (allows r (nat_cmp (remainder modulus (bucket_by asked salt)) n))
+      (allows r (nat_cmp (remainder modulus (bucket_by evaluated salt)) n))
       (ap (λ b. allows r (nat_cmp (remainder modulus b) n)) (same_bucket salt))
   test_comes (test.Today r n) alike = by_day 2919382 r a.context.today n is.today
   test_comes (test.Installed r n) alike =

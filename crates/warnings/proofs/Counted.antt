@@ -12,7 +12,7 @@ use Rattle.attrs.specs.Attributes.{Attributes}
 use Rattle.rule_lang.specs.declared.test.Comparison.TheVariants.{Le, Lt}
 use Rattle.rule_lang.specs.declared.test.Test.TheVariants as test
 use Rattle.rule_lang.specs.Meaning.{allows, bucket_by}
-use Rattle.warnings.specs.Asked.{is_above_all, is_few}
+use Rattle.warnings.specs.RuleWarnings.{is_above_all, is_few}
 use Rattle.warnings.specs.Runs.{AlwaysHolds, IsSoOfTest, MayAsk, TestsAreSo, buckets_that}
 use Rattle.warnings.specs.Runs as so
 use Rattle.warnings.specs.Warnings.{warned, warned_if}

@@ -10,7 +10,7 @@ use Rattle.rule_lang.specs.declared.rule.Statement.TheVariants.{Count, When}
 use Rattle.warnings.specs.declared.possible.Asker.{Asker}
 use Rattle.warnings.specs.declared.possible.Asker.TheVariants.{AllAt}
 use Rattle.warnings.specs.declared.spot.Spot.{Spot}
-use Rattle.warnings.specs.Asking.{RuleOfApp, any_below, arrives, in_some_bucket, may_end, someone}
+use Rattle.warnings.specs.Evaluation.{RuleOfApp, any_below, arrives, in_some_bucket, may_end, someone}
 use Rattle.warnings.specs.Marks.{AreMarked, Crowd, each_by, is_count, is_ended, is_reached, nobody}
 use Rattle.warnings.specs.Marks.{with_buckets, with_one}
 use Rattle.warnings.proofs.Buckets.{IsAsker, moved, moves, none_below_zero}
@@ -128,8 +128,8 @@ module _ (r : RuleOfApp) where
       (n : ℕ) (reached ends : List Bool) : Type 0 where
     pub within : n ≤ 10000
     pub asker : IsAsker r.appid None a
-    pub reached_room : length reached ≡ length r.rule
-    pub ends_room : length ends ≡ length r.rule
+    pub reached_length : length reached ≡ length r.rule
+    pub ends_length : length ends ≡ length r.rule
     pub so_far : (crowd : Crowd) → AreMarked r crowd reached_first ends_first
         → AreMarked r (with_below crowd spot n) reached ends
 
@@ -137,11 +137,11 @@ module _ (r : RuleOfApp) where
     pub no_bucket : (a : Attributes) → IsAsker r.appid None a
         → length reached_first ≡ length r.rule → length ends_first ≡ length r.rule
         → AreBucketsMarked reached_first ends_first spot a 0 reached_first ends_first
-    no_bucket a asker reached_room ends_room = record {
+    no_bucket a asker reached_length ends_length = record {
       within = omega arith;
       asker = asker;
-      reached_room = reached_room;
-      ends_room = ends_room;
+      reached_length = reached_length;
+      ends_length = ends_length;
       so_far = λ crowd h. same_marks crowd (with_below crowd spot 0) reached_first ends_first
           (λ asks. sym (ap (λ b. crowd asks || b)
           (none_below_zero (λ k. asks (AllAt spot) (plain r.appid None k)))
@@ -154,12 +154,12 @@ module _ (r : RuleOfApp) where
         → ((crowd : Crowd) → AreMarked r crowd reached ends
         → AreMarked r (with_one crowd (AllAt spot) b) reached_now ends_now)
         → AreBucketsMarked reached_first ends_first spot b (n + 1) reached_now ends_now
-    next_bucket a b n reached ends reached_now ends_now h more is reached_room ends_room marked =
+    next_bucket a b n reached ends reached_now ends_now h more is reached_length ends_length marked =
         record {
           within = omega (arith, more);
           asker = moves r.appid None a b n h.asker is;
-          reached_room = reached_room ∙ h.reached_room;
-          ends_room = ends_room ∙ h.ends_room;
+          reached_length = reached_length ∙ h.reached_length;
+          ends_length = ends_length ∙ h.ends_length;
           so_far = λ crowd first.
               same_marks (with_one (with_below crowd spot n) (AllAt spot) b)
               (with_below crowd spot (n + 1)) reached_now ends_now

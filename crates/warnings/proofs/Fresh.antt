@@ -41,15 +41,15 @@ pub record LeadsFresh (b : Behaviour) (choice : ℕ) : Type 0 where
   pub fresh : All (λ (e : CellEvent). e.reply ≡ 0) events
   pub run : HasTrace b events choice
 
-abbrev asked_once : ℕ → CellEvent
-asked_once cell = record { cell = cell; op = Add 1; reply = 0 }
+abbrev accessed_once : ℕ → CellEvent
+accessed_once cell = record { cell = cell; op = Add 1; reply = 0 }
 
 -- a cell that replies 0, and the run after it
 asks_on : (cell : ℕ) (next : ℕ → Behaviour) (choice : ℕ) → LeadsFresh (next 0) choice
     → LeadsFresh (Asks cell (Add 1) next) choice
 asks_on cell next choice h = record {
-  events = asked_once cell ∷ h.events;
-  fresh = All-cons (λ (e : CellEvent). e.reply ≡ 0) (asked_once cell) h.events refl h.fresh;
+  events = accessed_once cell ∷ h.events;
+  fresh = All-cons (λ (e : CellEvent). e.reply ≡ 0) (accessed_once cell) h.events refl h.fresh;
   run = (refl, refl, lit< tt, h.run);
 }
 

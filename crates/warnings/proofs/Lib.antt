@@ -5,7 +5,7 @@ pub mod Each
 pub mod Marked
 pub mod Someone
 pub mod Crowds
-pub mod Told
+pub mod Reported
 pub mod Versions
 pub mod Comes
 pub mod Conditions

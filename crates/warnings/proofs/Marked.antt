@@ -12,7 +12,7 @@ use Rattle.rule_lang.specs.declared.rule.Statement.{Statement}
 use Rattle.rule_lang.specs.declared.rule.Statement.TheVariants.{Count, When}
 use Rattle.warnings.specs.declared.possible.Asker.{Asker}
 use Rattle.warnings.specs.declared.possible.Possible.{Possible}
-use Rattle.warnings.specs.Asking.{RuleOfApp, arrives, may_end, tests_for}
+use Rattle.warnings.specs.Evaluation.{RuleOfApp, arrives, may_end, tests_for}
 use Rattle.warnings.specs.Course.{statement_possible}
 use Rattle.warnings.specs.Marks.{AreMarked, Crowd, each_by, is_ended, is_reached, with_one}
 use Rattle.warnings.proofs.Each.{half, half_kept, half_set, half_whole}
@@ -89,21 +89,21 @@ module _ (r : RuleOfApp) (asker : Asker) (a : Attributes) where
     pub place_is : length before ≡ place
     pub goes : arrives r before asker a ≡ true
     pub within : place + length left ≡ length r.rule
-    pub reached_room : length reached ≡ length r.rule
-    pub ends_room : length ends ≡ length r.rule
+    pub reached_length : length reached ≡ length r.rule
+    pub ends_length : length ends ≡ length r.rule
     pub so_far : (crowd : Crowd) → AreMarked r crowd reached_first ends_first
         → AreHalfMarked crowd before left reached ends
 
   pub sets_out : (reached ends : List Bool) → length reached ≡ length r.rule
       → length ends ≡ length r.rule → IsOnWay reached ends 0 r.rule reached ends
-  sets_out reached ends reached_room ends_room = record {
+  sets_out reached ends reached_length ends_length = record {
     before = [];
     whole = refl;
     place_is = refl;
     goes = refl;
     within = omega arith;
-    reached_room = reached_room;
-    ends_room = ends_room;
+    reached_length = reached_length;
+    ends_length = ends_length;
     so_far = λ crowd h. record { reached_are = h.reached_are; ends_are = h.ends_are };
   }
 
@@ -165,14 +165,14 @@ module _ (r : RuleOfApp) (asker : Asker) (a : Attributes) where
     pub goes_on : p.fails ≡ true → length reached_now_are ≡ length reached
         → length ends_now_are ≡ length ends
         → IsOnWay reached_first ends_first (place + 1) rest reached_now_are ends_now_are
-    goes_on fails reached_room ends_room = record {
+    goes_on fails reached_length ends_length = record {
       before = h.before ++ st ∷ [];
       whole = whole_still;
       place_is = let both = length-append h.before (st ∷ []) in omega (arith, both, h.place_is);
       goes = passed true fails;
       within = omega (arith, ap length stands, h.within);
-      reached_room = reached_room ∙ h.reached_room;
-      ends_room = ends_room ∙ h.ends_room;
+      reached_length = reached_length ∙ h.reached_length;
+      ends_length = ends_length ∙ h.ends_length;
       so_far = marked_so_far;
     }
 

@@ -11,9 +11,9 @@ use Rattle.rule_lang.specs.declared.test.Test.{Test}
 use Rattle.warnings.specs.declared.possible.Asker.{Asker}
 use Rattle.warnings.specs.declared.possible.Asker.TheVariants.{AllAt, One}
 use Rattle.warnings.specs.declared.possible.Possible.{Possible}
-use Rattle.warnings.specs.Asked.{ungiven_warning, when_warning}
-use Rattle.warnings.specs.Asking.{RuleOfApp, arrives, gets, in_some_bucket, may_end, may_give}
-use Rattle.warnings.specs.Asking.{someone, tests_for}
+use Rattle.warnings.specs.RuleWarnings.{ungiven_warning, when_warning}
+use Rattle.warnings.specs.Evaluation.{RuleOfApp, arrives, gets, in_some_bucket, may_end, may_give}
+use Rattle.warnings.specs.Evaluation.{someone, tests_for}
 use Rattle.warnings.specs.Course.{first_offer}
 use Rattle.warnings.specs.Runs.{IsNeverChosen, IsNeverPassed, IsSoOfRelease, IsSoOfVersion}
 use Rattle.warnings.specs.Runs.{IsSoOfWhen, MayAsk, MayGet, NeverHolds, ReleasesAreSo}
@@ -49,10 +49,10 @@ module _ (r : RuleOfApp) (a : Attributes) (may : MayAsk a) where
   place : Highest (spots_of r.rule) a.context.version
   place = highest (spots_of r.rule) a.context.version (has_lowest r.rule)
 
-  abbrev asked : Attributes
-  asked = plain r.appid None a.context.bucket
+  abbrev evaluated : Attributes
+  evaluated = plain r.appid None a.context.bucket
 
-  one_of : IsOneOf place.spot asked a
+  one_of : IsOneOf place.spot evaluated a
   one_of = record {
     bucket = refl;
     today = subst (λ n. n ≤ 2919382) (sym may.today) (day_within may.moment);
@@ -60,17 +60,17 @@ module _ (r : RuleOfApp) (a : Attributes) (may : MayAsk a) where
   }
 
   abbrev of_tests : Test → Possible
-  of_tests = tests_for r (AllAt place.spot) asked
+  of_tests = tests_for r (AllAt place.spot) evaluated
 
   all_come : RuleTests (TestComes of_tests a r.shape) r.rule
   all_come =
       of_rule (AnswersAlike place.spot a.context.version) (TestComes of_tests a r.shape)
-      (test_comes place.spot asked a one_of r.shape) r.rule
+      (test_comes place.spot evaluated a one_of r.shape) r.rule
       (all_alike r.rule a.context.version place)
 
   -- what no client does this client doesn't do
   nor_it : (asks : Asker → Attributes → Bool) → someone r (spots_of r.rule) asks ≡ false
-      → asks (AllAt place.spot) asked ≡ false
+      → asks (AllAt place.spot) evaluated ≡ false
   nor_it asks nobody =
       none_at (λ bucket. asks (AllAt place.spot) (plain r.appid None bucket)) 10000
       a.context.bucket may.ranges.bucket

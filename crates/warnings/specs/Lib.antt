@@ -5,7 +5,7 @@ pub mod Spots
 pub mod Possible
 pub mod Stack
 pub mod Course
-pub mod Asking
+pub mod Evaluation
 pub mod Marks
-pub mod Asked
+pub mod RuleWarnings
 pub mod Runs

@@ -7,7 +7,7 @@ use Rattle.rule_lang.specs.declared.rule.Statement.TheVariants.{Count, When}
 use Rattle.warnings.specs.declared.possible.Asker.{Asker}
 use Rattle.warnings.specs.declared.possible.Asker.TheVariants.{AllAt}
 use Rattle.warnings.specs.declared.spot.Spot.{Spot}
-use Rattle.warnings.specs.Asking.{RuleOfApp, arrives, in_some_bucket, may_end}
+use Rattle.warnings.specs.Evaluation.{RuleOfApp, arrives, in_some_bucket, may_end}
 use Rattle.warnings.specs.Course.{offered}
 
 -- ---- a crowd: for a property of clients, whether one of the clients so far has it

@@ -14,7 +14,7 @@ all_kinds =
     kind.UnusedArray ∷ kind.UnprintedAppid ∷ kind.SameVersion ∷ kind.CodebaseSlash
     ∷ kind.CodebaseScheme ∷ kind.FewBuckets false 0 0 ∷ kind.AllBuckets false 0
     ∷ kind.TakeBeforeVersion ∷ kind.NeverReached ∷ kind.NeverHolds ∷ kind.NoBucket
-    ∷ kind.OfferedAgain ∷ kind.OfferedLower ∷ kind.NotAsked ∷ []
+    ∷ kind.OfferedAgain ∷ kind.OfferedLower ∷ kind.NotEvaluated ∷ []
 
 unfoldable pub is_warning_name : List ℕ → Bool
 is_warning_name text = list_any (λ k. bytes_eq text (name_of k)) all_kinds

@@ -16,9 +16,9 @@ use Rattle.rule_lang.specs.declared.test.Comparison.TheVariants.{Le, Lt}
 use Rattle.rule_lang.specs.declared.test.Test.{Test}
 use Rattle.rule_lang.specs.declared.test.Test.TheVariants as test
 use Rattle.rule_lang.specs.Meaning.{Behaviour, HasTrace, allows, behaviour, test_then}
-use Rattle.warnings.specs.Asked.{first_line, got_warning, statement_warning, test_warning}
-use Rattle.warnings.specs.Asked.{ungiven_warning}
-use Rattle.warnings.specs.Asking.{RuleOfApp, all_buckets, choice_compares, may_give, someone}
+use Rattle.warnings.specs.RuleWarnings.{first_line, got_warning, statement_warning, test_warning}
+use Rattle.warnings.specs.RuleWarnings.{ungiven_warning}
+use Rattle.warnings.specs.Evaluation.{RuleOfApp, all_buckets, choice_compares, may_give, someone}
 use Rattle.warnings.specs.Spots.{spots_of}
 use Rattle.warnings.specs.Warnings.{warned}
 use Rattle.warnings.specs.declared.warning.WarningPlace.TheVariants as place

@@ -32,7 +32,7 @@ name_of kind.NeverHolds = codes "never-holds"
 name_of kind.NoBucket = codes "no-bucket"
 name_of kind.OfferedAgain = codes "offered-again"
 name_of kind.OfferedLower = codes "offered-lower"
-name_of kind.NotAsked = codes "not-asked"
+name_of kind.NotEvaluated = codes "not-asked"
 
 -- ---- lines
 
@@ -83,7 +83,7 @@ said_of kind.NeverHolds = codes ": this when never holds"
 said_of kind.NoBucket = codes ": no bucket gets it"
 said_of kind.OfferedAgain = codes ".version: in some bucket who has it may get it again"
 said_of kind.OfferedLower = codes ".version: in some bucket who has it may get a lower one"
-said_of kind.NotAsked =
+said_of kind.NotEvaluated =
     codes ".rule: not asked which releases it gives, since that would take long"
 
 -- its place, and what it says

@@ -3,11 +3,11 @@
 
 ghost use Rattle.std.specs.Prelude.{◌≡◌, ◌++◌, List, OnOk};
 ghost use Rattle.warnings.specs.declared.spot.Spot.{Spot};
-ghost use Rattle.warnings.specs.Asked as specs;
-ghost use Rattle.warnings.specs.Asking.{rule_of, someone};
+ghost use Rattle.warnings.specs.RuleWarnings as specs;
+ghost use Rattle.warnings.specs.Evaluation.{rule_of, someone};
 ghost use Rattle.warnings.specs.Marks.{AreMarked};
 
-use crate::asking::{AskedRule, gets_in_some_bucket};
+use crate::evaluating::{EvaluatedRule, gets_in_some_bucket};
 use crate::marks::{Marks, is_given};
 use crate::warning::{Warning, WarningKind, WarningPlace, warn_if};
 use releases::Release;
@@ -20,15 +20,15 @@ fn tell_got(
     alloc: Global,
     warnings: &mut Vec<Warning>,
     place: WarningPlace,
-    asked: &AskedRule<'_>,
+    evaluated: &EvaluatedRule<'_>,
     by: Comparison,
     version: &str,
     what: WarningKind,
 ) -> Result<(), AllocError>
     ensures { OnOk result (warnings.new.items ≡ warnings.old.items
-        ++ specs.got_at place (rule_of asked.now) by version.now what) }
+        ++ specs.got_at place (rule_of evaluated.now) by version.now what) }
 {
-    let got = gets_in_some_bucket(alloc, asked, by, version)?;
+    let got = gets_in_some_bucket(alloc, evaluated, by, version)?;
     warn_if(warnings, got, place, what)
 }
 
@@ -37,12 +37,12 @@ fn tell_release(
     warnings: &mut Vec<Warning>,
     app: usize,
     number: usize,
-    asked: &AskedRule<'_>,
+    evaluated: &EvaluatedRule<'_>,
     given: bool,
     release: &Release,
 ) -> Result<(), AllocError>
     ensures { OnOk result (warnings.new.items ≡ warnings.old.items
-        ++ specs.given_warnings app number (rule_of asked.now) given release.now) }
+        ++ specs.given_warnings app number (rule_of evaluated.now) given release.now) }
 {
     let place = WarningPlace::Release {
         app,
@@ -55,7 +55,7 @@ fn tell_release(
         alloc,
         warnings,
         place,
-        asked,
+        evaluated,
         Comparison::Eq,
         version,
         again,
@@ -65,7 +65,7 @@ fn tell_release(
         alloc,
         warnings,
         place,
-        asked,
+        evaluated,
         Comparison::Lt,
         version,
         lower,
@@ -77,20 +77,20 @@ pub(crate) fn tell_all_releases(
     alloc: Global,
     warnings: &mut Vec<Warning>,
     app: usize,
-    asked: &AskedRule<'_>,
+    evaluated: &EvaluatedRule<'_>,
     marks: &Marks,
 ) -> Result<(), AllocError>
     ensures { (spots : List Spot)
-        → AreMarked (rule_of asked.now) (someone (rule_of asked.now) spots)
+        → AreMarked (rule_of evaluated.now) (someone (rule_of evaluated.now) spots)
         marks.now.reached.items marks.now.ends.items → OnOk result (warnings.new.items
         ≡ warnings.old.items
-        ++ specs.asked_from app 1 (rule_of asked.now) spots (rule_of asked.now).releases) }
+        ++ specs.evaluated_releases app 1 (rule_of evaluated.now) spots (rule_of evaluated.now).releases) }
 {
     let mut number = 1;
-    let mut left = asked.releases;
+    let mut left = evaluated.releases;
     while let [release, later @ ..] = left {
-        let given = is_given(marks.ends.as_slice(), asked.statements, number);
-        tell_release(alloc, warnings, app, number, asked, given, release)?;
+        let given = is_given(marks.ends.as_slice(), evaluated.statements, number);
+        tell_release(alloc, warnings, app, number, evaluated, given, release)?;
         number += 1;
         left = later;
     }

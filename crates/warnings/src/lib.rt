@@ -17,7 +17,7 @@
 // (`marks.rt`).
 //
 // A client that has a release may be offered it again, or a lower one. That is evaluated for a
-// client that sends only its version, and with each counter replying 0 (`asking.rt`). Then each
+// client that sends only its version, and with each counter replying 0 (`evaluating.rt`). Then each
 // test is decided.
 //
 // A bucket test whose number is probably too small or too large is found by reading the rule,
@@ -30,9 +30,10 @@
 // and some run does what a warning says may happen. No law covers the warning on a take.
 
 mod appid;
-mod asking;
+mod budget;
 mod condition;
 mod course;
+mod evaluating;
 mod given;
 mod holding;
 mod law;
@@ -42,7 +43,6 @@ mod names;
 mod parts;
 mod possible;
 mod release;
-mod room;
 mod spot;
 mod takes;
 mod telling;
@@ -50,7 +50,7 @@ mod warning;
 mod whens;
 
 pub use appid::tell_appid;
-pub use asking::AskedRule;
+pub use evaluating::EvaluatedRule;
 pub use law::{warnings_are_named, warnings_are_so};
 pub use line::{push_warning_text, push_warnings};
 pub use names::{is_warning_name, some_counts};

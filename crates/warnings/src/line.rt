@@ -28,7 +28,7 @@ impl WarningKind {
             WarningKind::NoBucket => "no-bucket",
             WarningKind::OfferedAgain => "offered-again",
             WarningKind::OfferedLower => "offered-lower",
-            WarningKind::NotAsked => "not-asked",
+            WarningKind::NotEvaluated => "not-asked",
         }
     }
 
@@ -57,7 +57,7 @@ impl WarningKind {
             WarningKind::NoBucket => ": no bucket gets it",
             WarningKind::OfferedAgain => ".version: in some bucket who has it may get it again",
             WarningKind::OfferedLower => ".version: in some bucket who has it may get a lower one",
-            WarningKind::NotAsked => {
+            WarningKind::NotEvaluated => {
                 ".rule: not asked which releases it gives, since that would take long"
             }
         }

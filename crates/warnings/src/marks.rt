@@ -3,11 +3,11 @@
 ghost use Rattle.std.specs.Prelude.{◌≡◌, ◌<◌, length, map, true, IfOk, OnOk};
 ghost use Rattle.std.specs.Prelude.{◌&&◌, if◌then◌else◌, slice_set};
 ghost use Rattle.std.specs.List.{list_all};
-ghost use Rattle.warnings.specs.Asking.{rule_of, someone};
+ghost use Rattle.warnings.specs.Evaluation.{rule_of, someone};
 ghost use Rattle.warnings.specs.Marks.{AreMarked, Crowd, nobody, with_buckets, with_one};
 ghost use Rattle.warnings.specs.Marks as specs;
 
-use crate::asking::AskedRule;
+use crate::evaluating::EvaluatedRule;
 use crate::course::{offered, statement_possible};
 use crate::possible::{Asker, Possible};
 use crate::spot::Spot;
@@ -42,22 +42,22 @@ fn mark_place(reached: &mut [bool], ends: &mut [bool], place: usize, holds: bool
 // Adds the marks of one more client.
 fn mark_way(
     stack: &mut Vec<Possible>,
-    asked: &AskedRule<'_>,
+    evaluated: &EvaluatedRule<'_>,
     asker: Asker,
     attrs: &Attrs,
     reached: &mut [bool],
     ends: &mut [bool],
 ) -> Result<(), AllocError>
-    requires reached { length reached.old ≡ length asked.now.statements.now }
-    requires ends { length ends.old ≡ length asked.now.statements.now }
-    ensures { (crowd : Crowd) → AreMarked (rule_of asked.now) crowd reached.old ends.old
-        → OnOk result (AreMarked (rule_of asked.now) (with_one crowd asker attrs.now)
+    requires reached { length reached.old ≡ length evaluated.now.statements.now }
+    requires ends { length ends.old ≡ length evaluated.now.statements.now }
+    ensures { (crowd : Crowd) → AreMarked (rule_of evaluated.now) crowd reached.old ends.old
+        → OnOk result (AreMarked (rule_of evaluated.now) (with_one crowd asker attrs.now)
         reached.new ends.new) }
 {
     let mut place = 0;
-    let mut left = asked.statements;
+    let mut left = evaluated.statements;
     while let [statement, others @ ..] = left {
-        let possible = statement_possible(stack, asker, attrs, asked.shape, statement)?;
+        let possible = statement_possible(stack, asker, attrs, evaluated.shape, statement)?;
         mark_place(reached, ends, place, possible.holds);
         if !possible.fails {
             return Ok(());
@@ -91,18 +91,18 @@ fn are_settled(reached: &[bool], ends: &[bool]) -> bool
 // Adds the marks of the clients of each bucket whose version lies at `spot`.
 fn mark_buckets(
     alloc: Global,
-    asked: &AskedRule<'_>,
+    evaluated: &EvaluatedRule<'_>,
     spot: Spot,
     reached: &mut [bool],
     ends: &mut [bool],
 ) -> Result<(), AllocError>
-    requires reached { length reached.old ≡ length asked.now.statements.now }
-    requires ends { length ends.old ≡ length asked.now.statements.now }
-    ensures { (crowd : Crowd) → AreMarked (rule_of asked.now) crowd reached.old ends.old
-        → OnOk result (AreMarked (rule_of asked.now) (with_buckets (rule_of asked.now) crowd spot)
+    requires reached { length reached.old ≡ length evaluated.now.statements.now }
+    requires ends { length ends.old ≡ length evaluated.now.statements.now }
+    ensures { (crowd : Crowd) → AreMarked (rule_of evaluated.now) crowd reached.old ends.old
+        → OnOk result (AreMarked (rule_of evaluated.now) (with_buckets (rule_of evaluated.now) crowd spot)
         reached.new ends.new) }
 {
-    let Ok(mut attrs) = Attrs::plain(alloc, asked.appid, None, 0) else {
+    let Ok(mut attrs) = Attrs::plain(alloc, evaluated.appid, None, 0) else {
         return Err(AllocError);
     };
     let mut stack = Vec::new(alloc);
@@ -113,7 +113,7 @@ fn mark_buckets(
         }
         let place = Bucket::new(bucket);
         attrs = attrs.in_bucket(place);
-        mark_way(&mut stack, asked, Asker::AllAt(spot), &attrs, reached, ends)?;
+        mark_way(&mut stack, evaluated, Asker::AllAt(spot), &attrs, reached, ends)?;
         bucket += 1;
     }
     Ok(())
@@ -121,18 +121,18 @@ fn mark_buckets(
 
 fn mark_spots(
     alloc: Global,
-    asked: &AskedRule<'_>,
+    evaluated: &EvaluatedRule<'_>,
     spots: &[Spot],
     reached: &mut [bool],
     ends: &mut [bool],
 ) -> Result<(), AllocError>
-    requires { AreMarked (rule_of asked.now) nobody reached.old ends.old }
-    ensures { OnOk result (AreMarked (rule_of asked.now) (someone (rule_of asked.now) spots.now)
+    requires { AreMarked (rule_of evaluated.now) nobody reached.old ends.old }
+    ensures { OnOk result (AreMarked (rule_of evaluated.now) (someone (rule_of evaluated.now) spots.now)
         reached.new ends.new) }
 {
     let mut left = spots;
     while let [spot, others @ ..] = left {
-        mark_buckets(alloc, asked, *spot, reached, ends)?;
+        mark_buckets(alloc, evaluated, *spot, reached, ends)?;
         left = others;
     }
     Ok(())
@@ -163,17 +163,17 @@ fn unmarked(alloc: Global, statements: &[Statement]) -> Result<Vec<bool>, AllocE
 /// The marks of a rule, for all clients whose versions lie at one of these spots.
 pub(crate) fn marks_of(
     alloc: Global,
-    asked: &AskedRule<'_>,
+    evaluated: &EvaluatedRule<'_>,
     spots: &[Spot],
 ) -> Result<Marks, AllocError>
-    ensures { IfOk result (λ marks. AreMarked (rule_of asked.now)
-        (someone (rule_of asked.now) spots.now) marks.reached.items marks.ends.items) }
+    ensures { IfOk result (λ marks. AreMarked (rule_of evaluated.now)
+        (someone (rule_of evaluated.now) spots.now) marks.reached.items marks.ends.items) }
 {
-    let mut reached = unmarked(alloc, asked.statements)?;
-    let mut ends = unmarked(alloc, asked.statements)?;
+    let mut reached = unmarked(alloc, evaluated.statements)?;
+    let mut ends = unmarked(alloc, evaluated.statements)?;
     mark_spots(
         alloc,
-        asked,
+        evaluated,
         spots,
         reached.as_mut_slice(),
         ends.as_mut_slice(),

@@ -2,7 +2,7 @@
 //! whose number is above that, and takes. These come from reading the rule, not from evaluating it.
 
 ghost use Rattle.std.specs.Prelude.{◌≡◌, ◌++◌, OnOk};
-ghost use Rattle.warnings.specs.Asked as specs;
+ghost use Rattle.warnings.specs.RuleWarnings as specs;
 
 use crate::takes::tell_takes;
 use crate::warning::{Warning, WarningKind, WarningPlace, warn_if};

@@ -3,7 +3,7 @@
 
 ghost use Rattle.std.specs.Prelude.{◌≡◌, ◌++◌, OnOk};
 ghost use Rattle.std.specs.List.{list_any};
-ghost use Rattle.warnings.specs.Asked as specs;
+ghost use Rattle.warnings.specs.RuleWarnings as specs;
 
 use crate::warning::{Warning, WarningKind, WarningPlace, warn_if};
 use rule_lang::{Step, Test};

@@ -1,15 +1,15 @@
 //! All warnings on an app's rule.
 
 ghost use Rattle.std.specs.Prelude.{◌≡◌, ◌++◌, OnOk, IfOk};
-ghost use Rattle.warnings.specs.Asked as specs;
-ghost use Rattle.warnings.specs.Asking.{rule_of};
+ghost use Rattle.warnings.specs.RuleWarnings as specs;
+ghost use Rattle.warnings.specs.Evaluation.{rule_of};
 ghost use Rattle.warnings.specs.Spots as places;
 
-use crate::asking::AskedRule;
+use crate::budget::budget_behind;
+use crate::evaluating::EvaluatedRule;
 use crate::given::tell_all_releases;
 use crate::marks::marks_of;
 use crate::parts::tell_parts_of_rule;
-use crate::room::room_behind;
 use crate::spot::{Spot, spots_of};
 use crate::warning::{Warning, WarningKind, WarningPlace};
 use crate::whens::tell_statements;
@@ -19,42 +19,42 @@ fn tell_answers(
     alloc: Global,
     warnings: &mut Vec<Warning>,
     app: usize,
-    asked: &AskedRule<'_>,
+    evaluated: &EvaluatedRule<'_>,
     spots: &[Spot],
 ) -> Result<(), AllocError>
-    requires { spots.now ≡ places.spots_of (rule_of asked.now).rule }
+    requires { spots.now ≡ places.spots_of (rule_of evaluated.now).rule }
     ensures { OnOk result (warnings.new.items
-        ≡ warnings.old.items ++ specs.asked_warnings app (rule_of asked.now)) }
+        ≡ warnings.old.items ++ specs.evaluated_warnings app (rule_of evaluated.now)) }
 {
-    let marks = marks_of(alloc, asked, spots)?;
-    tell_statements(warnings, app, asked, &marks)?;
-    tell_all_releases(alloc, warnings, app, asked, &marks)
+    let marks = marks_of(alloc, evaluated, spots)?;
+    tell_statements(warnings, app, evaluated, &marks)?;
+    tell_all_releases(alloc, warnings, app, evaluated, &marks)
 }
 
 // Warnings that need evaluation, if the budget is enough.
-fn tell_asked(
+fn tell_evaluated(
     alloc: Global,
     warnings: &mut Vec<Warning>,
     app: usize,
-    asked: &AskedRule<'_>,
-    room: u64,
+    evaluated: &EvaluatedRule<'_>,
+    budget: u64,
 ) -> Result<u64, AllocError>
-    ensures told { OnOk result (warnings.new.items ≡ warnings.old.items
-        ++ specs.told_in (specs.room_after (rule_of asked.now) room) app (rule_of asked.now)) }
-    ensures room { IfOk result (λ left. left ≡ specs.room_left room (rule_of asked.now)) }
+    ensures reported { OnOk result (warnings.new.items ≡ warnings.old.items
+        ++ specs.warnings_within (specs.budget_after (rule_of evaluated.now) budget) app (rule_of evaluated.now)) }
+    ensures budget { IfOk result (λ left. left ≡ specs.budget_left budget (rule_of evaluated.now)) }
 {
-    let spots = spots_of(alloc, asked.statements)?;
-    let versions = (spots.len() + asked.releases.len()) as u64;
-    match room_behind(versions, room, asked.statements) {
+    let spots = spots_of(alloc, evaluated.statements)?;
+    let versions = (spots.len() + evaluated.releases.len()) as u64;
+    match budget_behind(versions, budget, evaluated.statements) {
         Some(left) => {
-            tell_answers(alloc, warnings, app, asked, spots.as_slice())?;
+            tell_answers(alloc, warnings, app, evaluated, spots.as_slice())?;
             Ok(left)
         }
         None => {
             let place = WarningPlace::App(app);
-            let kind = WarningKind::NotAsked;
+            let kind = WarningKind::NotEvaluated;
             warnings.push(Warning { place, kind })?;
-            Ok(room)
+            Ok(budget)
         }
     }
 }
@@ -82,13 +82,13 @@ pub fn tell_rule(
     alloc: Global,
     warnings: &mut Vec<Warning>,
     app: usize,
-    asked: &AskedRule<'_>,
-    room: u64,
+    evaluated: &EvaluatedRule<'_>,
+    budget: u64,
 ) -> Result<u64, AllocError>
-    ensures told { OnOk result (warnings.new.items
-        ≡ warnings.old.items ++ specs.rule_warnings app room (rule_of asked.now)) }
-    ensures room { IfOk result (λ left. left ≡ specs.room_left room (rule_of asked.now)) }
+    ensures reported { OnOk result (warnings.new.items
+        ≡ warnings.old.items ++ specs.rule_warnings app budget (rule_of evaluated.now)) }
+    ensures budget { IfOk result (λ left. left ≡ specs.budget_left budget (rule_of evaluated.now)) }
 {
-    tell_parts_of_rule(warnings, app, asked.statements)?;
-    tell_asked(alloc, warnings, app, asked, room)
+    tell_parts_of_rule(warnings, app, evaluated.statements)?;
+    tell_evaluated(alloc, warnings, app, evaluated, budget)
 }

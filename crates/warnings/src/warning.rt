@@ -52,7 +52,7 @@ pub enum WarningKind {
     /// A client that has a release may get one of a lower version.
     OfferedLower,
     /// A rule would exceed the budget of evaluation.
-    NotAsked,
+    NotEvaluated,
 }
 
 /// A warning: its place and its kind.

@@ -2,11 +2,11 @@
 
 ghost use Rattle.std.specs.Prelude.{◌≡◌, ◌++◌, List, [], false, OnOk};
 ghost use Rattle.warnings.specs.declared.spot.Spot.{Spot};
-ghost use Rattle.warnings.specs.Asked as specs;
-ghost use Rattle.warnings.specs.Asking.{rule_of, someone};
+ghost use Rattle.warnings.specs.RuleWarnings as specs;
+ghost use Rattle.warnings.specs.Evaluation.{rule_of, someone};
 ghost use Rattle.warnings.specs.Marks.{AreMarked};
 
-use crate::asking::AskedRule;
+use crate::evaluating::EvaluatedRule;
 use crate::marks::Marks;
 use crate::warning::{Warning, WarningKind, WarningPlace};
 use rule_lang::{Statement, Step};
@@ -67,16 +67,16 @@ fn tell_when(
 pub(crate) fn tell_statements(
     warnings: &mut Vec<Warning>,
     app: usize,
-    asked: &AskedRule<'_>,
+    evaluated: &EvaluatedRule<'_>,
     marks: &Marks,
 ) -> Result<(), AllocError>
     ensures { (spots : List Spot)
-        → AreMarked (rule_of asked.now) (someone (rule_of asked.now) spots)
+        → AreMarked (rule_of evaluated.now) (someone (rule_of evaluated.now) spots)
         marks.now.reached.items marks.now.ends.items → OnOk result (warnings.new.items
         ≡ warnings.old.items
-        ++ specs.statements_from app (rule_of asked.now) spots [] (rule_of asked.now).rule) }
+        ++ specs.statements_from app (rule_of evaluated.now) spots [] (rule_of evaluated.now).rule) }
 {
-    let mut left = asked.statements;
+    let mut left = evaluated.statements;
     let mut reached = marks.reached.as_slice();
     let mut ends = marks.ends.as_slice();
     while let [statement, others @ ..] = left {

@@ -3,7 +3,7 @@
 use super::{RULES, SAMPLE};
 use crate::sample::{changed, files, halves, must};
 use cells::Directory;
-use load::{digest_of, gather};
+use load::{collect_sources, digest_of};
 use std::alloc::Global;
 use std::test::Fail;
 
@@ -22,7 +22,7 @@ const ROWS: &str = r#"
 fn digest(alloc: Global, manifest: &str) -> Result<String, Fail> {
     let mut files = files(alloc, RULES)?;
     let directory = Directory::new(alloc);
-    let Ok(gathered) = gather(alloc, manifest.as_bytes(), &mut files, &directory) else {
+    let Ok(gathered) = collect_sources(alloc, manifest.as_bytes(), &mut files, &directory) else {
         return Err("a manifest".into());
     };
     match digest_of(manifest.as_bytes(), &gathered.apps) {

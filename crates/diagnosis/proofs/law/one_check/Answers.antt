@@ -3,5 +3,5 @@ use Rattle.diagnosis.proofs.law.one_check.Goals as goal
 
 pub returns : goal.returns
 returns c = λ files bytes.
-    one_check c.one_load.ensures.load c.gathered_is_loaded.ensures c.one_reading.ensures
+    one_check c.one_load.ensures.load c.sources_are_loaded.ensures c.one_reading.ensures
     c.one_verdict.ensures files bytes

@@ -1,8 +1,8 @@
 use Rattle.std.proofs.Common.{rules, ℕ, List, [], subst}
 use Rattle.load.specs.Folder.{known_beside}
-use Rattle.load.specs.Gathered.{IsGathered}
+use Rattle.load.specs.Sources.{AreSources}
 use Rattle.load.specs.Made.{IsMadeOf}
-use Rattle.load.specs.declared.gathering.GatheredApp.{GatheredApp}
+use Rattle.load.specs.declared.sources.AppSources.{AppSources}
 use Rattle.dry_run.specs.KeptRules.{AreReadFrom}
 use Rattle.dry_run.proofs.Opening.{loaded}
 use Rattle.dry_run.proofs.why_files.load_why.Goals as goal
@@ -12,29 +12,29 @@ returns-in-Err-clause-fault g c = c.in-Err.ensures.fault []
 
 pub make_ruleset-requires-clause-shaped : goal.make_ruleset-requires-clause-shaped
 make_ruleset-requires-clause-shaped g c =
-    (c.gathered_is_loaded.ensures.manifest _ _ _ _ c.in-Ok-gather.ensures.gathered).shaped
+    (c.sources_are_loaded.ensures.manifest _ _ _ _ c.in-Ok-collect_sources.ensures.sources).shaped
 
 pub returns-in-Ok-make_ruleset-clause-loaded : goal.returns-in-Ok-make_ruleset-clause-loaded
 returns-in-Ok-make_ruleset-clause-loaded g c =
     let known = g.D.Disk.known c.args.disk.now in
-    let gathered = c.in-Ok-gather.gathered in
+    let sources = c.in-Ok-collect_sources.sources in
     let made = c.in-Ok-make_ruleset.made in
     let known_rules = c.in-Ok-read_rules.known_rules.items in
-    let is : IsGathered (known_beside known c.args.path.now) [] c.in-Ok.bytes.items gathered =
+    let is : AreSources (known_beside known c.args.path.now) [] c.in-Ok.bytes.items sources =
     search rules in
-    loaded known c.args.path.now c.in-Ok.bytes.items gathered made known_rules
+    loaded known c.args.path.now c.in-Ok.bytes.items sources made known_rules
     c.in-Ok.ensures.given is
-    (subst (λ (b : List ℕ). IsMadeOf b gathered made) c.deref-3.ensures.value
+    (subst (λ (b : List ℕ). IsMadeOf b sources made) c.deref-3.ensures.value
     c.in-Ok-make_ruleset.ensures.made)
-    (subst (λ (apps : List GatheredApp). AreReadFrom apps known_rules) c.deref-2.ensures.value
+    (subst (λ (apps : List AppSources). AreReadFrom apps known_rules) c.deref-2.ensures.value
     c.in-Ok-read_rules.ensures)
 
 pub returns-clause-fault : goal.returns-clause-fault
 returns-clause-fault g c =
     let known = g.D.Disk.known c.args.disk.now in
-    let is : IsGathered (known_beside known c.args.path.now) [] c.in-Ok.bytes.items
-    c.in-Ok-gather.gathered = search rules in
-    let load = c.gathered_is_loaded.ensures.manifest _ _ _ _ is in (
+    let is : AreSources (known_beside known c.args.path.now) [] c.in-Ok.bytes.items
+    c.in-Ok-collect_sources.sources = search rules in
+    let load = c.sources_are_loaded.ensures.manifest _ _ _ _ is in (
       c.in-Ok.bytes.items,
       c.in-Ok.ensures.given,
       load.refused _ c.in-Err-make_ruleset.ensures.fault,

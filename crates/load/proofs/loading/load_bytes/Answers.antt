@@ -7,18 +7,18 @@ use Rattle.load.proofs.loading.load_bytes.Goals as goal
 
 pub make_ruleset-requires-clause-shaped : goal.make_ruleset-requires-clause-shaped
 make_ruleset-requires-clause-shaped g c =
-    (c.gathered_is_loaded.ensures.manifest _ _ _ _ c.in-Ok.ensures.gathered).shaped
+    (c.sources_are_loaded.ensures.manifest _ _ _ _ c.in-Ok.ensures.sources).shaped
 
 pub returns-in-Ok-make_ruleset-clause-made : goal.returns-in-Ok-make_ruleset-clause-made
 returns-in-Ok-make_ruleset-clause-made g c = record {
-  gathered = c.in-Ok.gathered;
-  is_gathered = c.in-Ok.ensures.gathered;
+  sources = c.in-Ok.sources;
+  are_sources = c.in-Ok.ensures.sources;
   made_of = c.in-Ok-make_ruleset.ensures.made;
 }
 
 pub returns-in-Ok-make_ruleset-clause-rules : goal.returns-in-Ok-make_ruleset-clause-rules
 returns-in-Ok-make_ruleset-clause-rules g c =
-    (c.gathered_is_made.ensures _ _ _ _ c.in-Ok.ensures.gathered).made _
+    (c.sources_are_made.ensures _ _ _ _ c.in-Ok.ensures.sources).made _
     c.in-Ok-make_ruleset.ensures.made
 
 pub returns-in-Ok-make_ruleset-clause-only : goal.returns-in-Ok-make_ruleset-clause-only
@@ -32,12 +32,12 @@ returns-in-Ok-make_ruleset-clause-only g c =
 pub returns-in-Ok-make_ruleset-clause-count : goal.returns-in-Ok-make_ruleset-clause-count
 returns-in-Ok-make_ruleset-clause-count g c =
     let made = c.in-Ok-make_ruleset.ensures.made in
-    let none = all_read c.in-Ok.gathered.apps.items made.programs made.judged in
+    let none = all_read c.in-Ok.sources.apps.items made.programs made.judged in
     omega (arith, c.in-Ok.ensures.count, none)
 
 pub returns-in-Err-make_ruleset-clause-fault : goal.returns-in-Err-make_ruleset-clause-fault
 returns-in-Err-make_ruleset-clause-fault g c =
-    let load = c.gathered_is_loaded.ensures.manifest _ _ _ _ c.in-Ok.ensures.gathered in
+    let load = c.sources_are_loaded.ensures.manifest _ _ _ _ c.in-Ok.ensures.sources in
     record {
       fault_is = load.refused _ c.in-Err-make_ruleset.ensures.fault;
       cause_is = tt;
@@ -45,7 +45,7 @@ returns-in-Err-make_ruleset-clause-fault g c =
 
 pub returns-in-Err-make_ruleset-clause-failed : goal.returns-in-Err-make_ruleset-clause-failed
 returns-in-Err-make_ruleset-clause-failed g c =
-    judged_counts _ _ _ _ _ c.in-Ok.gathered c.in-Err-make_ruleset.fault c.in-Ok.ensures.gathered
+    judged_counts _ _ _ _ _ c.in-Ok.sources c.in-Err-make_ruleset.fault c.in-Ok.ensures.sources
     c.in-Ok.ensures.count c.in-Err-make_ruleset.ensures.fault
 
 pub returns-in-Err-clause-fault : goal.returns-in-Err-clause-fault
@@ -55,5 +55,5 @@ returns-in-Err-clause-fault g c =
 pub returns-in-Err-clause-failed : goal.returns-in-Err-clause-failed
 returns-in-Err-clause-failed g c =
     rw c.refused.ensures.fault
-    (early_counts _ c.args.directory.now c.args.manifest.now _ _ c.in-Err.ungathered.fault _
+    (early_counts _ c.args.directory.now c.args.manifest.now _ _ c.in-Err.refused_sources.fault _
     c.in-Err.ensures.fault.arrays_are c.in-Err.ensures.uncounted)

@@ -1,6 +1,6 @@
 use Rattle.std.proofs.Common.{◌≡◌, ◌++◌, All, length}
 use Rattle.std.specs.Vec.Iter.{into_iter_items, into_iter_len}
-use Rattle.load.specs.Gathered.{HasItsReleases}
+use Rattle.load.specs.Sources.{HasItsReleases}
 use Rattle.load.specs.Judged.{AreJudged, apps_of}
 use Rattle.load.proofs.programs.supply.Given as goal
 

@@ -1,13 +1,13 @@
 use Rattle.std.proofs.Common.{◌∙◌, ap, arith, Bool, List}
-use Rattle.warnings.specs.Asking.{rule_of}
+use Rattle.warnings.specs.Evaluation.{rule_of}
 use Rattle.warnings.specs.Marks.{is_given}
 use Rattle.warnings.proofs.Someone.{given_is}
-use Rattle.warnings.proofs.Told.{counted_on, next_release}
+use Rattle.warnings.proofs.Reported.{counted_on, next_release}
 use Rattle.warnings.proofs.given.tell_all_releases.Goals as goal
 
 pub loop-left-preserved : goal.loop-left-preserved
 loop-left-preserved c =
-    let r = rule_of c.args.asked.now in
+    let r = rule_of c.args.evaluated.now in
     record {
       so_far = λ spots marked.
           next_release c.args.app c.loop-left.number r spots c.loop-left.left.now

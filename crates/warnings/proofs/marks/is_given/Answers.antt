@@ -1,6 +1,6 @@
 use Rattle.std.proofs.Common.{arith, sym, ◌∙◌}
 use Rattle.warnings.proofs.Someone.{none_given}
-use Rattle.warnings.proofs.Told.{none_left}
+use Rattle.warnings.proofs.Reported.{none_left}
 use Rattle.warnings.proofs.marks.is_given.Goals as goal
 
 pub returns : goal.returns

@@ -1,27 +1,27 @@
 use Rattle.std.proofs.Common.{arith}
-use Rattle.warnings.specs.Asking.{rule_of}
+use Rattle.warnings.specs.Evaluation.{rule_of}
 use Rattle.warnings.proofs.Marked.{arrived, goes_on, sets_out, stopped, stops, went_on}
-use Rattle.warnings.proofs.Told.{first_rest, none_left}
+use Rattle.warnings.proofs.Reported.{first_rest, none_left}
 use Rattle.warnings.proofs.marks.mark_way.Goals as goal
 
 pub loop-left-init : goal.loop-left-init
 loop-left-init c =
-    sets_out (rule_of c.args.asked.now) c.args.asker c.args.attrs.now c.args.reached.now
+    sets_out (rule_of c.args.evaluated.now) c.args.asker c.args.attrs.now c.args.reached.now
     c.args.ends.now c.requires.reached c.requires.ends
 
 pub mark_place-requires-clause-reached : goal.mark_place-requires-clause-reached
 mark_place-requires-clause-reached c =
     let i = c.loop-left.invariant in
-    let within = i.within in let room = i.reached_room in omega (arith, within, room)
+    let within = i.within in let budget = i.reached_length in omega (arith, within, budget)
 
 pub mark_place-requires-clause-ends : goal.mark_place-requires-clause-ends
 mark_place-requires-clause-ends c =
     let i = c.loop-left.invariant in
-    let within = i.within in let room = i.ends_room in omega (arith, within, room)
+    let within = i.within in let budget = i.ends_length in omega (arith, within, budget)
 
 pub returns-then-not-possible : goal.returns-then-not-possible
 returns-then-not-possible c =
-    stops (rule_of c.args.asked.now) c.args.asker c.args.attrs.now _ _ c.loop-left.place
+    stops (rule_of c.args.evaluated.now) c.args.asker c.args.attrs.now _ _ c.loop-left.place
     c.loop-left.left.now _ c.statement-item.result c.in_ok-possible.possible _ _ _ _
     c.loop-left.invariant
     (first_rest c.loop-left.left.now c.statement-item.result (omega arith) c.statement-item.is)
@@ -30,7 +30,7 @@ returns-then-not-possible c =
 
 pub loop-left-preserved : goal.loop-left-preserved
 loop-left-preserved c =
-    goes_on (rule_of c.args.asked.now) c.args.asker c.args.attrs.now _ _ c.loop-left.place
+    goes_on (rule_of c.args.evaluated.now) c.args.asker c.args.attrs.now _ _ c.loop-left.place
     c.loop-left.left.now _ c.statement-item.result c.in_ok-possible.possible _ _ _ _
     c.loop-left.invariant
     (first_rest c.loop-left.left.now c.statement-item.result (omega arith) c.statement-item.is)
@@ -40,5 +40,5 @@ loop-left-preserved c =
 
 pub returns : goal.returns
 returns c =
-    arrived (rule_of c.args.asked.now) c.args.asker c.args.attrs.now _ _ c.loop-left.place
+    arrived (rule_of c.args.evaluated.now) c.args.asker c.args.attrs.now _ _ c.loop-left.place
     c.loop-left.left.now _ _ c.loop-left.invariant (none_left c.loop-left.left.now (omega arith))

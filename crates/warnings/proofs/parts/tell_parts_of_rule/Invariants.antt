@@ -1,5 +1,5 @@
 use Rattle.std.proofs.Common.{◌≡◌, ◌++◌, length}
-use Rattle.warnings.specs.Asked.{parts_of_rule}
+use Rattle.warnings.specs.RuleWarnings.{parts_of_rule}
 use Rattle.warnings.proofs.parts.tell_parts_of_rule.Given as goal
 
 abbrev pub invariant-loop-left : goal.invariant-loop-left

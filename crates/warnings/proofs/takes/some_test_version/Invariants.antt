@@ -1,6 +1,6 @@
 use Rattle.std.proofs.Common.{◌≡◌, length}
 use Rattle.std.specs.List.{list_any}
-use Rattle.warnings.specs.Asked.{tests_version}
+use Rattle.warnings.specs.RuleWarnings.{tests_version}
 use Rattle.warnings.proofs.takes.some_test_version.Given as goal
 
 -- the remaining steps decide

@@ -1,5 +1,5 @@
 use Rattle.std.proofs.Common.{◌≡◌, ◌++◌, length}
-use Rattle.warnings.specs.Asked.{takes_of_steps}
+use Rattle.warnings.specs.RuleWarnings.{takes_of_steps}
 use Rattle.warnings.proofs.takes.tell_takes.Given as goal
 
 abbrev pub invariant-loop-left : goal.invariant-loop-left

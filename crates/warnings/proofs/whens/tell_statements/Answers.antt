@@ -1,16 +1,16 @@
 use Rattle.std.proofs.Common.{arith, false, get_or}
-use Rattle.warnings.specs.Asking.{rule_of}
-use Rattle.warnings.proofs.Told.{all_told, first_got, first_rest, next_told, none_left, none_told}
+use Rattle.warnings.specs.Evaluation.{rule_of}
+use Rattle.warnings.proofs.Reported.{all_reported, first_got, first_rest, next_reported, none_left, none_reported}
 use Rattle.warnings.proofs.whens.tell_statements.Goals as goal
 
 pub loop-left-init : goal.loop-left-init
 loop-left-init c = λ spots marked.
     rw (c.as_slice-reached.ensures.value, c.as_slice-ends.ensures.value)
-    (none_told c.args.app (rule_of c.args.asked.now) spots c.args.warnings.now.items _ _ marked)
+    (none_reported c.args.app (rule_of c.args.evaluated.now) spots c.args.warnings.now.items _ _ marked)
 
 pub loop-left-preserved : goal.loop-left-preserved
 loop-left-preserved c = λ spots marked.
-    next_told c.args.app (rule_of c.args.asked.now) spots _ c.loop-left.left.now _
+    next_reported c.args.app (rule_of c.args.evaluated.now) spots _ c.loop-left.left.now _
     c.statement-item.result c.loop-left.reached.now c.loop-left.ends.now _ _
     (get_or c.loop-left.reached.now 0 false) (get_or c.loop-left.ends.now 0 false) _ _
     (first_rest c.loop-left.left.now c.statement-item.result (omega arith) c.statement-item.is)
@@ -20,5 +20,5 @@ loop-left-preserved c = λ spots marked.
 
 pub returns : goal.returns
 returns c = λ spots marked.
-    all_told c.args.app (rule_of c.args.asked.now) spots _ c.loop-left.left.now _ _ _
+    all_reported c.args.app (rule_of c.args.evaluated.now) spots _ c.loop-left.left.now _ _ _
     (none_left c.loop-left.left.now (omega arith)) (c.loop-left.invariant spots marked)

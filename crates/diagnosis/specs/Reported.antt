@@ -1,0 +1,51 @@
+-- The report on a refused manifest: where and why, the further faults, and the lines of these.
+use Rattle.std.specs.Prelude.{◌≡◌, ◌⊎◌, ℕ, ◌-◌, List, [], length, take, map, All, string_bytes}
+use Rattle.diagnosis.specs.Further.{AreFurther}
+use Rattle.diagnosis.specs.Lines.{AreRefusalLines}
+use Rattle.diagnosis.specs.Reason.{IsReason}
+use Rattle.diagnosis.specs.declared.refused.Refused.{Refused}
+use Rattle.diagnosis.specs.declared.refused.FaultReport.{FaultReport}
+use Rattle.cells.specs.Directory.{Declaration}
+use Rattle.load.specs.declared.fault.LoadFault.{LoadFault}
+use Rattle.load.specs.declared.sources.AppSources.{AppSources}
+use Rattle.manifest.specs.declared.refused.Parsed.{Parsed}
+
+-- the most further faults that are printed
+abbrev pub most_further : ℕ
+most_further = 9
+
+module _ (arrays : List Declaration) (apps : List AppSources) where
+  -- where and why, or nothing if out of memory
+  abbrev pub TellsReason : LoadFault → List ℕ → Type 0
+  TellsReason fault reason = (reason ≡ []) ⊎ IsReason arrays apps fault reason
+
+  abbrev pub IsFaultReport : FaultReport → Type 0
+  IsFaultReport reported = TellsReason reported.fault (string_bytes reported.reason)
+
+  -- these faults, in order
+  pub record AreFaultReports (faults : List LoadFault) (reported : List FaultReport) : Type 0 where
+    pub faults_are : map (λ (t : FaultReport). t.fault) reported ≡ faults
+    pub each : All IsFaultReport reported
+
+module _ (parsed : Parsed) (arrays : List Declaration) (apps : List AppSources) where
+  -- the first nine of the further faults, and how many more there are
+  pub record TellsFurther (fault : LoadFault) (reported : List FaultReport) (left_out : ℕ) : Type 0
+    where
+      pub faults : List LoadFault
+      pub further : AreFurther parsed arrays apps fault faults
+      pub first : AreFaultReports arrays apps (take most_further faults) reported
+      pub left_out_is : left_out ≡ length faults - most_further
+
+  -- those, or none if out of memory
+  abbrev pub TellsOthers : LoadFault → List FaultReport → ℕ → Type 0
+  TellsOthers fault reported left_out =
+      ((reported ≡ []) × (left_out ≡ 0)) ⊎ TellsFurther fault reported left_out
+
+  -- the whole report, if after these apps there are `unread` ones whose files aren't read
+  pub record TellsRefused (unread : ℕ) (r : Refused) : Type 0 where
+    pub own : TellsReason arrays apps r.fault (string_bytes r.own)
+    pub further : TellsOthers r.fault r.further.items r.left_out
+    pub read_is : r.read ≡ length apps
+    pub unread_is : r.unread ≡ unread
+    pub lines : AreRefusalLines (string_bytes r.own) r.further.items r.left_out r.read r.unread
+        (string_bytes r.reason)

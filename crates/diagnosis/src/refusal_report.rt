@@ -1,0 +1,154 @@
+//! The report on a refused manifest.
+
+ghost use Rattle.std.specs.Prelude.{◌≡◌, IfOk, IfSome};
+ghost use Rattle.diagnosis.specs.Further.{AreFurther};
+ghost use Rattle.diagnosis.specs.Reported.{AreFaultReports, IsFaultReport, TellsFurther, TellsOthers};
+ghost use Rattle.diagnosis.specs.Reported.{TellsRefused};
+
+use crate::later_faults::faults_after;
+use crate::lines::lines_of;
+use crate::others::{other_duplicates, other_schema_errors};
+use crate::reason::reason_of;
+use crate::refused::{FaultReport, Refused};
+use crate::undeclared::faults_after_array;
+use declarations::ArrayDeclaration;
+use load::{AppSources, LoadFault};
+use manifest::{ManifestFault, Parsed};
+use std::alloc::{AllocError, Global};
+
+/// The most faults that are printed after the first.
+const MOST_FURTHER: usize = 9;
+
+/// The further faults that are printed, and how many more there are.
+struct FurtherFaults {
+    reported: Vec<FaultReport>,
+    left_out: usize,
+}
+
+/// Where and why a manifest is refused, from what its bytes were parsed as and what was gathered,
+/// and its further faults; either is left out if out of memory.
+pub(crate) fn tell_refused(
+    alloc: Global,
+    parsed: &Parsed,
+    is_link: bool,
+    arrays: &[ArrayDeclaration],
+    apps: &[AppSources],
+    unread: usize,
+    fault: LoadFault,
+) -> Refused
+    ensures fault { result.fault ≡ fault }
+    ensures reported { TellsRefused parsed.now arrays.now apps.now unread result }
+{
+    let own = reason_of(alloc, parsed, is_link, arrays, apps, &fault);
+    let FurtherFaults { reported, left_out } = tell_others(
+        alloc, parsed, is_link, arrays, apps, &fault,
+    );
+    let read = apps.len();
+    let reason = lines_of(alloc, own.as_str(), reported.as_slice(), left_out, read, unread);
+    Refused {
+        fault,
+        reason,
+        own,
+        further: reported,
+        left_out,
+        read,
+        unread,
+    }
+}
+
+fn tell_others(
+    alloc: Global,
+    parsed: &Parsed,
+    is_link: bool,
+    arrays: &[ArrayDeclaration],
+    apps: &[AppSources],
+    fault: &LoadFault,
+) -> FurtherFaults
+    ensures { TellsOthers parsed.now arrays.now apps.now fault.now result.reported.items
+        result.left_out }
+{
+    match tell_further(alloc, parsed, is_link, arrays, apps, fault) {
+        Ok(further) => further,
+        Err(_) => FurtherFaults {
+            reported: Vec::new(alloc),
+            left_out: 0,
+        },
+    }
+}
+
+fn tell_further(
+    alloc: Global,
+    parsed: &Parsed,
+    is_link: bool,
+    arrays: &[ArrayDeclaration],
+    apps: &[AppSources],
+    fault: &LoadFault,
+) -> Result<FurtherFaults, AllocError>
+    ensures { IfOk result (λ further. TellsFurther parsed.now arrays.now apps.now fault.now
+        further.reported.items further.left_out) }
+{
+    let Some(found) = further_faults(alloc, parsed, arrays, apps, fault) else {
+        return Err(AllocError);
+    };
+    let mut faults = found;
+    let left_out = faults.len().saturating_sub(MOST_FURTHER);
+    faults.truncate(MOST_FURTHER);
+    let reported = tell_faults(alloc, parsed, is_link, arrays, apps, faults)?;
+    Ok(FurtherFaults { reported, left_out })
+}
+
+// The faults after this one.
+fn further_faults(
+    alloc: Global,
+    parsed: &Parsed,
+    arrays: &[ArrayDeclaration],
+    apps: &[AppSources],
+    fault: &LoadFault,
+) -> Option<Vec<LoadFault>>
+    ensures { IfSome result (λ v. AreFurther parsed.now arrays.now apps.now fault.now v.items) }
+{
+    match fault {
+        LoadFault::File { app } => faults_after(alloc, apps, *app),
+        LoadFault::Program { app, .. } => faults_after(alloc, apps, *app),
+        LoadFault::Rule { app, .. } => faults_after(alloc, apps, *app),
+        LoadFault::Manifest(ManifestFault::Field(_)) => other_schema_errors(alloc, parsed),
+        LoadFault::Manifest(ManifestFault::Duplicate(_)) => other_duplicates(alloc, parsed),
+        LoadFault::Manifest(ManifestFault::Toml(_)) => Some(Vec::new(alloc)),
+        LoadFault::Manifest(ManifestFault::Memory) => Some(Vec::new(alloc)),
+        LoadFault::Cells { array, .. } => faults_after_array(alloc, arrays, *array),
+        LoadFault::Memory => Some(Vec::new(alloc)),
+    }
+}
+
+fn tell_faults(
+    alloc: Global,
+    parsed: &Parsed,
+    is_link: bool,
+    arrays: &[ArrayDeclaration],
+    apps: &[AppSources],
+    faults: Vec<LoadFault>,
+) -> Result<Vec<FaultReport>, AllocError>
+    ensures { IfOk result (λ v. AreFaultReports arrays.now apps.now faults.items v.items) }
+{
+    let mut all = Vec::new(alloc);
+    for fault in faults {
+        let reported = tell_fault(alloc, parsed, is_link, arrays, apps, fault);
+        all.push(reported)?;
+    }
+    Ok(all)
+}
+
+fn tell_fault(
+    alloc: Global,
+    parsed: &Parsed,
+    is_link: bool,
+    arrays: &[ArrayDeclaration],
+    apps: &[AppSources],
+    fault: LoadFault,
+) -> FaultReport
+    ensures fault { result.fault ≡ fault }
+    ensures reported { IsFaultReport arrays.now apps.now result }
+{
+    let reason = reason_of(alloc, parsed, is_link, arrays, apps, &fault);
+    FaultReport { fault, reason }
+}

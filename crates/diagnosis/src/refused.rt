@@ -1,0 +1,33 @@
+//! The parts of the report on a refused manifest.
+
+use load::LoadFault;
+
+/// Why a manifest is refused, and where. Lines are ended by a line feed.
+#[derive(Debug, Drop)]
+pub struct Refused {
+    /// The fault of the manifest's load.
+    pub fault: LoadFault,
+    /// All lines after that of the refusal: the lines of this fault and of the further ones, how
+    /// many more there are, and after which app no file is read. If out of memory, only the lines
+    /// of this fault, or none.
+    pub reason: String,
+    /// Where and why: the lines of this fault. Empty if an allocation for them failed.
+    pub own: String,
+    /// The further faults, at most nine. Empty if an allocation for them failed.
+    pub further: Vec<FaultReport>,
+    /// How many further faults are left out of `further`.
+    pub left_out: usize,
+    /// How many apps were gathered: 0 if it is refused for its bytes or its arrays, or if memory
+    /// runs out before all files are read.
+    pub read: usize,
+    /// How many apps after these have no file read.
+    pub unread: usize,
+}
+
+/// A further fault of a manifest.
+#[derive(Debug, Drop)]
+pub struct FaultReport {
+    pub fault: LoadFault,
+    /// Where and why: lines, each ended by a line feed. Empty if an allocation for them failed.
+    pub reason: String,
+}

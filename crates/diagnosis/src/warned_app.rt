@@ -1,0 +1,75 @@
+//! The warnings on an app and on its rule.
+
+ghost use Rattle.std.specs.Prelude.{◌≡◌, ◌++◌, IfOk, OnOk};
+ghost use Rattle.diagnosis.specs.Added.{AddsApp, AddsRule};
+ghost use Rattle.diagnosis.specs.Warned.{app_warnings};
+
+use load::{AppSources, whole_file};
+use manifest::{AppEntry, ProgramSource};
+use rule_lang::parse;
+use std::alloc::{AllocError, Global};
+use std::str;
+use warnings::{EvaluatedRule, Warning, tell_appid, tell_releases, tell_rule};
+
+/// Adds the warnings on an accepted app: on its appid, its releases, and its rule, if it has one.
+/// Returns the budget that is left.
+pub(crate) fn tell_app(
+    alloc: Global,
+    warnings: &mut Vec<Warning>,
+    number: usize,
+    budget: u64,
+    app: &AppSources,
+) -> Result<u64, AllocError>
+    ensures { IfOk result (AddsApp number budget app.now warnings.old.items warnings.new.items) }
+{
+    tell_entry(warnings, number, &app.entry)?;
+    match app.entry.source() {
+        ProgramSource::Program(_) => Ok(budget),
+        ProgramSource::Rule(_) => {
+            let left = tell_text(alloc, warnings, number, budget, app)?;
+            Ok(left)
+        }
+    }
+}
+
+#[tactic(auto, unfolding(crate::specs::Warned::app_warnings))]
+fn tell_entry(
+    warnings: &mut Vec<Warning>,
+    number: usize,
+    entry: &AppEntry,
+) -> Result<(), AllocError>
+    ensures { OnOk result
+        (warnings.new.items ≡ warnings.old.items ++ app_warnings number entry.now) }
+{
+    tell_appid(warnings, number, entry.appid())?;
+    tell_releases(warnings, number, entry.releases())
+}
+
+// The rule text of an accepted app is kept whole; otherwise there would be no warnings on it.
+fn tell_text(
+    alloc: Global,
+    warnings: &mut Vec<Warning>,
+    number: usize,
+    budget: u64,
+    app: &AppSources,
+) -> Result<u64, AllocError>
+    ensures { IfOk result (AddsRule number budget app.now warnings.old.items warnings.new.items) }
+{
+    let Some(bytes) = whole_file(&app.kept) else {
+        return Err(AllocError);
+    };
+    let Ok(spelled) = str::from_utf8(bytes) else {
+        return Err(AllocError);
+    };
+    let Ok(rule) = parse(alloc, spelled, &app.shape) else {
+        return Err(AllocError);
+    };
+    let evaluated = EvaluatedRule::of(
+        app.entry.appid(),
+        &app.shape,
+        app.entry.releases(),
+        rule.statements(),
+    );
+    let left = tell_rule(alloc, warnings, number, &evaluated, budget)?;
+    Ok(left)
+}

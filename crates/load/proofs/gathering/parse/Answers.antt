@@ -1,5 +1,0 @@
-use Rattle.load.proofs.gathering.parse.Goals as goal
-
-pub returns-in-Err-clause-fault : goal.returns-in-Err-clause-fault
-returns-in-Err-clause-fault c = λ old.
-    c.unparsed.ensures old c.args.bytes.now c.in-Err.ensures.refused

@@ -1,0 +1,5 @@
+use Rattle.std.proofs.Common.{append-nil, sym}
+use Rattle.ruleset.proofs.app_lines.push_app_lines.Goals as goal
+
+pub loop-app-init : goal.loop-app-init
+loop-app-init c = sym (append-nil _)
