@@ -17,7 +17,7 @@ use Rattle.rule_lang.specs.declared.fault.RuleFaultKind.{RuleFaultKind}
 use Rattle.cells.specs.Arrays.{AppShape}
 use Rattle.ruleset.specs.Texts.{line}
 use Rattle.rule_diagnosis.specs.Places.{line_text}
-use Rattle.rule_diagnosis.specs.Told.{IsRuleTold, rule_too_long}
+use Rattle.rule_diagnosis.specs.Message.{IsRuleMessage, rule_too_long}
 use Rattle.load.specs.Source.{file_of}
 use Rattle.load.specs.declared.sources.AppSources.{AppSources}
 use Rattle.bounded_files.specs.declared.kept.KeptBytes.{KeptBytes}
@@ -48,7 +48,7 @@ pub record IsRefusedInsnShown (s : AppShape) (slot : ℕ) (bytes text : List ℕ
 -- the explanation of a rule's fault, or at least its line
 abbrev pub IsTextShown : AppShape → ℕ → RuleFaultKind → List ℕ → List ℕ → Type 0
 IsTextShown s number kind bytes text =
-    IsRuleTold s bytes number kind text ⊎ (text ≡ numbered_line number bytes)
+    IsRuleMessage s bytes number kind text ⊎ (text ≡ numbered_line number bytes)
 
 -- for a file that isn't text
 abbrev pub no_text_line : List ℕ

@@ -4,7 +4,7 @@ ghost use Rattle.std.specs.Prelude.{◌≡◌, IfSome, string_bytes, if◌then�
 ghost use Rattle.diagnosis.specs.Shown.{IsInsnShown, IsKeptShown, IsLongShown};
 ghost use Rattle.diagnosis.specs.Shown.{IsRefusedInsnShown, IsShown, IsTextShown};
 ghost use Rattle.diagnosis.specs.Shown as specs;
-ghost use Rattle.rule_diagnosis.specs.Told as reported;
+ghost use Rattle.rule_diagnosis.specs.Message as reported;
 
 use bounded_files::KeptBytes;
 use bpf_insn::decode_at;

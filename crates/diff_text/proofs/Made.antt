@@ -10,7 +10,7 @@ use Rattle.std.proofs.lemmas.List.Elements.{All-cons, All-nil}
 use Rattle.attrs.specs.Attributes.{Attributes}
 use Rattle.cells.specs.Arrays.{AppShape}
 use Rattle.rule_lang.specs.Meaning.{Behaviour, allows, asks_then, decide, decide_one, test_holds}
-use Rattle.rule_lang.specs.Trees.{Tree, Asked, Negated, Both, Either, trees_from}
+use Rattle.rule_lang.specs.Trees.{Tree, Leaf, Negated, Both, Either, trees_from}
 use Rattle.rule_lang.specs.declared.condition.Step.{Step}
 use Rattle.rule_lang.specs.declared.condition.Step.TheVariants as step
 use Rattle.rule_lang.specs.declared.test.Test.{Test}
@@ -43,23 +43,23 @@ module _ (x : Scope) (ds : List Dimension) (lines : All (IsLine x) ds) where
         let n = h.by.number in
         let segment = cell_in d a g in
         h.against.against.holds s x a g within
-        ∙ sym (begins_alike d.ends d.last (number_of d a g) n r line.rises
+        ∙ sym (begins_alike d.starts d.last (number_of d a g) n r line.rises
         (from_first x a g within d line) (to_last x a g within d line) h.against.decided)
-        ∙ sym (get_or-map (λ (end : ℕ). allows r (nat_cmp end n)) d.ends segment 0 false
+        ∙ sym (get_or-map (λ (end : ℕ). allows r (nat_cmp end n)) d.starts segment 0 false
         (segment_there x d a g line within))
         ∙ sym (ap (λ (hs : List Bool). slice_index_or hs segment false) h.is)
         ∙ sym (ap (λ (k : ℕ). slice_index_or t.holds k false)
         (place_at ds a g d t.dimension h.against.is_at))
         ∙ sym (one_table t (place_of ds a g))
 
-    pub test_is : (at : ℕ) → IsPartOf x ds (Asked at test) (t ∷ [])
+    pub test_is : (at : ℕ) → IsPartOf x ds (Leaf at test) (t ∷ [])
     test_is at = record {
       tables_are = All-cons (IsTable ds) t []
           (record {
             dimension = d;
             is_at = h.against.is_at;
             each = ap length h.is
-                ∙ length-map d.ends (λ end. allows h.by.comparison (nat_cmp end h.by.number));
+                ∙ length-map d.starts (λ end. allows h.by.comparison (nat_cmp end h.by.number));
           })
           (All-nil (IsTable ds));
       means = λ s a g within met unmet.
@@ -133,10 +133,10 @@ module _ (x : Scope) (ds : List Dimension) (lines : All (IsLine x) ds) where
 
   module _ (all left : List Step) where
     pub made_by_test : (at : ℕ) (test : Test) (old : List (List Table)) (p : List Table)
-        → IsPartOf x ds (Asked at test) p → HaveMade x ds all (step.Test at test ∷ left) old
+        → IsPartOf x ds (Leaf at test) p → HaveMade x ds all (step.Test at test ∷ left) old
         → HaveMade x ds all left (p ∷ old)
     made_by_test at test old p is h = record {
-      trees = Asked at test ∷ h.trees;
+      trees = Leaf at test ∷ h.trees;
       same = h.same;
       each = (is, h.each);
     }
@@ -213,13 +213,13 @@ module _ (x : Scope) (ds : List Dimension) (lines : All (IsLine x) ds) where
   -- ---- the stack before and after a step
 
   pub tested_is : (at : ℕ) (test : Test) (t : Table) (p : List Table) → p ≡ t ∷ []
-      → IsTestTable ds test t → IsPartOf x ds (Asked at test) p
+      → IsTestTable ds test t → IsPartOf x ds (Leaf at test) p
   tested_is at test t p one h =
-      subst (λ (q : List Table). IsPartOf x ds (Asked at test) q) (sym one) (test_is test t h at)
+      subst (λ (q : List Table). IsPartOf x ds (Leaf at test) q) (sym one) (test_is test t h at)
 
   module _ (all left : List Step) where
     pub after_test : (at : ℕ) (test : Test) (made : Option (List Table))
-        (old new : List (List Table)) → IfSome made (IsPartOf x ds (Asked at test))
+        (old new : List (List Table)) → IfSome made (IsPartOf x ds (Leaf at test))
         → IsPushed made old new → HaveMade x ds all (step.Test at test ∷ left) old
         → HaveMade x ds all left new
     after_test at test None old new is pushed h = absurd pushed

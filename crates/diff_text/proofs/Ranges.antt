@@ -50,17 +50,17 @@ module _ (x : Scope) (d : Dimension) (line : IsLine x d) (a : Attributes) (g : S
   abbrev number : ℕ
   number = number_of d a g
 
-  low_is : (n : ℕ) → decides d.ends d.last Ge n ≡ true → nat_le n number ≡ nat_le n begin
+  low_is : (n : ℕ) → decides d.starts d.last Ge n ≡ true → nat_le n number ≡ nat_le n begin
   low_is n cut =
       sym (from_low number n)
-      ∙ sym (begins_alike d.ends d.last number n Ge line.rises (from_first x a g within d line)
+      ∙ sym (begins_alike d.starts d.last number n Ge line.rises (from_first x a g within d line)
       (to_last x a g within d line) cut)
       ∙ from_low begin n
 
-  high_is : (n : ℕ) → decides d.ends d.last Le n ≡ true → nat_le number n ≡ nat_le begin n
+  high_is : (n : ℕ) → decides d.starts d.last Le n ≡ true → nat_le number n ≡ nat_le begin n
   high_is n cut =
       sym (to_high number n)
-      ∙ sym (begins_alike d.ends d.last number n Le line.rises (from_first x a g within d line)
+      ∙ sym (begins_alike d.starts d.last number n Le line.rises (from_first x a g within d line)
       (to_last x a g within d line) cut)
       ∙ to_high begin n
 
@@ -70,16 +70,16 @@ module _ (x : Scope) (d : Dimension) (line : IsLine x d) (a : Attributes) (g : S
   begins_in [] cut = refl
   begins_in (r ∷ rs) cut =
       let both = and_parts (is_cut d r) (list_all (is_cut d) rs) cut in
-      let ends = and_parts (decides d.ends d.last Ge r.low) (decides d.ends d.last Le r.high)
+      let both_ends = and_parts (decides d.starts d.last Ge r.low) (decides d.starts d.last Le r.high)
       both.0 in
       ap₂ (λ (b c : Bool). b || c)
-      (ap₂ (λ (b c : Bool). b && c) (low_is r.low ends.0) (high_is r.high ends.1))
+      (ap₂ (λ (b c : Bool). b && c) (low_is r.low both_ends.0) (high_is r.high both_ends.1))
       (begins_in rs both.1)
 
 pub are_ranges : (x : Scope) (d : Dimension) (set : SegmentSet) (ranges : List LeftRange)
     (holds : List Bool) → IsLine x d → list_all (is_range d) ranges ≡ true
     → list_all (is_cut d) ranges ≡ true
-    → holds ≡ map (have_number ranges) d.ends → agrees set.segments 0 holds ≡ true
+    → holds ≡ map (have_number ranges) d.starts → agrees set.segments 0 holds ≡ true
     → AreRangesOf x d set ranges
 are_ranges x d set ranges holds line each cut is same = record {
   each = each;
@@ -87,10 +87,10 @@ are_ranges x d set ranges holds line each cut is same = record {
       let segment = cell_in d a g in
       let there = segment_there x d a g line within in
       let zero_on : 0 + cell_in d a g ≡ cell_in d a g = omega arith in
-      let long : length holds ≡ length d.ends =
-      ap length is ∙ length-map d.ends (have_number ranges) in
+      let long : length holds ≡ length d.starts =
+      ap length is ∙ length-map d.starts (have_number ranges) in
       begins_in x d line a g within ranges cut
-      ∙ sym (get_or-map (have_number ranges) d.ends segment 0 false there)
+      ∙ sym (get_or-map (have_number ranges) d.starts segment 0 false there)
       ∙ sym (ap (λ (hs : List Bool). slice_index_or hs segment false) is)
       ∙ agrees_all set.segments 0 holds segment same
       (subst (λ (n : ℕ). segment < n) (sym long) there)

@@ -16,7 +16,7 @@ use Rattle.rule_space.specs.Lines.{IsLine}
 use Rattle.rule_space.specs.Machines.{State}
 use Rattle.rule_space.specs.Scopes.{IsWithin, Scope}
 use Rattle.rule_space.specs.Tests.{IsAgainstAt}
-use Rattle.rule_space.specs.declared.test_line.Against.{Against}
+use Rattle.rule_space.specs.declared.test_line.NumberComparison.{NumberComparison}
 use Rattle.rule_space.proofs.Cells.{is_at}
 use Rattle.rule_space.proofs.Ranges.{from_first}
 use Rattle.rule_space.proofs.Tests.{all_at}
@@ -45,14 +45,14 @@ place_at ds a g d at there =
     ∙ ap (option_map (λ (e : Dimension). cell_in e a g)) there)
 
 pub segment_there : (x : Scope) (d : Dimension) (a : Attributes) (g : State) → IsLine x d
-    → IsWithin x a g → cell_in d a g < length d.ends
+    → IsWithin x a g → cell_in d a g < length d.starts
 segment_there x d a g line within =
-    (is_at d.last (number_of d a g) d.ends line.rises (from_first x a g within d line)).is_cell
+    (is_at d.last (number_of d a g) d.starts line.rises (from_first x a g within d line)).is_cell
 
 pub is_place : (x : Scope) (ds : List Dimension) → All (IsLine x) ds → (a : Attributes) (g : State)
     → IsWithin x a g → IsPlace ds (place_of ds a g)
 is_place x ds lines a g within at d there =
-    subst (λ (c : ℕ). c < length d.ends) (sym (place_at ds a g d at there))
+    subst (λ (c : ℕ). c < length d.starts) (sym (place_at ds a g d at there))
     (segment_there x d a g (all_at (IsLine x) ds at d there lines) within)
 
 -- ---- tables
@@ -134,7 +134,7 @@ module _ (ds : List Dimension) (op : Bool → Bool → Bool) (t u : Table) (is :
       let e : is.dimension ≡ it_is.dimension =
       same_Some is.dimension it_is.dimension
       (sym is.is_at ∙ ap (slice_get ds) same ∙ it_is.is_at) in
-      is.each ∙ ap (λ (d : Dimension). length d.ends) e ∙ sym it_is.each
+      is.each ∙ ap (λ (d : Dimension). length d.starts) e ∙ sym it_is.each
 
   abbrev joined_of : Table
   joined_of = record { dimension = t.dimension; holds = pairwise op t.holds u.holds }
@@ -205,15 +205,15 @@ module _ (ds : List Dimension) where
 -- ---- parts of one table
 
 module _ (ds : List Dimension) where
-  pub test_table : (test : Test) (place : ℕ) (by : Against) (d : Dimension) (holds : List Bool)
-      → slice_get ds place ≡ Some d → IsAgainstAt ds place test by → holds ≡ truths by d.ends
+  pub test_table : (test : Test) (place : ℕ) (by : NumberComparison) (d : Dimension) (holds : List Bool)
+      → slice_get ds place ≡ Some d → IsAgainstAt ds place test by → holds ≡ truths by d.starts
       → IsTestTable ds test (record { dimension = place; holds = holds })
   test_table test place by d holds there h is = record {
     by = by;
     against = h;
     is =
         is
-        ∙ ap (λ (e : Dimension). truths by e.ends)
+        ∙ ap (λ (e : Dimension). truths by e.starts)
         (same_Some d h.dimension (sym there ∙ h.is_at));
   }
 

@@ -18,7 +18,7 @@ use Rattle.rule_space.specs.Machines.{State}
 use Rattle.rule_space.specs.Numbers.{decides}
 use Rattle.rule_space.specs.Scopes.{IsWithin, Scope}
 use Rattle.rule_space.specs.Tests.{IsAgainstAt}
-use Rattle.rule_space.specs.declared.test_line.Against.{Against}
+use Rattle.rule_space.specs.declared.test_line.NumberComparison.{NumberComparison}
 use Rattle.rule_diff.specs.Rows.{SegmentSet, has_segment}
 use Rattle.diff_text.specs.declared.left_ranges.LeftRange.{LeftRange}
 use Rattle.diff_text.specs.Conditions.{is_grant}
@@ -38,8 +38,8 @@ abbrev pub all_hold : List Table → (place : List ℕ) → Bool
 all_hold tables place = list_all (λ t. holds_at t place) tables
 
 -- the truths of a comparison, by the numbers at which the segments begin
-abbrev pub truths : Against → (ends : List ℕ) → List Bool
-truths by ends = map (λ end. allows by.comparison (nat_cmp end by.number)) ends
+abbrev pub truths : NumberComparison → (starts : List ℕ) → List Bool
+truths by starts = map (λ start. allows by.comparison (nat_cmp start by.number)) starts
 
 abbrev pub join_by : (is_and : Bool) → Bool → Bool → Bool
 join_by true a b = a && b
@@ -58,18 +58,18 @@ module _ (ds : List Dimension) where
   pub record IsTable (t : Table) : Type 0 where
     pub dimension : Dimension
     pub is_at : slice_get ds t.dimension ≡ Some dimension
-    pub each : length t.holds ≡ length dimension.ends
+    pub each : length t.holds ≡ length dimension.starts
 
   -- a segment of each dimension
   abbrev pub IsPlace : List ℕ → Type 0
   IsPlace place = (at : ℕ) (d : Dimension) → slice_get ds at ≡ Some d
-      → slice_index place at < length d.ends
+      → slice_index place at < length d.starts
 
   -- the truths of a test by the numbers of its dimension
   pub record IsTestTable (test : Test) (t : Table) : Type 0 where
-    pub by : Against
+    pub by : NumberComparison
     pub against : IsAgainstAt ds t.dimension test by
-    pub is : t.holds ≡ truths by against.dimension.ends
+    pub is : t.holds ≡ truths by against.dimension.starts
 
   -- it holds as an operator of two others says
   pub record IsJoined (op : Bool → Bool → Bool) (first second joined : List Table) : Type 0 where
@@ -118,7 +118,7 @@ join_step false = step.Or
 
 -- no segment has numbers in the range and others
 abbrev pub is_cut : Dimension → LeftRange → Bool
-is_cut d r = decides d.ends d.last Ge r.low && decides d.ends d.last Le r.high
+is_cut d r = decides d.starts d.last Ge r.low && decides d.starts d.last Le r.high
 
 abbrev pub agrees_at : (segments : List ℕ) → (segment : ℕ) → (holds : Bool) → Bool
 agrees_at segments segment true = has_segment segments segment

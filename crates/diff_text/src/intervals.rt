@@ -21,7 +21,7 @@ impl Interval {
 }
 
 fn end_at(dimension: &Dimension, segment: usize) -> Option<u128> {
-    match dimension.ends.get(segment) {
+    match dimension.starts.get(segment) {
         Some(end) => Some(*end),
         None => None,
     }

@@ -64,8 +64,8 @@ fn are_all_ranges(dimension: &Dimension, ranges: &[LeftRange]) -> bool
 fn is_cut(dimension: &Dimension, range: LeftRange) -> bool
     ensures { result ≡ tables.is_cut dimension.now range }
 {
-    decides(&dimension.ends, dimension.last, Comparison::Ge, range.low)
-        && decides(&dimension.ends, dimension.last, Comparison::Le, range.high)
+    decides(&dimension.starts, dimension.last, Comparison::Ge, range.low)
+        && decides(&dimension.starts, dimension.last, Comparison::Le, range.high)
 }
 
 fn are_cut(dimension: &Dimension, ranges: &[LeftRange]) -> bool
@@ -82,11 +82,11 @@ fn are_cut(dimension: &Dimension, ranges: &[LeftRange]) -> bool
 }
 
 // For each segment whether one of the ranges has the number at which it begins.
-fn segments_in(alloc: Global, ranges: &[LeftRange], ends: &[u128]) -> Result<Vec<bool>, AllocError>
-    ensures { IfOk result (λ v. v.items ≡ map (specs.have_number ranges.now) ends.now) }
+fn segments_in(alloc: Global, ranges: &[LeftRange], starts: &[u128]) -> Result<Vec<bool>, AllocError>
+    ensures { IfOk result (λ v. v.items ≡ map (specs.have_number ranges.now) starts.now) }
 {
-    let mut holds = Vec::with_capacity(alloc, ends.len())?;
-    let mut left = ends;
+    let mut holds = Vec::with_capacity(alloc, starts.len())?;
+    let mut left = starts;
     while let [end, others @ ..] = left {
         holds.push(have_number(ranges, *end))?;
         left = others;
@@ -110,7 +110,7 @@ fn are_ranges(
     if !are_cut(dimension, ranges) {
         return Ok(false);
     }
-    let holds = segments_in(alloc, ranges, &dimension.ends)?;
+    let holds = segments_in(alloc, ranges, &dimension.starts)?;
     Ok(agrees(&set.segments, &holds))
 }
 

@@ -1,7 +1,7 @@
 //! Parts of a condition, as tables that all hold.
 
 ghost use Rattle.std.specs.Prelude.{◌≡◌, ◌∷◌, [], All, IfOk, IfSome, map, not, true, false};
-ghost use Rattle.rule_lang.specs.Trees.{Asked};
+ghost use Rattle.rule_lang.specs.Trees.{Leaf};
 ghost use Rattle.rule_space.specs.Lines.{IsLine};
 ghost use Rattle.rule_space.specs.Scopes.{Scope};
 ghost use Rattle.diff_text.specs.Tables as specs;
@@ -58,7 +58,7 @@ pub(crate) fn tested(
     test: &Test,
 ) -> Result<Option<Part>, AllocError>
     ensures { (x : Scope) (line : _) → All (IsLine x) dimensions.now → IfOk result
-        (λ o. IfSome o (specs.IsPartOf x dimensions.now (Asked line test.now))) }
+        (λ o. IfSome o (specs.IsPartOf x dimensions.now (Leaf line test.now))) }
 {
     let Some(table) = table_of(alloc, dimensions, test)? else {
         return Ok(None);

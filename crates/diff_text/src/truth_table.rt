@@ -7,7 +7,7 @@ ghost use Rattle.diff_text.specs.Tables as specs;
 
 use rule_eval::allows;
 use rule_lang::Test;
-use rule_space::{Against, Dimension, against_at};
+use rule_space::{Dimension, NumberComparison, against_at};
 use std::alloc::{AllocError, Global};
 use std::marker::Model;
 
@@ -26,18 +26,18 @@ impl Model for Table {
     ghost view = { λ t. record { dimension = t.dimension; holds = t.holds.items } };
 }
 
-fn is_so(against: Against, number: u128) -> bool
+fn is_so(against: NumberComparison, number: u128) -> bool
     ensures { result ≡ meaning.allows against.comparison (nat_cmp number against.number) }
 {
     allows(against.comparison, number.cmp(&against.number))
 }
 
 // The truths of a comparison, by the numbers at which the segments begin.
-fn truths(alloc: Global, against: Against, ends: &[u128]) -> Result<Vec<bool>, AllocError>
-    ensures { IfOk result (λ v. v.items ≡ specs.truths against ends.now) }
+fn truths(alloc: Global, against: NumberComparison, starts: &[u128]) -> Result<Vec<bool>, AllocError>
+    ensures { IfOk result (λ v. v.items ≡ specs.truths against starts.now) }
 {
-    let mut holds = Vec::with_capacity(alloc, ends.len())?;
-    let mut left = ends;
+    let mut holds = Vec::with_capacity(alloc, starts.len())?;
+    let mut left = starts;
     while let [end, others @ ..] = left {
         holds.push(is_so(against, *end))?;
         left = others;
@@ -59,7 +59,7 @@ fn table_at(
     let Some(against) = against_at(dimensions, place, test) else {
         return Ok(None);
     };
-    let holds = truths(alloc, against, &dimension.ends)?;
+    let holds = truths(alloc, against, &dimension.starts)?;
     Ok(Some(Table {
         dimension: place,
         holds,

@@ -18,7 +18,7 @@ use Rattle.cells.specs.Arrays.{AppShape}
 use Rattle.cells.specs.Events.{CanReply}
 use Rattle.cells.specs.declared.event.CellEvent.{CellEvent}
 use Rattle.cells.specs.declared.event.CellOp.{CellOp}
-use Rattle.reasons.specs.Told.{TellsRule}
+use Rattle.reasons.specs.RuleLines.{TellsRule}
 use Rattle.rule_compile.specs.Means.{Means}
 use Rattle.rule_lang.specs.declared.rule.Statement.{Statement}
 use Rattle.ruleset.specs.Rules.{AppRule, Rules, IsApp, ListsApp, app_of, appid_of}

@@ -8,7 +8,7 @@ use Rattle.bpf_verify.specs.Covers.{AreLawful, HasPossibleReply}
 use Rattle.cells.specs.Events.{IsEvent}
 use Rattle.cells.specs.Grown.{GrewBy}
 use Rattle.cells.specs.declared.event.CellEvent.{CellEvent}
-use Rattle.reasons.specs.Told.{TellsRule}
+use Rattle.reasons.specs.RuleLines.{TellsRule}
 use Rattle.trace.specs.Jumps.{last_jump_of}
 use Rattle.dry_run.specs.AppLines.{program_line}
 use Rattle.dry_run.specs.Meanings.{KnownRule}

@@ -4,7 +4,7 @@ use Rattle.std.specs.Prelude.{Bool, true, false, not, if◌then◌else◌, Optio
 use Rattle.attrs.specs.Attributes.{Attributes}
 use Rattle.cells.specs.Arrays.{AppShape}
 use Rattle.rule_lang.specs.Meaning.{Behaviour, Chooses, behaviour, decide, decide_one}
-use Rattle.rule_lang.specs.Trees.{Tree, Asked, Negated, Both, Either, trees_from}
+use Rattle.rule_lang.specs.Trees.{Tree, Leaf, Negated, Both, Either, trees_from}
 use Rattle.rule_lang.specs.declared.condition.Step.{Step}
 use Rattle.rule_lang.specs.declared.rule.Statement.{Statement}
 use Rattle.rule_lang.specs.declared.rule.Statement.TheVariants.{When}
@@ -42,7 +42,7 @@ either_lead text false counters second else_do met unmet leads = leads
 module _ (a : Attributes) (s : AppShape) where
   pub condition_is_so : (counters : List ℕ) (c : Tree) (met unmet : Behaviour)
       → Leads counters (decide a s c met unmet) (read_tree a s counters c) met unmet
-  condition_is_so counters (Asked line t) met unmet = test_is_so a s counters t met unmet
+  condition_is_so counters (Leaf line t) met unmet = test_is_so a s counters t met unmet
   condition_is_so counters (Negated c) met unmet =
       let r = read_tree a s counters c in
       condition_is_so counters c unmet met

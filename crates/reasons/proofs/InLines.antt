@@ -16,8 +16,8 @@ use Rattle.rule_lang.specs.declared.condition.Step.{Step}
 use Rattle.rule_lang.specs.declared.rule.Statement.{Statement}
 use Rattle.rule_lang.specs.declared.rule.Statement.TheVariants.{Count, When}
 use Rattle.reasons.specs.Reading.{read_steps}
-use Rattle.reasons.specs.Told.{WhensAreLines, counted, ended, first_test_line, otherwise_line}
-use Rattle.reasons.specs.Told.{rule_lines, when_line}
+use Rattle.reasons.specs.RuleLines.{WhensAreLines, counted, ended, first_test_line, otherwise_line}
+use Rattle.reasons.specs.RuleLines.{rule_lines, when_line}
 use Rattle.reasons.proofs.Plain.{IsPlain, joined, known, no_control, number}
 use Rattle.reasons.proofs.PlainRules.{IsPlainRule, next_statement, spelled_is_plain}
 use Rattle.reasons.proofs.PlainTests.{condition_is_plain}
@@ -29,8 +29,8 @@ data ArePlainLines : List (List ℕ) → Type 0 where
 
 -- ---- the reported lines
 
-when_is_plain : (steps : List Step) (told : List ℕ) → IsPlain told → IsPlain (when_line steps told)
-when_is_plain steps told plain =
+when_is_plain : (steps : List Step) (report : List ℕ) → IsPlain report → IsPlain (when_line steps report)
+when_is_plain steps report plain =
     joined (joined (joined (known (codes "  line ") refl) (number (first_test_line steps)))
     (known (codes ": ") refl)) plain
 
@@ -101,8 +101,8 @@ none_has_control (l ∷ ls) (next_line p plain) =
 
 pub whens_are_lines : WhensAreLines
 whens_are_lines a s text rule spelled old =
-    let told = rule_lines a s old rule in
+    let report = rule_lines a s old rule in
     let plain = lines_are_plain a s old rule (spelled_is_plain s text rule spelled) in record {
-      lines_are = ap lines_of_parts (parts_are told plain) ∙ lines_of told plain;
-      no_control = none_has_control told plain;
+      lines_are = ap lines_of_parts (parts_are report plain) ∙ lines_of report plain;
+      no_control = none_has_control report plain;
     }

@@ -13,8 +13,8 @@ use Rattle.rule_lang.specs.declared.rule.Statement.{Statement}
 use Rattle.rule_lang.specs.declared.rule.Statement.TheVariants.{Count, When}
 use Rattle.reasons.specs.Ending.{Ending, counters_after, ending, ending_on}
 use Rattle.reasons.specs.Reading.{read_steps}
-use Rattle.reasons.specs.Told.{ChoosesByLastLine, by_its_end, by_this_when, behind_when}
-use Rattle.reasons.specs.Told.{behind_count, LastLineChooses, counted, rule_lines, when_line}
+use Rattle.reasons.specs.RuleLines.{ChoosesByLastLine, by_its_end, by_this_when, behind_when}
+use Rattle.reasons.specs.RuleLines.{behind_count, LastLineChooses, counted, rule_lines, when_line}
 use Rattle.reasons.proofs.Conditions.{when_is_so}
 
 -- ---- the result of a trace on counters that reply by their values is the behaviour's result

@@ -13,9 +13,9 @@ use Rattle.cells.specs.Grown.{GrewBy}
 use Rattle.cells.specs.declared.event.CellEvent.{CellEvent}
 use Rattle.cells.specs.declared.event.CellOp.TheVariants.{Add}
 use Rattle.rule_lang.specs.Meaning.{Behaviour, Chooses, Asks, HasTrace}
-use Rattle.rule_lang.specs.Meaning.{asks_then, behaviour, cell_asked, decide, decide_one}
+use Rattle.rule_lang.specs.Meaning.{asks_then, behaviour, cell_used, decide, decide_one}
 use Rattle.rule_lang.specs.Meaning.{test_holds, test_then}
-use Rattle.rule_lang.specs.Trees.{Tree, Asked, Negated, Both, Either, trees_from}
+use Rattle.rule_lang.specs.Trees.{Tree, Leaf, Negated, Both, Either, trees_from}
 use Rattle.rule_lang.specs.declared.rule.Statement.{Statement}
 use Rattle.rule_lang.specs.declared.rule.Statement.TheVariants.{Count, When}
 use Rattle.rule_lang.specs.declared.test.Test.{Test}
@@ -42,12 +42,12 @@ module _ (a : Attributes) (s : AppShape) where
   test_adds : (t : Test) {met unmet : Behaviour} → OnlyAdds met → OnlyAdds unmet
       → OnlyAdds (test_then a s t met unmet)
   test_adds t {met} {unmet} f g =
-      asked_adds (cell_asked s t) (λ reply. if test_holds a s reply t then met else unmet)
+      asked_adds (cell_used s t) (λ reply. if test_holds a s reply t then met else unmet)
       (λ reply. either_adds (test_holds a s reply t) f g)
 
   condition_adds : (c : Tree) {met unmet : Behaviour} → OnlyAdds met → OnlyAdds unmet
       → OnlyAdds (decide a s c met unmet)
-  condition_adds (Asked line t) f g = test_adds t f g
+  condition_adds (Leaf line t) f g = test_adds t f g
   condition_adds (Negated c) f g = condition_adds c g f
   condition_adds (Both b c) f g = condition_adds b (condition_adds c f g) g
   condition_adds (Either b c) f g = condition_adds b f (condition_adds c f g)

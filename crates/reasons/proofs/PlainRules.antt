@@ -17,7 +17,7 @@ use Rattle.rule_lang.specs.Says as says
 use Rattle.rule_lang.specs.Shapes.{array_named}
 use Rattle.rule_lang.specs.Tests as tests
 use Rattle.rule_lang.specs.Tokens.{Text}
-use Rattle.rule_lang.specs.Trees.{Tree, Asked, Negated, Both, Either}
+use Rattle.rule_lang.specs.Trees.{Tree, Leaf, Negated, Both, Either}
 use Rattle.rule_lang.specs.Verdicts.{IsVerdict, too_long, no_token, no_rule, a_rule}
 use Rattle.rule_lang.specs.declared.condition.Step.{Step}
 use Rattle.rule_lang.specs.declared.condition.Step.TheVariants as step
@@ -114,7 +114,7 @@ module _ (s : AppShape) where
   both_plain [] ys no_step q = q
   both_plain (x ∷ xs) ys (next_step p more) q = next_step p (both_plain xs ys more q)
 
-  one_plain : (t : Test) (line : ℕ) → IsPlainTest t → ArePlainSteps (says.steps_of (Asked line t))
+  one_plain : (t : Test) (line : ℕ) → IsPlainTest t → ArePlainSteps (says.steps_of (Leaf line t))
   one_plain t line p = next_step {x = step.Test line t} p no_step
 
   joined_plain : (c d : Tree) (x : Step) → ArePlainSteps (x ∷ [])
@@ -136,7 +136,7 @@ module _ (s : AppShape) where
         if_says (nat_lt depth 32) (cond_is_plain (depth + 1) c (one_less plain)) no_more
     fact_is_plain depth (g.asked {p = p} t) plain =
         then_says (says.test_says s t) _ (test_is_plain t plain)
-        (λ x more. said (Asked p.line x) (one_plain x p.line more))
+        (λ x more. said (Leaf p.line x) (one_plain x p.line more))
 
     term_is_plain : (depth : ℕ) {ts rest : List Placed} (t : g.IsTerm ts rest)
         → ArePlainTokens ts → SaysSteps (says.term_says s depth t)

@@ -10,9 +10,9 @@ use Rattle.attrs.specs.declared.vocabulary.Attribute.TheVariants as attribute
 use Rattle.attrs.specs.declared.vocabulary.Flag.{Flag}
 use Rattle.attrs.specs.declared.vocabulary.Flag.TheVariants as flag
 use Rattle.cells.specs.Arrays.{AppShape}
-use Rattle.rule_lang.specs.Meaning.{bucket_by, cell_asked, remainder}
+use Rattle.rule_lang.specs.Meaning.{bucket_by, cell_used, remainder}
 use Rattle.rule_lang.specs.Shapes.{array_named, quota_of}
-use Rattle.rule_lang.specs.Trees.{Tree, Asked, Negated, Both, Either, trees_from, with_step}
+use Rattle.rule_lang.specs.Trees.{Tree, Leaf, Negated, Both, Either, trees_from, with_step}
 use Rattle.rule_lang.specs.declared.condition.Step.{Step}
 use Rattle.rule_lang.specs.declared.condition.Step.TheVariants as step
 use Rattle.rule_lang.specs.declared.test.Comparison.{Comparison}
@@ -89,7 +89,7 @@ IsPlainTest t = Unit {0}
 -- ---- a condition, and its steps
 
 abbrev pub IsPlainTree : Tree → Type 0
-IsPlainTree (Asked line t) = IsPlainTest t
+IsPlainTree (Leaf line t) = IsPlainTest t
 IsPlainTree (Negated c) = IsPlainTree c
 IsPlainTree (Both b c) = IsPlainTree b × IsPlainTree c
 IsPlainTree (Either b c) = IsPlainTree b × IsPlainTree c
@@ -216,9 +216,9 @@ module _ (a : Attributes) (s : AppShape) where
 
   tree_is_plain : (counters : List ℕ) (c : Tree) → IsPlainTree c
       → IsPlain (read_tree a s counters c).text
-  tree_is_plain counters (Asked line t) plain =
+  tree_is_plain counters (Leaf line t) plain =
       joined (test_is_plain t plain)
-      (truth_is_plain (value_at counters (cell_asked s t)) (holds_on a s counters t) t)
+      (truth_is_plain (value_at counters (cell_used s t)) (holds_on a s counters t) t)
   tree_is_plain counters (Negated c) plain =
       joined (joined (known (codes "not (") refl) (tree_is_plain counters c plain))
       (known (codes ")") refl)

@@ -4,8 +4,8 @@ use Rattle.std.specs.Prelude.{Option, Some, None, option_and_then, codes}
 use Rattle.std.specs.Prelude.{Bool, true, false, not, if◌then◌else◌}
 use Rattle.attrs.specs.Attributes.{Attributes}
 use Rattle.cells.specs.Arrays.{AppShape}
-use Rattle.rule_lang.specs.Meaning.{cell_asked}
-use Rattle.rule_lang.specs.Trees.{Tree, Asked, Negated, Both, Either, trees_from, with_step}
+use Rattle.rule_lang.specs.Meaning.{cell_used}
+use Rattle.rule_lang.specs.Trees.{Tree, Leaf, Negated, Both, Either, trees_from, with_step}
 use Rattle.rule_lang.specs.declared.condition.Step.{Step}
 use Rattle.rule_lang.specs.declared.condition.Step.TheVariants as step
 use Rattle.rule_lang.specs.declared.test.Test.{Test}
@@ -62,13 +62,13 @@ module _ (a : Attributes) (s : AppShape) (first : List ℕ) where
   Agree ts st = ⊥
 
   test_is : (counters : List ℕ) (line : ℕ) (t : Test)
-      → IsPartOf (read_tree a s counters (Asked line t)) counters (tested a s counters t)
-      (left_at counters (cell_asked s t))
+      → IsPartOf (read_tree a s counters (Leaf line t)) counters (tested a s counters t)
+      (left_at counters (cell_used s t))
   test_is counters line t = record {
     text = refl;
     holds = refl;
     left = refl;
-    back = test_is_back counters (cell_asked s t);
+    back = test_is_back counters (cell_used s t);
   }
 
   -- the second of two parts counts or doesn't

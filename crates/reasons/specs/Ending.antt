@@ -9,7 +9,7 @@ use Rattle.cells.specs.declared.event.CellOp.{CellOp}
 use Rattle.cells.specs.declared.event.CellOp.TheVariants.{Add}
 use Rattle.cells.specs.declared.event.CellEvent.{CellEvent}
 use Rattle.rule_lang.specs.Meaning.{Behaviour, Chooses, Asks, HasTrace, behaviour}
-use Rattle.rule_lang.specs.Meaning.{cell_asked, test_holds}
+use Rattle.rule_lang.specs.Meaning.{cell_used, test_holds}
 use Rattle.rule_lang.specs.declared.rule.Statement.{Statement}
 use Rattle.rule_lang.specs.declared.test.Test.{Test}
 
@@ -45,7 +45,7 @@ left_at counters None = counters
 
 -- whether a test holds on counters with these values
 abbrev pub holds_on : Attributes → AppShape → (counters : List ℕ) → Test → Bool
-holds_on a s counters t = test_holds a s (value_at counters (cell_asked s t)) t
+holds_on a s counters t = test_holds a s (value_at counters (cell_used s t)) t
 
 -- the result of a rule is what it means: some events are a trace of its meaning, and lead from the
 -- old values of the counters to the new ones; their replies fit the counters

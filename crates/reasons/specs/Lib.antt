@@ -2,5 +2,5 @@ pub mod Ending
 pub mod Quoted
 pub mod Texts
 pub mod Reading
-pub mod Told
+pub mod RuleLines
 pub mod Stack

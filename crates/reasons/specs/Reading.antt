@@ -4,8 +4,8 @@ use Rattle.std.specs.Prelude.{ℕ, List, [], ◌∷◌, ◌++◌, codes, Option,
 use Rattle.std.specs.Prelude.{Bool, false, not, if◌then◌else◌}
 use Rattle.attrs.specs.Attributes.{Attributes}
 use Rattle.cells.specs.Arrays.{AppShape}
-use Rattle.rule_lang.specs.Meaning.{cell_asked}
-use Rattle.rule_lang.specs.Trees.{Tree, Asked, Negated, Both, Either, trees_from}
+use Rattle.rule_lang.specs.Meaning.{cell_used}
+use Rattle.rule_lang.specs.Trees.{Tree, Leaf, Negated, Both, Either, trees_from}
 use Rattle.rule_lang.specs.declared.condition.Step.{Step}
 use Rattle.rule_lang.specs.declared.test.Test.{Test}
 use Rattle.reasons.specs.Ending.{holds_on, left_at, value_at}
@@ -30,14 +30,14 @@ module _ (a : Attributes) (s : AppShape) where
   -- the reading of a test
   abbrev pub read_test : (counters : List ℕ) → Test → Reading
   read_test counters t = record {
-    text = tested_text a s (value_at counters (cell_asked s t)) (holds_on a s counters t) t;
+    text = tested_text a s (value_at counters (cell_used s t)) (holds_on a s counters t) t;
     holds = holds_on a s counters t;
-    counters = left_at counters (cell_asked s t);
+    counters = left_at counters (cell_used s t);
   }
 
   -- the second part of `and` is evaluated if the first holds, and that of `or` if it doesn't
   abbrev pub read_tree : (counters : List ℕ) → Tree → Reading
-  read_tree counters (Asked line t) = read_test counters t
+  read_tree counters (Leaf line t) = read_test counters t
   read_tree counters (Negated c) = read_negated (read_tree counters c)
   read_tree counters (Both b c) =
       let r = read_tree counters b in

@@ -7,7 +7,7 @@ use Rattle.std.specs.Prelude.{Option, Some, None, option_and_then}
 use Rattle.std.specs.Prelude.{Bool, true, false, not, if◌then◌else◌}
 use Rattle.attrs.specs.Attributes.{Attributes}
 use Rattle.cells.specs.Arrays.{AppShape}
-use Rattle.rule_lang.specs.Meaning.{cell_asked}
+use Rattle.rule_lang.specs.Meaning.{cell_used}
 use Rattle.rule_lang.specs.declared.condition.Step.{Step}
 use Rattle.rule_lang.specs.declared.condition.Step.TheVariants as step
 use Rattle.rule_lang.specs.declared.test.Test.{Test}
@@ -78,15 +78,15 @@ module _ (a : Attributes) (s : AppShape) where
   -- the part of a test
   abbrev pub tested : (counters : List ℕ) → Test → Part
   tested counters t = record {
-    text = tested_text a s (value_at counters (cell_asked s t)) (holds_on a s counters t) t;
+    text = tested_text a s (value_at counters (cell_used s t)) (holds_on a s counters t) t;
     holds = holds_on a s counters t;
-    taken = taken_at counters (cell_asked s t);
+    taken = taken_at counters (cell_used s t);
   }
 
   -- one step more
   abbrev pub stepped : Step → List Part → (counters : List ℕ) → Option Stacked
   stepped (step.Test line t) ps counters =
-      Some (stacked (tested counters t ∷ ps) (left_at counters (cell_asked s t)))
+      Some (stacked (tested counters t ∷ ps) (left_at counters (cell_used s t)))
   stepped step.Not ps counters = not_newest ps counters
   stepped step.And ps counters = join_two true ps counters
   stepped step.Or ps counters = join_two false ps counters

@@ -131,5 +131,5 @@ tested_text a s value holds t = test_text t ++ truth_text a s value holds t
 -- ---- a condition
 
 -- a part under `not`; each truth in it is its test's own
-abbrev pub negated_text : (told : List ℕ) → List ℕ
-negated_text told = codes "not (" ++ told ++ codes ")"
+abbrev pub negated_text : (report : List ℕ) → List ℕ
+negated_text report = codes "not (" ++ report ++ codes ")"

@@ -1,7 +1,7 @@
 //! Laws of the definitions: reports are true. Two of the laws are called, only for their clauses.
 
 ghost use Rattle.reasons.specs.Quoted as quoted;
-ghost use Rattle.reasons.specs.Told as specs;
+ghost use Rattle.reasons.specs.RuleLines as specs;
 
 /// Law: each reported truth of a test is what the test means.
 pub fn truths_are_so()

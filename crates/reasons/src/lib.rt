@@ -22,7 +22,7 @@ mod law;
 mod line;
 mod part;
 mod quoted;
-mod telling;
+mod rule_report;
 mod test_text;
 mod words;
 
@@ -31,5 +31,5 @@ pub use law::{
     truths_are_so, whens_are_lines, whens_decide,
 };
 pub use quoted::push_quoted;
-pub use telling::tell_rule;
+pub use rule_report::tell_rule;
 pub use test_text::push_test;

@@ -2,7 +2,7 @@
 
 ghost use Rattle.std.specs.Prelude.{◌≡◌, OnOk};
 ghost use Rattle.printing.specs.Pushed.{Puts};
-ghost use Rattle.reasons.specs.Told as specs;
+ghost use Rattle.reasons.specs.RuleLines as specs;
 
 use rule_lang::Step;
 use std::alloc::AllocError;
@@ -17,13 +17,13 @@ fn first_test_line(steps: &[Step]) -> usize
     }
 }
 
-/// Adds the line of a `when`, whose tests are reported in `told`.
-pub(crate) fn push_when(text: &mut String, steps: &[Step], told: &str) -> Result<(), AllocError>
+/// Adds the line of a `when`, whose tests are reported in `report`.
+pub(crate) fn push_when(text: &mut String, steps: &[Step], report: &str) -> Result<(), AllocError>
     ensures { OnOk result
-        (Puts text.old text.new (specs.ended (specs.when_line steps.now told.now))) }
+        (Puts text.old text.new (specs.ended (specs.when_line steps.now report.now))) }
 {
     let line = first_test_line(steps);
-    writeln!(text, "  line {line}: {told}")
+    writeln!(text, "  line {line}: {report}")
 }
 
 /// Adds the line for the end of a rule.

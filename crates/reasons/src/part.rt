@@ -39,8 +39,8 @@ impl Model for Part {
 }
 
 // The cell that a test takes from.
-fn cell_asked(shape: &Shape, test: &Test) -> Option<u32>
-    ensures { result ≡ meaning.cell_asked shape.now test.now }
+fn cell_used(shape: &Shape, test: &Test) -> Option<u32>
+    ensures { result ≡ meaning.cell_used shape.now test.now }
 {
     match test {
         Test::Take { array, index } => {
@@ -80,10 +80,10 @@ pub(crate) fn read_test(
     ensures part { IfOk result (λ p.
         p ≡ specs.tested attrs.now shape.now counters.old test.now) }
     ensures left { OnOk result
-        (counters.new ≡ left_at counters.old (meaning.cell_asked shape.now test.now)) }
+        (counters.new ≡ left_at counters.old (meaning.cell_used shape.now test.now)) }
 {
     let mut taken = Vec::new(alloc);
-    let value = ask_cell(counters, cell_asked(shape, test), &mut taken)?;
+    let value = ask_cell(counters, cell_used(shape, test), &mut taken)?;
     let holds = test_holds(attrs, shape, value, test);
     let mut text = String::new(alloc);
     push_tested(&mut text, attrs, shape, value, holds, test)?;
@@ -138,12 +138,12 @@ pub(crate) fn negated(alloc: Global, part: Part) -> Result<Part, AllocError>
     ensures { IfOk result (λ p. p ≡ specs.negated part) }
 {
     let Part {
-        text: told,
+        text: report,
         holds,
         taken,
     } = part;
     let mut text = String::new(alloc);
-    push_negated(&mut text, told.as_str())?;
+    push_negated(&mut text, report.as_str())?;
     Ok(Part {
         text,
         holds: !holds,
@@ -151,8 +151,8 @@ pub(crate) fn negated(alloc: Global, part: Part) -> Result<Part, AllocError>
     })
 }
 
-fn push_negated(text: &mut String, told: &str) -> Result<(), AllocError>
-    ensures { OnOk result (Puts text.old text.new (texts.negated_text told.now)) }
+fn push_negated(text: &mut String, report: &str) -> Result<(), AllocError>
+    ensures { OnOk result (Puts text.old text.new (texts.negated_text report.now)) }
 {
-    write!(text, "not ({told})")
+    write!(text, "not ({report})")
 }

@@ -20,7 +20,7 @@ use Rattle.rule_lang.specs.declared.test.Comparison.TheVariants as comparison
 use Rattle.rule_lang.specs.declared.test.Test as the_test
 use Rattle.rule_lang.specs.declared.test.Test.TheVariants as test
 use Rattle.rule_lang.specs.Shapes.{array_named, quota_of}
-use Rattle.rule_lang.specs.Trees.{Tree, Asked, Negated, Both, Either, trees_from}
+use Rattle.rule_lang.specs.Trees.{Tree, Leaf, Negated, Both, Either, trees_from}
 use Rattle.rule_compile.specs.declared.goals.Goal.{Goal}
 use Rattle.rule_compile.specs.Instructions as insn
 use Rattle.rule_compile.specs.Blocks as code
@@ -108,7 +108,7 @@ test_before s (test.Take name index) sense l q =
 
 pub tree_before : (s : AppShape) (c : Tree) (sense : Bool) (l : ℕ) (q : Program)
     → IsBefore (tree_code s c sense l q) q
-tree_before s (Asked line t) sense l q = test_before s t sense l q
+tree_before s (Leaf line t) sense l q = test_before s t sense l q
 tree_before s (Negated c) sense l q = tree_before s c (not sense) l q
 tree_before s (Both b c) sense l q =
     before_then _ (tree_code s c sense l q) q

@@ -15,7 +15,7 @@ use Rattle.rule_lang.specs.declared.test.Comparison.TheVariants as comparison
 use Rattle.rule_lang.specs.declared.test.Test as the_test
 use Rattle.rule_lang.specs.declared.test.Test.TheVariants as test
 use Rattle.rule_lang.specs.Cost.{tests_in, tests_of, cost}
-use Rattle.rule_lang.specs.Trees.{Tree, Asked, Negated, Both, Either, with_step, trees_from}
+use Rattle.rule_lang.specs.Trees.{Tree, Leaf, Negated, Both, Either, with_step, trees_from}
 use Rattle.rule_compile.specs.declared.goals.Goal.{Goal}
 use Rattle.bpf_insn.specs.declared.reg.Reg.TheVariants.{R0}
 use Rattle.rule_compile.specs.Instructions as insn
@@ -74,13 +74,13 @@ test_length s (test.Take name index) sense l q range = omega arith
 -- ---- conditions
 
 tests_of_tree : Tree → ℕ
-tests_of_tree (Asked line t) = 1
+tests_of_tree (Leaf line t) = 1
 tests_of_tree (Negated c) = tests_of_tree c
 tests_of_tree (Both b c) = tests_of_tree b + tests_of_tree c
 tests_of_tree (Either b c) = tests_of_tree b + tests_of_tree c
 
 abbrev InRange : Tree → Type 0
-InRange (Asked line t) = IsInRange t
+InRange (Leaf line t) = IsInRange t
 InRange (Negated c) = InRange c
 InRange (Both b c) = InRange b × InRange c
 InRange (Either b c) = InRange b × InRange c
@@ -88,7 +88,7 @@ InRange (Either b c) = InRange b × InRange c
 tree_length : (s : AppShape) (c : Tree) (sense : Bool) (l : ℕ) (q : Program) → InRange c
     → length (tree_code s c sense l q) ≤ 22 * tests_of_tree c + length q
 unfolding tests_of_tree
-tree_length s (Asked line t) sense l q range = test_length s t sense l q range
+tree_length s (Leaf line t) sense l q range = test_length s t sense l q range
 tree_length s (Negated c) sense l q range = tree_length s c (not sense) l q range
 tree_length s (Both b c) sense l q range =
     let f = tree_length s b false (if sense then length q else l)

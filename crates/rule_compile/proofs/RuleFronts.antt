@@ -15,7 +15,7 @@ use Rattle.rule_lang.specs.declared.test.Test as the_test
 use Rattle.rule_lang.specs.declared.test.Test.TheVariants as test
 use Rattle.rule_lang.specs.Fits.{test_fits}
 use Rattle.rule_lang.specs.Shapes.{array_named, cell_of, quota_of}
-use Rattle.rule_lang.specs.Trees.{Tree, Asked, Negated, Both, Either}
+use Rattle.rule_lang.specs.Trees.{Tree, Leaf, Negated, Both, Either}
 use Rattle.rule_compile.specs.Instructions as insn
 use Rattle.rule_compile.specs.Code.{condition_of, version_code, four_of}
 use Rattle.rule_compile.specs.Code.{place_named, test_code, tree_code}
@@ -85,7 +85,7 @@ module _ (shape : AppShape) (is_shape : IsShape shape) where
 
   pub tree_front : (c : Tree) (sense : Bool) (l : ℕ) (q : Program) (ds : List Known) → Suits shape c
       → IsRest shape q ds → IsLabel shape q ds l → IsFront shape (tree_code shape c sense l q) q ds
-  tree_front (Asked line t) sense l q ds suit h label =
+  tree_front (Leaf line t) sense l q ds suit h label =
       test_front t sense l q ds suit.0 suit.1 h label
   tree_front (Negated c) sense l q ds suit h label = tree_front c (not sense) l q ds suit h label
   tree_front (Both b c) sense l q ds suit h label =

@@ -21,7 +21,7 @@ use Rattle.rule_lang.specs.Fits.{test_fits, step_fits, statement_fits, is_releas
 use Rattle.rule_lang.specs.Meaning.{Behaviour, Chooses, HasTrace, decide}
 use Rattle.rule_lang.specs.Meaning.{decide_one, decide_steps, behaviour}
 use Rattle.rule_lang.specs.Shapes.{array_named, cell_of}
-use Rattle.rule_lang.specs.Trees.{Tree, Asked, Negated, Both, Either, with_step, trees_from}
+use Rattle.rule_lang.specs.Trees.{Tree, Leaf, Negated, Both, Either, with_step, trees_from}
 use Rattle.rule_compile.specs.Code.{tree_code, made_code, goal, steps_code, array_size}
 use Rattle.rule_compile.specs.Code.{place_named, end_code, statements_code, rule_code}
 use Rattle.rule_compile.proofs.Fields.{FitFields, fit_fields}
@@ -37,7 +37,7 @@ use Rattle.rule_compile.proofs.Before.{tree_before, end_before}
 -- ---- properties of a tree's tests
 
 abbrev pub Suits : AppShape → Tree → Type 0
-Suits s (Asked line t) = IsInRange t × (test_fits s t ≡ true)
+Suits s (Leaf line t) = IsInRange t × (test_fits s t ≡ true)
 Suits s (Negated c) = Suits s c
 Suits s (Both b c) = Suits s b × Suits s c
 Suits s (Either b c) = Suits s b × Suits s c
@@ -98,7 +98,7 @@ module _ (p : ShapedProgram) (a : Attributes) (fit : FitFields a) (shape : IsSha
       → Goes (from_label q l) choice x → Goes q choice y
       → Goes (tree_code p.shape c sense l q) choice
       (decide a p.shape c (if sense then x else y) (if sense then y else x))
-  tree_runs (Asked line t) sense l q choice x y h within to on =
+  tree_runs (Leaf line t) sense l q choice x y h within to on =
       test_runs p a fit shape t sense l q choice x y h.0 h.1 within to on
   tree_runs (Negated c) true l q choice x y h within to on =
       tree_runs c false l q choice x y h within to on

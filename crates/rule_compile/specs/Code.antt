@@ -24,7 +24,7 @@ use Rattle.rule_lang.specs.declared.test.Comparison.TheVariants as comparison
 use Rattle.rule_lang.specs.declared.test.Test as the_test
 use Rattle.rule_lang.specs.declared.test.Test.TheVariants as test
 use Rattle.rule_lang.specs.Shapes.{array_named, quota_of}
-use Rattle.rule_lang.specs.Trees.{Tree, Asked, Negated, Both, Either, trees_from}
+use Rattle.rule_lang.specs.Trees.{Tree, Leaf, Negated, Both, Either, trees_from}
 use Rattle.rule_compile.specs.declared.goals.Goal.{Goal}
 use Rattle.rule_compile.specs.Instructions.{turned, keep_context, set_choice, give_choice}
 use Rattle.rule_compile.specs.Blocks as code
@@ -84,7 +84,7 @@ test_code s (test.Take name index) sense label rest = take_named s name index se
 
 -- a condition, which jumps to the label if it has this truth value, and otherwise falls through
 abbrev pub tree_code : AppShape → Tree → Bool → ℕ → Program → Program
-tree_code s (Asked line t) sense label rest = test_code s t sense label rest
+tree_code s (Leaf line t) sense label rest = test_code s t sense label rest
 tree_code s (Negated c) sense label rest = tree_code s c (not sense) label rest
 tree_code s (Both b c) sense label rest =
     tree_code s b false (if sense then length rest else label) (tree_code s c sense label rest)

@@ -2,4 +2,4 @@ pub mod Lexemes
 pub mod Places
 pub mod Followers
 pub mod Sentences
-pub mod Told
+pub mod Message

@@ -4,7 +4,7 @@ ghost use Rattle.std.specs.Prelude.{◌≡◌, IfSome, OnOk, string_bytes};
 ghost use Rattle.printing.specs.Pushed.{Puts};
 ghost use Rattle.printing.specs.Printed.{printed_lines};
 ghost use Rattle.rule_diagnosis.specs.Places.{pad_at};
-ghost use Rattle.rule_diagnosis.specs.Told as specs;
+ghost use Rattle.rule_diagnosis.specs.Message as specs;
 
 use crate::place::{front, line_at, line_text, pad_at};
 use printing::PrintedLines;
@@ -15,7 +15,7 @@ use std::str;
 /// A sentence about a place, and its line with a caret. Returns `None` if an allocation fails.
 pub fn tell_at(alloc: Global, text: &str, place: usize, sentence: &str) -> Option<String>
     ensures { IfSome result
-        (λ told. string_bytes told ≡ specs.told_at text.now place sentence.now) }
+        (λ message. string_bytes message ≡ specs.lines_at text.now place sentence.now) }
 {
     let before = front(text.as_bytes(), place);
     let line = line_at(before);
@@ -25,16 +25,16 @@ pub fn tell_at(alloc: Global, text: &str, place: usize, sentence: &str) -> Optio
     let Some(pad) = printed_pad(alloc, before) else {
         return None;
     };
-    let mut told = String::new(alloc);
+    let mut message = String::new(alloc);
     match tell_lines(
-        &mut told,
+        &mut message,
         line,
         column.len() + 1,
         line_text(line, text),
         pad.as_str(),
         sentence,
     ) {
-        Ok(()) => Some(told),
+        Ok(()) => Some(message),
         Err(_) => None,
     }
 }

@@ -28,10 +28,10 @@ mod lexeme;
 mod place;
 mod quoting;
 mod range;
+mod rule_message;
 mod sentence;
 mod spread;
-mod telling;
 mod trial;
 
 pub use place::line_text;
-pub use telling::{rule_too_long, tell_rule_fault};
+pub use rule_message::{rule_too_long, tell_rule_fault};

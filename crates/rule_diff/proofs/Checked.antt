@@ -19,7 +19,7 @@ use Rattle.rule_diff.specs.Checks.{are_right, has_all, has_none, have_none, in_s
 use Rattle.rule_diff.specs.Checks.{is_in_one, is_right, is_row_of, out_of_segments, out_of_set}
 use Rattle.rule_diff.specs.Classes.{Agrees, Class, Covers, IsInSome}
 use Rattle.rule_diff.specs.Rows.{AreApart, AreComplete, AreTrue, SegmentSet, IsDiff, IsInRow, Row}
-use Rattle.rule_diff.specs.Rows.{has_segment, has_place, is_row}
+use Rattle.rule_diff.specs.Rows.{has_segment, row_agrees, is_row}
 use Rattle.rule_diff.specs.Truths.{PartialPlace, partial_at}
 
 -- ---- lists
@@ -66,14 +66,14 @@ out_of_place segments (Some c) segment is h has =
     (ap (has_segment segments) (sym (is c refl)) ∙ has)
 
 module _ (place : List ℕ) (partial : PartialPlace) (agrees : Agrees place partial) where
-  has_all_place : (row : Row) → has_all row partial ≡ true → has_place row place ≡ true
+  has_all_place : (row : Row) → has_all row partial ≡ true → row_agrees row place ≡ true
   has_all_place row all =
       all_give (in_set partial)
       (λ (set : SegmentSet). has_segment set.segments (slice_index place set.dimension))
       (λ set h. in_place set.segments (partial_at partial set.dimension)
       (slice_index place set.dimension) (agrees.each set.dimension) h) row.sets all
 
-  has_none_place : (row : Row) → has_none partial row ≡ true → has_place row place ≡ true → ⊥
+  has_none_place : (row : Row) → has_none partial row ≡ true → row_agrees row place ≡ true → ⊥
   has_none_place row none has =
       any_not_all (out_of_set partial)
       (λ (set : SegmentSet). has_segment set.segments (slice_index place set.dimension))
@@ -88,11 +88,11 @@ record IsOneOf (rows : List Row) (place : List ℕ) (c : Class) : Type 0 where
   pub there : slice_get rows index ≡ Some row
   pub is : is_row_of row c ≡ true
   pub only : (l : ℕ) (other : Row) → slice_get rows l ≡ Some other
-      → has_place other place ≡ true → l ≡ index
+      → row_agrees other place ≡ true → l ≡ index
 
 module _ (place : List ℕ) (c : Class) (agrees : Agrees place c.partial) where
   only_first : (row : Row) (rows : List Row) → have_none rows c.partial ≡ true → (l : ℕ)
-      (other : Row) → slice_get (row ∷ rows) l ≡ Some other → has_place other place ≡ true → l ≡ 0
+      (other : Row) → slice_get (row ∷ rows) l ≡ Some other → row_agrees other place ≡ true → l ≡ 0
   only_first row rows none zero other there has = refl
   only_first row rows none (suc l) other there has =
       absurd (has_none_place place c.partial agrees other
@@ -100,10 +100,10 @@ module _ (place : List ℕ) (c : Class) (agrees : Agrees place c.partial) where
 
   only_later : (row : Row) (rows : List Row) → has_none c.partial row ≡ true
       → (rest : IsOneOf rows place c) → (l : ℕ) (other : Row)
-      → slice_get (row ∷ rows) l ≡ Some other → has_place other place ≡ true → l ≡ suc rest.index
+      → slice_get (row ∷ rows) l ≡ Some other → row_agrees other place ≡ true → l ≡ suc rest.index
   only_later row rows none rest zero other there has =
       absurd (has_none_place place c.partial agrees row none
-      (ap (λ (r : Row). has_place r place) (same_Some row other there) ∙ has))
+      (ap (λ (r : Row). row_agrees r place) (same_Some row other there) ∙ has))
   only_later row rows none rest (suc l) other there has = ap suc (rest.only l other there has)
 
   first_or_later : (row : Row) (rows : List Row) (b : Bool) → is_row_of row c ≡ b

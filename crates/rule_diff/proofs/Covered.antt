@@ -23,7 +23,7 @@ use Rattle.rule_diff.specs.declared.plan_run.PairRun.TheVariants as pair
 use Rattle.rule_diff.specs.declared.plan_run.PlanRun.{PlanRun}
 use Rattle.rule_diff.specs.declared.plan_run.PlanRun.TheVariants.{Gives, Needs, Unclear}
 use Rattle.rule_diff.specs.Classes.{Agrees, Class, Covers}
-use Rattle.rule_diff.specs.Search.{LosesNoMachine, HasPlace, HasTuples}
+use Rattle.rule_diff.specs.Search.{LosesNoMachine, IsPending, HasTuples}
 use Rattle.rule_diff.specs.Search.{pair_run, may_have}
 use Rattle.rule_diff.specs.Stack.{plan_run}
 use Rattle.rule_diff.specs.Truths.{PartialPlace}
@@ -33,12 +33,12 @@ use Rattle.rule_diff.proofs.Tests.{place_at}
 
 -- ---- what is left
 
-pub has_same : (left new : List PartialPlace) (place : List ℕ) → new ≡ left → HasPlace left place
-    → HasPlace new place
-has_same left new place is has = subst (λ (ks : List PartialPlace). HasPlace ks place) (sym is) has
+pub has_same : (left new : List PartialPlace) (place : List ℕ) → new ≡ left → IsPending left place
+    → IsPending new place
+has_same left new place is has = subst (λ (ks : List PartialPlace). IsPending ks place) (sym is) has
 
-pub has_more : (left : List PartialPlace) (k : PartialPlace) (place : List ℕ) → HasPlace left place
-    → HasPlace (left ++ k ∷ []) place
+pub has_more : (left : List PartialPlace) (k : PartialPlace) (place : List ℕ) → IsPending left place
+    → IsPending (left ++ k ∷ []) place
 has_more left k place has = record {
   partial = has.partial;
   there = Contains-append_left left (k ∷ []) has.partial has.there;
@@ -46,14 +46,14 @@ has_more left k place has = record {
 }
 
 pub has_newest : (left : List PartialPlace) (k : PartialPlace) (place : List ℕ) → Agrees place k
-    → HasPlace (left ++ k ∷ []) place
+    → IsPending (left ++ k ∷ []) place
 has_newest left k place agrees =
     record { partial = k; there = Contains-push left k; agrees = agrees }
 
 -- the partial place with one more segment is left, if some machine may have it
 pub is_added : (left : List PartialPlace) (partial more : PartialPlace) (d segment : ℕ)
     → more ≡ slice_set partial d (Some segment) → (place : List ℕ) → Agrees place partial
-    → slice_index place d ≡ segment → HasPlace (left ++ more ∷ []) place
+    → slice_index place d ≡ segment → IsPending (left ++ more ∷ []) place
 is_added left partial more d segment is place agrees here =
     has_newest left more place (subst (λ (k : PartialPlace). Agrees place k) (sym is)
     (agrees_more place partial d segment agrees here))
@@ -68,13 +68,13 @@ not_added groups partial more d segment is none place agrees tuples here =
 
 -- it is left, or agrees with the newest
 newest_or_left : (left : List PartialPlace) (k : PartialPlace) (place : List ℕ)
-    → HasPlace (left ++ k ∷ []) place → HasPlace left place ⊎ Agrees place k
+    → IsPending (left ++ k ∷ []) place → IsPending left place ⊎ Agrees place k
 newest_or_left left k place has = elim (Contains-push_cases left k has.partial has.there) [
   | inl older ↦ inl (record { partial = has.partial; there = older; agrees = has.agrees })
   | inr same ↦ inr (subst (λ (partial : PartialPlace). Agrees place partial) (sym same) has.agrees)
 ]
 
-pub has_nothing : (place : List ℕ) → HasPlace [] place → ⊥
+pub has_nothing : (place : List ℕ) → IsPending [] place → ⊥
 has_nothing place has = let h = has.there.1 in absurd (omega (arith, h))
 
 -- ---- the segments of a dimension
@@ -84,9 +84,9 @@ has_nothing place has = let h = has.there.1 in absurd (omega (arith, h))
 pub record IsSplit (groups : List Group) (partial : PartialPlace) (d segments from : ℕ)
     (old new : List PartialPlace)
     : Type 0 where
-  pub kept : (place : List ℕ) → HasPlace old place → HasPlace new place
+  pub kept : (place : List ℕ) → IsPending old place → IsPending new place
   pub all : (place : List ℕ) → Agrees place partial → HasTuples groups place
-      → from ≤ slice_index place d → slice_index place d < segments → HasPlace new place
+      → from ≤ slice_index place d → slice_index place d < segments → IsPending new place
 
 pub split_none : (groups : List Group) (partial : PartialPlace) (d segments : ℕ)
     (old : List PartialPlace)
@@ -102,9 +102,9 @@ above m next n one low apart = omega (arith, one, low, apart)
 pub split_one : (groups : List Group) (partial : PartialPlace) (d segments from next : ℕ)
     (old mid new : List PartialPlace) → next ≡ from + 1
     → IsSplit groups partial d segments next old mid
-    → ((place : List ℕ) → HasPlace mid place → HasPlace new place)
+    → ((place : List ℕ) → IsPending mid place → IsPending new place)
     → ((place : List ℕ) → Agrees place partial → HasTuples groups place
-    → slice_index place d ≡ from → HasPlace new place)
+    → slice_index place d ≡ from → IsPending new place)
     → IsSplit groups partial d segments from old new
 split_one groups partial d segments from next old mid new one is kept here = record {
   kept = λ place has. kept place (is.kept place has);
@@ -117,11 +117,11 @@ split_one groups partial d segments from next old mid new one is kept here = rec
 
 -- ---- one more segment of a dimension
 
-segment_within : (last : ℕ) (ends : List ℕ) (n : ℕ) → are_rising last ends ≡ true
-    → cell_at ends n < length ends
+segment_within : (last : ℕ) (starts : List ℕ) (n : ℕ) → are_rising last starts ≡ true
+    → cell_at starts n < length starts
 segment_within last [] n rises = absurd (false≢true rises)
-segment_within last (end ∷ ends) n rises =
-    let most = count_by-le-length (λ (e : ℕ). nat_le e n) (end ∷ ends) in omega (arith, most)
+segment_within last (start ∷ starts) n rises =
+    let most = count_by-le-length (λ (e : ℕ). nat_le e n) (start ∷ starts) in omega (arith, most)
 
 pub got_at : (ds : List Dimension) (at : ℕ) (d : Bor Dimension) → IsItemAt ds at (Some d)
     → slice_get ds at ≡ Some d.now
@@ -137,17 +137,17 @@ module _ (space : Space) (classes : List Class) (left : List PartialPlace)
     (partial : PartialPlace) where
   pub split_loses_none : (new : List PartialPlace) (d : ℕ) (of : Dimension)
       → slice_get space.dimensions d ≡ Some of
-      → ((place : List ℕ) → HasPlace left place → HasPlace new place)
+      → ((place : List ℕ) → IsPending left place → IsPending new place)
       → ((place : List ℕ) → Agrees place partial → HasTuples space.groups place
-      → slice_index place d < length of.ends → HasPlace new place)
+      → slice_index place d < length of.starts → IsPending new place)
       → LosesNoMachine space classes (left ++ partial ∷ []) classes new
   split_loses_none new d of there kept all x old new_side is a g within (inl i) = inl i
   split_loses_none new d of there kept all x old new_side is a g within (inr has) =
       let place = place_of space.dimensions a g in
       let line = line_at x space.dimensions d of is.lines there in
-      let bound = subst (λ (c : ℕ). c < length of.ends)
+      let bound = subst (λ (c : ℕ). c < length of.starts)
       (sym (place_at space.dimensions a g of d there))
-      (segment_within of.last of.ends (number_of of a g) line.rises) in
+      (segment_within of.last of.starts (number_of of a g) line.rises) in
       let tuples = All-weaker (IsGroup (IsWithin x) space.dimensions)
       (λ (h : Group). HasTuple h (cells_at place h.dimensions))
       (λ h group. group a g within) space.groups is.groups in

@@ -22,8 +22,8 @@ use Rattle.rule_lang.specs.declared.test.Test.TheVariants as test
 use Rattle.rule_lang.specs.Fits.{can_take, fits, is_release, statement_fits, step_fits, test_fits}
 use Rattle.rule_lang.specs.Meaning.{behaviour}
 use Rattle.rule_lang.specs.Shapes.{array_named, cell_of, granted, quota_of}
-use Rattle.rule_lang.specs.Trees.{Tree, Asked, Negated, Both, Either, trees_from}
-use Rattle.rule_space.specs.declared.bounds.UsedCell.{UsedCell}
+use Rattle.rule_lang.specs.Trees.{Tree, Leaf, Negated, Both, Either, trees_from}
+use Rattle.rule_space.specs.declared.bounds.CellBound.{CellBound}
 use Rattle.rule_space.specs.Machines.{State, content_of, declared, has_cell, left_in, left_of}
 use Rattle.rule_space.specs.Scopes.{least_value}
 use Rattle.rule_diff.specs.Replies.{GrantsAlike, RepliesAreFrom, RepliesRise, RisesOn}
@@ -43,7 +43,7 @@ abbrev state_of : AppShape → List CellEvent → State
 state_of s events array index =
     granted_at (array_named array.name s.arrays) index (granted array.quota) events
 
-module _ (used : List UsedCell) (s : AppShape) (events : List CellEvent)
+module _ (used : List CellBound) (s : AppShape) (events : List CellEvent)
     (rise : RepliesRise s events) (from : RepliesAreFrom used s events) (array : CellArray)
     (index : ℕ) where
   few_at : (b : CellArray) → IsNamed array.name s.arrays b
@@ -170,7 +170,7 @@ module _ (a : Attributes) (s : AppShape) (shape : IsShape s) (events : List Cell
   steps_are_played cs [] have fit = have
   steps_are_played cs (step.Test line t ∷ ss) have fit =
       let both = and_parts (test_fits s t) (list_all (step_fits s) ss) fit in
-      steps_are_played (Asked line t ∷ cs) ss (test_is t both.0, have) both.1
+      steps_are_played (Leaf line t ∷ cs) ss (test_is t both.0, have) both.1
   steps_are_played [] (step.Not ∷ ss) have fit = tt
   steps_are_played (c ∷ cs) (step.Not ∷ ss) have fit =
       steps_are_played (Negated c ∷ cs) ss have fit

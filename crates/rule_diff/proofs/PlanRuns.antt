@@ -19,7 +19,7 @@ use Rattle.rule_diff.specs.declared.plan_run.PlanRun.TheVariants as run
 use Rattle.rule_diff.specs.declared.truth.Truth.{Truth}
 use Rattle.rule_diff.specs.declared.truth.Truth.TheVariants.{Holds, Fails, Needs, Unclear}
 use Rattle.rule_diff.specs.Classes.{Agrees}
-use Rattle.rule_diff.specs.Stack.{Stacked, after_steps, run_after, run_behind}
+use Rattle.rule_diff.specs.Stack.{Stacked, after_steps, run_after, run_after_steps}
 use Rattle.rule_diff.specs.Stack.{plan_run, run_when}
 use Rattle.rule_diff.specs.Truths.{PartialPlace}
 use Rattle.rule_diff.proofs.Runs.{Agree, AreRun, next, nothing, steps_are}
@@ -55,7 +55,7 @@ module _ (left : ℕ → ℕ) (contents : List ℕ) (release : ℕ) (rest : Beha
       one_is (next (next more before) part) = tt
 
       behind_is : (trees : Option (List Tree)) (st : Option Stacked) → Agree left a s first trees st
-          → RunIs (run_behind st (content_of contents release) later)
+          → RunIs (run_after_steps st (content_of contents release) later)
           (content_of contents
           (chooses_in left first (decide_one a s trees (Chooses release) rest)))
       behind_is (Some ts) (Some st) run = one_is run
@@ -84,7 +84,7 @@ module _ (Is : Attributes → State → Type 0) (ds : List Dimension) (a : Attri
       taken =
       let later : List ℕ → PlanRun = λ new. plan_run ds partial new plan in
       let st = after_steps ds partial [] taken planned in
-      subst (λ (k : ℕ). RunIs (run_behind st k later) (content_of contents
+      subst (λ (k : ℕ). RunIs (run_after_steps st k later) (content_of contents
       (chooses_in (left_in g s) taken (behaviour a s (statement.When steps release ∷ rule)))))
       (sym is.0.1)
       (behind_is (left_in g s) contents release (behaviour a s rule) a s taken later

@@ -10,9 +10,9 @@ use Rattle.attrs.specs.Attributes.{Attributes}
 use Rattle.cells.specs.Arrays.{AppShape}
 use Rattle.cells.specs.declared.event.CellEvent.{CellEvent}
 use Rattle.cells.specs.declared.event.CellOp.TheVariants.{Add}
-use Rattle.rule_lang.specs.Meaning.{Asks, Behaviour, Chooses, HasTrace, asks_then, cell_asked}
+use Rattle.rule_lang.specs.Meaning.{Asks, Behaviour, Chooses, HasTrace, asks_then, cell_used}
 use Rattle.rule_lang.specs.Meaning.{decide, decide_one, test_holds, test_then}
-use Rattle.rule_lang.specs.Trees.{Tree, Asked, Negated, Both, Either}
+use Rattle.rule_lang.specs.Trees.{Tree, Leaf, Negated, Both, Either}
 use Rattle.rule_lang.specs.declared.test.Test.{Test}
 use Rattle.rule_space.specs.Machines.{chooses_in, reply_after, takes_of}
 use Rattle.rule_diff.specs.Replies.{RisesOn, on_cell}
@@ -39,8 +39,8 @@ reply_is quota some few false = le-ltb (2 ^ 63) quota few
 module _ (a : Attributes) (s : AppShape) (left : ℕ → ℕ) (events : List CellEvent) where
   -- a test uses no cell, or takes from one that grants as many as have replies below the quota
   pub data IsPlayed : Test → Type 0 where
-    no_cell : (t : Test) → cell_asked s t ≡ None → IsPlayed t
-    a_take : (t : Test) (cell quota : ℕ) → cell_asked s t ≡ Some cell
+    no_cell : (t : Test) → cell_used s t ≡ None → IsPlayed t
+    a_take : (t : Test) (cell quota : ℕ) → cell_used s t ≡ Some cell
         → ((reply : ℕ) → test_holds a s reply t ≡ nat_lt reply quota) → 0 < quota
         → quota ≤ 2 ^ 63 → left cell ≡ granted_in cell quota events → RisesOn cell events
         → IsPlayed t
@@ -98,14 +98,14 @@ module _ (a : Attributes) (s : AppShape) (left : ℕ → ℕ) (events : List Cel
       ∙ sym (holds (reply_after (left cell) (takes_of cell taken))))))
 
   abbrev pub ArePlayed : Tree → Type 0
-  ArePlayed (Asked line t) = IsPlayed t
+  ArePlayed (Leaf line t) = IsPlayed t
   ArePlayed (Negated c) = ArePlayed c
   ArePlayed (Both b c) = ArePlayed b × ArePlayed c
   ArePlayed (Either b c) = ArePlayed b × ArePlayed c
 
   tree_plays : (c : Tree) → ArePlayed c → (met unmet : Behaviour) → Plays met → Plays unmet
       → Plays (decide a s c met unmet)
-  tree_plays (Asked line t) is met unmet f g = test_plays is met unmet f g
+  tree_plays (Leaf line t) is met unmet f g = test_plays is met unmet f g
   tree_plays (Negated c) is met unmet f g = tree_plays c is unmet met g f
   tree_plays (Both b c) is met unmet f g =
       tree_plays b is.0 (decide a s c met unmet) unmet (tree_plays c is.1 met unmet f g) g

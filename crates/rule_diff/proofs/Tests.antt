@@ -8,7 +8,7 @@ use Rattle.std.proofs.lemmas.Bool.{le-ltb, leb-true, lt-ltb, ltb-true}
 use Rattle.std.proofs.lemmas.Option.{get_or_from_slice_get, slice_get-map}
 use Rattle.attrs.specs.Attributes.{Attributes}
 use Rattle.cells.specs.Arrays.{AppShape}
-use Rattle.rule_lang.specs.Meaning.{Behaviour, allows, asks_then, cell_asked, test_holds}
+use Rattle.rule_lang.specs.Meaning.{Behaviour, allows, asks_then, cell_used, test_holds}
 use Rattle.rule_lang.specs.Meaning.{test_then}
 use Rattle.rule_lang.specs.declared.test.Test.{Test}
 use Rattle.rule_space.specs.declared.plan_test.PlanTest.{PlanTest}
@@ -75,7 +75,7 @@ module _ (Is : Attributes → State → Type 0) (ds : List Dimension) (s : AppSh
       (λ c is. sym (place_at ds a g d at there) ∙ agrees.each at c is) needs here)
 
   plain_goes : (t : Test) (b : Bool) (taken : List ℕ) (met unmet : Behaviour)
-      → cell_asked s t ≡ None → test_holds a s 0 t ≡ b
+      → cell_used s t ≡ None → test_holds a s 0 t ≡ b
       → Goes (left_in g s) (decided b) taken met unmet
       (chooses_in (left_in g s) taken (test_then a s t met unmet))
   plain_goes t b taken met unmet none is =
@@ -87,7 +87,7 @@ module _ (Is : Attributes → State → Type 0) (ds : List Dimension) (s : AppSh
 
   -- a take, after these
   taken_is : (t : Test) (cell : ℕ) (granted : Bool) (taken : List ℕ) (met unmet : Behaviour)
-      → cell_asked s t ≡ Some cell
+      → cell_used s t ≡ Some cell
       → test_holds a s (reply_after (left_in g s cell) (takes_of cell taken)) t ≡ granted
       → chooses_in (left_in g s) taken (test_then a s t met unmet)
       ≡ chooses_in (left_in g s) (cell ∷ taken) (if granted then met else unmet)

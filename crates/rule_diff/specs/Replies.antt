@@ -9,7 +9,7 @@ use Rattle.cells.specs.declared.event.CellEvent.{CellEvent}
 use Rattle.rule_lang.specs.Fits.{fits}
 use Rattle.rule_lang.specs.Meaning.{HasTrace, behaviour}
 use Rattle.rule_lang.specs.Shapes.{array_named, granted}
-use Rattle.rule_space.specs.declared.bounds.UsedCell.{UsedCell}
+use Rattle.rule_space.specs.declared.bounds.CellBound.{CellBound}
 use Rattle.rule_space.specs.Machines.{IsMachine, Side, State, content_of, declared, gets}
 use Rattle.rule_space.specs.Scopes.{IsWithin, Scope, least_value}
 
@@ -31,7 +31,7 @@ abbrev pub RepliesRise : AppShape → List CellEvent → Type 0
 RepliesRise s events = EachQuotaCell s (λ array index. RisesOn (array.base + index) events)
 
 -- each cell with a quota replies at least the value that is given for it
-abbrev pub RepliesAreFrom : List UsedCell → AppShape → List CellEvent → Type 0
+abbrev pub RepliesAreFrom : List CellBound → AppShape → List CellEvent → Type 0
 RepliesAreFrom used s events = EachQuotaCell s (λ array index.
     All (λ e. e.cell ≡ array.base + index → least_value used array.name index ≤ e.reply) events)
 

@@ -27,15 +27,15 @@ abbrev pub has_segment : (segments : List ℕ) → (segment : ℕ) → Bool
 has_segment segments segment = list_any (λ c. c == segment) segments
 
 -- the row has a place: each of its sets has the place's segment
-abbrev pub has_place : Row → (place : List ℕ) → Bool
-has_place row place =
+abbrev pub row_agrees : Row → (place : List ℕ) → Bool
+row_agrees row place =
     list_all (λ set. has_segment set.segments (slice_index place set.dimension)) row.sets
 
 -- some of the dimension's segments in their order, but not all
 abbrev pub are_some : Option Dimension → (segments : List ℕ) → Bool
 are_some None segments = false
 are_some (Some d) segments =
-    are_rising (length d.ends - 1) segments && nat_lt (length segments) (length d.ends)
+    are_rising (length d.starts - 1) segments && nat_lt (length segments) (length d.starts)
 
 -- some segments of a dimension that there is, in their order, but not all
 abbrev pub is_set : List Dimension → SegmentSet → Bool
@@ -48,7 +48,7 @@ is_row ds row = not (row.current == row.next) && list_all (is_set ds) row.sets
 module _ (x : Scope) (old new : Side) (space : Space) (rows : List Row) where
   -- a machine in a state is in the row
   abbrev pub IsInRow : Row → Attributes → State → Type 0
-  IsInRow row a g = has_place row (place_of space.dimensions a g) ≡ true
+  IsInRow row a g = row_agrees row (place_of space.dimensions a g) ≡ true
 
   -- a machine that is in no row gets the same from both rules
   abbrev pub AreComplete : Type 0

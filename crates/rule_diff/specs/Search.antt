@@ -55,7 +55,7 @@ abbrev pub HasTuples : List Group → (place : List ℕ) → Type 0
 HasTuples groups place = All (λ group. HasTuple group (cells_at place group.dimensions)) groups
 
 -- the place agrees with one of these partial places
-pub record HasPlace (left : List PartialPlace) (place : List ℕ) : Type 0 where
+pub record IsPending (left : List PartialPlace) (place : List ℕ) : Type 0 where
   pub partial : PartialPlace
   pub there : Contains left partial
   pub agrees : Agrees place partial
@@ -64,7 +64,7 @@ pub record HasPlace (left : List PartialPlace) (place : List ℕ) : Type 0 where
 abbrev pub IsInSomeOrLeft : (old new : Side) → (place : List ℕ) → Attributes → State → List Class
     → (left : List PartialPlace) → Type 0
 IsInSomeOrLeft old new place a g classes left =
-    IsInSome old new place a g classes ⊎ HasPlace left place
+    IsInSome old new place a g classes ⊎ IsPending left place
 
 -- a machine that was in a class or left before a step is in a class or left after it
 abbrev pub LosesNoMachine : Space → List Class → List PartialPlace → List Class

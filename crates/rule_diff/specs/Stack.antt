@@ -69,9 +69,9 @@ run_when (p ∷ []) outcome rest = run_after p.truth outcome rest
 run_when ps outcome rest = run.Unclear
 
 -- the run after the steps of a condition, if they leave one part
-abbrev pub run_behind : Option Stacked → (outcome : ℕ) → (rest : List ℕ → PlanRun) → PlanRun
-run_behind (Some st) outcome rest = run_when st.parts outcome (rest st.taken)
-run_behind None outcome rest = run.Unclear
+abbrev pub run_after_steps : Option Stacked → (outcome : ℕ) → (rest : List ℕ → PlanRun) → PlanRun
+run_after_steps (Some st) outcome rest = run_when st.parts outcome (rest st.taken)
+run_after_steps None outcome rest = run.Unclear
 
 module _ (ds : List Dimension) (partial : PartialPlace) where
   -- the stack after one step
@@ -93,4 +93,4 @@ module _ (ds : List Dimension) (partial : PartialPlace) where
   plan_run taken [] = run.Gives 0
   plan_run taken (Count cell ∷ rest) = plan_run (cell ∷ taken) rest
   plan_run taken (When steps outcome ∷ rest) =
-      run_behind (after_steps [] taken steps) outcome (λ more. plan_run more rest)
+      run_after_steps (after_steps [] taken steps) outcome (λ more. plan_run more rest)

@@ -50,11 +50,11 @@ fn add_segment(
     dimension: usize,
     segment: u16,
 ) -> Result<(), AllocError>
-    ensures kept { OnOk result ((place : List ℕ) → specs.HasPlace left.old.items place
-        → specs.HasPlace left.new.items place) }
+    ensures kept { OnOk result ((place : List ℕ) → specs.IsPending left.old.items place
+        → specs.IsPending left.new.items place) }
     ensures here { OnOk result ((place : List ℕ) → Agrees place partial.now
         → specs.HasTuples groups.now place → slice_index place dimension ≡ segment
-        → specs.HasPlace left.new.items place) }
+        → specs.IsPending left.new.items place) }
 {
     let more = with_segment(alloc, partial, dimension, segment)?;
     if !may_have(dimension, groups, &more.partial) {
@@ -77,11 +77,11 @@ fn split(
     segments: usize,
 ) -> Result<(), AllocError>
     requires { segments ≤ 65535 }
-    ensures kept { OnOk result ((place : List ℕ) → specs.HasPlace left.old.items place
-        → specs.HasPlace left.new.items place) }
+    ensures kept { OnOk result ((place : List ℕ) → specs.IsPending left.old.items place
+        → specs.IsPending left.new.items place) }
     ensures all { OnOk result ((place : List ℕ) → Agrees place partial.now
         → specs.HasTuples groups.now place → slice_index place dimension < segments
-        → specs.HasPlace left.new.items place) }
+        → specs.IsPending left.new.items place) }
 {
     let mut segment = segments;
     while segment > 0 {

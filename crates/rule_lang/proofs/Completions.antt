@@ -93,7 +93,7 @@ from_place (AtFact n) =
       tokens = fill (test_phrase the_kind.Flag) rest.tokens;
       fits = record {
         rest = rest.tokens;
-        fact = g.asked (g.of the_kind.Flag (filled (test_phrase the_kind.Flag) rest.tokens));
+        fact = g.leaf (g.of the_kind.Flag (filled (test_phrase the_kind.Flag) rest.tokens));
         more = rest.fits;
       };
     }

@@ -64,7 +64,7 @@ mutual
             fact_next s d t p (p ∷ ts) ts) is) (r.back w (going_on s r.last mode.Operator q rest
             (last, rest) w r.place refl (close_next s d.condition r.last q rest closes around) k));
       }
-  fact_reads s depth d (g.asked {p = p} {ts = ts} {rest = rest} t) at =
+  fact_reads s depth d (g.leaf {p = p} {ts = ts} {rest = rest} t) at =
       let v = says.test_says s t in
       record {
         last = after_test d p.line v;

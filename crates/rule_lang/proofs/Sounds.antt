@@ -8,7 +8,7 @@ use Rattle.rule_lang.specs.declared.condition.Step.TheVariants as step
 use Rattle.rule_lang.specs.declared.test.Test.{Test}
 use Rattle.rule_lang.specs.Reader.Drafts.{Pending, and_step, or_step, fact_done}
 use Rattle.rule_lang.specs.Reader.Sound.{HasTrees, one_if, all_waiting, IsSoundAfter}
-use Rattle.rule_lang.specs.Trees.{Tree, Asked, Negated, Both, Either, with_step, trees_from}
+use Rattle.rule_lang.specs.Trees.{Tree, Leaf, Negated, Both, Either, with_step, trees_from}
 use Rattle.rule_lang.specs.Trees.{IsCondition}
 
 trees_by : (xs ys : List Step) (o : Option (List Tree)) → ((us : List Tree)
@@ -34,8 +34,8 @@ recount xs n m e h = record { trees = h.trees; made = h.made; count = h.count �
 pub test_added : (xs : List Step) (n line : ℕ) (t : Test) → HasTrees xs n
     → HasTrees (xs ++ (step.Test line t ∷ [])) (1 + n)
 test_added xs n line t h = record {
-  trees = Asked line t ∷ h.trees;
-  made = more xs (step.Test line t ∷ []) h.trees (Asked line t ∷ h.trees) h.made refl;
+  trees = Leaf line t ∷ h.trees;
+  made = more xs (step.Test line t ∷ []) h.trees (Leaf line t ∷ h.trees) h.made refl;
   count = let e = h.count in omega (arith, e);
 }
 

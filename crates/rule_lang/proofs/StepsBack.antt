@@ -163,7 +163,7 @@ tested : (n : ℕ) (k : TestKind) (p : Placed) (ts : List Placed)
     → IsFactAhead n (p ∷ ts)
 tested n k p ts is h = record {
   rest = h.rest;
-  fact = g.asked (g.of k (worded (row k).word (rest_phrase k) p ts h.rest is h.phrase));
+  fact = g.leaf (g.of k (worded (row k).word (rest_phrase k) p ts h.rest is h.phrase));
   more = h.more;
 }
 

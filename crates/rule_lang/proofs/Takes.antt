@@ -116,7 +116,7 @@ mutual
       ∙ cond_runs (suc n) c
       ∙ one_runs (AtOperator (suc n)) (state Ends (AtOperator n)) q rest (ap (place_step (AtOperator
       (suc n))) closes)
-  fact_runs n (g.asked t) = test_runs n t
+  fact_runs n (g.leaf t) = test_runs n t
 
   term_runs : (n : ℕ) {ts rest : List Placed} → g.IsTerm ts rest
       → runs (state Ends (AtFact n)) ts ≡ runs (state Ends (AtOperator n)) rest

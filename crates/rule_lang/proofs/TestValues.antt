@@ -23,7 +23,7 @@ use Rattle.rule_lang.specs.Reader.Reading.{next_in, next, is_done, Reads, goes_o
 use Rattle.rule_lang.specs.Says as says
 use Rattle.rule_lang.specs.Tests.{row, rest_phrase}
 use Rattle.rule_lang.specs.Tokens.{Token}
-use Rattle.rule_lang.specs.Trees.{Tree, Asked}
+use Rattle.rule_lang.specs.Trees.{Tree, Leaf}
 use Rattle.rule_lang.proofs.Takes.{token_is}
 use Rattle.rule_lang.proofs.Keeping.{no_ok}
 use Rattle.rule_lang.proofs.Noted.{Adds, Noted}
@@ -89,7 +89,7 @@ test_read s d p ts rest (g.of k h) =
     )) h
 
 pub asked_noted : (d : Draft) (line : ℕ) (v : OrFault Test) (o : Option RuleFault) → d.noted ≡ o
-    → Noted o (v >>? λ x. Ok (Asked line x)) (AddsFact d.condition) (after_test d line v)
+    → Noted o (v >>? λ x. Ok (Leaf line x)) (AddsFact d.condition) (after_test d line v)
 asked_noted d line (Ok x) (Some y) is = is
 asked_noted d line (Ok x) None is = (is, record { steps = refl; top = refl; depth = refl })
 asked_noted d line (Err e) (Some y) is = ap (λ (o : Option RuleFault). first_of o e) is

@@ -35,7 +35,7 @@ mutual
         → IsFact ts rest → IsFact (p ∷ ts) rest
     enclosed : {p q : Placed} {ts rest : List Placed} → p.token ≡ token.Open
         → IsCond ts (q ∷ rest) → q.token ≡ token.Close → IsFact (p ∷ ts) rest
-    asked : {p : Placed} {ts rest : List Placed} → IsTest (p ∷ ts) rest → IsFact (p ∷ ts) rest
+    leaf : {p : Placed} {ts rest : List Placed} → IsTest (p ∷ ts) rest → IsFact (p ∷ ts) rest
 
   pub data IsTerm : List Placed → List Placed → Type 0 where
     fact : {ts rest : List Placed} → IsFact ts rest → IsTerm ts rest

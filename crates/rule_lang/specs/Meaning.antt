@@ -21,7 +21,7 @@ use Rattle.rule_lang.specs.declared.test.Comparison.TheVariants.{Lt, Le, Eq, Ne,
 use Rattle.rule_lang.specs.declared.test.Test as the_test
 use Rattle.rule_lang.specs.declared.test.Test.TheVariants as test
 use Rattle.rule_lang.specs.Shapes.{array_named, cell_of, quota_of}
-use Rattle.rule_lang.specs.Trees.{Tree, Asked, Negated, Both, Either, trees_from}
+use Rattle.rule_lang.specs.Trees.{Tree, Leaf, Negated, Both, Either, trees_from}
 
 -- ---- numbers and versions
 
@@ -87,9 +87,9 @@ test_holds a s reply (test.Attr n text) = attr_is a (attribute_number n) text ==
 test_holds a s reply (test.Take name index) = nat_lt reply (quota_of (array_named name s.arrays))
 
 -- the cell that a test uses: only a take uses one
-abbrev pub cell_asked : AppShape → the_test.Test → Option ℕ
-cell_asked s (test.Take name index) = Some (cell_of (array_named name s.arrays) index)
-cell_asked s t = None
+abbrev pub cell_used : AppShape → the_test.Test → Option ℕ
+cell_used s (test.Take name index) = Some (cell_of (array_named name s.arrays) index)
+cell_used s t = None
 
 -- one Add of 1 to the cell, and the continuation on its reply; without a cell the reply is 0
 abbrev pub asks_then : Option ℕ → (ℕ → Behaviour) → Behaviour
@@ -99,12 +99,12 @@ asks_then None next = next 0
 -- a test with the continuations if it holds and if it fails
 abbrev pub test_then : Attributes → AppShape → the_test.Test → Behaviour → Behaviour → Behaviour
 test_then a s t met unmet =
-    asks_then (cell_asked s t) (λ reply. if test_holds a s reply t then met else unmet)
+    asks_then (cell_used s t) (λ reply. if test_holds a s reply t then met else unmet)
 
 -- a condition, evaluated from left to right until it is decided, with the continuations if it holds
 -- and if it fails
 abbrev pub decide : Attributes → AppShape → Tree → Behaviour → Behaviour → Behaviour
-decide a s (Asked line t) met unmet = test_then a s t met unmet
+decide a s (Leaf line t) met unmet = test_then a s t met unmet
 decide a s (Negated c) met unmet = decide a s c unmet met
 decide a s (Both b c) met unmet = decide a s b (decide a s c met unmet) unmet
 decide a s (Either b c) met unmet = decide a s b met (decide a s c met unmet)

@@ -56,13 +56,13 @@ array_given (Ok a) = Ok a.now
 array_given (Err e) = Err e
 
 -- a pending condition, with its vectors as lists
-abbrev pub seen : the_pending.Pending → Pending
-seen p = record { steps = p.steps.items; below = p.below; top = p.top; depth = p.depth }
+abbrev pub pending_as_lists : the_pending.Pending → Pending
+pending_as_lists p = record { steps = p.steps.items; below = p.below; top = p.top; depth = p.depth }
 
-abbrev pub draft_seen : the_draft.Draft → Draft
-draft_seen d = record {
+abbrev pub draft_as_lists : the_draft.Draft → Draft
+draft_as_lists d = record {
   mode = d.mode;
   statements = d.statements.items;
-  condition = seen d.condition;
+  condition = pending_as_lists d.condition;
   noted = d.noted;
 }

@@ -11,7 +11,7 @@ use Rattle.rule_lang.specs.Grammar as g
 use Rattle.rule_lang.specs.Lexed.{Placed}
 use Rattle.rule_lang.specs.Parts.{OrFault, ◌>>?◌, part, array, index, release, out_of_range}
 use Rattle.rule_lang.specs.Tests as tests
-use Rattle.rule_lang.specs.Trees.{Tree, Asked, Negated, Both, Either}
+use Rattle.rule_lang.specs.Trees.{Tree, Leaf, Negated, Both, Either}
 
 -- the test of the productions, or the first wrong name or number
 abbrev pub test_says : AppShape → {ts rest : List Placed} → g.IsTest ts rest → OrFault Test
@@ -29,7 +29,7 @@ abbrev mutual
       within_depth depth p (fact_says s (depth + 1) f >>? λ c. Ok (Negated c))
   fact_says s depth (g.enclosed {p = p} is c closes) =
       within_depth depth p (cond_says s (depth + 1) c)
-  fact_says s depth (g.asked {p = p} t) = test_says s t >>? λ x. Ok (Asked p.line x)
+  fact_says s depth (g.leaf {p = p} t) = test_says s t >>? λ x. Ok (Leaf p.line x)
 
   pub term_says : AppShape → (depth : ℕ) → {ts rest : List Placed} → g.IsTerm ts rest
       → OrFault Tree
@@ -45,7 +45,7 @@ abbrev mutual
 
 -- the steps of a tree, in post-fix order
 abbrev pub steps_of : Tree → List Step
-steps_of (Asked line t) = step.Test line t ∷ []
+steps_of (Leaf line t) = step.Test line t ∷ []
 steps_of (Negated c) = steps_of c ++ (step.Not ∷ [])
 steps_of (Both a b) = steps_of a ++ (steps_of b ++ (step.And ∷ []))
 steps_of (Either a b) = steps_of a ++ (steps_of b ++ (step.Or ∷ []))

@@ -6,14 +6,14 @@ use Rattle.rule_lang.specs.declared.condition.Step.TheVariants as step
 
 -- a test has its line
 pub data Tree : Type 0 where
-  Asked : (line : ℕ) → Test → Tree
+  Leaf : (line : ℕ) → Test → Tree
   Negated : Tree → Tree
   Both : Tree → Tree → Tree
   Either : Tree → Tree → Tree
 
 -- the trees after one more step, the newest first
 abbrev pub with_step : Step → List Tree → Option (List Tree)
-with_step (step.Test line t) ts = Some (Asked line t ∷ ts)
+with_step (step.Test line t) ts = Some (Leaf line t ∷ ts)
 with_step step.Not (c ∷ ts) = Some (Negated c ∷ ts)
 with_step step.And (b ∷ a ∷ ts) = Some (Both a b ∷ ts)
 with_step step.Or (b ∷ a ∷ ts) = Some (Either a b ∷ ts)

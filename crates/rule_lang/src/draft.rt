@@ -1,7 +1,7 @@
 //! A draft: a rule that is read up to some token.
 
 ghost use Rattle.std.specs.Prelude.{◌≡◌, OnOk, None};
-ghost use Rattle.rule_lang.specs.Named.{seen, draft_seen};
+ghost use Rattle.rule_lang.specs.Named.{pending_as_lists, draft_as_lists};
 ghost use Rattle.rule_lang.specs.Reader.Reading as reading;
 ghost use Rattle.rule_lang.specs.Trees.{IsCondition};
 
@@ -36,7 +36,7 @@ pub struct Draft {
 
 /// An empty draft.
 pub fn first_draft(alloc: Global) -> Draft
-    ensures { draft_seen result ≡ reading.first_draft }
+    ensures { draft_as_lists result ≡ reading.first_draft }
 {
     Draft {
         mode: Mode::Statement,
@@ -53,7 +53,7 @@ pub fn first_draft(alloc: Global) -> Draft
 
 /// Notes a fault, unless an earlier one is noted.
 pub fn note(draft: &mut Draft, fault: RuleFault)
-    ensures { draft_seen draft.new ≡ reading.with_fault fault (draft_seen draft.old) }
+    ensures { draft_as_lists draft.new ≡ reading.with_fault fault (draft_as_lists draft.old) }
 {
     if draft.noted.is_none() {
         draft.noted = Some(fault);
@@ -62,7 +62,7 @@ pub fn note(draft: &mut Draft, fault: RuleFault)
 
 /// Notes a fault, if `holds` is set.
 pub fn note_if(draft: &mut Draft, holds: bool, fault: RuleFault)
-    ensures { draft_seen draft.new ≡ reading.with_fault_if holds fault (draft_seen draft.old) }
+    ensures { draft_as_lists draft.new ≡ reading.with_fault_if holds fault (draft_as_lists draft.old) }
 {
     if holds {
         note(draft, fault);
@@ -71,7 +71,7 @@ pub fn note_if(draft: &mut Draft, holds: bool, fault: RuleFault)
 
 /// Adds a statement.
 pub fn add(draft: &mut Draft, statement: Statement) -> Result<(), AllocError>
-    ensures { OnOk result (draft_seen draft.new ≡ reading.with_statement statement (draft_seen
+    ensures { OnOk result (draft_as_lists draft.new ≡ reading.with_statement statement (draft_as_lists
         draft.old)) }
 {
     draft.statements.push(statement)?;
@@ -81,7 +81,7 @@ pub fn add(draft: &mut Draft, statement: Statement) -> Result<(), AllocError>
 // Takes the steps out of a condition.
 fn take_steps(alloc: Global, pending: &mut Pending) -> Vec<Step>
     ensures steps { result.items ≡ pending.old.steps.items }
-    ensures emptied { seen pending.new ≡ reading.emptied (seen pending.old) }
+    ensures emptied { pending_as_lists pending.new ≡ reading.emptied (pending_as_lists pending.old) }
 {
     mem::replace(&mut pending.steps, Vec::new(alloc))
 }
@@ -89,7 +89,7 @@ fn take_steps(alloc: Global, pending: &mut Pending) -> Vec<Step>
 /// Adds the statement whose condition has ended, unless a fault is noted.
 pub fn add_when(alloc: Global, draft: &mut Draft, release: u8) -> Result<(), AllocError>
     requires { draft.old.noted ≡ None → IsCondition draft.old.condition.steps.items }
-    ensures { OnOk result (draft_seen draft.new ≡ reading.with_when release (draft_seen
+    ensures { OnOk result (draft_as_lists draft.new ≡ reading.with_when release (draft_as_lists
         draft.old)) }
 {
     let steps = take_steps(alloc, &mut draft.condition);

@@ -3,7 +3,7 @@
 
 ghost use Rattle.std.specs.Prelude.{◌≡◌, ◌++◌, ◌∷◌, [], OnOk, replicate, if◌then◌else◌};
 ghost use Rattle.rule_lang.specs.Reader.Drafts as drafts;
-ghost use Rattle.rule_lang.specs.Named.{seen};
+ghost use Rattle.rule_lang.specs.Named.{pending_as_lists};
 ghost use Rattle.rule_lang.specs.declared.condition.Step.TheVariants as step;
 
 use crate::condition::Step;
@@ -53,7 +53,7 @@ fn push_nots(steps: &mut Vec<Step>, count: u8) -> Result<(), AllocError>
 
 // Writes the operators that a fact completes.
 fn fact_done(pending: &mut Pending) -> Result<(), AllocError>
-    ensures { OnOk result (seen pending.new ≡ drafts.fact_done (seen pending.old)) }
+    ensures { OnOk result (pending_as_lists pending.new ≡ drafts.fact_done (pending_as_lists pending.old)) }
 {
     let top = pending.top;
     push_nots(&mut pending.steps, top.nots)?;
@@ -70,7 +70,7 @@ fn fact_done(pending: &mut Pending) -> Result<(), AllocError>
 /// Begins a condition.
 pub fn begin(pending: &mut Pending, below: Frames)
     requires { below ≡ [] }
-    ensures { seen pending.new ≡ drafts.begin }
+    ensures { pending_as_lists pending.new ≡ drafts.begin }
 {
     pending.steps.clear();
     pending.below = below;
@@ -80,7 +80,7 @@ pub fn begin(pending: &mut Pending, below: Frames)
 
 /// Reads `not`.
 pub fn deny(pending: &mut Pending)
-    ensures { seen pending.new ≡ drafts.denied (seen pending.old) }
+    ensures { pending_as_lists pending.new ≡ drafts.denied (pending_as_lists pending.old) }
 {
     pending.top.nots = deeper(pending.top.nots);
     pending.depth = deeper(pending.depth);
@@ -88,7 +88,7 @@ pub fn deny(pending: &mut Pending)
 
 /// Reads `(`.
 pub fn open(pending: &mut Pending) -> Result<(), AllocError>
-    ensures { OnOk result (seen pending.new ≡ drafts.opened (seen pending.old)) }
+    ensures { OnOk result (pending_as_lists pending.new ≡ drafts.opened (pending_as_lists pending.old)) }
 {
     let top = pending.top;
     pending.below.push(top)?;
@@ -99,7 +99,7 @@ pub fn open(pending: &mut Pending) -> Result<(), AllocError>
 
 /// Reads a test.
 pub fn test(pending: &mut Pending, step: Step) -> Result<(), AllocError>
-    ensures { OnOk result (seen pending.new ≡ drafts.tested step (seen pending.old)) }
+    ensures { OnOk result (pending_as_lists pending.new ≡ drafts.tested step (pending_as_lists pending.old)) }
 {
     push(&mut pending.steps, step)?;
     fact_done(pending)
@@ -107,14 +107,14 @@ pub fn test(pending: &mut Pending, step: Step) -> Result<(), AllocError>
 
 /// Reads `and`.
 pub fn join(pending: &mut Pending)
-    ensures { seen pending.new ≡ drafts.joined (seen pending.old) }
+    ensures { pending_as_lists pending.new ≡ drafts.joined (pending_as_lists pending.old) }
 {
     pending.top.and = true;
 }
 
 /// Reads `or`.
 pub fn part(pending: &mut Pending) -> Result<(), AllocError>
-    ensures { OnOk result (seen pending.new ≡ drafts.parted (seen pending.old)) }
+    ensures { OnOk result (pending_as_lists pending.new ≡ drafts.parted (pending_as_lists pending.old)) }
 {
     let top = pending.top;
     push_if(&mut pending.steps, top.or, Step::Or)?;
@@ -124,7 +124,7 @@ pub fn part(pending: &mut Pending) -> Result<(), AllocError>
 
 /// Reads `)`. Returns `false`, with no change, if no parenthesis is open.
 pub fn close(pending: &mut Pending) -> Result<bool, AllocError>
-    ensures { drafts.Closes (seen pending.old) result (seen pending.new) }
+    ensures { drafts.Closes (pending_as_lists pending.old) result (pending_as_lists pending.new) }
 {
     let top = pending.top;
     let Some(frame) = pending.below.pop() else {
@@ -139,7 +139,7 @@ pub fn close(pending: &mut Pending) -> Result<bool, AllocError>
 
 /// Ends a condition, at `offer`. Returns `false` if a parenthesis is open.
 pub fn end(pending: &mut Pending) -> Result<bool, AllocError>
-    ensures { drafts.Finishes (seen pending.old) result (seen pending.new) }
+    ensures { drafts.Finishes (pending_as_lists pending.old) result (pending_as_lists pending.new) }
 {
     if !pending.below.is_empty() {
         return Ok(false);

@@ -2,7 +2,7 @@
 //! here recurses on the text.
 
 ghost use Rattle.std.specs.Prelude.{◌≡◌, ◌<◌, length, IfOk, ◌≤◌, IfErr, None, Ok};
-ghost use Rattle.rule_lang.specs.Named.{token_named, placed_named, placed_all, seen, draft_seen};
+ghost use Rattle.rule_lang.specs.Named.{token_named, placed_named, placed_all, pending_as_lists, draft_as_lists};
 ghost use Rattle.rule_lang.specs.Parts as parts;
 ghost use Rattle.rule_lang.specs.Parts.{out_of_range as out_of};
 ghost use Rattle.rule_lang.specs.Reader.Reading as reading;
@@ -30,8 +30,8 @@ use std::alloc::Global;
 
 // Checks the depth of `not` or `(`, of which 32 may be open.
 fn read_opener<'a>(draft: &mut Draft, first: Placed<&'a str>)
-    ensures { draft_seen draft.new ≡ reading.with_fault_if (reading.too_deep (draft_seen
-        draft.old)) (out_of (placed_named first.entry)) (draft_seen draft.old) }
+    ensures { draft_as_lists draft.new ≡ reading.with_fault_if (reading.too_deep (draft_as_lists
+        draft.old)) (out_of (placed_named first.entry)) (draft_as_lists draft.old) }
 {
     let too_deep = draft.condition.depth >= MOST_DEPTH;
     note_if(draft, too_deep, out_of_range(first));
@@ -46,8 +46,8 @@ fn read_test<'a>(
     line: usize,
     tokens: &[Placed<&'a str>],
 ) -> Result<(), RuleFault>
-    ensures { Makes result (draft_seen draft.new) (reading.with_test line ((tests.row kind).says
-        shape.now (placed_all tokens.now)) (draft_seen draft.old)) }
+    ensures { Makes result (draft_as_lists draft.new) (reading.with_test line ((tests.row kind).says
+        shape.now (placed_all tokens.now)) (draft_as_lists draft.old)) }
 {
     match test_of(alloc, shape, kind, tokens) {
         Ok(test) => {
@@ -72,7 +72,7 @@ fn read_fact<'t, 'a>(
     after: &'t [Placed<&'a str>],
 ) -> Result<&'t [Placed<&'a str>], RuleFault>
     requires { length after.now < length tokens.now }
-    ensures next { ReadsTo result (draft_seen draft.new) (reading.fact_next shape.now (draft_seen
+    ensures next { ReadsTo result (draft_as_lists draft.new) (reading.fact_next shape.now (draft_as_lists
         draft.old) (token_named first.entry.token) (placed_named first.entry) (placed_all
         tokens.now) (placed_all after.now)) }
     ensures shorter { IfOk result (λ rest. length rest.now < length tokens.now) }
@@ -108,8 +108,8 @@ fn read_offer<'a>(
     tokens: &[Placed<&'a str>],
 ) -> Result<(), RuleFault>
     requires { draft.old.noted ≡ None → IsCondition draft.old.condition.steps.items }
-    ensures { Makes result (draft_seen draft.new) (reading.offered (parts.release shape.now
-        (parts.part (placed_all tokens.now) 1)) (draft_seen draft.old)) }
+    ensures { Makes result (draft_as_lists draft.new) (reading.offered (parts.release shape.now
+        (parts.part (placed_all tokens.now) 1)) (draft_as_lists draft.old)) }
 {
     match release(shape, part(tokens, 1)) {
         Ok(release) => Ok(add_when(alloc, draft, release)?),
@@ -130,9 +130,9 @@ fn read_operator<'t, 'a>(
     after: &'t [Placed<&'a str>],
 ) -> Result<&'t [Placed<&'a str>], RuleFault>
     requires shorter { length after.now < length tokens.now }
-    requires sound { draft.old.noted ≡ None → IsSoundAfter (seen draft.old.condition) }
-    ensures next { ReadsTo result (draft_seen draft.new) (reading.operator_next shape.now
-        (draft_seen draft.old) (token_named first.entry.token) first.entry.line (placed_all
+    requires sound { draft.old.noted ≡ None → IsSoundAfter (pending_as_lists draft.old.condition) }
+    ensures next { ReadsTo result (draft_as_lists draft.new) (reading.operator_next shape.now
+        (draft_as_lists draft.old) (token_named first.entry.token) first.entry.line (placed_all
         tokens.now) (placed_all after.now)) }
     ensures shorter { IfOk result (λ rest. length rest.now < length tokens.now) }
 {
@@ -175,8 +175,8 @@ fn read_next<'t, 'a>(
     draft: &mut Draft,
     tokens: &'t [Placed<&'a str>],
 ) -> Result<&'t [Placed<&'a str>], RuleFault>
-    requires { IsSound (draft_seen draft.old) }
-    ensures next { ReadsTo result (draft_seen draft.new) (reading.next shape.now (draft_seen
+    requires { IsSound (draft_as_lists draft.old) }
+    ensures next { ReadsTo result (draft_as_lists draft.new) (reading.next shape.now (draft_as_lists
         draft.old) (placed_all tokens.now)) }
     ensures shorter { IfOk result (λ rest. length rest.now < length tokens.now) }
 {
@@ -200,8 +200,8 @@ fn advance<'a>(
     place: usize,
 ) -> Result<usize, RuleFault>
     requires within { place ≤ length tokens.now }
-    requires sound { IsSound (draft_seen draft.old) }
-    ensures next { ReadsOne result shape.now (draft_seen draft.old) (draft_seen draft.new)
+    requires sound { IsSound (draft_as_lists draft.old) }
+    ensures next { ReadsOne result shape.now (draft_as_lists draft.old) (draft_as_lists draft.new)
         (placed_all tokens.now) place }
     ensures further { IfOk result (λ p. (place < p) × (p ≤ length tokens.now)) }
 {

@@ -1,7 +1,7 @@
 //! The phrases of a statement: `count`, or the beginning of `when` or `otherwise`.
 
 ghost use Rattle.std.specs.Prelude.{◌≡◌, ◌<◌, length, IfOk, IfErr, Ok};
-ghost use Rattle.rule_lang.specs.Named.{token_named, placed_all, draft_seen};
+ghost use Rattle.rule_lang.specs.Named.{token_named, placed_all, draft_as_lists};
 ghost use Rattle.rule_lang.specs.Reader.Reading as reading;
 ghost use Rattle.rule_lang.specs.Says as says;
 ghost use Rattle.rule_lang.specs.Reader.Results.{IsFaultOf, ReadsTo, Makes};
@@ -41,8 +41,8 @@ fn read_count<'a>(
     draft: &mut Draft,
     tokens: &[Placed<&'a str>],
 ) -> Result<(), RuleFault>
-    ensures { Makes result (draft_seen draft.new) (reading.counted (says.count_of shape.now
-        (placed_all tokens.now)) (draft_seen draft.old)) }
+    ensures { Makes result (draft_as_lists draft.new) (reading.counted (says.count_of shape.now
+        (placed_all tokens.now)) (draft_as_lists draft.old)) }
 {
     match count_of(alloc, shape, tokens) {
         Ok(statement) => Ok(add(draft, statement)?),
@@ -64,8 +64,8 @@ pub fn read_statement<'t, 'a>(
     after: &'t [Placed<&'a str>],
 ) -> Result<&'t [Placed<&'a str>], RuleFault>
     requires { length after.now < length tokens.now }
-    ensures next { ReadsTo result (draft_seen draft.new) (reading.statement_next shape.now
-        (draft_seen draft.old) (token_named first.entry.token) first.entry.line (placed_all
+    ensures next { ReadsTo result (draft_as_lists draft.new) (reading.statement_next shape.now
+        (draft_as_lists draft.old) (token_named first.entry.token) first.entry.line (placed_all
         tokens.now) (placed_all after.now)) }
     ensures shorter { IfOk result (λ rest. length rest.now < length tokens.now) }
 {

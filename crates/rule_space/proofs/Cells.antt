@@ -19,10 +19,10 @@ use Rattle.rule_space.specs.Numbers.{is_rising_from}
 -- ---- the cell of a number
 
 abbrev pub upto : ℕ → List ℕ → ℕ
-upto v ends = count_by (λ end. nat_le end v) ends
+upto v starts = count_by (λ start. nat_le start v) starts
 
 upto-cons : (v x : ℕ) (xs : List ℕ) → upto v (x ∷ xs) ≡ cond (nat_le x v) 1 0 + upto v xs
-upto-cons v x xs = sum_by-cons (λ end. cond (nat_le end v) 1 0) x xs
+upto-cons v x xs = sum_by-cons (λ start. cond (nat_le start v) 1 0) x xs
 
 counts : (v x : ℕ) (xs : List ℕ) → x ≤ v → upto v (x ∷ xs) ≡ suc (upto v xs)
 counts v x xs low =
@@ -35,28 +35,28 @@ skips v x xs over =
     upto-cons v x xs ∙ none ∙ omega arith
 
 -- of the ends before `left`, `count` are at most the number v
-pub record Counts (v : ℕ) (ends : List ℕ) (count : ℕ) (left : List ℕ) : Type 0 where
-  pub all : count + upto v left ≡ upto v ends
-  pub room : count + length left ≤ length ends
+pub record Counts (v : ℕ) (starts : List ℕ) (count : ℕ) (left : List ℕ) : Type 0 where
+  pub all : count + upto v left ≡ upto v starts
+  pub room : count + length left ≤ length starts
 
-pub next_in : (v e count : ℕ) (ends others : List ℕ) → e ≤ v → Counts v ends count (e ∷ others)
-    → Counts v ends (count + 1) others
-next_in v e count ends others low h = record {
+pub next_in : (v e count : ℕ) (starts others : List ℕ) → e ≤ v → Counts v starts count (e ∷ others)
+    → Counts v starts (count + 1) others
+next_in v e count starts others low h = record {
   all =
       let one = counts v e others low in
       let all = h.all in omega arith;
   room = let room = h.room in omega arith;
 }
 
-pub next_out : (v e count : ℕ) (ends others : List ℕ) → v < e → Counts v ends count (e ∷ others)
-    → Counts v ends count others
-next_out v e count ends others over h = record {
+pub next_out : (v e count : ℕ) (starts others : List ℕ) → v < e → Counts v starts count (e ∷ others)
+    → Counts v starts count others
+next_out v e count starts others over h = record {
   all = ap (λ (n : ℕ). count + n) (sym (skips v e others over)) ∙ h.all;
   room = let room = h.room in omega arith;
 }
 
-pub at_end : (v count : ℕ) (ends : List ℕ) → Counts v ends count [] → count - 1 ≡ cell_at ends v
-at_end v count ends h =
+pub at_end : (v count : ℕ) (starts : List ℕ) → Counts v starts count [] → count - 1 ≡ cell_at starts v
+at_end v count starts h =
     ap (λ (n : ℕ). n - 1) (sym (add-zero count) ∙ h.all)
 
 -- no end is at most a number that is below the first
@@ -70,7 +70,7 @@ none_upto last v x (y ∷ ys) rising over =
     skips v x (y ∷ ys) over ∙ none_upto last v y ys both.1 further
 
 above_all : (last v x : ℕ) (xs : List ℕ) → is_rising_from last x xs ≡ true → v < x
-    → (n : ℕ) → list_any (λ end. end == n) (x ∷ xs) ≡ true → v < n
+    → (n : ℕ) → list_any (λ start. start == n) (x ∷ xs) ≡ true → v < n
 above_all last v x [] rising over n is = elim (or_cases (x == n) false is) [
   | inl same ↦ let e : x ≡ n = eqb-true x n same in omega arith
   | inr none ↦ absurd cc
@@ -79,39 +79,39 @@ above_all last v x (y ∷ ys) rising over n is =
     let both = and_parts (nat_lt x y) (is_rising_from last y ys) rising in
     let more : x < y = ltb-true x y both.0 in
     let further : v < y = omega arith in
-    elim (or_cases (x == n) (list_any (λ end. end == n) (y ∷ ys)) is) [
+    elim (or_cases (x == n) (list_any (λ start. start == n) (y ∷ ys)) is) [
       | inl same ↦ let e : x ≡ n = eqb-true x n same in omega arith
       | inr later ↦ above_all last v y ys both.1 further n later
     ]
 
 -- the cell c has the number v: no other end up to v is above the cell's begin
-pub record IsAt (ends : List ℕ) (v c : ℕ) : Type 0 where
-  pub is_cell : c < length ends
-  pub begin : slice_index ends c ≤ v
-  pub end : (next : ℕ) → slice_get ends (suc c) ≡ Some next → v < next
-  pub most : (n : ℕ) → list_any (λ end. end == n) ends ≡ true → n ≤ v → n ≤ slice_index ends c
+pub record IsAt (starts : List ℕ) (v c : ℕ) : Type 0 where
+  pub is_cell : c < length starts
+  pub begin : slice_index starts c ≤ v
+  pub end : (next : ℕ) → slice_get starts (suc c) ≡ Some next → v < next
+  pub most : (n : ℕ) → list_any (λ start. start == n) starts ≡ true → n ≤ v → n ≤ slice_index starts c
 
-first_there : (x : ℕ) (xs : List ℕ) → list_any (λ end. end == x) (x ∷ xs) ≡ true
-first_there x xs = or_left (x == x) (list_any (λ end. end == x) xs) (eq-eqb x x refl)
+first_there : (x : ℕ) (xs : List ℕ) → list_any (λ start. start == x) (x ∷ xs) ≡ true
+first_there x xs = or_left (x == x) (list_any (λ start. start == x) xs) (eq-eqb x x refl)
 
 the_first : (last v x : ℕ) (xs : List ℕ) → is_rising_from last x xs ≡ true → x ≤ v
-    → ((n : ℕ) → list_any (λ end. end == n) xs ≡ true → v < n) → IsAt (x ∷ xs) v 0
+    → ((n : ℕ) → list_any (λ start. start == n) xs ≡ true → v < n) → IsAt (x ∷ xs) v 0
 the_first last v x xs rising low above = record {
   is_cell = omega arith;
   begin = low;
   end = λ next is. above next (next_there xs next is);
-  most = λ n is within. elim (or_cases (x == n) (list_any (λ end. end == n) xs) is) [
+  most = λ n is within. elim (or_cases (x == n) (list_any (λ start. start == n) xs) is) [
     | inl same ↦ let e : x ≡ n = eqb-true x n same in omega arith
     | inr later ↦ let over = above n later in absurd (omega arith)
   ];
 }
   where
     next_there : (ys : List ℕ) (next : ℕ) → slice_get ys 0 ≡ Some next
-        → list_any (λ end. end == next) ys ≡ true
+        → list_any (λ start. start == next) ys ≡ true
     next_there [] next is = absurd cc
     next_there (y ∷ ys) next is =
         let e : y ≡ next = cc in
-        subst (λ (n : ℕ). list_any (λ end. end == n) (y ∷ ys) ≡ true) e (first_there y ys)
+        subst (λ (n : ℕ). list_any (λ start. start == n) (y ∷ ys) ≡ true) e (first_there y ys)
 
 a_later : (v x y c : ℕ) (ys : List ℕ) → x < y → y ≤ v → IsAt (y ∷ ys) v c
     → IsAt (x ∷ y ∷ ys) v (suc c)
@@ -119,7 +119,7 @@ a_later v x y c ys more low h = record {
   is_cell = let there = h.is_cell in omega arith;
   begin = h.begin;
   end = h.end;
-  most = λ n is within. elim (or_cases (x == n) (list_any (λ end. end == n) (y ∷ ys)) is) [
+  most = λ n is within. elim (or_cases (x == n) (list_any (λ start. start == n) (y ∷ ys)) is) [
     | inl same ↦
         let e : x ≡ n = eqb-true x n same in
         let from : y ≤ slice_index (y ∷ ys) c = h.most y (first_there y ys) low in
@@ -141,8 +141,8 @@ at_count last v x (y ∷ ys) rising low =
           (at_count last v y ys both.1 within))
     ]
 
-pub is_at : (last v : ℕ) (ends : List ℕ) → are_rising last ends ≡ true → slice_index ends 0 ≤ v
-    → IsAt ends v (cell_at ends v)
+pub is_at : (last v : ℕ) (starts : List ℕ) → are_rising last starts ≡ true → slice_index starts 0 ≤ v
+    → IsAt starts v (cell_at starts v)
 is_at last v [] rising low = absurd cc
 is_at last v (x ∷ xs) rising low =
     let is : cell_at (x ∷ xs) v ≡ upto v xs =
@@ -195,50 +195,50 @@ same_below e v n low more = elim (cases_lt v n) [
   | inr within ↦ le-ltb e n (more within) ∙ sym (le-ltb v n within)
 ]
 
-first_upto : (ends : List ℕ) (v c : ℕ) → slice_index ends 0 ≤ v → IsAt ends v c
-    → slice_index ends 0 ≤ slice_index ends c
+first_upto : (starts : List ℕ) (v c : ℕ) → slice_index starts 0 ≤ v → IsAt starts v c
+    → slice_index starts 0 ≤ slice_index starts c
 first_upto [] v c low h = let none = h.is_cell in absurd (omega arith)
 first_upto (x ∷ xs) v c low h = h.most x (first_there x xs) low
 
-module _ (ends : List ℕ) (last v c : ℕ) (low : slice_index ends 0 ≤ v) (high : v ≤ last)
-    (h : IsAt ends v c) where
-  at_cut : (n : ℕ) → has_cut ends last n ≡ true
-      → nat_lt (slice_index ends c) n ≡ nat_lt v n
+module _ (starts : List ℕ) (last v c : ℕ) (low : slice_index starts 0 ≤ v) (high : v ≤ last)
+    (h : IsAt starts v c) where
+  at_cut : (n : ℕ) → has_cut starts last n ≡ true
+      → nat_lt (slice_index starts c) n ≡ nat_lt v n
   at_cut n cut =
-      same_below (slice_index ends c) v n h.begin
-      (λ within. elim (or_cases (nat_le n (slice_index ends 0) || nat_lt last n)
-      (list_any (λ end. end == n) ends) cut) [
+      same_below (slice_index starts c) v n h.begin
+      (λ within. elim (or_cases (nat_le n (slice_index starts 0) || nat_lt last n)
+      (list_any (λ start. start == n) starts) cut) [
         | inl outside ↦
-            elim (or_cases (nat_le n (slice_index ends 0)) (nat_lt last n) outside) [
+            elim (or_cases (nat_le n (slice_index starts 0)) (nat_lt last n) outside) [
               | inl before ↦
-                  let from : n ≤ slice_index ends 0 = leb-true n (slice_index ends 0) before in
-                  let first = first_upto ends v c low h in omega arith
+                  let from : n ≤ slice_index starts 0 = leb-true n (slice_index starts 0) before in
+                  let first = first_upto starts v c low h in omega arith
               | inr after ↦ let over : last < n = ltb-true last n after in absurd (omega arith)
             ]
         | inr there ↦ h.most n there within
       ])
 
-  same_by : (r : Comparison) (n : ℕ) → decides ends last r n ≡ true
-      → by_below r (nat_lt (slice_index ends c) n) (nat_lt (slice_index ends c) (n + 1))
+  same_by : (r : Comparison) (n : ℕ) → decides starts last r n ≡ true
+      → by_below r (nat_lt (slice_index starts c) n) (nat_lt (slice_index starts c) (n + 1))
       ≡ by_below r (nat_lt v n) (nat_lt v (n + 1))
   same_by Lt n cut = at_cut n cut
   same_by Ge n cut = ap not (at_cut n cut)
   same_by Le n cut = at_cut (n + 1) cut
   same_by Gt n cut = ap not (at_cut (n + 1) cut)
   same_by Eq n cut =
-      let both = and_parts (has_cut ends last n) (has_cut ends last (n + 1)) cut in
+      let both = and_parts (has_cut starts last n) (has_cut starts last (n + 1)) cut in
       ap₂ (λ (b u : Bool). not b && u) (at_cut n both.0) (at_cut (n + 1) both.1)
   same_by Ne n cut =
-      let both = and_parts (has_cut ends last n) (has_cut ends last (n + 1)) cut in
+      let both = and_parts (has_cut starts last n) (has_cut starts last (n + 1)) cut in
       ap₂ (λ (b u : Bool). b || not u) (at_cut n both.0) (at_cut (n + 1) both.1)
 
-  begins_alike_at : (r : Comparison) (n : ℕ) → decides ends last r n ≡ true
-      → allows r (nat_cmp (slice_index ends c) n) ≡ allows r (nat_cmp v n)
+  begins_alike_at : (r : Comparison) (n : ℕ) → decides starts last r n ≡ true
+      → allows r (nat_cmp (slice_index starts c) n) ≡ allows r (nat_cmp v n)
   begins_alike_at r n cut =
-      allows_is r (slice_index ends c) n ∙ same_by r n cut ∙ sym (allows_is r v n)
+      allows_is r (slice_index starts c) n ∙ same_by r n cut ∙ sym (allows_is r v n)
 
-pub begins_alike : (ends : List ℕ) (last v n : ℕ) (r : Comparison) → are_rising last ends ≡ true
-    → slice_index ends 0 ≤ v → v ≤ last → decides ends last r n ≡ true
-    → allows r (nat_cmp (begin_at ends v) n) ≡ allows r (nat_cmp v n)
-begins_alike ends last v n r rising low high cut =
-    begins_alike_at ends last v (cell_at ends v) low high (is_at last v ends rising low) r n cut
+pub begins_alike : (starts : List ℕ) (last v n : ℕ) (r : Comparison) → are_rising last starts ≡ true
+    → slice_index starts 0 ≤ v → v ≤ last → decides starts last r n ≡ true
+    → allows r (nat_cmp (begin_at starts v) n) ≡ allows r (nat_cmp v n)
+begins_alike starts last v n r rising low high cut =
+    begins_alike_at starts last v (cell_at starts v) low high (is_at last v starts rising low) r n cut

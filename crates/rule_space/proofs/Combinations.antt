@@ -19,7 +19,7 @@ use Rattle.rule_space.specs.declared.coordinate.Coordinate.TheVariants as coordi
 use Rattle.rule_space.specs.declared.family.Family.{Family}
 use Rattle.rule_space.specs.declared.family.GroupKind.{GroupKind}
 use Rattle.rule_space.specs.declared.family.GroupKind.TheVariants as kind
-use Rattle.rule_space.specs.Coordinates.{Dimension, cell_in, flag_number, number_in, place_among}
+use Rattle.rule_space.specs.Coordinates.{Dimension, cell_in, flag_number, number_in, index_or_count}
 use Rattle.rule_space.specs.Coordinates.{place_of}
 use Rattle.rule_space.specs.Families.{cell_by, cell_or, cells_by, combination, has_flag, has_text}
 use Rattle.rule_space.specs.Families.{if_version, is_member, is_member_at, is_place, is_version}
@@ -30,7 +30,7 @@ use Rattle.rule_space.specs.Numbers.{cell_at, version_number}
 use Rattle.rule_space.proofs.Flags.{is_set}
 
 abbrev pub number_at : GroupKind → (line : Option Dimension) → Attributes → ℕ
-number_at kind.Version (Some d) a = cell_at d.ends (version_number a.context.version)
+number_at kind.Version (Some d) a = cell_at d.starts (version_number a.context.version)
 number_at kind.Version None a = 0
 number_at kind.Bucket line a = a.context.bucket
 
@@ -45,7 +45,7 @@ text_in kind.Bucket a = slice_index_or a.texts 5 []
 abbrev pub its : Family → List Dimension → Attributes → Combination
 its f ds a =
     combination (number_at f.kind (line_at ds f.line) a) (is_set a.context.flags (bit_of f.kind))
-    (place_among (texts_at ds f.text) (text_in f.kind a))
+    (index_or_count (texts_at ds f.text) (text_in f.kind a))
 
 -- ---- its cells
 
@@ -65,7 +65,7 @@ module _ (ds : List Dimension) (a : Attributes) (g : State) (place : ℕ) (d : D
 
   by_line : (k : GroupKind) (line : Option ℕ) → (is_version k && is_place line place) ≡ true
       → d.of ≡ coordinate.Version
-      → number_at k (line_at ds line) a ≡ cell_at d.ends (version_number a.context.version)
+      → number_at k (line_at ds line) a ≡ cell_at d.starts (version_number a.context.version)
   by_line kind.Version None member of = absurd cc
   by_line kind.Version (Some p) member of =
       ap (λ (o : Option Dimension). number_at kind.Version
@@ -75,19 +75,19 @@ module _ (ds : List Dimension) (a : Attributes) (g : State) (place : ℕ) (d : D
 
   by_bucket : (k : GroupKind) (line : Option Dimension) (salt modulus : Option ℕ)
       → not (is_version k) ≡ true
-      → cell_at d.ends (remainder modulus (bucket_by (plain [] None (number_at k line a)) salt))
-      ≡ cell_at d.ends (remainder modulus (bucket_by a salt))
+      → cell_at d.starts (remainder modulus (bucket_by (plain [] None (number_at k line a)) salt))
+      ≡ cell_at d.starts (remainder modulus (bucket_by a salt))
   by_bucket kind.Version line salt modulus member = absurd cc
   by_bucket kind.Bucket line salt modulus member =
-      ap (λ (n : ℕ). cell_at d.ends (remainder modulus n)) (same_bucket a salt)
+      ap (λ (n : ℕ). cell_at d.starts (remainder modulus n)) (same_bucket a salt)
 
   by_flag : (k : GroupKind) (f : Flag) → has_flag k f ≡ true
-      → cell_at d.ends (if is_set a.context.flags (bit_of k) then 1 else 0)
-      ≡ cell_at d.ends (flag_number a.context.flags (flag_bit f))
+      → cell_at d.starts (if is_set a.context.flags (bit_of k) then 1 else 0)
+      ≡ cell_at d.starts (flag_number a.context.flags (flag_bit f))
   by_flag kind.Version flag.VersionKnown member =
-      ap (cell_at d.ends) (turned (bit_and a.context.flags 1 == 0))
+      ap (cell_at d.starts) (turned (bit_and a.context.flags 1 == 0))
   by_flag kind.Bucket flag.CohortKnown member =
-      ap (cell_at d.ends) (turned (bit_and a.context.flags 16 == 0))
+      ap (cell_at d.starts) (turned (bit_and a.context.flags 16 == 0))
   by_flag k f member = absurd cc
 
   by_place : (k : GroupKind) (text : Option ℕ) → is_place text place ≡ true
@@ -97,18 +97,18 @@ module _ (ds : List Dimension) (a : Attributes) (g : State) (place : ℕ) (d : D
 
   by_text : (k : GroupKind) (n : Attribute) (text : Option ℕ)
       → (has_text k n && is_place text place) ≡ true
-      → cell_at d.ends (place_among (texts_at ds text) (text_in k a))
-      ≡ cell_at d.ends (place_among d.texts (slice_index_or a.texts (attribute_number n) []))
+      → cell_at d.starts (index_or_count (texts_at ds text) (text_in k a))
+      ≡ cell_at d.starts (index_or_count d.texts (slice_index_or a.texts (attribute_number n) []))
   by_text kind.Version attribute.Version text member =
-      ap (λ (ts : List (List ℕ)). cell_at d.ends (place_among ts (slice_index_or a.texts 1 [])))
+      ap (λ (ts : List (List ℕ)). cell_at d.starts (index_or_count ts (slice_index_or a.texts 1 [])))
       (by_place kind.Version text member)
   by_text kind.Bucket attribute.Cohort text member =
-      ap (λ (ts : List (List ℕ)). cell_at d.ends (place_among ts (slice_index_or a.texts 5 [])))
+      ap (λ (ts : List (List ℕ)). cell_at d.starts (index_or_count ts (slice_index_or a.texts 5 [])))
       (by_place kind.Bucket text member)
   by_text k n text member = absurd cc
 
   by_of : (f : Family) (of : Coordinate) → d.of ≡ of → is_member f place of ≡ true
-      → cell_by of d.ends (its f ds a) ≡ cell_at d.ends (number_in of d.texts a g)
+      → cell_by of d.starts (its f ds a) ≡ cell_at d.starts (number_in of d.texts a g)
   by_of f coordinate.Version is member = by_line f.kind f.line member is
   by_of f (coordinate.Bucket salt modulus) is member =
       by_bucket f.kind (line_at ds f.line) salt modulus member
@@ -117,7 +117,7 @@ module _ (ds : List Dimension) (a : Attributes) (g : State) (place : ℕ) (d : D
   by_of f of is member = absurd cc
 
   cell_is : (f : Family) → is_member f place d.of ≡ true
-      → cell_by d.of d.ends (its f ds a) ≡ cell_in d a g
+      → cell_by d.of d.starts (its f ds a) ≡ cell_in d a g
   cell_is f member = by_of f d.of refl member
 
 module _ (f : Family) (ds : List Dimension) (a : Attributes) (g : State) where

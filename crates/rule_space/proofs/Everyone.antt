@@ -16,7 +16,7 @@ use Rattle.rule_space.specs.declared.coordinate.Coordinate.TheVariants as coordi
 use Rattle.rule_space.specs.declared.family.Family.{Family}
 use Rattle.rule_space.specs.declared.family.GroupKind.{GroupKind}
 use Rattle.rule_space.specs.declared.family.GroupKind.TheVariants as kind
-use Rattle.rule_space.specs.Coordinates.{Dimension, begin_of, number_in, place_among, place_of}
+use Rattle.rule_space.specs.Coordinates.{Dimension, begin_of, number_in, index_or_count, place_of}
 use Rattle.rule_space.specs.Families.{AreFew, IsMadeOf, combination, count_by_line, is_possible_as}
 use Rattle.rule_space.specs.Families.{if_version, is_version, line_at, texts_at}
 use Rattle.rule_space.specs.Fits.{cohort_fits, version_fits}
@@ -46,13 +46,13 @@ module _ (x : Scope) (ds : List Dimension) (lines : All (IsLine x) ds) (a : Attr
   -- the version's number is in its cell of the line
   abbrev IsLined : Option Dimension → Type 0
   IsLined None = Unit {0}
-  IsLined (Some d) = IsAt d.ends v (cell_at d.ends v)
+  IsLined (Some d) = IsAt d.starts v (cell_at d.starts v)
 
   of_version : (d : Dimension) → d.of ≡ coordinate.Version → IsLine x d
-      → IsAt d.ends v (cell_at d.ends v)
+      → IsAt d.starts v (cell_at d.starts v)
   of_version d of line =
-      subst (λ (c : Coordinate). IsAt d.ends (number_in c d.texts a g)
-      (cell_at d.ends (number_in c d.texts a g))) of (at_cell x a g is d line)
+      subst (λ (c : Coordinate). IsAt d.starts (number_in c d.texts a g)
+      (cell_at d.starts (number_in c d.texts a g))) of (at_cell x a g is d line)
 
   lined_by : (o : Option Dimension) (place : ℕ) → slice_get ds place ≡ o
       → IsLined (option_and_then (λ d. if_version d d.of) o)
@@ -101,12 +101,12 @@ module _ (x : Scope) (ds : List Dimension) (lines : All (IsLine x) ds) (a : Attr
 
   version_fits_at : (texts : List (List ℕ)) (low : ℕ) (high : Option ℕ) → low ≤ v
       → ((next : ℕ) → high ≡ Some next → v < next)
-      → version_fits (slice_get texts (place_among texts (text_in kind.Version a)))
+      → version_fits (slice_get texts (index_or_count texts (text_in kind.Version a)))
       (is_set a.context.flags 1) low high ≡ true
   version_fits_at texts low high from to =
       let number = ap version_number version_is in
       ap₂
-      (λ (t : List ℕ) (k : Bool). version_fits (slice_get texts (place_among texts t)) k low high)
+      (λ (t : List ℕ) (k : Bool). version_fits (slice_get texts (index_or_count texts t)) k low high)
       text_is (has_flags app is.machine.request is.machine.moment a made).version
       ∙ version_ok app.version low high (subst (λ (n : ℕ). low ≤ n) number from)
       (λ next there. subst (λ (n : ℕ). n < next) number (to next there)) texts
@@ -118,18 +118,18 @@ module _ (x : Scope) (ds : List Dimension) (lines : All (IsLine x) ds) (a : Attr
 
   possible : (k : GroupKind) (line : Option Dimension) → IsLined line → (texts : List (List ℕ))
       → is_possible_as k line texts (combination (number_at k line a)
-      (is_set a.context.flags (bit_of k)) (place_among texts (text_in k a))) ≡ true
+      (is_set a.context.flags (bit_of k)) (index_or_count texts (text_in k a))) ≡ true
   possible kind.Version None h texts =
       version_fits_at texts 0 None (omega arith) (λ next none. absurd cc)
   possible kind.Version (Some d) h texts =
-      version_fits_at texts (begin_of d (cell_at d.ends v))
-      (slice_get d.ends (cell_at d.ends v + 1))
+      version_fits_at texts (begin_of d (cell_at d.starts v))
+      (slice_get d.starts (cell_at d.starts v + 1))
       h.begin
       (λ next there. h.end next
-      (ap (slice_get d.ends) (sym (add-one (cell_at d.ends v))) ∙ there))
+      (ap (slice_get d.starts) (sym (add-one (cell_at d.starts v))) ∙ there))
   possible kind.Bucket line h texts =
       let cohort = text_in kind.Bucket a in
-      ap (λ (k : Bool). cohort_fits texts (slice_get texts (place_among texts cohort)) k
+      ap (λ (k : Bool). cohort_fits texts (slice_get texts (index_or_count texts cohort)) k
       a.context.bucket)
       ((has_flags app is.machine.request is.machine.moment a made).cohort
       ∙ ap is_some (sym names_is))
@@ -142,14 +142,14 @@ module _ (x : Scope) (ds : List Dimension) (lines : All (IsLine x) ds) (a : Attr
       let texts = texts_at ds f.text in
       subst (HasTuple group) (cells_are f ds a g group.dimensions h.members)
       ((h.has (number_at f.kind line a) (count_ok f.kind f.line)
-      (place_among texts (text_in f.kind a))
+      (index_or_count texts (text_in f.kind a))
       (prefix_len-le-length (λ (t : List ℕ). not (bytes_eq t (text_in f.kind a))) texts)
       (is_set a.context.flags (bit_of f.kind))).tuple (possible f.kind line (lined f.line) texts))
 
 few : (x : Scope) (ds : List Dimension) → All (IsLine x) ds → AreFew ds
 few x ds lines = record {
   each =
-      All-weaker (IsLine x) (λ (d : Dimension). length d.ends < 2 ^ 16) (λ d line. line.few) ds
+      All-weaker (IsLine x) (λ (d : Dimension). length d.starts < 2 ^ 16) (λ d line. line.few) ds
       lines;
 }
 

@@ -15,7 +15,7 @@ use Rattle.std.proofs.lemmas.Slice.Eq.{bytes_eq-Decides}
 use Rattle.attrs.specs.Attributes.{kept_text}
 use Rattle.attrs.specs.Bucket.{cohort_bucket}
 use Rattle.attrs.specs.Version.{version_of}
-use Rattle.rule_space.specs.Coordinates.{place_among}
+use Rattle.rule_space.specs.Coordinates.{index_or_count}
 use Rattle.rule_space.specs.Fits.{cohort_fits, in_cell, is_bucket, names_bucket, numbers_fit}
 use Rattle.rule_space.specs.Fits.{version_fits}
 use Rattle.rule_space.specs.Numbers.{version_number}
@@ -24,13 +24,13 @@ use Rattle.rule_space.proofs.Tests.{found_at}
 
 -- the text at the place of a text among others is this one, or there is none
 named_or_not : (texts : List (List ℕ)) (text : List ℕ) (P : Option (List ℕ) → Type 0)
-    → P (Some text) → (length texts ≤ place_among texts text → P None)
-    → P (slice_get texts (place_among texts text))
-named_or_not texts text P named other = elim (cases_lt (place_among texts text) (length texts)) [
+    → P (Some text) → (length texts ≤ index_or_count texts text → P None)
+    → P (slice_get texts (index_or_count texts text))
+named_or_not texts text P named other = elim (cases_lt (index_or_count texts text) (length texts)) [
   | inl there ↦
-      subst P (sym (slice_get-get_or texts (place_among texts text) [] there
+      subst P (sym (slice_get-get_or texts (index_or_count texts text) [] there
       ∙ ap (λ (t : List ℕ). Some t) (found_at texts text [] there))) named
-  | inr past ↦ subst P (sym (slice_get_past texts (place_among texts text) past)) (other past)
+  | inr past ↦ subst P (sym (slice_get_past texts (index_or_count texts text) past)) (other past)
 ]
 
 -- ---- versions
@@ -82,7 +82,7 @@ module _ (o : Option (List ℕ)) (low : ℕ) (high : Option ℕ)
       ∙ numbers_in low high numbers from to
 
   pub version_ok : (texts : List (List ℕ))
-      → version_fits (slice_get texts (place_among texts (kept_text o))) (is_some numbers) low high
+      → version_fits (slice_get texts (index_or_count texts (kept_text o))) (is_some numbers) low high
       ≡ true
   version_ok texts =
       named_or_not texts (kept_text o)
@@ -99,7 +99,7 @@ module _ (texts : List (List ℕ)) (cohort : List ℕ) (bucket : ℕ)
   by_named (Some b) is = eq-eqb b bucket (sym (is b refl))
 
   -- another cohort than those that are named names a bucket that none of these names
-  names_other : length texts ≤ place_among texts cohort → (b : ℕ) → cohort_bucket cohort ≡ Some b
+  names_other : length texts ≤ index_or_count texts cohort → (b : ℕ) → cohort_bucket cohort ≡ Some b
       → (t : List ℕ) (k : ℕ) → k < length texts → slice_index_or texts k [] ≡ t
       → (o : Option ℕ) → cohort_bucket t ≡ o → is_bucket o bucket ≡ true → ⊥
   names_other past b is t k within at None also holds = absurd cc
@@ -108,13 +108,13 @@ module _ (texts : List (List ℕ)) (cohort : List ℕ) (bucket : ℕ)
       let both : cohort_bucket t ≡ Some b =
       also ∙ ap (λ (n : ℕ). Some n) (equal ∙ named b is) in
       let same : t ≡ cohort = one_cohort t cohort b both is in
-      let before : k < place_among texts cohort = omega arith in
+      let before : k < index_or_count texts cohort = omega arith in
       let fails = fails_before_first (λ (u : List ℕ). bytes_eq u cohort) texts k [] before in
       let holds = (bytes_eq-Decides t cohort).1 same in
       let moved = ap (λ (u : List ℕ). bytes_eq u cohort) at in
       let clash = sym fails ∙ moved ∙ holds in cc
 
-  none_names : length texts ≤ place_among texts cohort → (b : ℕ) → cohort_bucket cohort ≡ Some b
+  none_names : length texts ≤ index_or_count texts cohort → (b : ℕ) → cohort_bucket cohort ≡ Some b
       → list_any (names_bucket bucket) texts ≡ false
   none_names past b is =
       list_any_none (names_bucket bucket) texts
@@ -123,12 +123,12 @@ module _ (texts : List (List ℕ)) (cohort : List ℕ) (bucket : ℕ)
       (λ holds. names_other past b is (get_or texts k []) k within refl
       (cohort_bucket (get_or texts k [])) refl holds)))
 
-  another : length texts ≤ place_among texts cohort → (o : Option ℕ) → cohort_bucket cohort ≡ o
+  another : length texts ≤ index_or_count texts cohort → (o : Option ℕ) → cohort_bucket cohort ≡ o
       → cohort_fits texts None (is_some o) bucket ≡ true
   another past None is = refl
   another past (Some b) is = ap not (none_names past b is)
 
-  pub cohort_ok : cohort_fits texts (slice_get texts (place_among texts cohort))
+  pub cohort_ok : cohort_fits texts (slice_get texts (index_or_count texts cohort))
       (is_some (cohort_bucket cohort)) bucket ≡ true
   cohort_ok =
       named_or_not texts cohort

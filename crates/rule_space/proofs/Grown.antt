@@ -124,9 +124,9 @@ module _ (f : Family) (ds : List Dimension) where
 -- ---- cells
 
 pub few_at : (ds : List Dimension) (k : ℕ) (d : Dimension) → AreFew ds → slice_get ds k ≡ Some d
-    → length d.ends < 2 ^ 16
+    → length d.starts < 2 ^ 16
 few_at ds k d few at =
-    all_at (λ (e : Dimension). length e.ends < 2 ^ 16) ds k d at few.each
+    all_at (λ (e : Dimension). length e.starts < 2 ^ 16) ds k d at few.each
 
 pub cells_more : (ds : List Dimension) (c : Combination) (members : List ℕ) (k : ℕ) (cells : List ℕ)
     (cell : ℕ) → k < length members → cells ≡ cells_by ds (take k members) c

@@ -87,15 +87,15 @@ module _ (x : Scope) (a : Attributes) (g : State) (is : IsWithin x a g) where
   to_high (coordinate.Takes array index) texts = is.left (declared array) index
 
   module _ (d : Dimension) (line : IsLine x d) where
-    pub from_first : slice_index d.ends 0 ≤ number_of d a g
+    pub from_first : slice_index d.starts 0 ≤ number_of d a g
     from_first =
         subst (λ (n : ℕ). n ≤ number_of d a g) (sym line.first) (from_low d.of d.texts)
 
     pub to_last : number_of d a g ≤ d.last
     to_last = subst (λ (n : ℕ). number_of d a g ≤ n) (sym line.last) (to_high d.of d.texts)
 
-    pub at_cell : IsAt d.ends (number_of d a g) (cell_in d a g)
-    at_cell = is_at d.last (number_of d a g) d.ends line.rises from_first
+    pub at_cell : IsAt d.starts (number_of d a g) (cell_in d a g)
+    at_cell = is_at d.last (number_of d a g) d.starts line.rises from_first
 
 -- ---- its cell
 
@@ -109,8 +109,8 @@ pub in_cell : (x : Scope) (d : Dimension) (a : Attributes) (g : State) → IsLin
 in_cell x d a g line is =
     let at = at_cell x a g is d line in record {
       from = at.begin;
-      to = before_next (number_of d a g) d.last (slice_get d.ends (cell_in d a g + 1))
+      to = before_next (number_of d a g) d.last (slice_get d.starts (cell_in d a g + 1))
           (to_last x a g is d line)
           (λ next there. at.end next
-          (ap (slice_get d.ends) (sym (add-one (cell_in d a g))) ∙ there));
+          (ap (slice_get d.starts) (sym (add-one (cell_in d a g))) ∙ there));
     }

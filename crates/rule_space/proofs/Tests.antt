@@ -28,8 +28,8 @@ use Rattle.rule_lang.specs.declared.test.Comparison.TheVariants.{Lt, Eq, Ge}
 use Rattle.rule_lang.specs.declared.test.Test as the_test
 use Rattle.rule_lang.specs.declared.test.Test.TheVariants as test
 use Rattle.rule_space.specs.declared.coordinate.Coordinate.TheVariants as coordinate
-use Rattle.rule_space.specs.declared.test_line.Against.{Against}
-use Rattle.rule_space.specs.Coordinates.{Dimension, number_of, place_among}
+use Rattle.rule_space.specs.declared.test_line.NumberComparison.{NumberComparison}
+use Rattle.rule_space.specs.Coordinates.{Dimension, number_of, index_or_count}
 use Rattle.rule_space.specs.Lines.{IsLine}
 use Rattle.rule_space.specs.Machines.{State}
 use Rattle.rule_space.specs.Numbers.{version_number}
@@ -47,7 +47,7 @@ pub all_at : {X : Type 0} (P : X → Type 0) (xs : List X) (k : ℕ) (x : X) →
 all_at P xs k x is all =
     subst P (get_or_from_slice_get xs k x x is) (all k x (slice_get_within xs k x is))
 
-abbrev pub by : Comparison → ℕ → Against
+abbrev pub by : Comparison → ℕ → NumberComparison
 by r n = record { comparison = r; number = n }
 
 pub version_against : (texts : List (List ℕ)) (r : Comparison) (w : List ℕ) (n : ℕ)
@@ -155,51 +155,51 @@ others_compare m n other = elim (cases_order m n) [
   | inr (inr more) ↦ ap (allows Eq) (nat_cmp_is m n Greater more)
 ]
 
-pub found_at : (texts : List (List ℕ)) (text d : List ℕ) → place_among texts text < length texts
-    → slice_index_or texts (place_among texts text) d ≡ text
+pub found_at : (texts : List (List ℕ)) (text d : List ℕ) → index_or_count texts text < length texts
+    → slice_index_or texts (index_or_count texts text) d ≡ text
 found_at texts text d there =
-    (bytes_eq-Decides (slice_index_or texts (place_among texts text) d) text).0
+    (bytes_eq-Decides (slice_index_or texts (index_or_count texts text) d) text).0
     (passes_at_first (λ (t : List ℕ). bytes_eq t text) texts d there)
 
 module _ (texts : List (List ℕ)) (text : List ℕ)
-    (there : place_among texts text < length texts) where
+    (there : index_or_count texts text < length texts) where
   -- another text has another place
-  apart : (u : List ℕ) → place_among texts u ≡ place_among texts text → u ≡ text
+  apart : (u : List ℕ) → index_or_count texts u ≡ index_or_count texts text → u ≡ text
   apart u same =
-      let within : place_among texts u < length texts = omega arith in
+      let within : index_or_count texts u < length texts = omega arith in
       sym (found_at texts u [] within) ∙ ap (λ (k : ℕ). slice_index_or texts k []) same
       ∙ found_at texts text [] there
 
   place_compares : (u : List ℕ)
-      → bytes_eq u text ≡ allows Eq (nat_cmp (place_among texts u) (place_among texts text))
+      → bytes_eq u text ≡ allows Eq (nat_cmp (index_or_count texts u) (index_or_count texts text))
   place_compares u = elim (cases_Bool (bytes_eq u text)) [
     | inl same ↦
-        same ∙ equal_compares (place_among texts u) (place_among texts text)
-        (ap (place_among texts) ((bytes_eq-Decides u text).0 same))
+        same ∙ equal_compares (index_or_count texts u) (index_or_count texts text)
+        (ap (index_or_count texts) ((bytes_eq-Decides u text).0 same))
     | inr other ↦
-        other ∙ others_compare (place_among texts u) (place_among texts text)
+        other ∙ others_compare (index_or_count texts u) (index_or_count texts text)
         (λ equal. let both = sym other ∙ (bytes_eq-Decides u text).1 (apart u equal) in cc)
   ]
 
 pub text_against : (texts : List (List ℕ)) (own n : Attribute) (text : List ℕ) (k : ℕ) → own ≡ n
-    → k ≡ place_among texts text → k < length texts
+    → k ≡ index_or_count texts text → k < length texts
     → IsAgainst (coordinate.Text own) texts (test.Attr n text) (by Eq k)
 text_against texts own n text k same is there = record {
   no_cell = λ s. refl;
   holds = λ s x a g within.
-      let named : place_among texts text < length texts =
+      let named : index_or_count texts text < length texts =
       subst (λ (p : ℕ). p < length texts) is there in
       let own_text = slice_index_or a.texts (attribute_number own) [] in
       ap (λ (m : Attribute). attr_is a (attribute_number m) text == 1) (sym same)
       ∙ has_text x a g within own text
       ∙ place_compares texts text named own_text
-      ∙ ap (λ (p : ℕ). allows Eq (nat_cmp (place_among texts own_text) p)) (sym is);
+      ∙ ap (λ (p : ℕ). allows Eq (nat_cmp (index_or_count texts own_text) p)) (sym is);
 }
 
 -- ---- the begin of a cell compares as the number
 
 pub compares : (x : Scope) (ds : List Dimension) (s : AppShape) (at : ℕ) (t : the_test.Test)
-    (against : Against) → All (IsLine x) ds → IsAgainstAt ds at t against
+    (against : NumberComparison) → All (IsLine x) ds → IsAgainstAt ds at t against
     → ComparesAs (IsWithin x) ds s t at against.comparison against.number
 compares x ds s at t against lines h = record {
   dimension = h.dimension;
@@ -208,7 +208,7 @@ compares x ds s at t against lines h = record {
   holds = λ a g within.
       let line = all_at (IsLine x) ds at h.dimension h.is_at lines in
       h.against.holds s x a g within
-      ∙ sym (begins_alike h.dimension.ends h.dimension.last (number_of h.dimension a g)
+      ∙ sym (begins_alike h.dimension.starts h.dimension.last (number_of h.dimension a g)
       against.number against.comparison line.rises (from_first x a g within h.dimension line)
       (to_last x a g within h.dimension line) h.decided);
 }

@@ -16,12 +16,12 @@ use Rattle.rule_space.specs.Numbers.{cell_at, version_number}
 pub record Dimension : Type 0 where
   pub of : Coordinate
   pub texts : List (List ℕ)
-  pub ends : List ℕ
+  pub starts : List ℕ
   pub last : ℕ
 
 -- the index of a text among these, or their count if it is another one
-abbrev pub place_among : (texts : List (List ℕ)) → List ℕ → ℕ
-place_among texts text = position_or_len (λ t. bytes_eq t text) texts
+abbrev pub index_or_count : (texts : List (List ℕ)) → List ℕ → ℕ
+index_or_count texts text = position_or_len (λ t. bytes_eq t text) texts
 
 -- 1 if a flag's bit is set
 abbrev pub flag_number : (flags bit : ℕ) → ℕ
@@ -36,7 +36,7 @@ number_in coordinate.Installed texts a g = a.context.install_day
 number_in (coordinate.Bucket salt modulus) texts a g = remainder modulus (bucket_by a salt)
 number_in (coordinate.Flag f) texts a g = flag_number a.context.flags (flag_bit f)
 number_in (coordinate.Text n) texts a g =
-    place_among texts (slice_index_or a.texts (attribute_number n) [])
+    index_or_count texts (slice_index_or a.texts (attribute_number n) [])
 number_in (coordinate.Takes array index) texts a g = g (declared array) index
 
 abbrev pub number_of : Dimension → Attributes → State → ℕ
@@ -44,19 +44,19 @@ number_of d a g = number_in d.of d.texts a g
 
 -- the cell of a machine in a state
 abbrev pub cell_in : Dimension → Attributes → State → ℕ
-cell_in d a g = cell_at d.ends (number_of d a g)
+cell_in d a g = cell_at d.starts (number_of d a g)
 
 -- the number at which a cell begins
 abbrev pub begin_of : Dimension → (cell : ℕ) → ℕ
-begin_of d cell = slice_index d.ends cell
+begin_of d cell = slice_index d.starts cell
 
--- the greatest number of a cell, if the next one begins at this end
-abbrev pub last_before : (end : Option ℕ) → (last : ℕ) → ℕ
-last_before (Some end) last = end - 1
+-- the greatest number of a cell, if the next one begins at this start
+abbrev pub last_before : (start : Option ℕ) → (last : ℕ) → ℕ
+last_before (Some start) last = start - 1
 last_before None last = last
 
 abbrev pub last_in : Dimension → (cell : ℕ) → ℕ
-last_in d cell = last_before (slice_get d.ends (cell + 1)) d.last
+last_in d cell = last_before (slice_get d.starts (cell + 1)) d.last
 
 -- the place of a machine in a state: its cell in each dimension
 abbrev pub place_of : List Dimension → Attributes → State → List ℕ

@@ -75,15 +75,15 @@ texts_at ds (Some place) = texts_of (slice_get ds place)
 -- ---- combinations
 
 -- the cell that a combination has in a dimension
-abbrev pub cell_by : Coordinate → (ends : List ℕ) → Combination → ℕ
-cell_by coordinate.Version ends c = c.number
-cell_by (coordinate.Bucket salt modulus) ends c =
-    cell_at ends (remainder modulus (bucket_by (plain [] None c.number) salt))
-cell_by (coordinate.Flag f) ends c = cell_at ends (if c.known then 1 else 0)
-cell_by of ends c = cell_at ends c.text
+abbrev pub cell_by : Coordinate → (starts : List ℕ) → Combination → ℕ
+cell_by coordinate.Version starts c = c.number
+cell_by (coordinate.Bucket salt modulus) starts c =
+    cell_at starts (remainder modulus (bucket_by (plain [] None c.number) salt))
+cell_by (coordinate.Flag f) starts c = cell_at starts (if c.known then 1 else 0)
+cell_by of starts c = cell_at starts c.text
 
 abbrev pub cell_or : Option Dimension → Combination → ℕ
-cell_or (Some d) c = cell_by d.of d.ends c
+cell_or (Some d) c = cell_by d.of d.starts c
 cell_or None c = 0
 
 abbrev pub cells_by : List Dimension → (members : List ℕ) → Combination → List ℕ
@@ -92,7 +92,7 @@ cells_by ds members c = map (λ m. cell_or (slice_get ds m) c) members
 -- a version can have this cell of the line, or any number without a line, and this text
 abbrev pub version_may : (line : Option Dimension) → (text : Option (List ℕ)) → Combination → Bool
 version_may (Some d) text c =
-    version_fits text c.known (begin_of d c.number) (slice_get d.ends (c.number + 1))
+    version_fits text c.known (begin_of d c.number) (slice_get d.starts (c.number + 1))
 version_may None text c = version_fits text c.known 0 None
 
 abbrev pub is_possible_as : GroupKind → (line : Option Dimension) → (texts : List (List ℕ))
@@ -109,7 +109,7 @@ is_possible f ds c = is_possible_as f.kind (line_at ds f.line) (texts_at ds f.te
 
 -- how many cells of the version, or buckets, there are
 abbrev pub count_by_line : Option Dimension → ℕ
-count_by_line (Some d) = length d.ends
+count_by_line (Some d) = length d.starts
 count_by_line None = 1
 
 abbrev pub count_of : Family → List Dimension → ℕ
@@ -120,7 +120,7 @@ combination number known text = record { number = number; known = known; text = 
 
 -- a line has at most 65535 cells
 pub record AreFew (ds : List Dimension) : Type 0 where
-  pub each : All (λ d. length d.ends < 2 ^ 16) ds
+  pub each : All (λ d. length d.starts < 2 ^ 16) ds
 
 -- the group has a tuple with the cells of a combination that a machine can have
 pub record HasCombination (f : Family) (ds : List Dimension) (group : Group) (c : Combination)

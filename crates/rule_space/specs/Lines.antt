@@ -34,8 +34,8 @@ is_discrete of cells last = true
 
 -- the cells begin with the least number, and continue to the greatest
 pub record IsLine (x : Scope) (d : Dimension) : Type 0 where
-  pub rises : are_rising d.last d.ends ≡ true
-  pub few : length d.ends < 2 ^ 16
-  pub first : slice_index d.ends 0 ≡ low_in x d.of
+  pub rises : are_rising d.last d.starts ≡ true
+  pub few : length d.starts < 2 ^ 16
+  pub first : slice_index d.starts 0 ≡ low_in x d.of
   pub last : d.last ≡ high_in x d.of (length d.texts)
-  pub discrete : is_discrete d.of (length d.ends) d.last ≡ true
+  pub discrete : is_discrete d.of (length d.starts) d.last ≡ true

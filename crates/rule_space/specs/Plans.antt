@@ -5,7 +5,7 @@ use Rattle.std.specs.List.{AllZip}
 use Rattle.std.specs.Ordering.{nat_cmp}
 use Rattle.attrs.specs.Attributes.{Attributes}
 use Rattle.cells.specs.Arrays.{AppShape}
-use Rattle.rule_lang.specs.Meaning.{allows, cell_asked, test_holds}
+use Rattle.rule_lang.specs.Meaning.{allows, cell_used, test_holds}
 use Rattle.rule_lang.specs.Shapes.{array_named, cell_of}
 use Rattle.rule_lang.specs.declared.condition.Step.{Step}
 use Rattle.rule_lang.specs.declared.condition.Step.TheVariants as step
@@ -31,14 +31,14 @@ pub record IsInCell (d : Dimension) (cell n : ℕ) : Type 0 where
 module _ (Is : Attributes → State → Type 0) (ds : List Dimension) (s : AppShape) where
   -- the test uses no cell, and holds for all, or for none
   pub record IsConstant (t : Test) (b : Bool) : Type 0 where
-    pub no_cell : cell_asked s t ≡ None
+    pub no_cell : cell_used s t ≡ None
     pub holds : (a : Attributes) (g : State) → Is a g → test_holds a s 0 t ≡ b
 
   -- the test uses no cell, and holds as the number at which a machine's cell begins compares
   pub record ComparesAs (t : Test) (at : ℕ) (r : Comparison) (n : ℕ) : Type 0 where
     pub dimension : Dimension
     pub is_at : slice_get ds at ≡ Some dimension
-    pub no_cell : cell_asked s t ≡ None
+    pub no_cell : cell_used s t ≡ None
     pub holds : (a : Attributes) (g : State) → Is a g
         → test_holds a s 0 t ≡ allows r (nat_cmp (begin_of dimension (cell_in dimension a g)) n)
 
@@ -46,7 +46,7 @@ module _ (Is : Attributes → State → Type 0) (ds : List Dimension) (s : AppSh
   pub record TakesOf (t : Test) (at cell : ℕ) : Type 0 where
     pub dimension : Dimension
     pub is_at : slice_get ds at ≡ Some dimension
-    pub its_cell : cell_asked s t ≡ Some cell
+    pub its_cell : cell_used s t ≡ Some cell
     pub in_cell : (a : Attributes) (g : State) → Is a g
         → IsInCell dimension (cell_in dimension a g) (number_of dimension a g)
     pub holds : (a : Attributes) (g : State) → Is a g → (taken : ℕ)

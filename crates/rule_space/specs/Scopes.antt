@@ -6,7 +6,7 @@ use Rattle.cells.specs.declared.array.CellArray.{CellArray}
 use Rattle.rule_lang.specs.Shapes.{granted}
 use Rattle.rule_space.specs.declared.bounds.Bounds.{Bounds}
 use Rattle.rule_space.specs.declared.bounds.RuleSide.{RuleSide}
-use Rattle.rule_space.specs.declared.bounds.UsedCell.{UsedCell}
+use Rattle.rule_space.specs.declared.bounds.CellBound.{CellBound}
 use Rattle.rule_space.specs.Machines.{IsMachine, Side, State}
 
 abbrev pub side_of : RuleSide → Side
@@ -21,24 +21,24 @@ side_of r = record {
 pub record Scope : Type 0 where
   pub appid : List ℕ
   pub from_day : ℕ
-  pub used : List UsedCell
+  pub used : List CellBound
 
 abbrev pub scope_of : Bounds → Scope
 scope_of b = record { appid = b.appid.now; from_day = b.from_day; used = b.used.now }
 
 -- the value that is given for a cell, by its array's name and its index, or another one
-abbrev pub value_or : (value : ℕ) → UsedCell → (name : List ℕ) → (index : ℕ) → ℕ
+abbrev pub value_or : (value : ℕ) → CellBound → (name : List ℕ) → (index : ℕ) → ℕ
 value_or value u name index =
     if (u.index == index) && bytes_eq u.array name then u.value else value
 
 -- the last one counts
-abbrev pub value_after : (value : ℕ) → List UsedCell → (name : List ℕ) → (index : ℕ) → ℕ
+abbrev pub value_after : (value : ℕ) → List CellBound → (name : List ℕ) → (index : ℕ) → ℕ
 value_after value [] name index = value
 value_after value (u ∷ us) name index =
     value_after (value_or value u name index) us name index
 
 -- the value that a cell has at least
-abbrev pub least_value : List UsedCell → (name : List ℕ) → (index : ℕ) → ℕ
+abbrev pub least_value : List CellBound → (name : List ℕ) → (index : ℕ) → ℕ
 least_value used name index = value_after 0 used name index
 
 -- how many takes of one run a cell grants at most: what its quota leaves, as values only grow

@@ -4,30 +4,30 @@ use Rattle.std.specs.Ordering.{nat_cmp}
 use Rattle.attrs.specs.Attributes.{Attributes}
 use Rattle.cells.specs.Arrays.{AppShape}
 use Rattle.cells.specs.declared.array.CellArray.{CellArray}
-use Rattle.rule_lang.specs.Meaning.{allows, cell_asked, test_holds}
+use Rattle.rule_lang.specs.Meaning.{allows, cell_used, test_holds}
 use Rattle.rule_lang.specs.Shapes.{array_named}
 use Rattle.rule_lang.specs.declared.test.Test.{Test}
 use Rattle.rule_space.specs.declared.coordinate.Coordinate.{Coordinate}
 use Rattle.rule_space.specs.declared.coordinate.Coordinate.TheVariants as coordinate
-use Rattle.rule_space.specs.declared.test_line.Against.{Against}
+use Rattle.rule_space.specs.declared.test_line.NumberComparison.{NumberComparison}
 use Rattle.rule_space.specs.Coordinates.{Dimension, number_in}
 use Rattle.rule_space.specs.Machines.{State, declared}
 use Rattle.rule_space.specs.Numbers.{decides}
 use Rattle.rule_space.specs.Scopes.{IsWithin, Scope}
 
 -- the test uses no cell, and holds as the number of a machine compares
-pub record IsAgainst (of : Coordinate) (texts : List (List ℕ)) (t : Test) (by : Against)
+pub record IsAgainst (of : Coordinate) (texts : List (List ℕ)) (t : Test) (by : NumberComparison)
     : Type 0 where
-  pub no_cell : (s : AppShape) → cell_asked s t ≡ None
+  pub no_cell : (s : AppShape) → cell_used s t ≡ None
   pub holds : (s : AppShape) (x : Scope) (a : Attributes) (g : State) → IsWithin x a g
       → test_holds a s 0 t ≡ allows by.comparison (nat_cmp (number_in of texts a g) by.number)
 
 -- the same for a dimension at a place, whose cells decide it
-pub record IsAgainstAt (ds : List Dimension) (at : ℕ) (t : Test) (by : Against) : Type 0 where
+pub record IsAgainstAt (ds : List Dimension) (at : ℕ) (t : Test) (by : NumberComparison) : Type 0 where
   pub dimension : Dimension
   pub is_at : slice_get ds at ≡ Some dimension
   pub against : IsAgainst dimension.of dimension.texts t by
-  pub decided : decides dimension.ends dimension.last by.comparison by.number ≡ true
+  pub decided : decides dimension.starts dimension.last by.comparison by.number ≡ true
 
 -- the number says how many takes this cell of an array grants
 abbrev pub IsGrantOf : Coordinate → CellArray → (index : ℕ) → Type 0

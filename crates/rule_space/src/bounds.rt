@@ -20,7 +20,7 @@ pub struct RuleSide<'a> {
 /// A cell with at least this value. Values only grow, so it grants at most what is left of its
 /// quota.
 #[derive(Drop)]
-pub struct UsedCell {
+pub struct CellBound {
     pub array: ArrayName,
     pub index: u16,
     pub value: u64,
@@ -32,10 +32,10 @@ pub struct UsedCell {
 pub struct Bounds<'a> {
     pub appid: &'a str,
     pub from_day: u32,
-    pub used: &'a [UsedCell],
+    pub used: &'a [CellBound],
 }
 
-fn value_or(value: u64, cell: &UsedCell, name: &str, index: u16) -> u64
+fn value_or(value: u64, cell: &CellBound, name: &str, index: u16) -> u64
     ensures { result ≡ specs.value_or value cell.now name.now index }
 {
     if cell.index == index && cell.array.as_str() == name {
@@ -45,7 +45,7 @@ fn value_or(value: u64, cell: &UsedCell, name: &str, index: u16) -> u64
 }
 
 // The last value that is given for a cell, or 0.
-fn least_value(used: &[UsedCell], name: &str, index: u16) -> u64
+fn least_value(used: &[CellBound], name: &str, index: u16) -> u64
     ensures { result ≡ specs.least_value used.now name.now index }
 {
     let mut value = 0;

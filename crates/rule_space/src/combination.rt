@@ -53,17 +53,17 @@ fn remainder(modulus: Option<u32>, number: u64) -> u64
     }
 }
 
-fn cell_of(of: &Coordinate, ends: &[u128], combination: Combination) -> u16
-    ensures { length ends.now < 2 ^ 16 → result ≡ specs.cell_by of.now ends.now combination }
+fn cell_of(of: &Coordinate, starts: &[u128], combination: Combination) -> u16
+    ensures { length starts.now < 2 ^ 16 → result ≡ specs.cell_by of.now starts.now combination }
 {
     match of {
         Coordinate::Version => combination.number,
         Coordinate::Bucket { salt, modulus } => {
             let bucket = bucket_by(combination.number, *salt);
-            cell_at(ends, remainder(*modulus, bucket) as u128)
+            cell_at(starts, remainder(*modulus, bucket) as u128)
         }
-        Coordinate::Flag(_) => cell_at(ends, combination.known as u128),
-        _ => cell_at(ends, combination.text as u128),
+        Coordinate::Flag(_) => cell_at(starts, combination.known as u128),
+        _ => cell_at(starts, combination.text as u128),
     }
 }
 
@@ -74,7 +74,7 @@ fn cell_or(dimensions: &[Dimension], place: usize, combination: Combination) -> 
         → result ≡ specs.cell_or (slice_get dimensions.now place) combination }
 {
     match dimensions.get(place) {
-        Some(dimension) => cell_of(&dimension.of, &dimension.ends, combination),
+        Some(dimension) => cell_of(&dimension.of, &dimension.starts, combination),
         None => 0,
     }
 }

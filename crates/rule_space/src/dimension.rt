@@ -14,12 +14,12 @@ use std::alloc::{AllocError, Global};
 use std::marker::Model;
 
 /// A coordinate, the texts that it distinguishes, the numbers (ends) at which its cells begin, in
-/// their order, and its greatest number. Each cell goes up to the next end.
+/// their order, and its greatest number. Each cell goes up to the next start.
 #[derive(Drop)]
 pub struct Dimension {
     pub of: Coordinate,
     pub texts: Vec<Literal>,
-    pub ends: Vec<u128>,
+    pub starts: Vec<u128>,
     pub last: u128,
 }
 
@@ -31,7 +31,7 @@ impl Model for Dimension {
     ghost view = { λ d. record {
       of = d.of;
       texts = d.texts.items;
-      ends = d.ends.items;
+      starts = d.starts.items;
       last = d.last;
     } };
 }
@@ -42,26 +42,26 @@ impl Dimension {
 
     /// How many cells it has.
     pub fn cells(&self) -> usize
-        ensures { result ≡ length self.now.ends }
+        ensures { result ≡ length self.now.starts }
     {
-        self.ends.len()
+        self.starts.len()
     }
 
     /// The number at which a cell begins.
     pub fn begin(&self, cell: u16) -> u128
         ensures { result ≡ begin_of self.now cell }
     {
-        match self.ends.get(cell as usize) {
-            Some(end) => *end,
+        match self.starts.get(cell as usize) {
+            Some(start) => *start,
             None => 0,
         }
     }
 
     /// The first number after a cell; none for the last one.
     pub fn end(&self, cell: u16) -> Option<u128>
-        ensures { result ≡ slice_get self.now.ends (cell + 1) }
+        ensures { result ≡ slice_get self.now.starts (cell + 1) }
     {
-        self.ends.get(cell as usize + 1).copied()
+        self.starts.get(cell as usize + 1).copied()
     }
 }
 
@@ -117,21 +117,21 @@ fn is_discrete(of: &Coordinate, cells: usize, last: u128) -> bool
 pub(crate) fn is_line(bounds: &Bounds<'_>, dimension: &Dimension) -> bool
     ensures { result ≡ true → lines.IsLine (scope_of bounds.now) dimension.now }
 {
-    are_rising(&dimension.ends, dimension.last)
-        && dimension.ends.len() <= MOST_CELLS
+    are_rising(&dimension.starts, dimension.last)
+        && dimension.starts.len() <= MOST_CELLS
         && dimension.begin(0) == low_in(bounds, &dimension.of)
         && dimension.last == high_in(bounds, &dimension.of, dimension.texts.len())
-        && is_discrete(&dimension.of, dimension.ends.len(), dimension.last)
+        && is_discrete(&dimension.of, dimension.starts.len(), dimension.last)
 }
 
 fn line_of(alloc: Global, bounds: &Bounds<'_>, of: Coordinate) -> Result<Dimension, AllocError> {
-    let mut ends = Vec::new(alloc);
-    ends.push(low_in(bounds, &of))?;
+    let mut starts = Vec::new(alloc);
+    starts.push(low_in(bounds, &of))?;
     let last = high_in(bounds, &of, 0);
     Ok(Dimension {
         of,
         texts: Vec::new(alloc),
-        ends,
+        starts,
         last,
     })
 }

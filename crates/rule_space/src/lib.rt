@@ -33,7 +33,7 @@ mod plan_test;
 mod space;
 mod test_line;
 
-pub use bounds::{Bounds, RuleSide, UsedCell};
+pub use bounds::{Bounds, CellBound, RuleSide};
 pub use coordinate::Coordinate;
 pub use dimension::Dimension;
 pub use group::{Group, Tuple};
@@ -41,4 +41,4 @@ pub use line::decides;
 pub use plan::{Plan, PlanCondition, PlanStatement, PlanStep};
 pub use plan_test::{PlanTest, against_at};
 pub use space::{Space, space_of};
-pub use test_line::Against;
+pub use test_line::NumberComparison;

@@ -1,4 +1,4 @@
-//! A line of numbers in cells. Each cell begins at an end, and has the numbers up to the next one.
+//! A line of numbers in cells. Each cell begins at a start, and has the numbers up to the next one.
 
 ghost use Rattle.std.specs.Prelude.{◌≡◌, ◌+◌, ◌<◌, ◌^◌, ◌==◌, All, length};
 ghost use Rattle.std.specs.List.{list_any};
@@ -22,12 +22,12 @@ pub(crate) fn version_number(version: [u32; 4]) -> u128
     (upper * WORD + version[2] as u128) * WORD + version[3] as u128
 }
 
-fn has_end(ends: &[u128], number: u128) -> bool
-    ensures { result ≡ list_any (λ end. end == number) ends.now }
+fn has_start(starts: &[u128], number: u128) -> bool
+    ensures { result ≡ list_any (λ start. start == number) starts.now }
 {
-    let mut left = ends;
-    while let [end, others @ ..] = left {
-        if *end == number {
+    let mut left = starts;
+    while let [start, others @ ..] = left {
+        if *start == number {
             return true;
         }
         left = others;
@@ -36,105 +36,105 @@ fn has_end(ends: &[u128], number: u128) -> bool
 }
 
 // Whether no cell has numbers on both sides of a cut before the number.
-fn has_cut(ends: &[u128], last: u128, number: u128) -> bool
-    ensures { result ≡ specs.has_cut ends.now last number }
+fn has_cut(starts: &[u128], last: u128, number: u128) -> bool
+    ensures { result ≡ specs.has_cut starts.now last number }
 {
-    let first = match ends {
+    let first = match starts {
         [first, ..] => *first,
         [] => 0,
     };
-    number <= first || last < number || has_end(ends, number)
+    number <= first || last < number || has_start(starts, number)
 }
 
 // Whether no cell has numbers on both sides of a cut after the number.
-fn has_cut_after(ends: &[u128], last: u128, number: u128) -> bool
-    ensures { result ≡ specs.has_cut ends.now last (number + 1) }
+fn has_cut_after(starts: &[u128], last: u128, number: u128) -> bool
+    ensures { result ≡ specs.has_cut starts.now last (number + 1) }
 {
-    last <= number || has_cut(ends, last, number + 1)
+    last <= number || has_cut(starts, last, number + 1)
 }
 
 /// Whether all numbers of a cell, up to the last one, compare alike with this number.
-pub fn decides(ends: &[u128], last: u128, comparison: Comparison, number: u128) -> bool
-    ensures { result ≡ specs.decides ends.now last comparison number }
+pub fn decides(starts: &[u128], last: u128, comparison: Comparison, number: u128) -> bool
+    ensures { result ≡ specs.decides starts.now last comparison number }
 {
     match comparison {
-        Comparison::Lt | Comparison::Ge => has_cut(ends, last, number),
-        Comparison::Le | Comparison::Gt => has_cut_after(ends, last, number),
+        Comparison::Lt | Comparison::Ge => has_cut(starts, last, number),
+        Comparison::Le | Comparison::Gt => has_cut_after(starts, last, number),
         Comparison::Eq | Comparison::Ne => {
-            has_cut(ends, last, number) && has_cut_after(ends, last, number)
+            has_cut(starts, last, number) && has_cut_after(starts, last, number)
         }
     }
 }
 
-/// Whether there is an end, each is above the one before, and the last one isn't above `last`.
-pub(crate) fn are_rising(ends: &[u128], last: u128) -> bool
-    ensures { result ≡ specs.are_rising last ends.now }
+/// Whether there is a start, each is above the one before, and the last one isn't above `last`.
+pub(crate) fn are_rising(starts: &[u128], last: u128) -> bool
+    ensures { result ≡ specs.are_rising last starts.now }
 {
-    let [first, others @ ..] = ends else {
+    let [first, others @ ..] = starts else {
         return false;
     };
     let mut before = *first;
     let mut left = others;
-    while let [end, rest @ ..] = left {
-        if *end <= before {
+    while let [start, rest @ ..] = left {
+        if *start <= before {
             return false;
         }
-        before = *end;
+        before = *start;
         left = rest;
     }
     before <= last
 }
 
-fn count_below(ends: &[u128], number: u128) -> usize {
+fn count_below(starts: &[u128], number: u128) -> usize {
     let mut count: usize = 0;
-    for end in ends {
-        if *end < number {
+    for start in starts {
+        if *start < number {
             count = count.saturating_add(1);
         }
     }
     count
 }
 
-/// Adds an end in its order, unless it is there, or lies outside of the line's numbers. A line has
-/// at most 65535 cells; a further end isn't added.
-pub(crate) fn add_end(ends: &mut Vec<u128>, last: u128, end: u128) -> Result<(), AllocError> {
-    let place = count_below(ends, end);
-    if has_end(ends, end) || place == 0 || end > last || ends.len() >= MOST_CELLS {
+/// Adds a start in its order, unless it is there, or lies outside of the line's numbers. A line has
+/// at most 65535 cells; a further start isn't added.
+pub(crate) fn add_start(starts: &mut Vec<u128>, last: u128, start: u128) -> Result<(), AllocError> {
+    let place = count_below(starts, start);
+    if has_start(starts, start) || place == 0 || start > last || starts.len() >= MOST_CELLS {
         return Ok(());
     }
-    if place <= ends.len() {
-        ends.insert(place, end)?;
+    if place <= starts.len() {
+        starts.insert(place, start)?;
     }
     Ok(())
 }
 
 /// Adds the cuts that a comparison with a number needs.
 pub(crate) fn add_cuts(
-    ends: &mut Vec<u128>,
+    starts: &mut Vec<u128>,
     last: u128,
     comparison: Comparison,
     number: u128,
 ) -> Result<(), AllocError> {
     let after = number.saturating_add(1);
     match comparison {
-        Comparison::Lt | Comparison::Ge => add_end(ends, last, number),
-        Comparison::Le | Comparison::Gt => add_end(ends, last, after),
+        Comparison::Lt | Comparison::Ge => add_start(starts, last, number),
+        Comparison::Le | Comparison::Gt => add_start(starts, last, after),
         Comparison::Eq | Comparison::Ne => {
-            add_end(ends, last, number)?;
-            add_end(ends, last, after)
+            add_start(starts, last, number)?;
+            add_start(starts, last, after)
         }
     }
 }
 
 /// The cell of a number, on a line of at most 65535 cells: the last one that begins at the number
 /// or below.
-pub(crate) fn cell_at(ends: &[u128], number: u128) -> u16
-    ensures { length ends.now < 2 ^ 16 → result ≡ specs.cell_at ends.now number }
+pub(crate) fn cell_at(starts: &[u128], number: u128) -> u16
+    ensures { length starts.now < 2 ^ 16 → result ≡ specs.cell_at starts.now number }
 {
     let mut count: u16 = 0;
-    let mut left = ends;
-    while let [end, others @ ..] = left {
-        if *end <= number {
+    let mut left = starts;
+    while let [start, others @ ..] = left {
+        if *start <= number {
             count = count.saturating_add(1);
         }
         left = others;

@@ -4,9 +4,9 @@
 use crate::bounds::{Bounds, RuleSide};
 use crate::coordinate::Coordinate;
 use crate::dimension::{Dimension, dimension_of};
-use crate::line::{add_cuts, add_end};
+use crate::line::{add_cuts, add_start};
 use crate::plan_test::is_declared_as;
-use crate::test_line::{against_of, place_among};
+use crate::test_line::{against_of, index_or_count};
 use attrs::Flag;
 use cells::{ArrayName, CellArray, Shape};
 use rule_lang::{Comparison, Literal, Statement, Step, Test, array_named};
@@ -65,13 +65,13 @@ pub(crate) fn find_dimension(
 
 // Adds a text, and a cell for it.
 fn add_text(alloc: Global, dimension: &mut Dimension, text: &Literal) -> Result<(), AllocError> {
-    if place_among(&dimension.texts, text.as_str()) < dimension.texts.len() {
+    if index_or_count(&dimension.texts, text.as_str()) < dimension.texts.len() {
         return Ok(());
     }
     let copy = Literal::of(alloc, text.as_str())?;
     dimension.texts.push(copy)?;
     dimension.last = dimension.texts.len() as u128;
-    add_end(&mut dimension.ends, dimension.last, dimension.last)
+    add_start(&mut dimension.starts, dimension.last, dimension.last)
 }
 
 // Adds the cells that a test needs. A take's are added at the end.
@@ -84,7 +84,7 @@ fn add_cells(alloc: Global, dimension: &mut Dimension, test: &Test) -> Result<()
     };
     let last = dimension.last;
     add_cuts(
-        &mut dimension.ends,
+        &mut dimension.starts,
         last,
         against.comparison,
         against.number,
@@ -174,7 +174,7 @@ pub(crate) fn add_takes(
         let most = takes_in(dimension, old).max(takes_in(dimension, new));
         let last = dimension.last;
         for take in 0..most {
-            add_cuts(&mut dimension.ends, last, Comparison::Gt, take as u128)?;
+            add_cuts(&mut dimension.starts, last, Comparison::Gt, take as u128)?;
         }
     }
     Ok(())

@@ -15,7 +15,7 @@ use crate::coordinate::Coordinate;
 use crate::dimension::Dimension;
 use crate::line::decides;
 use crate::naming::find_dimension;
-use crate::test_line::{Against, against_of};
+use crate::test_line::{NumberComparison, against_of};
 use attrs::{Attribute, Flag};
 use cells::{ArrayName, CellArray, Shape};
 use rule_lang::{Comparison, Test, array_named};
@@ -74,10 +74,10 @@ fn constant_of(bounds: &Bounds<'_>, test: &Test) -> Option<bool>
 
 // ---- comparisons
 
-/// The comparison that a test makes with the number of the dimension at a place, if it is about that
-/// number, and the dimension's cells decide it; none for a take.
+/// The comparison that a test makes with the number of the dimension at a place, if it is about
+/// that number, and the dimension's cells decide it; none for a take.
 // open: for which tests of the dimension it returns none.
-pub fn against_at(dimensions: &[Dimension], place: usize, test: &Test) -> Option<Against>
+pub fn against_at(dimensions: &[Dimension], place: usize, test: &Test) -> Option<NumberComparison>
     ensures { IfSome result (IsAgainstAt dimensions.now place test.now) }
 {
     let Some(dimension) = dimensions.get(place) else {
@@ -87,7 +87,7 @@ pub fn against_at(dimensions: &[Dimension], place: usize, test: &Test) -> Option
         return None;
     };
     if decides(
-        &dimension.ends,
+        &dimension.starts,
         dimension.last,
         against.comparison,
         against.number,

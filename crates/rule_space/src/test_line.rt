@@ -11,14 +11,14 @@ use rule_lang::{Comparison, Literal, Test};
 
 /// A comparison with a number.
 #[derive(Clone, Copy)]
-pub struct Against {
+pub struct NumberComparison {
     pub comparison: Comparison,
     pub number: u128,
 }
 
 /// The index of a text among these, or their count if it is another one.
-pub(crate) fn place_among(texts: &[Literal], text: &str) -> usize
-    ensures { result ≡ coordinates.place_among texts.now text.now }
+pub(crate) fn index_or_count(texts: &[Literal], text: &str) -> usize
+    ensures { result ≡ coordinates.index_or_count texts.now text.now }
 {
     let mut place: usize = 0;
     let mut left = texts;
@@ -32,7 +32,7 @@ pub(crate) fn place_among(texts: &[Literal], text: &str) -> usize
     place
 }
 
-fn version_against(test: &Test) -> Option<Against>
+fn version_against(test: &Test) -> Option<NumberComparison>
     ensures { (texts : List (List ℕ))
         → IfSome result (IsAgainst Coordinate.Version texts test.now) }
 {
@@ -40,7 +40,7 @@ fn version_against(test: &Test) -> Option<Against>
         Test::Version {
             comparison,
             version,
-        } => Some(Against {
+        } => Some(NumberComparison {
             comparison: *comparison,
             number: version_number(*version),
         }),
@@ -48,11 +48,11 @@ fn version_against(test: &Test) -> Option<Against>
     }
 }
 
-fn today_against(test: &Test) -> Option<Against>
+fn today_against(test: &Test) -> Option<NumberComparison>
     ensures { (texts : List (List ℕ)) → IfSome result (IsAgainst Coordinate.Today texts test.now) }
 {
     match test {
-        Test::Today { comparison, number } => Some(Against {
+        Test::Today { comparison, number } => Some(NumberComparison {
             comparison: *comparison,
             number: *number as u128,
         }),
@@ -61,16 +61,16 @@ fn today_against(test: &Test) -> Option<Against>
 }
 
 // The flag `installdate_known` is about the day of the installation.
-fn installed_against(test: &Test) -> Option<Against>
+fn installed_against(test: &Test) -> Option<NumberComparison>
     ensures { (texts : List (List ℕ))
         → IfSome result (IsAgainst Coordinate.Installed texts test.now) }
 {
     match test {
-        Test::Installed { comparison, number } => Some(Against {
+        Test::Installed { comparison, number } => Some(NumberComparison {
             comparison: *comparison,
             number: *number as u128,
         }),
-        Test::Flag(Flag::InstalldateKnown) => Some(Against {
+        Test::Flag(Flag::InstalldateKnown) => Some(NumberComparison {
             comparison: Comparison::Lt,
             number: Context::UNKNOWN_DAY as u128,
         }),
@@ -98,7 +98,7 @@ fn is_same_modulus(modulus: Option<u32>, other: Option<u32>) -> bool
     }
 }
 
-fn bucket_against(salt: Option<u64>, modulus: Option<u32>, test: &Test) -> Option<Against>
+fn bucket_against(salt: Option<u64>, modulus: Option<u32>, test: &Test) -> Option<NumberComparison>
     ensures { (texts : List (List ℕ))
         → IfSome result (IsAgainst (Coordinate.Bucket salt modulus) texts test.now) }
 {
@@ -110,7 +110,7 @@ fn bucket_against(salt: Option<u64>, modulus: Option<u32>, test: &Test) -> Optio
             number,
         } => {
             if is_same_salt(salt, *other) && is_same_modulus(modulus, *divisor) {
-                return Some(Against {
+                return Some(NumberComparison {
                     comparison: *comparison,
                     number: *number as u128,
                 });
@@ -121,14 +121,14 @@ fn bucket_against(salt: Option<u64>, modulus: Option<u32>, test: &Test) -> Optio
     }
 }
 
-fn flag_against(own: Flag, test: &Test) -> Option<Against>
+fn flag_against(own: Flag, test: &Test) -> Option<NumberComparison>
     ensures { (texts : List (List ℕ))
         → IfSome result (IsAgainst (Coordinate.Flag own) texts test.now) }
 {
     match test {
         Test::Flag(flag) => {
             if own == *flag {
-                return Some(Against {
+                return Some(NumberComparison {
                     comparison: Comparison::Ge,
                     number: 1,
                 });
@@ -139,14 +139,14 @@ fn flag_against(own: Flag, test: &Test) -> Option<Against>
     }
 }
 
-fn text_against(own: Attribute, texts: &[Literal], test: &Test) -> Option<Against>
+fn text_against(own: Attribute, texts: &[Literal], test: &Test) -> Option<NumberComparison>
     ensures { IfSome result (IsAgainst (Coordinate.Text own) texts.now test.now) }
 {
     match test {
         Test::Attr { attribute, text } => {
-            let place = place_among(texts, text.as_str());
+            let place = index_or_count(texts, text.as_str());
             if own == *attribute && place < texts.len() {
-                return Some(Against {
+                return Some(NumberComparison {
                     comparison: Comparison::Eq,
                     number: place as u128,
                 });
@@ -159,7 +159,7 @@ fn text_against(own: Attribute, texts: &[Literal], test: &Test) -> Option<Agains
 
 /// The comparison that a test makes with the number of a coordinate, if it is about that; none for
 /// a take, whose number changes along a run, or for a text that isn't among these.
-pub(crate) fn against_of(of: &Coordinate, texts: &[Literal], test: &Test) -> Option<Against>
+pub(crate) fn against_of(of: &Coordinate, texts: &[Literal], test: &Test) -> Option<NumberComparison>
     ensures { IfSome result (IsAgainst of.now texts.now test.now) }
 {
     match of {

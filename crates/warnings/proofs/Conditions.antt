@@ -6,13 +6,13 @@ use Rattle.attrs.specs.Attributes.{Attributes}
 use Rattle.cells.specs.Arrays.{AppShape}
 use Rattle.rule_lang.specs.declared.test.Test.{Test}
 use Rattle.rule_lang.specs.Meaning.{Behaviour, decide, decide_one, test_then}
-use Rattle.rule_lang.specs.Trees.{Tree, Asked, Negated, Both, Either}
+use Rattle.rule_lang.specs.Trees.{Tree, Leaf, Negated, Both, Either}
 use Rattle.warnings.specs.declared.possible.Possible.{Possible}
 use Rattle.warnings.specs.Possible.{both, decided, either, negated, one_possible, tree_possible}
 use Rattle.warnings.proofs.Comes.{Comes}
 
 abbrev pub AllTests : (Test → Type 0) → Tree → Type 0
-AllTests P (Asked line t) = P t
+AllTests P (Leaf line t) = P t
 AllTests P (Negated c) = AllTests P c
 AllTests P (Both b c) = AllTests P b × AllTests P c
 AllTests P (Either b c) = AllTests P b × AllTests P c
@@ -73,7 +73,7 @@ module _ (of : Test → Possible) (a : Attributes) (s : AppShape) where
   TestComes t = Comes (of t) (test_then a s t)
 
   tree_comes : (c : Tree) → AllTests TestComes c → Comes (tree_possible of c) (decide a s c)
-  tree_comes (Asked line t) all = all
+  tree_comes (Leaf line t) all = all
   tree_comes (Negated c) all = negated_comes (tree_comes c all)
   tree_comes (Both b c) all = both_comes (tree_comes b all.0) (tree_comes c all.1)
   tree_comes (Either b c) all = either_comes (tree_comes b all.0) (tree_comes c all.1)

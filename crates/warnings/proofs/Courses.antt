@@ -14,7 +14,7 @@ use Rattle.rule_lang.specs.declared.rule.Statement.TheVariants.{Count, When}
 use Rattle.rule_lang.specs.declared.test.Test.{Test}
 use Rattle.rule_lang.specs.Meaning.{Asks, Chooses, behaviour, decide_steps}
 use Rattle.rule_lang.specs.Shapes.{array_named, cell_of}
-use Rattle.rule_lang.specs.Trees.{Tree, Asked, Negated, Both, Either, trees_from}
+use Rattle.rule_lang.specs.Trees.{Tree, Leaf, Negated, Both, Either, trees_from}
 use Rattle.warnings.specs.declared.possible.Possible.{Possible}
 use Rattle.warnings.specs.Course.{goes_past, may_offer}
 use Rattle.warnings.specs.Possible.{steps_possible}
@@ -50,7 +50,7 @@ trees_tests : (P : Test → Type 0) (ts : List Tree) (ss : List Step) → TreesT
     → StepsTests P ss → SomeTests P (trees_from ts ss)
 trees_tests P ts [] have all = have
 trees_tests P ts (step.Test line t ∷ ss) have all =
-    trees_tests P (Asked line t ∷ ts) ss (all.0, have) all.1
+    trees_tests P (Leaf line t ∷ ts) ss (all.0, have) all.1
 trees_tests P [] (step.Not ∷ ss) have all = tt
 trees_tests P (c ∷ ts) (step.Not ∷ ss) have all = trees_tests P (Negated c ∷ ts) ss have all.1
 trees_tests P [] (step.And ∷ ss) have all = tt

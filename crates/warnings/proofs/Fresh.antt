@@ -12,9 +12,9 @@ use Rattle.rule_lang.specs.declared.rule.Statement.{Statement}
 use Rattle.rule_lang.specs.declared.rule.Statement.TheVariants.{Count, When}
 use Rattle.rule_lang.specs.declared.test.Test.{Test}
 use Rattle.rule_lang.specs.Meaning.{Asks, Behaviour, Chooses, HasTrace, asks_then, behaviour}
-use Rattle.rule_lang.specs.Meaning.{cell_asked, decide, decide_one, test_holds, test_then}
+use Rattle.rule_lang.specs.Meaning.{cell_used, decide, decide_one, test_holds, test_then}
 use Rattle.rule_lang.specs.Shapes.{array_named, cell_of}
-use Rattle.rule_lang.specs.Trees.{Tree, Asked, Negated, Both, Either, trees_from}
+use Rattle.rule_lang.specs.Trees.{Tree, Leaf, Negated, Both, Either, trees_from}
 use Rattle.warnings.specs.declared.possible.Possible.{Possible}
 use Rattle.warnings.specs.Course.{first_offer}
 use Rattle.warnings.specs.Possible.{both, decided, either, negated, one_possible}
@@ -102,7 +102,7 @@ module _ (a : Attributes) (s : AppShape) where
   comes_of t = decided (test_holds a s 0 t)
 
   by_test : (t : Test) → Goes (comes_of t) (test_then a s t)
-  by_test t = by_cell (cell_asked s t) (λ reply. test_holds a s reply t)
+  by_test t = by_cell (cell_used s t) (λ reply. test_holds a s reply t)
 
 -- ---- conditions
 
@@ -150,7 +150,7 @@ module _ {p q : Possible} {go on : Behaviour → Behaviour → Behaviour} (b : G
 
 module _ (a : Attributes) (s : AppShape) where
   by_tree : (c : Tree) → Goes (tree_possible (comes_of a s) c) (decide a s c)
-  by_tree (Asked line t) = by_test a s t
+  by_tree (Leaf line t) = by_test a s t
   by_tree (Negated c) = by_negated (by_tree c)
   by_tree (Both b c) = by_both (by_tree b) (by_tree c)
   by_tree (Either b c) = by_either (by_tree b) (by_tree c)

@@ -5,7 +5,7 @@ use Rattle.std.specs.Option.{option_map}
 use Rattle.rule_lang.specs.declared.condition.Step.{Step}
 use Rattle.rule_lang.specs.declared.condition.Step.TheVariants as step
 use Rattle.rule_lang.specs.declared.test.Test.{Test}
-use Rattle.rule_lang.specs.Trees.{Tree, Asked, Negated, Both, Either, trees_from}
+use Rattle.rule_lang.specs.Trees.{Tree, Leaf, Negated, Both, Either, trees_from}
 use Rattle.warnings.specs.declared.possible.Possible.{Possible}
 use Rattle.warnings.specs.Possible.{decided, one_possible, steps_possible, tree_possible}
 use Rattle.warnings.specs.Stack.{after_steps, one_left, stepped}
@@ -30,7 +30,7 @@ all_steps : (of : Test → Possible) (ts : List Tree) (ss : List Step)
     → after_steps of (map (tree_possible of) ts) ss
     ≡ option_map (map (tree_possible of)) (trees_from ts ss)
 all_steps of ts [] = refl
-all_steps of ts (step.Test line t ∷ ss) = all_steps of (Asked line t ∷ ts) ss
+all_steps of ts (step.Test line t ∷ ss) = all_steps of (Leaf line t ∷ ts) ss
 all_steps of [] (step.Not ∷ ss) = refl
 all_steps of (c ∷ ts) (step.Not ∷ ss) = all_steps of (Negated c ∷ ts) ss
 all_steps of [] (step.And ∷ ss) = refl

@@ -10,7 +10,7 @@ use Rattle.rule_lang.specs.declared.test.Comparison.{Comparison}
 use Rattle.rule_lang.specs.declared.test.Test.{Test}
 use Rattle.rule_lang.specs.declared.test.Test.TheVariants as test
 use Rattle.rule_lang.specs.Meaning.{allows, test_holds}
-use Rattle.rule_lang.specs.Trees.{Tree, Asked, Negated, Both, Either, trees_from}
+use Rattle.rule_lang.specs.Trees.{Tree, Leaf, Negated, Both, Either, trees_from}
 use Rattle.warnings.specs.declared.possible.Possible.{Possible}
 use Rattle.warnings.specs.declared.possible.Asker.{Asker}
 use Rattle.warnings.specs.declared.possible.Asker.TheVariants.{AllAt, One}
@@ -71,7 +71,7 @@ abbrev pub either : Possible → Possible → Possible
 either p q = record { holds = p.holds || q.holds; fails = p.fails && q.fails }
 
 abbrev pub tree_possible : (Test → Possible) → Tree → Possible
-tree_possible of (Asked line t) = of t
+tree_possible of (Leaf line t) = of t
 tree_possible of (Negated c) = negated (tree_possible of c)
 tree_possible of (Both b c) = both (tree_possible of b) (tree_possible of c)
 tree_possible of (Either b c) = either (tree_possible of b) (tree_possible of c)

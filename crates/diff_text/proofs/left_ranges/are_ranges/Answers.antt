@@ -13,7 +13,7 @@ returns c = λ x line is.
     (sym c.are_all_ranges.ensures ∙ c.if-not-are_all_ranges.false)
     (sym c.are_cut.ensures ∙ c.if-not-are_cut.false)
     (c.in_ok-holds.ensures ∙ ap (map (have_number ranges))
-    (c.deref.ensures.value ∙ ap (λ (e : Dimension). e.ends) c.dimension.view_is))
+    (c.deref.ensures.value ∙ ap (λ (e : Dimension). e.starts) c.dimension.view_is))
     (ap₂ (λ (s : List ℕ) (h : List Bool). agrees s 0 h)
     (sym (c.deref-2.ensures.value ∙ ap (λ (s : SegmentSet). s.segments) c.set.view_is))
     (sym c.deref-3.ensures.value) ∙ sym c.agrees.ensures ∙ is)

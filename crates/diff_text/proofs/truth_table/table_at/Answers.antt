@@ -16,4 +16,4 @@ returns c =
     test_table ds c.args.test.now c.args.place by d c.in_ok-holds.holds.items there
     c.in-Some-against_at.ensures
     (c.in_ok-holds.ensures
-    ∙ ap (truths by) (c.deref.ensures.value ∙ ap (λ (e : Dimension). e.ends) c.dimension.view_is))
+    ∙ ap (truths by) (c.deref.ensures.value ∙ ap (λ (e : Dimension). e.starts) c.dimension.view_is))

@@ -18,12 +18,12 @@ returns-in-Bucket c = λ few.
     let modulus = c.in-Bucket.modulus in
     let is : c.args.of.now ≡ coordinate.Bucket salt modulus = search rules in
     c.cell_at.ensures few
-    ∙ ap (cell_at c.args.ends.now)
+    ∙ ap (cell_at c.args.starts.now)
     (c.remainder.ensures ∙ ap (remainder modulus) c.bucket_by-bucket.ensures)
-    ∙ ap (λ (of : Coordinate). cell_by of c.args.ends.now c.args.combination) (sym is)
+    ∙ ap (λ (of : Coordinate). cell_by of c.args.starts.now c.args.combination) (sym is)
 
 pub returns-in-Flag : goal.returns-in-Flag
 returns-in-Flag c = λ few.
     c.cell_at-in-Flag.ensures few
-    ∙ ap (cell_at c.args.ends.now) (byte_is c.args.combination.known)
-    ∙ ap (λ (of : Coordinate). cell_by of c.args.ends.now c.args.combination) (sym c.in-Flag.is)
+    ∙ ap (cell_at c.args.starts.now) (byte_is c.args.combination.known)
+    ∙ ap (λ (of : Coordinate). cell_by of c.args.starts.now c.args.combination) (sym c.in-Flag.is)

@@ -3,19 +3,19 @@ use Rattle.rule_lang.specs.declared.test.Comparison.TheVariants.{Eq}
 use Rattle.rule_lang.specs.declared.test.Test.{Test}
 use Rattle.rule_lang.specs.declared.test.Test.TheVariants as test
 use Rattle.rule_space.specs.declared.coordinate.Coordinate.TheVariants as coordinate
-use Rattle.rule_space.specs.Coordinates.{place_among}
+use Rattle.rule_space.specs.Coordinates.{index_or_count}
 use Rattle.rule_space.specs.Tests.{IsAgainst}
 use Rattle.rule_space.proofs.Tests.{by, text_against}
 use Rattle.rule_space.proofs.test_line.text_against.Goals as goal
 
 pub returns-then-place-texts : goal.returns-then-place-texts
 returns-then-place-texts c =
-    let place = c.place_among-place.result in
+    let place = c.index_or_count-place.result in
     let same : c.args.own ≡ c.in-Attr.attribute = search rules in
     let is : c.args.test.now ≡ test.Attr c.in-Attr.attribute c.in-Attr.text = search rules in
     subst
     (λ (t : Test). IsAgainst (coordinate.Text c.args.own) c.args.texts.now t (by Eq place))
     (sym is)
     (text_against c.args.texts.now c.args.own c.in-Attr.attribute c.in-Attr.text place same
-    (c.place_among-place.ensures ∙ ap (place_among c.args.texts.now) c.as_str.ensures.text)
+    (c.index_or_count-place.ensures ∙ ap (index_or_count c.args.texts.now) c.as_str.ensures.text)
     (omega arith))

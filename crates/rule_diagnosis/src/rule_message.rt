@@ -4,7 +4,7 @@ ghost use Rattle.std.specs.Prelude.{◌≡◌, ◌↔◌, ◌≤◌, ◌<◌, �
 ghost use Rattle.std.specs.Prelude.{IfSome, IsTrue, OnOk, string_bytes};
 ghost use Rattle.printing.specs.Pushed.{Puts};
 ghost use Rattle.rule_diagnosis.specs.Lexemes as lexemes;
-ghost use Rattle.rule_diagnosis.specs.Told as specs;
+ghost use Rattle.rule_diagnosis.specs.Message as specs;
 ghost use Rattle.rule_lang.specs.Verdicts.{IsVerdict};
 
 use crate::caret::tell_at;
@@ -44,7 +44,7 @@ pub fn tell_rule_fault(
     kind: RuleFaultKind,
 ) -> Option<String>
     ensures { IfSome result
-        (λ told. specs.IsRuleTold shape.now text.now line kind (string_bytes told)) }
+        (λ message. specs.IsRuleMessage shape.now text.now line kind (string_bytes message)) }
 {
     if text.len() > MOST_RULE {
         return tell_too_long(alloc, kind);
@@ -71,12 +71,12 @@ pub fn tell_rule_fault(
 }
 
 fn tell_too_long(alloc: Global, kind: RuleFaultKind) -> Option<String>
-    ensures { IfSome result (λ told. (text : List ℕ) → 65536 < length text
-        → specs.IsRuleTooLong text kind (string_bytes told)) }
+    ensures { IfSome result (λ message. (text : List ℕ) → 65536 < length text
+        → specs.IsRuleTooLong text kind (string_bytes message)) }
 {
     match kind {
         RuleFaultKind::Range => match String::from_str(alloc, rule_too_long()) {
-            Ok(told) => Some(told),
+            Ok(message) => Some(message),
             Err(_) => None,
         },
         _ => None,
@@ -84,7 +84,7 @@ fn tell_too_long(alloc: Global, kind: RuleFaultKind) -> Option<String>
 }
 
 /// The message about a rule's text of more than 65536 bytes: a line, ended by a line feed.
-#[tactic(auto, unfolding(crate::specs::Told::rule_too_long))]
+#[tactic(auto, unfolding(crate::specs::Message::rule_too_long))]
 pub fn rule_too_long() -> &'static str
     ensures { result.now ≡ specs.rule_too_long }
 {
@@ -111,8 +111,8 @@ fn is_same(kind: RuleFaultKind, other: RuleFaultKind) -> bool
 // Explains a misplaced token.
 fn tell_shape(alloc: Global, text: &str, shape: &Shape, rows: &str, row: usize) -> Option<String>
     requires { rows.now ≡ lexemes.spread text.now }
-    ensures { IfSome result (λ told. specs.AreLines shape.now text.now RuleFaultKind.Shape row
-        (string_bytes told)) }
+    ensures { IfSome result (λ message. specs.AreLines shape.now text.now RuleFaultKind.Shape row
+        (string_bytes message)) }
 {
     let at = lexeme_start(row.saturating_sub(2), text.as_bytes());
     let Some(found) = followers_of(alloc, shape, front(text.as_bytes(), at)) else {
@@ -128,7 +128,7 @@ fn tell_shape(alloc: Global, text: &str, shape: &Shape, rows: &str, row: usize) 
     }
 }
 
-#[tactic(auto, unfolding(crate::specs::Told::shape_sentence))]
+#[tactic(auto, unfolding(crate::specs::Message::shape_sentence))]
 fn tell_misplaced(text: &mut String, lexeme: &str, found: &[Follower]) -> Result<(), AllocError>
     ensures { OnOk result (Puts text.old text.new (specs.shape_sentence lexeme.now found.now)) }
 {
@@ -166,7 +166,7 @@ fn tell_other(
     kind: RuleFaultKind,
 ) -> Option<String>
     requires { rows.now ≡ lexemes.spread text.now }
-    ensures { IfSome result (λ told. string_bytes told ≡ specs.told_at text.now
+    ensures { IfSome result (λ message. string_bytes message ≡ specs.lines_at text.now
         (specs.row_start text.now row) (specs.sentence shape.now text.now kind row)) }
 {
     let mut sentence = String::new(alloc);

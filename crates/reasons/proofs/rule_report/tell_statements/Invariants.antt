@@ -1,8 +1,8 @@
 use Rattle.std.proofs.Common.{◌≡◌, ◌++◌, length, string_bytes}
 use Rattle.rule_lang.specs.Meaning.{behaviour}
 use Rattle.reasons.specs.Ending.{ending_on}
-use Rattle.reasons.specs.Told.{rule_text}
-use Rattle.reasons.proofs.telling.tell_statements.Given as goal
+use Rattle.reasons.specs.RuleLines.{rule_text}
+use Rattle.reasons.proofs.rule_report.tell_statements.Given as goal
 
 -- the text of the remaining statements completes the text, and on the current counters they give
 -- the rule's result

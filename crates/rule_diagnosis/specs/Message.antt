@@ -53,8 +53,8 @@ lines_of number column shown pad sentence =
 
 -- columns are counted in characters; the line is escaped, so the caret comes after all that is
 -- printed for the bytes before the place
-abbrev pub told_at : Text → (place : ℕ) → (sentence : Text) → Text
-told_at text place sentence =
+abbrev pub lines_at : Text → (place : ℕ) → (sentence : Text) → Text
+lines_at text place sentence =
     let before = take place text in
     lines_of (line_at before) (length (pad_at before) + 1)
     (printed_lines (line_text (line_at before) text)) (pad_at (printed_lines before)) sentence
@@ -87,10 +87,10 @@ sentence s text k row = sentence_in s (spread text) k row
 
 -- the lines of the message, by the row of the lexeme
 abbrev pub AreLines : AppShape → Text → RuleFaultKind → ℕ → Text → Type 0
-AreLines s text kind.Shape row told =
+AreLines s text kind.Shape row message =
     (fs : List Follower) × AreFollowers s (take (row_start text row) text) fs
-    × (told ≡ told_at text (shape_place text row fs) (shape_sentence (lexeme text row) fs))
-AreLines s text k row told = told ≡ told_at text (row_start text row) (sentence s text k row)
+    × (message ≡ lines_at text (shape_place text row fs) (shape_sentence (lexeme text row) fs))
+AreLines s text k row message = message ≡ lines_at text (row_start text row) (sentence s text k row)
 
 -- ---- the message about a text whose fault has this line and kind
 
@@ -98,14 +98,14 @@ unfoldable pub rule_too_long : Text
 rule_too_long = codes "a rule has at most 65536 bytes\n"
 
 abbrev pub IsRuleTooLong : Text → RuleFaultKind → Text → Type 0
-IsRuleTooLong text kind.Range told = (65536 < length text) × (told ≡ rule_too_long)
-IsRuleTooLong text k told = ⊥
+IsRuleTooLong text kind.Range message = (65536 < length text) × (message ≡ rule_too_long)
+IsRuleTooLong text k message = ⊥
 
-pub record HasRulePlace (s : AppShape) (text : Text) (line : ℕ) (k : RuleFaultKind) (told : Text)
+pub record HasRulePlace (s : AppShape) (text : Text) (line : ℕ) (k : RuleFaultKind) (message : Text)
     : Type 0 where
   pub row : ℕ
   pub lies : LiesAt s text line k row
-  pub lines : AreLines s text k row told
+  pub lines : AreLines s text k row message
 
-abbrev pub IsRuleTold : AppShape → Text → (line : ℕ) → RuleFaultKind → (told : Text) → Type 0
-IsRuleTold s text line k told = IsRuleTooLong text k told ⊎ HasRulePlace s text line k told
+abbrev pub IsRuleMessage : AppShape → Text → (line : ℕ) → RuleFaultKind → (message : Text) → Type 0
+IsRuleMessage s text line k message = IsRuleTooLong text k message ⊎ HasRulePlace s text line k message

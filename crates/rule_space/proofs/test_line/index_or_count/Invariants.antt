@@ -1,10 +1,10 @@
 use Rattle.std.proofs.Common.{◌≡◌, ◌+◌, length}
-use Rattle.rule_space.specs.Coordinates.{place_among}
-use Rattle.rule_space.proofs.test_line.place_among.Given as goal
+use Rattle.rule_space.specs.Coordinates.{index_or_count}
+use Rattle.rule_space.proofs.test_line.index_or_count.Given as goal
 
 abbrev pub invariant-loop-left : goal.invariant-loop-left
 invariant-loop-left l = record {
-  so_far : l.place + place_among l.left l.text ≡ place_among l.texts l.text;
+  so_far : l.place + index_or_count l.left l.text ≡ index_or_count l.texts l.text;
   within : l.place + length l.left ≡ length l.texts;
 }
 

@@ -7,7 +7,7 @@ use Rattle.attrs.specs.Attributes.{Attributes}
 use Rattle.cells.specs.Arrays.{AppShape}
 use Rattle.cells.specs.Events.{AreCells}
 use Rattle.cells.specs.declared.event.CellOp.TheVariants.{Add}
-use Rattle.rule_lang.specs.Meaning.{behaviour, Behaviour, cell_asked, decide, test_then}
+use Rattle.rule_lang.specs.Meaning.{behaviour, Behaviour, cell_used, decide, test_then}
 use Rattle.rule_lang.specs.Shapes.{array_named, cell_of}
 use Rattle.rule_lang.specs.Tokens.{Text}
 use Rattle.rule_lang.specs.Trees.{Tree}
@@ -26,10 +26,10 @@ abbrev pub first_test_line : List Step → ℕ
 first_test_line (step.Test line t ∷ rest) = line
 first_test_line steps = 0
 
--- the line of a `when`, whose tests are reported in `told`
-abbrev pub when_line : List Step → (told : List ℕ) → List ℕ
-when_line steps told =
-    codes "  line " ++ decimal (first_test_line steps) ++ codes ": " ++ told
+-- the line of a `when`, whose tests are reported in `report`
+abbrev pub when_line : List Step → (report : List ℕ) → List ℕ
+when_line steps report =
+    codes "  line " ++ decimal (first_test_line steps) ++ codes ": " ++ report
 
 -- the line for the rule's end
 abbrev pub otherwise_line : List ℕ
@@ -58,10 +58,10 @@ module _ (a : Attributes) (s : AppShape) where
   rule_text counters rule = flat_map ended (rule_lines counters rule)
 
 -- `ChoosesByLastLine a s old rule told choice new`: on counters with the values `old`, the rule
--- makes this choice and leaves the values `new`. The last line of `told` is that of the `when` that
--- chooses, or of the rule's end.
+-- makes this choice and leaves the values `new`. The last line of `report` is that of the `when`
+-- that chooses, or of the rule's end.
 pub data ChoosesByLastLine (a : Attributes) (s : AppShape)
-    : (old : List ℕ) → List Statement → (told : List (List ℕ)) → (choice : ℕ) → (new : List ℕ)
+    : (old : List ℕ) → List Statement → (report : List (List ℕ)) → (choice : ℕ) → (new : List ℕ)
     → Type 0 where
   -- the rule's end chooses nothing
   by_its_end : (old : List ℕ) → ChoosesByLastLine a s old [] (otherwise_line ∷ []) 0 old
@@ -73,16 +73,16 @@ pub data ChoosesByLastLine (a : Attributes) (s : AppShape)
       (read_steps a s old steps).counters
   -- after a `when` that doesn't hold the rest chooses
   behind_when : (old : List ℕ) (steps : List Step) (release : ℕ) (rest : List Statement)
-      (told : List (List ℕ)) (choice : ℕ) (new : List ℕ)
+      (report : List (List ℕ)) (choice : ℕ) (new : List ℕ)
       → (read_steps a s old steps).holds ≡ false
-      → ChoosesByLastLine a s (read_steps a s old steps).counters rest told choice new
+      → ChoosesByLastLine a s (read_steps a s old steps).counters rest report choice new
       → ChoosesByLastLine a s old (When steps release ∷ rest)
-      (when_line steps (read_steps a s old steps).text ∷ told) choice new
+      (when_line steps (read_steps a s old steps).text ∷ report) choice new
   -- a count has no line
   behind_count : (old name : List ℕ) (index : ℕ) (rest : List Statement)
-      (told : List (List ℕ)) (choice : ℕ) (new : List ℕ)
-      → ChoosesByLastLine a s (counted s old name index) rest told choice new
-      → ChoosesByLastLine a s old (Count name index ∷ rest) told choice new
+      (report : List (List ℕ)) (choice : ℕ) (new : List ℕ)
+      → ChoosesByLastLine a s (counted s old name index) rest report choice new
+      → ChoosesByLastLine a s old (Count name index ∷ rest) report choice new
 
 -- the report on a `when`: its line is appended to a text, with whether it holds, and the counters'
 -- new values
@@ -106,7 +106,7 @@ pub record TellsRule (a : Attributes) (s : AppShape) (rule : List Statement) (ol
 abbrev pub TruthsAreSo : Type 0
 TruthsAreSo = (a : Attributes) (s : AppShape) (counters : List ℕ) (t : Test)
     (met unmet : Behaviour) → ending_on counters (test_then a s t met unmet)
-    ≡ ending_on (left_at counters (cell_asked s t))
+    ≡ ending_on (left_at counters (cell_used s t))
     (if holds_on a s counters t then met else unmet)
 
 -- so a condition continues by its reported truth
@@ -137,9 +137,9 @@ LastLineChooses = (a : Attributes) (s : AppShape) (rule : List Statement) (old :
     → ChoosesByLastLine a s old rule (rule_lines a s old rule) choice new
 
 -- `str::lines` divides a text into these lines, and none of them has a control
-pub record HasTheseLines (text : List ℕ) (told : List (List ℕ)) : Type 0 where
-  pub lines_are : lines text ≡ told
-  pub no_control : All (NoCharPasses is_control) told
+pub record HasTheseLines (text : List ℕ) (report : List (List ℕ)) : Type 0 where
+  pub lines_are : lines text ≡ report
+  pub no_control : All (NoCharPasses is_control) report
 
 -- for a rule that some text spells, the reported lines are the lines of the report: so a `when` is
 -- one line, and the rule chooses by the report's last line

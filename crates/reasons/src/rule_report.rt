@@ -3,7 +3,7 @@
 ghost use Rattle.std.specs.Prelude.{◌≡◌, IfOk, OnOk, string_bytes};
 ghost use Rattle.printing.specs.Pushed.{Puts};
 ghost use Rattle.reasons.specs.Ending.{ending, ending_on};
-ghost use Rattle.reasons.specs.Told as specs;
+ghost use Rattle.reasons.specs.RuleLines as specs;
 ghost use Rattle.rule_lang.specs.Meaning.{behaviour};
 
 use crate::condition::read_condition;
