@@ -12,7 +12,7 @@ use Rattle.cells.specs.declared.array.CellArray.{CellArray}
 use Rattle.cells.specs.declared.event.CellEvent.{CellEvent}
 use Rattle.omaha_json.specs.Reply.{reply_text}
 use Rattle.ruleset.specs.Rules.{Rules}
-use Rattle.told_cells.specs.Told.{Told}
+use Rattle.told_cells.specs.Assignments.{Assignment}
 use Rattle.dry_run.specs.Counters.{AreSetAsTold, with_cells, with_known}
 use Rattle.dry_run.specs.Meanings.{KnownRule}
 use Rattle.dry_run.specs.Reply.{RepliesToBodyOn}
@@ -30,7 +30,7 @@ abbrev list_or : List ℕ → Option (List ℕ) → List ℕ
 list_or other (Some xs) = xs
 list_or other None = other
 
-same_counters : (arrays : List CellArray) (served words : List Told) (c d : List ℕ)
+same_counters : (arrays : List CellArray) (served words : List Assignment) (c d : List ℕ)
     → AreSetAsTold arrays served words c → AreSetAsTold arrays served words d → c ≡ d
 same_counters arrays served words c d x y =
     let W : List ℕ → Option (List ℕ) = λ z. with_cells arrays (with_known arrays z served) words in

@@ -6,7 +6,7 @@ use Rattle.omaha_json.specs.Request.{Request, request_in}
 use Rattle.omaha_json.specs.declared.fault.OmahaFault.{OmahaFault}
 use Rattle.omaha_json.specs.declared.fault.OmahaFault.TheVariants.{Json, Shape, Protocol}
 use Rattle.omaha_json.specs.declared.fault.OmahaFault.TheVariants.{TooManyApps, Memory}
-use Rattle.told_cells.specs.Told.{Told}
+use Rattle.told_cells.specs.Assignments.{Assignment}
 use Rattle.dry_run.specs.Counters.{AreSetAsTold}
 use Rattle.dry_run.specs.IgnoredLines.{app_notes_in, request_note_in}
 use Rattle.dry_run.specs.Told.{IsUnanswered}
@@ -18,7 +18,7 @@ use Rattle.dry_run.specs.declared.why_files.OpenedWhy.{OpenedWhy}
 abbrev ReadsAs : (body : List ℕ) → Result Request OmahaFault → Type 0
 ReadsAs body read = read ≢ Err Memory → read ≡ request_in body
 
-pub told_why : (o : OpenedWhy) (moment : ℤ) (served words : List Told) (arrays : List CellArray)
+pub told_why : (o : OpenedWhy) (moment : ℤ) (served words : List Assignment) (arrays : List CellArray)
     (counters : List ℕ) (request : Request) (front : List ℕ) (notes : List (List ℕ))
     (left text : List ℕ) → arrays ≡ o.directory → AreSetAsTold arrays served words counters
     → ReadsAs o.body.items (Ok request) → front ≡ request_note_in o.body.items
@@ -43,7 +43,7 @@ told_why o moment served words arrays counters request front notes left text sam
       text_is = all.2 ∙ ap (λ (f : List ℕ). f ++ all.0) fronted;
     }
 
-module _ (directory : List CellArray) (body : List ℕ) (served words : List Told) where
+module _ (directory : List CellArray) (body : List ℕ) (served words : List Assignment) where
   because : (counters : List ℕ) (why : OmahaFault) → AreSetAsTold directory served words counters
       → ReadsAs body (Err why) → IsUnanswered directory body served words (fault.Omaha why)
   because counters Json set read = ((counters, set), sym (read (λ e. cc)))

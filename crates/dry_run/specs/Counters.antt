@@ -4,7 +4,7 @@ use Rattle.std.specs.Prelude.{Option, Some, None, option_and_then, unwrap_or}
 use Rattle.cells.specs.Directory.{array_named}
 use Rattle.cells.specs.Events.{AreZeros, limit}
 use Rattle.cells.specs.declared.array.CellArray.{CellArray}
-use Rattle.told_cells.specs.Told.{Told}
+use Rattle.told_cells.specs.Assignments.{Assignment}
 
 -- the cell with this number, of 8192
 abbrev pub cell_at : ℕ → Option ℕ
@@ -16,7 +16,7 @@ cell_in index (Some a) = if nat_lt index a.length then cell_at (a.base + index) 
 cell_in index None = None
 
 -- the given cell, if the arrays have it
-abbrev pub told_cell : List CellArray → Told → Option ℕ
+abbrev pub told_cell : List CellArray → Assignment → Option ℕ
 told_cell arrays told = cell_in told.index (array_named told.array arrays)
 
 -- the counters with a cell set to a value, if the value fits
@@ -25,26 +25,26 @@ with_value counters value cell =
     if nat_lt value (limit cell) then Some (slice_set counters cell value) else None
 
 -- the counters with one given cell set
-abbrev pub with_cell : List CellArray → (counters : List ℕ) → Told → Option (List ℕ)
+abbrev pub with_cell : List CellArray → (counters : List ℕ) → Assignment → Option (List ℕ)
 with_cell arrays counters told =
     option_and_then (with_value counters told.value) (told_cell arrays told)
 
 -- the counters with all given cells set; the last value of a cell wins. None if a cell doesn't
 -- exist or its value doesn't fit
-abbrev pub with_cells : List CellArray → (counters : List ℕ) → List Told → Option (List ℕ)
+abbrev pub with_cells : List CellArray → (counters : List ℕ) → List Assignment → Option (List ℕ)
 with_cells arrays counters [] = Some counters
 with_cells arrays counters (told ∷ more) =
     option_and_then (λ set. with_cells arrays set more) (with_cell arrays counters told)
 
 -- the counters with those given cells set that exist and whose values fit
-abbrev pub with_known : List CellArray → (counters : List ℕ) → List Told → List ℕ
+abbrev pub with_known : List CellArray → (counters : List ℕ) → List Assignment → List ℕ
 with_known arrays counters [] = counters
 with_known arrays counters (told ∷ more) =
     with_known arrays (unwrap_or (with_cell arrays counters told) counters) more
 
 -- counters that are 0, except for those that a server gave, as far as they exist, and then for
 -- those that the command line gave
-pub record AreSetAsTold (arrays : List CellArray) (served words : List Told) (counters : List ℕ)
+pub record AreSetAsTold (arrays : List CellArray) (served words : List Assignment) (counters : List ℕ)
     : Type 0 where
   pub zeros : List ℕ
   pub opens : AreZeros 8192 zeros

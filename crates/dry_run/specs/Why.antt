@@ -10,7 +10,7 @@ use Rattle.answering.specs.Apps.{RunsApp}
 use Rattle.omaha_json.specs.Reply.{reply_text}
 use Rattle.omaha_json.specs.Request.{Request, request_in}
 use Rattle.ruleset.specs.Rules.{AppRule, Rules, app_of}
-use Rattle.told_cells.specs.Told.{Told}
+use Rattle.told_cells.specs.Assignments.{Assignment}
 use Rattle.dry_run.specs.AppLines.{head_line, offer_line, unasked_line, unknown_line}
 use Rattle.dry_run.specs.Counters.{AreSetAsTold}
 use Rattle.dry_run.specs.Courses.{TellsCourse}
@@ -85,7 +85,7 @@ module _ (rules : Rules) (known_rules : List KnownRule) (facts : RequestFacts) (
 
 -- the explanation of the request that a body is, at a moment, on the counters that a server and the
 -- command line gave
-pub record TellsWhy (o : OpenedWhy) (moment : ℤ) (served words : List Told) (text : List ℕ)
+pub record TellsWhy (o : OpenedWhy) (moment : ℤ) (served words : List Assignment) (text : List ℕ)
     : Type 0 where
   pub counters : List ℕ
   pub set : AreSetAsTold o.directory served words counters
@@ -100,7 +100,7 @@ pub record TellsWhy (o : OpenedWhy) (moment : ℤ) (served words : List Told) (t
 
 -- the choices in the explanation are those of the reply
 abbrev pub TellsTheReply : Type 0
-TellsTheReply = (o : OpenedWhy) (moment : ℤ) (served words : List Told) (text reply : List ℕ)
+TellsTheReply = (o : OpenedWhy) (moment : ℤ) (served words : List Assignment) (text reply : List ℕ)
     (told : TellsWhy o moment served words text)
     → RepliesAsTold o.rules o.directory o.body.items moment served words reply
     → reply ≡ reply_text told.request o.rules told.choices moment

@@ -8,7 +8,7 @@ ghost use Rattle.dry_run.specs.Counters as specs;
 use cells::{CellArray, CellNo, CellOp, CellSteps, PlainCells, PlainPass};
 use rule_lang::array_named;
 use std::alloc::{AllocError, Global};
-use told_cells::ToldCell;
+use told_cells::CellAssignment;
 
 /// The first cell of 32 bits.
 const NARROW: u16 = 4096;
@@ -31,7 +31,7 @@ pub(crate) fn zero_counters(alloc: Global) -> Result<PlainPass, AllocError>
 pub(crate) fn set_cells(
     arrays: &[CellArray],
     counters: &mut PlainPass,
-    told: &[ToldCell<'_>],
+    told: &[CellAssignment<'_>],
 ) -> bool
     ensures set { result ≡ true
         → specs.with_cells arrays.now counters.old told.now ≡ Some counters.new }
@@ -47,7 +47,7 @@ pub(crate) fn set_cells(
 }
 
 /// Sets those cells that the arrays have and whose values fit.
-pub(crate) fn set_known(arrays: &[CellArray], counters: &mut PlainPass, told: &[ToldCell<'_>])
+pub(crate) fn set_known(arrays: &[CellArray], counters: &mut PlainPass, told: &[CellAssignment<'_>])
     ensures { counters.new ≡ specs.with_known arrays.now counters.old told.now }
 {
     for cell in told {
@@ -56,7 +56,7 @@ pub(crate) fn set_known(arrays: &[CellArray], counters: &mut PlainPass, told: &[
 }
 
 // Sets one cell, if the arrays have it and the value fits.
-fn set_cell(arrays: &[CellArray], counters: &mut PlainPass, told: &ToldCell<'_>) -> bool
+fn set_cell(arrays: &[CellArray], counters: &mut PlainPass, told: &CellAssignment<'_>) -> bool
     ensures set { result ≡ true
         → specs.with_cell arrays.now counters.old told.now ≡ Some counters.new }
     ensures unset { result ≡ false → specs.with_cell arrays.now counters.old told.now ≡ None }

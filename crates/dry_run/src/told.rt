@@ -12,7 +12,7 @@ use attrs::Moment;
 use bounded_files::ResourceFault;
 use cells::{CellArray, PlainPass};
 use std::alloc::Global;
-use told_cells::ToldCell;
+use told_cells::CellAssignment;
 
 /// The text of the reply to a body at a moment. Counters are 0, except for those in `served` that
 /// belong to arrays of the manifest, and then for those in `words`. Returns B7 if the manifest
@@ -23,8 +23,8 @@ pub fn reply_as_told(
     alloc: Global,
     opened: &Opened,
     moment: &Moment,
-    served: &[ToldCell<'_>],
-    words: &[ToldCell<'_>],
+    served: &[CellAssignment<'_>],
+    words: &[CellAssignment<'_>],
 ) -> Result<Vec<u8>, DryRunFault>
     ensures replies { IfOk result (λ text. specs.RepliesAsTold opened.now.rules
         opened.now.directory opened.now.body.items moment.now served.now words.now text.items) }
@@ -42,8 +42,8 @@ pub fn reply_as_told(
 pub(crate) fn counters_as_told(
     alloc: Global,
     arrays: &[CellArray],
-    served: &[ToldCell<'_>],
-    words: &[ToldCell<'_>],
+    served: &[CellAssignment<'_>],
+    words: &[CellAssignment<'_>],
 ) -> Result<PlainPass, DryRunFault>
     ensures told { IfOk result (λ counters. AreSetAsTold arrays.now served.now words.now counters) }
     ensures fault { IfErr result (specs.IsUntold arrays.now served.now words.now) }

@@ -21,7 +21,7 @@ use omaha_json::{OmahaFault, Request, read_request};
 use rule_lang::Rule;
 use ruleset::App;
 use std::alloc::{AllocError, Global};
-use told_cells::ToldCell;
+use told_cells::CellAssignment;
 
 /// Why the apps of a body's request get what they get, at a moment, on the counters of
 /// `reply_as_told`. First come the request's members that count as absent; then for each app: a
@@ -37,8 +37,8 @@ pub fn why_as_told(
     alloc: Global,
     why: &OpenedWhy,
     moment: &Moment,
-    served: &[ToldCell<'_>],
-    words: &[ToldCell<'_>],
+    served: &[CellAssignment<'_>],
+    words: &[CellAssignment<'_>],
 ) -> Result<String, DryRunFault>
     requires { HaveMeanings why.now.rules.apps why.now.known_rules.items }
     ensures told { IfOk result (λ text.

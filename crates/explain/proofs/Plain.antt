@@ -174,7 +174,7 @@ module _ (shape : AppShape) (names : AreNamedPlainly shape.arrays) where
   register_if_plain : (e : AbsState) (reads : ReadRegisters) (way : Way) (first : Bool) (r : Reg)
       → IsPlain (known.register_if shape e reads way first r)
   register_if_plain e reads way first r =
-      either (known.is_told reads way r) (both (divider_plain first) (part_plain e r))
+      either (known.is_shown reads way r) (both (divider_plain first) (part_plain e r))
       (word [] refl)
 
   pub registers_plain : (e : AbsState) (reads : ReadRegisters) (way : Way) (first : Bool)
@@ -182,7 +182,7 @@ module _ (shape : AppShape) (names : AreNamedPlainly shape.arrays) where
   registers_plain e reads way first [] = word [] refl
   registers_plain e reads way first (r ∷ rs) =
       both (register_if_plain e reads way first r)
-      (registers_plain e reads way (first && not (known.is_told reads way r)) rs)
+      (registers_plain e reads way (first && not (known.is_shown reads way r)) rs)
 
   loaded_plain : (e : AbsState) (kind : LoadKind) (src : Reg) (offset : ℤ) (place : Option ℕ)
       → IsPlain (known.loaded_text shape e kind src offset place)

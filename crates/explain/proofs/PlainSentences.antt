@@ -25,7 +25,7 @@ use Rattle.bpf_semantics.specs.Helpers.{called_prototype}
 use Rattle.bpf_checks.specs.declared.refusal.VerifierRule.{VerifierRule}
 use Rattle.bpf_checks.specs.declared.refusal.VerifierRule.TheVariants as rule
 use Rattle.explain.specs.declared.reads.TouchedMemory.{TouchedMemory}
-use Rattle.explain.specs.Asked as asked
+use Rattle.explain.specs.Requirements as requirements
 use Rattle.explain.specs.Sentences as sentences
 use Rattle.explain.specs.Reads.{read_registers, touched}
 use Rattle.explain.proofs.Plain.{IsPlain, word, both, either, decimal_plain, signed_plain}
@@ -33,22 +33,22 @@ use Rattle.explain.proofs.Plain.{number_plain, register_plain, memory_plain, val
 use Rattle.explain.proofs.Plain.{AreNamedPlainly}
 
 module _ (shape : AppShape) (names : AreNamedPlainly shape.arrays) where
-  asked_plain : (r : VerifierRule) → IsPlain (asked.asked_of r)
-  unfolding asked.asked_of
-  asked_plain rule.Unusable = word (asked.asked_of rule.Unusable) refl
-  asked_plain rule.WritesFrame = word (asked.asked_of rule.WritesFrame) refl
-  asked_plain rule.PointerArithmetic = word (asked.asked_of rule.PointerArithmetic) refl
-  asked_plain rule.OffsetRange = word (asked.asked_of rule.OffsetRange) refl
-  asked_plain rule.PointerCompare = word (asked.asked_of rule.PointerCompare) refl
-  asked_plain rule.Access = word (asked.asked_of rule.Access) refl
-  asked_plain rule.StoresPointer = word (asked.asked_of rule.StoresPointer) refl
-  asked_plain rule.WritesContext = word (asked.asked_of rule.WritesContext) refl
-  asked_plain rule.NotAddress = word (asked.asked_of rule.NotAddress) refl
-  asked_plain rule.Helper = word (asked.asked_of rule.Helper) refl
-  asked_plain rule.MapIndex = word (asked.asked_of rule.MapIndex) refl
-  asked_plain rule.Kind = word (asked.asked_of rule.Kind) refl
-  asked_plain rule.Result = word (asked.asked_of rule.Result) refl
-  asked_plain rule.QuotaCell = word (asked.asked_of rule.QuotaCell) refl
+  requirement_plain : (r : VerifierRule) → IsPlain (requirements.requirement_of r)
+  unfolding requirements.requirement_of
+  requirement_plain rule.Unusable = word (requirements.requirement_of rule.Unusable) refl
+  requirement_plain rule.WritesFrame = word (requirements.requirement_of rule.WritesFrame) refl
+  requirement_plain rule.PointerArithmetic = word (requirements.requirement_of rule.PointerArithmetic) refl
+  requirement_plain rule.OffsetRange = word (requirements.requirement_of rule.OffsetRange) refl
+  requirement_plain rule.PointerCompare = word (requirements.requirement_of rule.PointerCompare) refl
+  requirement_plain rule.Access = word (requirements.requirement_of rule.Access) refl
+  requirement_plain rule.StoresPointer = word (requirements.requirement_of rule.StoresPointer) refl
+  requirement_plain rule.WritesContext = word (requirements.requirement_of rule.WritesContext) refl
+  requirement_plain rule.NotAddress = word (requirements.requirement_of rule.NotAddress) refl
+  requirement_plain rule.Helper = word (requirements.requirement_of rule.Helper) refl
+  requirement_plain rule.MapIndex = word (requirements.requirement_of rule.MapIndex) refl
+  requirement_plain rule.Kind = word (requirements.requirement_of rule.Kind) refl
+  requirement_plain rule.Result = word (requirements.requirement_of rule.Result) refl
+  requirement_plain rule.QuotaCell = word (requirements.requirement_of rule.QuotaCell) refl
 
   register_is_plain : (e : AbsState) (r : Reg) → IsPlain (sentences.register_is shape e r)
   register_is_plain e r =
@@ -57,21 +57,21 @@ module _ (shape : AppShape) (names : AreNamedPlainly shape.arrays) where
 
   pointer_plain : (e : AbsState) (r : Option Reg) (k : VerifierRule)
       → IsPlain (sentences.pointer_text shape e r k)
-  pointer_plain e None k = asked_plain k
-  pointer_plain e (Some r) k = both (register_is_plain e r) (asked_plain k)
+  pointer_plain e None k = requirement_plain k
+  pointer_plain e (Some r) k = both (register_is_plain e r) (requirement_plain k)
 
   unset_plain : (i : Insn) → IsPlain (sentences.unset_place i)
   unset_plain (Load kind dst src offset) = memory_plain src offset
   unset_plain i = word (codes "the text at r2") refl
 
   unusable_plain : (i : Insn) (r : Option Reg) → IsPlain (sentences.unusable_text i r)
-  unfolding asked.unset_byte
-  unusable_plain i None = both (unset_plain i) (word asked.unset_byte refl)
-  unusable_plain i (Some r) = both (register_plain r) (asked_plain rule.Unusable)
+  unfolding requirements.unset_byte
+  unusable_plain i None = both (unset_plain i) (word requirements.unset_byte refl)
+  unusable_plain i (Some r) = both (register_plain r) (requirement_plain rule.Unusable)
 
   move_plain : (op : AluOp) (a b : Abs) → IsPlain (sentences.move_text op a b)
   move_plain op a (Num n) =
-      either (is_single n || sentences.takes_ranges op a) (asked_plain rule.OffsetRange)
+      either (is_single n || sentences.takes_ranges op a) (requirement_plain rule.OffsetRange)
       (word (codes " isn't a single number") refl)
   move_plain op a b = word [] refl
 
@@ -98,13 +98,13 @@ module _ (shape : AppShape) (names : AreNamedPlainly shape.arrays) where
       (word (codes " at ") refl)) (memory_plain t.base t.offset)
 
   outside_plain : (t : TouchedMemory) (v : Abs) → IsPlain (sentences.outside_text t v)
-  unfolding asked.cells_ask
-  outside_plain t (Cell origin) = word asked.cells_ask refl
-  outside_plain t v = both (bytes_plain t) (asked_plain rule.Access)
+  unfolding requirements.cell_requirement
+  outside_plain t (Cell origin) = word requirements.cell_requirement refl
+  outside_plain t v = both (bytes_plain t) (requirement_plain rule.Access)
 
   no_address_plain : (e : AbsState) (r : Reg) (v : Abs)
       → IsPlain (sentences.no_address_text shape e r v)
-  no_address_plain e r (MayCell l) = both (register_plain r) (asked_plain rule.NotAddress)
+  no_address_plain e r (MayCell l) = both (register_plain r) (requirement_plain rule.NotAddress)
   no_address_plain e r v =
       both (register_is_plain e r) (word (codes ", which is no address") refl)
 
@@ -114,7 +114,7 @@ module _ (shape : AppShape) (names : AreNamedPlainly shape.arrays) where
   access_plain e rule.Access (Some t) =
       both (register_is_plain e t.base) (outside_plain t (value_of e t.base))
   access_plain e rule.NotAddress (Some t) = no_address_plain e t.base (value_of e t.base)
-  access_plain e k (Some t) = both (register_is_plain e t.base) (asked_plain k)
+  access_plain e k (Some t) = both (register_is_plain e t.base) (requirement_plain k)
 
   two_plain : (e : AbsState) → IsPlain (sentences.two_are shape e)
   two_plain e =
@@ -126,10 +126,10 @@ module _ (shape : AppShape) (names : AreNamedPlainly shape.arrays) where
   added_plain e i = word [] refl
 
   past_plain : (n : ℕ) → IsPlain (sentences.past_text n)
-  unfolding asked.past_top
+  unfolding requirements.past_top
   past_plain n =
       either (n == 0) (word [] refl)
-      (both (word asked.past_top refl) (so_many_plain n))
+      (both (word requirements.past_top refl) (so_many_plain n))
 
   past_top_plain : (a b : Abs) → IsPlain (sentences.past_top_text a b)
   past_top_plain (Stk place) (Num n) =
@@ -142,12 +142,12 @@ module _ (shape : AppShape) (names : AreNamedPlainly shape.arrays) where
 
   call_plain : (e : AbsState) (number : ℤ) (prototype : Option Prototype)
       → IsPlain (sentences.call_text shape e number prototype)
-  unfolding asked.lookup_takes asked.attr_is_takes
-  call_plain e number None = both (asked_plain rule.Helper) (signed_plain number)
+  unfolding requirements.lookup_takes requirements.attr_is_takes
+  call_plain e number None = both (requirement_plain rule.Helper) (signed_plain number)
   call_plain e number (Some OfMap) =
-      both (word asked.lookup_takes refl) (two_plain e)
+      both (word requirements.lookup_takes refl) (two_plain e)
   call_plain e number (Some OfText) =
-      both (both (word asked.attr_is_takes refl) (three_plain e))
+      both (both (word requirements.attr_is_takes refl) (three_plain e))
       (past_top_plain (value_of e R2) (value_of e R3))
   call_plain e number (Some (OfNumber most)) =
       both (both (both (word (codes "helper ") refl) (signed_plain number))
@@ -159,31 +159,31 @@ module _ (shape : AppShape) (names : AreNamedPlainly shape.arrays) where
 
   no_cell_plain : (arrays : List CellArray) (i : ℕ) (j n : ℤ) → AreNamedPlainly arrays
       → IsPlain (sentences.no_cell_text j n (slice_get arrays i))
-  unfolding asked.no_cell_at
-  no_cell_plain [] i j n h = both (asked_plain rule.MapIndex) (signed_plain j)
+  unfolding requirements.no_cell_at
+  no_cell_plain [] i j n h = both (requirement_plain rule.MapIndex) (signed_plain j)
   no_cell_plain (a ∷ more) zero j n h =
-      both h.0 (both (word asked.no_cell_at refl) (signed_plain n))
+      both h.0 (both (word requirements.no_cell_at refl) (signed_plain n))
   no_cell_plain (a ∷ more) (suc i) j n h = no_cell_plain more i j n h.1
 
   array_fault_plain : (i : Insn) → IsPlain (sentences.array_fault shape i)
   array_fault_plain (Wide dst (wide.Map i)) =
-      both (asked_plain rule.MapIndex) (signed_plain i)
+      both (requirement_plain rule.MapIndex) (signed_plain i)
   array_fault_plain (Wide dst (wide.Cell (pos i) n)) = no_cell_plain shape.arrays i (pos i) n names
   array_fault_plain (Wide dst (wide.Cell (negsuc i) n)) =
-      both (asked_plain rule.MapIndex) (signed_plain (negsuc i))
+      both (requirement_plain rule.MapIndex) (signed_plain (negsuc i))
   array_fault_plain i = word [] refl
 
   choice_plain : (n : ℕ) (v : Abs) → IsPlain (sentences.choice_text n v)
   choice_plain n (Num a) =
       either (n == 1) (word (codes ", and there is 1 release") refl)
-      (both (both (asked_plain rule.Result) (decimal_plain n)) (word (codes " releases") refl))
+      (both (both (requirement_plain rule.Result) (decimal_plain n)) (word (codes " releases") refl))
   choice_plain n v = word (codes ", which is no number") refl
 
   sentence_plain : (e : AbsState) (i : Insn) (k : VerifierRule)
       → IsPlain (sentences.rule_sentence shape e i k)
   sentence_plain e i rule.Unusable =
       unusable_plain i (sentences.first_unusable e (read_registers i))
-  sentence_plain e i rule.WritesFrame = asked_plain rule.WritesFrame
+  sentence_plain e i rule.WritesFrame = requirement_plain rule.WritesFrame
   sentence_plain e i rule.PointerArithmetic =
       pointer_plain e (sentences.first_pointer e (read_registers i)) rule.PointerArithmetic
   sentence_plain e i rule.OffsetRange = moved_plain e i

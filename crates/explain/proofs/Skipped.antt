@@ -49,19 +49,19 @@ comment_remark n text h = record {
 }
 
 module _ (p : ShapedProgram) (names : AreNamedPlainly p.shape.arrays) where
-  told_plain : (e : AbsState) (i : Insn) (way : Way) (k : Option VerifierRule)
-      → IsPlain (specs.told_text p.shape e i way k)
-  told_plain e i way None =
+  shown_plain : (e : AbsState) (i : Insn) (way : Way) (k : Option VerifierRule)
+      → IsPlain (specs.shown_text p.shape e i way k)
+  shown_plain e i way None =
       both (registers_plain p.shape names e (read_registers i) way true all_registers)
       (stack_plain p.shape names e i)
-  told_plain e i way (Some k) = refusal_plain p.shape names e i k
+  shown_plain e i way (Some k) = refusal_plain p.shape names e i k
 
   comment_plain : (s : ℕ) (o : Option AbsState) (i : Insn) (way : Way)
       → IsPlain (specs.comment p.shape s o i way)
   comment_plain s None i way = word (codes "no run comes here") refl
   comment_plain s (Some e) i way =
       both (both (decimal_plain s) (word (codes ":") refl))
-      (told_plain e i way (first_rule p.shape e i))
+      (shown_plain e i way (first_rule p.shape e i))
 
   remark : (way : Option Way) (s : ℕ) (i : Insn) → IsRemark (remark_at p way s i)
   remark None s i = record { skipped = refl; plain = refl }

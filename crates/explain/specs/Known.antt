@@ -27,8 +27,8 @@ abbrev pub all_registers : List Reg
 all_registers = R0 ∷ R1 ∷ R2 ∷ R3 ∷ R4 ∷ R5 ∷ R6 ∷ R7 ∷ R8 ∷ R9 ∷ R10 ∷ []
 
 -- a register that is read, or that changed on the edge to the instruction
-abbrev pub is_told : ReadRegisters → Way → Reg → Bool
-is_told reads way r = is_among r reads || changes_on_way way r
+abbrev pub is_shown : ReadRegisters → Way → Reg → Bool
+is_shown reads way r = is_among r reads || changes_on_way way r
 
 abbrev pub register_word : Reg → List ℕ
 register_word r = codes "r" ++ decimal (number_of r)
@@ -43,14 +43,14 @@ divider_of false = codes ", "
 
 abbrev pub register_if : AppShape → AbsState → ReadRegisters → Way → Bool → Reg → List ℕ
 register_if shape e reads way first r =
-    if is_told reads way r then divider_of first ++ register_part shape e r else []
+    if is_shown reads way r then divider_of first ++ register_part shape e r else []
 
 -- the registers of a list that are shown; `first` says whether none is shown before them
 abbrev pub registers_text : AppShape → AbsState → ReadRegisters → Way → Bool → List Reg → List ℕ
 registers_text shape e reads way first [] = []
 registers_text shape e reads way first (r ∷ rs) =
     register_if shape e reads way first r
-    ++ registers_text shape e reads way (first && not (is_told reads way r)) rs
+    ++ registers_text shape e reads way (first && not (is_shown reads way r)) rs
 
 -- memory in the instruction's form, `[r10-8]`
 abbrev pub memory_text : Reg → ℤ → List ℕ

@@ -2,7 +2,7 @@ pub mod Values
 pub mod Reads
 pub mod Way
 pub mod Known
-pub mod Asked
+pub mod Requirements
 pub mod Sentences
 pub mod Lines
 pub mod RefusedPlace

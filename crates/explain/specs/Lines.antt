@@ -29,16 +29,16 @@ known_text shape e i way =
     registers_text shape e (read_registers i) way true all_registers ++ stack_text shape e i
 
 -- what is known before the instruction; or why it is refused, if a rule fails
-abbrev pub told_text : AppShape → AbsState → Insn → Way → Option VerifierRule → List ℕ
-told_text shape e i way None = known_text shape e i way
-told_text shape e i way (Some rule) = refusal_text shape e i rule
+abbrev pub shown_text : AppShape → AbsState → Insn → Way → Option VerifierRule → List ℕ
+shown_text shape e i way None = known_text shape e i way
+shown_text shape e i way (Some rule) = refusal_text shape e i rule
 
-abbrev pub told_of_insn : AppShape → AbsState → Insn → Way → List ℕ
-told_of_insn shape e i way = told_text shape e i way (first_rule shape e i)
+abbrev pub shown_of_insn : AppShape → AbsState → Insn → Way → List ℕ
+shown_of_insn shape e i way = shown_text shape e i way (first_rule shape e i)
 
 abbrev pub comment : AppShape → ℕ → Option AbsState → Insn → Way → List ℕ
 comment shape s None i way = codes "no run comes here"
-comment shape s (Some e) i way = decimal s ++ codes ":" ++ told_of_insn shape e i way
+comment shape s (Some e) i way = decimal s ++ codes ":" ++ shown_of_insn shape e i way
 
 -- comments begin in one column, 22 characters in, or a blank after a longer line
 abbrev pub pad_to_comment : ℕ → List ℕ

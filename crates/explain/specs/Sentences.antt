@@ -29,8 +29,8 @@ use Rattle.bpf_checks.specs.declared.refusal.VerifierRule.{VerifierRule}
 use Rattle.bpf_checks.specs.declared.refusal.VerifierRule.TheVariants as rule
 use Rattle.explain.specs.declared.reads.ReadRegisters.{ReadRegisters}
 use Rattle.explain.specs.declared.reads.TouchedMemory.{TouchedMemory}
-use Rattle.explain.specs.Asked.{asked_of, unset_byte, no_cell_at, cells_ask}
-use Rattle.explain.specs.Asked.{lookup_takes, attr_is_takes, past_top}
+use Rattle.explain.specs.Requirements.{requirement_of, unset_byte, no_cell_at, cell_requirement}
+use Rattle.explain.specs.Requirements.{lookup_takes, attr_is_takes, past_top}
 use Rattle.explain.specs.Known.{register_word, memory_text}
 use Rattle.explain.specs.Reads.{first_such, read_registers, touched}
 use Rattle.explain.specs.Values.{number_text, value_text}
@@ -43,8 +43,8 @@ register_is shape e r = register_word r ++ codes " is " ++ value_text shape (val
 
 -- the same for a register, if there is one, and what the rule requires
 abbrev pub pointer_text : AppShape → AbsState → Option Reg → VerifierRule → List ℕ
-pointer_text shape e None rule = asked_of rule
-pointer_text shape e (Some r) rule = register_is shape e r ++ asked_of rule
+pointer_text shape e None rule = requirement_of rule
+pointer_text shape e (Some r) rule = register_is shape e r ++ requirement_of rule
 
 abbrev pub pointer_in : AbsState → Reg → Bool
 pointer_in e r = is_pointer (value_of e r)
@@ -69,7 +69,7 @@ unset_text i = unset_place i ++ unset_byte
 
 abbrev pub unusable_text : Insn → Option Reg → List ℕ
 unusable_text i None = unset_text i
-unusable_text i (Some r) = register_word r ++ asked_of rule.Unusable
+unusable_text i (Some r) = register_word r ++ requirement_of rule.Unusable
 
 -- ---- V4
 
@@ -80,7 +80,7 @@ takes_ranges op address = false
 
 abbrev pub move_text : AluOp → Abs → Abs → List ℕ
 move_text op address (Num n) =
-    if is_single n || takes_ranges op address then asked_of rule.OffsetRange
+    if is_single n || takes_ranges op address then requirement_of rule.OffsetRange
     else codes " isn't a single number"
 move_text op address by = []
 
@@ -106,11 +106,11 @@ bytes_text t =
     codes ", and " ++ so_many_bytes t.count ++ codes " at " ++ memory_text t.base t.offset
 
 abbrev pub outside_text : TouchedMemory → Abs → List ℕ
-outside_text t (Cell origin) = cells_ask
-outside_text t address = bytes_text t ++ asked_of rule.Access
+outside_text t (Cell origin) = cell_requirement
+outside_text t address = bytes_text t ++ requirement_of rule.Access
 
 abbrev pub no_address_text : AppShape → AbsState → Reg → Abs → List ℕ
-no_address_text shape e base (MayCell l) = register_word base ++ asked_of rule.NotAddress
+no_address_text shape e base (MayCell l) = register_word base ++ requirement_of rule.NotAddress
 no_address_text shape e base address = register_is shape e base ++ codes ", which is no address"
 
 abbrev pub no_address : AppShape → AbsState → Reg → List ℕ
@@ -121,7 +121,7 @@ access_text shape e r None = []
 access_text shape e rule.Access (Some t) =
     register_is shape e t.base ++ outside_text t (value_of e t.base)
 access_text shape e rule.NotAddress (Some t) = no_address shape e t.base
-access_text shape e r (Some t) = register_is shape e t.base ++ asked_of r
+access_text shape e r (Some t) = register_is shape e t.base ++ requirement_of r
 
 -- the added register, if only it isn't allowed
 abbrev pub added_text : AppShape → AbsState → Insn → List ℕ
@@ -170,7 +170,7 @@ abbrev pub number_is_taken : AppShape → AbsState → ℤ → List ℕ
 number_is_taken shape e number = taker_text number ++ register_is shape e R1
 
 abbrev pub call_text : AppShape → AbsState → ℤ → Option Prototype → List ℕ
-call_text shape e number None = asked_of rule.Helper ++ signed_decimal number
+call_text shape e number None = requirement_of rule.Helper ++ signed_decimal number
 call_text shape e number (Some OfMap) = lookup_takes ++ two_are shape e
 call_text shape e number (Some OfText) =
     attr_is_takes ++ three_are shape e ++ past_top_text (value_of e R2) (value_of e R3)
@@ -187,7 +187,7 @@ array_at shape (negsuc n) = None
 array_at shape (pos i) = slice_get shape.arrays i
 
 abbrev pub no_array_text : ℤ → List ℕ
-no_array_text i = asked_of rule.MapIndex ++ signed_decimal i
+no_array_text i = requirement_of rule.MapIndex ++ signed_decimal i
 
 abbrev pub byte_text : ℤ → List ℕ
 byte_text n = no_cell_at ++ signed_decimal n
@@ -209,7 +209,7 @@ array_fault shape i = []
 abbrev pub releases_text : ℕ → List ℕ
 releases_text n =
     if n == 1 then codes ", and there is 1 release"
-    else asked_of rule.Result ++ decimal n ++ codes " releases"
+    else requirement_of rule.Result ++ decimal n ++ codes " releases"
 
 abbrev pub choice_text : ℕ → Abs → List ℕ
 choice_text releases (Num n) = releases_text releases
@@ -222,7 +222,7 @@ result_text shape e = register_is shape e R0 ++ choice_text shape.releases (valu
 
 abbrev pub rule_sentence : AppShape → AbsState → Insn → VerifierRule → List ℕ
 rule_sentence shape e i rule.Unusable = unusable_text i (first_unusable e (read_registers i))
-rule_sentence shape e i rule.WritesFrame = asked_of rule.WritesFrame
+rule_sentence shape e i rule.WritesFrame = requirement_of rule.WritesFrame
 rule_sentence shape e i rule.PointerArithmetic =
     pointer_text shape e (first_pointer e (read_registers i)) rule.PointerArithmetic
 rule_sentence shape e i rule.OffsetRange = moved_text shape e i

@@ -5,7 +5,7 @@ ghost use Rattle.bpf_text.specs.Listing.{Appends};
 ghost use Rattle.bpf_semantics.specs.Helpers.{called_prototype};
 ghost use Rattle.explain.specs.Sentences as specs;
 
-use crate::asks::{asked_by, attr_is_takes, lookup_takes, past_top};
+use crate::requirements::{attr_is_takes, lookup_takes, past_top, requirement};
 use crate::operands::push_register_is;
 use crate::wrong::push_so_many;
 use abs_value::{Abs, AbsState};
@@ -100,7 +100,7 @@ fn push_call(text: &mut String, shape: &Shape, e: &AbsState, number: i32) -> Res
         }
         Some(Prototype::OfNumber { .. }) => push_number_taker(text, shape, e, number),
         None => {
-            text.push_str(asked_by(VerifierRule::Helper))?;
+            text.push_str(requirement(VerifierRule::Helper))?;
             write!(text, "{number}")
         }
     }

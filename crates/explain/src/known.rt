@@ -33,8 +33,8 @@ fn push_part(text: &mut String, shape: &Shape, e: &AbsState, r: Reg) -> Result<(
     push_value(text, shape, e.value(r))
 }
 
-fn is_told(reads: &ReadRegisters, way: &Way, r: Reg) -> bool
-    ensures { result ≡ specs.is_told reads.now way.now r }
+fn is_shown(reads: &ReadRegisters, way: &Way, r: Reg) -> bool
+    ensures { result ≡ specs.is_shown reads.now way.now r }
 {
     reads.has(r) || way.changes_on_way(r)
 }
@@ -45,7 +45,7 @@ fn divider(first: bool) -> &'static str
     if first { " " } else { ", " }
 }
 
-fn push_if_told(
+fn push_if_shown(
     text: &mut String,
     shape: &Shape,
     e: &AbsState,
@@ -57,7 +57,7 @@ fn push_if_told(
     ensures { OnOk result (Appends text.old text.new
         (specs.register_if shape.now e.now reads.now way.now first r)) }
 {
-    if is_told(reads, way, r) {
+    if is_shown(reads, way, r) {
         text.push_str(divider(first))?;
         push_part(text, shape, e, r)?;
     }
@@ -79,8 +79,8 @@ pub fn push_registers(
     let mut first = true;
     let mut left: &[Reg] = &REGISTERS;
     while let [r, rest @ ..] = left {
-        push_if_told(text, shape, e, reads, way, first, *r)?;
-        first = first && !is_told(reads, way, *r);
+        push_if_shown(text, shape, e, reads, way, first, *r)?;
+        first = first && !is_shown(reads, way, *r);
         left = rest;
     }
     Ok(())

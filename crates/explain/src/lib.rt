@@ -11,22 +11,22 @@
 // After that nothing is known, so the listing continues without comments.
 
 mod arrays;
-mod asks;
 mod bits;
 mod called;
+mod explained;
 mod known;
 mod law;
 mod line;
 mod operands;
 mod reads;
 mod refused;
+mod requirements;
 mod sentence;
-mod telling;
 mod values;
 mod way;
 mod wrong;
 
 pub use arrays::push_counter;
+pub use explained::{Explained, explain};
 pub use law::registers_are_read;
 pub use refused::{RefusedPlace, refused_place};
-pub use telling::{Explained, explain};

@@ -34,7 +34,7 @@ fn push_known(
     Ok(())
 }
 
-fn push_told(
+fn push_shown(
     text: &mut String,
     shape: &Shape,
     e: &AbsState,
@@ -42,7 +42,7 @@ fn push_told(
     way: &Way,
 ) -> Result<(), AllocError>
     ensures { OnOk result (Appends text.old text.new
-        (specs.told_of_insn shape.now e.now insn.now way.now)) }
+        (specs.shown_of_insn shape.now e.now insn.now way.now)) }
 {
     match first_rule(shape, e, insn) {
         None => push_known(text, shape, e, *insn, way),
@@ -65,7 +65,7 @@ fn push_comment(
         None => text.push_str("no run comes here"),
         Some(e) => {
             write!(text, "{slot}:")?;
-            push_told(text, shape, e, insn, way)
+            push_shown(text, shape, e, insn, way)
         }
     }
 }

@@ -6,7 +6,7 @@ ghost use Rattle.std.specs.Int.{w64, cast_signed};
 ghost use Rattle.bpf_text.specs.Listing.{Appends};
 ghost use Rattle.explain.specs.Sentences as specs;
 
-use crate::asks::{asked_by, unset_byte};
+use crate::requirements::{requirement, unset_byte};
 use crate::known::{push_memory, push_register};
 use crate::values::push_value;
 use abs_value::{Abs, AbsState};
@@ -43,7 +43,7 @@ pub fn push_pointer(
     if let Some(r) = r {
         push_register_is(text, shape, e, r)?;
     }
-    text.push_str(asked_by(rule))
+    text.push_str(requirement(rule))
 }
 
 fn push_unset_place(text: &mut String, insn: Insn) -> Result<(), AllocError>
@@ -69,7 +69,7 @@ pub fn push_unusable(text: &mut String, insn: Insn, r: Option<Reg>) -> Result<()
     match r {
         Some(r) => {
             push_register(text, r)?;
-            text.push_str(asked_by(VerifierRule::Unusable))
+            text.push_str(requirement(VerifierRule::Unusable))
         }
         None => push_unset(text, insn),
     }
@@ -91,7 +91,7 @@ fn push_move(text: &mut String, op: AluOp, address: Abs, by: Abs) -> Result<(), 
         return Ok(());
     };
     if number.is_single() || takes_ranges(op, address) {
-        text.push_str(asked_by(VerifierRule::OffsetRange))
+        text.push_str(requirement(VerifierRule::OffsetRange))
     } else {
         text.push_str(" isn't a single number")
     }

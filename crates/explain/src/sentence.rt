@@ -4,7 +4,7 @@ ghost use Rattle.std.specs.Prelude.{OnOk};
 ghost use Rattle.bpf_text.specs.Listing.{Appends};
 ghost use Rattle.explain.specs.Sentences as specs;
 
-use crate::asks::{asked_by, verifier_rule_number};
+use crate::requirements::{requirement, verifier_rule_number};
 use crate::called::push_helper;
 use crate::operands::{push_moved, push_pointer, push_register_is, push_unusable, stored_register};
 use crate::reads::{ReadRegisters, touched};
@@ -22,7 +22,7 @@ fn push_releases(text: &mut String, releases: u8) -> Result<(), AllocError>
     if releases == 1 {
         return text.push_str(", and there is 1 release");
     }
-    text.push_str(asked_by(VerifierRule::Result))?;
+    text.push_str(requirement(VerifierRule::Result))?;
     write!(text, "{releases} releases")
 }
 
@@ -56,7 +56,7 @@ fn push_sentence(
     let reads = ReadRegisters::of(insn);
     match rule {
         VerifierRule::Unusable => push_unusable(text, insn, reads.unusable(e)),
-        VerifierRule::WritesFrame => text.push_str(asked_by(rule)),
+        VerifierRule::WritesFrame => text.push_str(requirement(rule)),
         VerifierRule::PointerArithmetic => push_pointer(text, shape, e, reads.pointer(e), rule),
         VerifierRule::OffsetRange => push_moved(text, shape, e, insn),
         VerifierRule::PointerCompare => push_pointer(text, shape, e, reads.pointer(e), rule),

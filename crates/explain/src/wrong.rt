@@ -4,7 +4,7 @@ ghost use Rattle.std.specs.Prelude.{◌≡◌, OnOk, option_copied};
 ghost use Rattle.bpf_text.specs.Listing.{Appends};
 ghost use Rattle.explain.specs.Sentences as specs;
 
-use crate::asks::{asked_by, cells_ask, no_cell_at};
+use crate::requirements::{cell_requirement, no_cell_at, requirement};
 use crate::known::{push_memory, push_register};
 use crate::operands::push_register_is;
 use crate::reads::{TouchedMemory, touched};
@@ -38,10 +38,10 @@ fn push_outside(text: &mut String, touched: TouchedMemory, address: Abs) -> Resu
     ensures { OnOk result (Appends text.old text.new (specs.outside_text touched address)) }
 {
     match address {
-        Abs::Cell(_) => text.push_str(cells_ask()),
+        Abs::Cell(_) => text.push_str(cell_requirement()),
         _ => {
             push_bytes(text, touched)?;
-            text.push_str(asked_by(VerifierRule::Access))
+            text.push_str(requirement(VerifierRule::Access))
         }
     }
 }
@@ -57,7 +57,7 @@ fn push_no_address(
     match e.value(base) {
         Abs::MayCell(_) => {
             push_register(text, base)?;
-            text.push_str(asked_by(VerifierRule::NotAddress))
+            text.push_str(requirement(VerifierRule::NotAddress))
         }
         _ => {
             push_register_is(text, shape, e, base)?;
@@ -88,7 +88,7 @@ pub fn push_access(
         }
         _ => {
             push_register_is(text, shape, e, touched.base)?;
-            text.push_str(asked_by(rule))
+            text.push_str(requirement(rule))
         }
     }
 }
@@ -133,7 +133,7 @@ fn array_at(shape: &Shape, index: i32) -> Option<&CellArray>
 fn push_no_array(text: &mut String, index: i32) -> Result<(), AllocError>
     ensures { OnOk result (Appends text.old text.new (specs.no_array_text index)) }
 {
-    text.push_str(asked_by(VerifierRule::MapIndex))?;
+    text.push_str(requirement(VerifierRule::MapIndex))?;
     write!(text, "{index}")
 }
 

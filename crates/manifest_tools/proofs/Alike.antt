@@ -1,6 +1,6 @@
 -- Clients that differ only in appid and cohort give the same simulation.
 use Rattle.std.proofs.Common.{◌≡◌, ap, subst, ℕ, List, Option, Some, None}
-use Rattle.simulate.specs.Clients.{IsSameButApp, asking_for, attributes, clients}
+use Rattle.simulate.specs.Clients.{IsSameButApp, requesting, attributes, clients}
 use Rattle.simulate.specs.Course.{AppByApp, AsksForApp, InTurn, IsSimulated}
 use Rattle.simulate.specs.Course.AppByApp.{none as no_app, next as next_app}
 use Rattle.attrs.specs.Attributes.{Attributes}
@@ -14,7 +14,7 @@ use Rattle.simulate.specs.Shown.{Simulation}
 asks_alike : (c d : Client) (app : AppRule) (old choices new : List ℕ) → IsSameButApp c d
     → AsksForApp d app old choices new → AsksForApp c app old choices new
 asks_alike c d app old choices new same asks =
-    let said : clients (asking_for d app.appid) ≡ clients (asking_for c app.appid) =
+    let said : clients (requesting d app.appid) ≡ clients (requesting c app.appid) =
     λ k. λ bucket. ap attributes (same app.appid bucket) k in
     subst (λ (f : ℕ → Attributes). InTurn app.program f old 10000 choices new) said asks
 

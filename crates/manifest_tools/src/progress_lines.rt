@@ -22,7 +22,7 @@ impl<'a, R: Clock + Eprint> ProgressLines<'a, R> {
 }
 
 impl<'a, R: Clock + Eprint> Onlooker for ProgressLines<'a, R> {
-    fn asked(&mut self, done: usize, all: usize) {
+    fn evaluated(&mut self, done: usize, all: usize) {
         let (Some(said), Ok(now)) = (self.said, Instant::now(self.rt)) else {
             return;
         };

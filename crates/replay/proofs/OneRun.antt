@@ -21,21 +21,21 @@ as_many w v (e ∷ es) (r ∷ rs) plays = ap (λ n. suc n) (as_many plays.0 v es
 as_many w v [] (r ∷ rs) plays = absurd plays
 as_many w v (e ∷ es) [] plays = absurd plays
 
-told_first : BatchesJoin → (before between : Parts) (asked : EventLine) (lines : List EventLine)
+told_first : BatchesJoin → (before between : Parts) (requested : EventLine) (lines : List EventLine)
     (e : Event) (events : List Event) (reply : Reply) (replies : List Reply)
-    → IsLineReplied before asked e reply between → AreRepliesFrom between lines events replies
-    → AreRepliesFrom before (asked ∷ lines) (e ∷ events) (reply ∷ replies)
-told_first join before between asked lines e events reply replies own others w stands =
+    → IsLineReplied before requested e reply between → AreRepliesFrom between lines events replies
+    → AreRepliesFrom before (requested ∷ lines) (e ∷ events) (reply ∷ replies)
+told_first join before between requested lines e events reply replies own others w stands =
     let played = own.played w stands in
     let more = others played.0 played.2 in record {
       answers = own.answers ∷ more.answers;
       after = more.after;
-      run = join w more.after (repeated asked e) _ own.answers _
+      run = join w more.after (repeated requested e) _ own.answers _
           (record { between = played.0; first = played.1; second = more.run });
-      told = (
-        as_many w played.0 (repeated asked e) own.answers played.1,
+      lines_replied = (
+        as_many w played.0 (repeated requested e) own.answers played.1,
         own.reply_is,
-        more.told,
+        more.lines_replied,
       );
     }
 
@@ -49,7 +49,7 @@ pub record Leads (before now : Parts) (lines left : List EventLine) (events behi
 
 pub begins : (before : Parts) (lines : List EventLine) (events : List Event)
     → Leads before before lines lines events events []
-begins before lines events = record { tells = λ more told. told }
+begins before lines events = record { tells = λ more lines_replied. lines_replied }
 
 first_rest : {X : Type 0} (xs : List X) (x : X) → 0 < length xs → x ≡ get_or xs 0 x
     → xs ≡ x ∷ take (length xs - 1) (drop 1 xs)
@@ -60,25 +60,25 @@ first_rest (y ∷ ys) x some is =
 
 -- the first line that is left, with the first event
 pub goes_on : BatchesJoin → (before now after : Parts) (lines left : List EventLine)
-    (asked : EventLine) (events behind : List Event) (e : Event) (done longer : List Reply)
-    (reply : Reply) → 0 < length left → asked ≡ get_or left 0 asked → 0 < length behind
+    (requested : EventLine) (events behind : List Event) (e : Event) (done longer : List Reply)
+    (reply : Reply) → 0 < length left → requested ≡ get_or left 0 requested → 0 < length behind
     → e ≡ get_or behind 0 e → longer ≡ done ++ reply ∷ []
     → Leads before now lines left events behind done
-    → IsLineReplied now asked e reply after
+    → IsLineReplied now requested e reply after
     → Leads before after lines (take (length left - 1) (drop 1 left)) events
     (take (length behind - 1) (drop 1 behind)) longer
-goes_on join before now after lines left asked events behind e done longer reply some found
+goes_on join before now after lines left requested events behind e done longer reply some found
     event_there event_found grown so_far own =
     let others = take (length left - 1) (drop 1 left) in
     let later = take (length behind - 1) (drop 1 behind) in
     let here = rw (
-      first_rest left asked some found,
+      first_rest left requested some found,
       first_rest behind e event_there event_found,
     ) at so_far in record {
-      tells = λ more told.
+      tells = λ more lines_replied.
           rw (grown, append_assoc done (reply ∷ []) more)
           (here.tells (reply ∷ more)
-          (told_first join now after asked others e later reply more own told));
+          (told_first join now after requested others e later reply more own lines_replied));
     }
 
 none_left : {X : Type 0} (xs : List X) → length xs < 1 → xs ≡ []
@@ -94,4 +94,4 @@ ends before now lines left events behind replies no_line no_event so_far =
     let here = rw (none_left left no_line, none_left behind no_event) at so_far in
     rw (append-nil replies) at
     (here.tells []
-    (λ w stands. record { answers = []; after = w; run = refl; told = tt }))
+    (λ w stands. record { answers = []; after = w; run = refl; lines_replied = tt }))

@@ -5,7 +5,7 @@ use Rattle.std.proofs.lemmas.List.{drop_more, drop_all}
 use Rattle.cells.specs.declared.array.CellArray.{CellArray}
 use Rattle.bounded_files.specs.Files.{KnownFiles}
 use Rattle.world.specs.declared.event.Event.{Event}
-use Rattle.replay.specs.Asked.{IsEventOf, AreEventsOf, RefusesLine, RefusesLines, this, later}
+use Rattle.replay.specs.LineEvents.{IsEventOf, AreEventsOf, RefusesLine, RefusesLines, this, later}
 use Rattle.replay.specs.declared.fault.ReplayFault.{ReplayFault}
 use Rattle.replay.specs.declared.line.EventLine.{EventLine}
 
@@ -20,22 +20,22 @@ module _ (known : KnownFiles) where
 
   pub begins : (lines : List EventLine) (old : List CellArray) → Leads lines lines old old []
   begins lines old = record {
-    asks = λ more new asked. asked;
+    asks = λ more new requested. requested;
     refuses = λ fault refused. refused;
   }
 
-  left : (lines : List EventLine) (i : ℕ) (asked : EventLine) → i < length lines
-      → asked ≡ get_or lines i asked → drop i lines ≡ asked ∷ drop (i + 1) lines
-  left lines i asked within found =
-      drop_more lines i asked within ∙ ap (λ (l : EventLine). l ∷ drop (i + 1) lines) (sym found)
+  left : (lines : List EventLine) (i : ℕ) (requested : EventLine) → i < length lines
+      → requested ≡ get_or lines i requested → drop i lines ≡ requested ∷ drop (i + 1) lines
+  left lines i requested within found =
+      drop_more lines i requested within ∙ ap (λ (l : EventLine). l ∷ drop (i + 1) lines) (sym found)
 
-  pub goes_on : (lines : List EventLine) (i : ℕ) (asked : EventLine)
+  pub goes_on : (lines : List EventLine) (i : ℕ) (requested : EventLine)
       (old between new : List CellArray) (done longer : List Event) (e : Event)
-      → i < length lines → asked ≡ get_or lines i asked → longer ≡ done ++ e ∷ []
-      → Leads lines (drop i lines) old between done → IsEventOf known asked between e new
+      → i < length lines → requested ≡ get_or lines i requested → longer ≡ done ++ e ∷ []
+      → Leads lines (drop i lines) old between done → IsEventOf known requested between e new
       → Leads lines (drop (i + 1) lines) old new longer
-  goes_on lines i asked old between new done longer e within found grown so_far is =
-      let here = rw (left lines i asked within found) at so_far in record {
+  goes_on lines i requested old between new done longer e within found grown so_far is =
+      let here = rw (left lines i requested within found) at so_far in record {
         asks = λ more end are.
             rw (grown, append_assoc done (e ∷ []) more)
             (here.asks (e ∷ more) end (new, is, are));
@@ -49,10 +49,10 @@ module _ (known : KnownFiles) where
       let here = rw (drop_all i lines beyond) at so_far in
       rw (append-nil events) at (here.asks [] new refl)
 
-  pub fails : (lines : List EventLine) (i : ℕ) (asked : EventLine) (old between : List CellArray)
-      (done : List Event) (fault : ReplayFault) → i < length lines → asked ≡ get_or lines i asked
-      → Leads lines (drop i lines) old between done → RefusesLine known asked between fault
+  pub fails : (lines : List EventLine) (i : ℕ) (requested : EventLine) (old between : List CellArray)
+      (done : List Event) (fault : ReplayFault) → i < length lines → requested ≡ get_or lines i requested
+      → Leads lines (drop i lines) old between done → RefusesLine known requested between fault
       → RefusesLines known lines old fault
-  fails lines i asked old between done fault within found so_far refused =
-      let here = rw (left lines i asked within found) at so_far in
+  fails lines i requested old between done fault within found so_far refused =
+      let here = rw (left lines i requested within found) at so_far in
       here.refuses fault (this refused)

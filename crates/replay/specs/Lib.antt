@@ -1,6 +1,6 @@
 pub mod Script
 pub mod Loaded
-pub mod Asked
+pub mod LineEvents
 pub mod Replies
 pub mod Played
 pub mod Replays

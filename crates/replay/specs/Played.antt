@@ -17,12 +17,12 @@ use Rattle.replay.specs.declared.reply.Reply.{Reply}
 -- whether the line is a Step with a count
 abbrev pub is_counted : EventLine → Bool
 is_counted (line.Step worker (Some count)) = true
-is_counted asked = false
+is_counted requested = false
 
 -- a Step with a count is that many Steps; any other line is its event once
 abbrev pub repeated : EventLine → Event → List Event
 repeated (line.Step worker (Some count)) e = replicate count (event.Step worker)
-repeated asked e = e ∷ []
+repeated requested e = e ∷ []
 
 -- the events with some results are a run of the world, and the reply is the one for these results
 pub record IsReplied (before : Parts) (counted : Bool) (events : List Event) (reply : Reply)
@@ -32,22 +32,22 @@ pub record IsReplied (before : Parts) (counted : Bool) (events : List Event) (re
   pub reply_is : reply ≡ reply_to counted answers
 
 abbrev pub IsLineReplied : Parts → EventLine → Event → Reply → Parts → Type 0
-IsLineReplied before asked e reply after =
-    IsReplied before (is_counted asked) (repeated asked e) reply after
+IsLineReplied before requested e reply after =
+    IsReplied before (is_counted requested) (repeated requested e) reply after
 
 -- ---- all lines, each with its event
 
 abbrev pub all_events : List EventLine → List Event → List Event
-all_events (asked ∷ lines) (e ∷ events) = repeated asked e ++ all_events lines events
+all_events (requested ∷ lines) (e ∷ events) = repeated requested e ++ all_events lines events
 all_events lines events = []
 
 -- each line has a result for each of its events, and the reply for these
-abbrev pub AreTold : List EventLine → List Event → List (List Answer) → List Reply → Type 0
-AreTold [] [] [] [] = Unit {0}
-AreTold (asked ∷ lines) (e ∷ events) (own ∷ answers) (reply ∷ replies) =
-    (length own ≡ length (repeated asked e)) × (reply ≡ reply_to (is_counted asked) own)
-    × AreTold lines events answers replies
-AreTold lines events answers replies = ⊥
+abbrev pub AreLinesReplied : List EventLine → List Event → List (List Answer) → List Reply → Type 0
+AreLinesReplied [] [] [] [] = Unit {0}
+AreLinesReplied (requested ∷ lines) (e ∷ events) (own ∷ answers) (reply ∷ replies) =
+    (length own ≡ length (repeated requested e)) × (reply ≡ reply_to (is_counted requested) own)
+    × AreLinesReplied lines events answers replies
+AreLinesReplied lines events answers replies = ⊥
 
 -- the events of all lines, in order, are a run of the world
 pub record AreRepliesTo (w : WorldState) (lines : List EventLine) (events : List Event)
@@ -55,7 +55,7 @@ pub record AreRepliesTo (w : WorldState) (lines : List EventLine) (events : List
   pub answers : List (List Answer)
   pub after : WorldState
   pub run : Plays w (all_events lines events) (flat_map (λ own. own) answers) after
-  pub told : AreTold lines events answers replies
+  pub lines_replied : AreLinesReplied lines events answers replies
 
 -- this holds from every world that `before` stands for
 abbrev pub AreRepliesFrom : Parts → List EventLine → List Event → List Reply → Type 0

@@ -7,7 +7,7 @@ use Rattle.load.specs.Loaded.{IsLoadedFrom}
 use Rattle.ruleset.specs.Rules.{Rules}
 use Rattle.world.specs.World.{opening_world}
 use Rattle.world.specs.declared.event.Event.{Event}
-use Rattle.replay.specs.Asked.{AreEventsOf, RefusesLines}
+use Rattle.replay.specs.LineEvents.{AreEventsOf, RefusesLines}
 use Rattle.replay.specs.Loaded.{GivesNoRuleset}
 use Rattle.replay.specs.Played.{AreRepliesTo}
 use Rattle.replay.specs.Script.{IsScript, IsScriptFault}
@@ -43,7 +43,7 @@ module _ (known : KnownFiles) (manifest script : List ℕ) where
     pub loaded : IsLoadedFrom known manifest [] first between
     pub events : List Event
     pub after : List CellArray
-    pub asked : AreEventsOf known lines between events after
+    pub requested : AreEventsOf known lines between events after
     pub replied : AreRepliesTo (opening_world first 64) lines events replies
 
   -- the fault that counts: that of the script, or else of the manifest, or else of a swap line

@@ -4,7 +4,7 @@
 ghost use Rattle.std.specs.Prelude.{◌≡◌, IfOk, IfErr, OnOk};
 ghost use Rattle.std.specs.Arc.{arc_value};
 ghost use Rattle.attrs.specs.Attributes.{plain};
-ghost use Rattle.replay.specs.Asked.{AreEventsOf, IsEventOf, RefusesLine, RefusesLines};
+ghost use Rattle.replay.specs.LineEvents.{AreEventsOf, IsEventOf, RefusesLine, RefusesLines};
 ghost use Rattle.replay.specs.Loaded.{AreShared};
 
 use crate::fault::ReplayFault;

@@ -23,11 +23,11 @@ pub(crate) fn play_lines(
     let mut replies = Vec::with_capacity(alloc, lines.len())?;
     let mut left = lines;
     let mut events = events;
-    while let [asked, others @ ..] = left {
+    while let [requested, others @ ..] = left {
         let [event, behind @ ..] = events else {
             return Err(AllocError);
         };
-        let reply = play_line(alloc, world, asked, event)?;
+        let reply = play_line(alloc, world, requested, event)?;
         replies.push(reply)?;
         left = others;
         events = behind;
@@ -42,12 +42,12 @@ pub(crate) fn play_lines(
 fn play_line(
     alloc: Global,
     world: &mut World,
-    asked: &EventLine,
+    requested: &EventLine,
     event: &Event,
 ) -> Result<Reply, AllocError>
-    ensures { IfOk result (λ reply. IsLineReplied world.old asked.now event.now reply world.new) }
+    ensures { IfOk result (λ reply. IsLineReplied world.old requested.now event.now reply world.new) }
 {
-    match asked {
+    match requested {
         EventLine::Step {
             worker,
             count: Some(count),

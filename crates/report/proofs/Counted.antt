@@ -11,7 +11,7 @@ use Rattle.report.specs.Courses.{if_drawn, hour_names, minute_names, version_nam
 use Rattle.report.specs.Names.{names_if}
 use Rattle.report.specs.Reading.{CountsLines}
 use Rattle.report.specs.Tallies.{RowName, capped, IsTally, Notes}
-use Rattle.report.specs.Told.{event_in, told}
+use Rattle.report.specs.LogEvents.{event_in, event_in_window}
 use Rattle.report.specs.declared.counting.Report.{Report}
 use Rattle.report.specs.declared.tally.Tally.{Tally}
 use Rattle.report.specs.declared.window.Window.{Window}
@@ -36,15 +36,15 @@ more_sum f before line old new by up by_is old_is =
 module _ (window : Window) (before : List (List ℕ)) (line : List ℕ) where
   more_names : (names : Data → List RowName)
       → all_names window (before ++ line ∷ []) names
-      ≡ all_names window before names ++ names_if names (told window line)
+      ≡ all_names window before names ++ names_if names (event_in_window window line)
   more_names names =
-      flat_map-append (λ l. names_if names (told window l)) before (line ∷ [])
+      flat_map-append (λ l. names_if names (event_in_window window l)) before (line ∷ [])
       ∙ ap (λ (t : List RowName). all_names window before names ++ t)
-      (flat_map-cons (λ l. names_if names (told window l)) line []
-      ∙ append-nil (names_if names (told window line)))
+      (flat_map-cons (λ l. names_if names (event_in_window window l)) line []
+      ∙ append-nil (names_if names (event_in_window window line)))
 
   more_tally : (limit : ℕ) (names : Data → List RowName) (old new : Tally)
-      → Notes old new (names_if names (told window line))
+      → Notes old new (names_if names (event_in_window window line))
       → IsTally limit (all_names window before names) old
       → IsTally limit (all_names window (before ++ line ∷ []) names) new
   more_tally limit names old new notes counted =
@@ -54,21 +54,21 @@ module _ (window : Window) (before : List (List ℕ)) (line : List ℕ) where
   -- for a chart, if one is drawn
   more_course : (drawn : Bool) (limit : ℕ) (names : Data → List RowName) (was : Bool)
       (old new : Tally) → was ≡ drawn
-      → Notes old new (names_if (if_drawn was names) (told window line))
+      → Notes old new (names_if (if_drawn was names) (event_in_window window line))
       → IsTally limit (all_names window before (if_drawn drawn names)) old
       → IsTally limit (all_names window (before ++ line ∷ []) (if_drawn drawn names)) new
   more_course drawn limit names was old new same notes counted =
       more_tally limit (if_drawn drawn names) old new
-      (subst (λ (b : Bool). Notes old new (names_if (if_drawn b names) (told window line))) same
+      (subst (λ (b : Bool). Notes old new (names_if (if_drawn b names) (event_in_window window line))) same
       notes) counted
 
 pub counts_one : (window : Window) (line : List ℕ) (old new : Report)
-    → AddsLine (event_in line) (told window line) old new → CountsLines window (line ∷ []) old new
+    → AddsLine (event_in line) (event_in_window window line) old new → CountsLines window (line ∷ []) old new
 counts_one window line old new adds = record {
   behind = λ drawn before counted. record {
     drawn_is = adds.course.drawn ∙ counted.drawn_is;
-    lines_told = more_sum (λ l. one_if (is_some (told window l))) before line _ _ _
-        adds.lines_told refl counted.lines_told;
+    lines_counted = more_sum (λ l. one_if (is_some (event_in_window window l))) before line _ _ _
+        adds.lines_counted refl counted.lines_counted;
     foreign = more_sum (λ l. one_if (is_none (event_in l))) before line _ _ _
         adds.foreign refl counted.foreign;
     lost = more_sum _ before line _ _ _ adds.lost refl counted.lost;
@@ -78,7 +78,7 @@ counts_one window line old new adds = record {
     kinds = more_tally window before line 256 _ _ _ adds.kinds counted.kinds;
     refusals = more_tally window before line 256 _ _ _ adds.refusals counted.refusals;
     loads = more_tally window before line 256 _ _ _ adds.loads counted.loads;
-    asked = more_tally window before line 256 _ _ _ adds.asked counted.asked;
+    update_checks = more_tally window before line 256 _ _ _ adds.update_checks counted.update_checks;
     offered = more_tally window before line 256 _ _ _ adds.offered counted.offered;
     unoffered = more_tally window before line 256 _ _ _ adds.unoffered counted.unoffered;
     hours = more_tally window before line 4096 _ _ _ adds.hours counted.hours;

@@ -7,7 +7,7 @@ use Rattle.report.specs.Courses.{AddsCourse, if_drawn, hour_names, minute_names,
 use Rattle.report.specs.Events.{event_names}
 use Rattle.report.specs.Names.{app_names, line_names, names_if}
 use Rattle.report.specs.Tallies.{RowName, capped, IsTally, Notes}
-use Rattle.report.specs.Told.{event_in, is_kind, number_in, told}
+use Rattle.report.specs.LogEvents.{event_in, is_kind, number_in, event_in_window}
 use Rattle.report.specs.declared.question.AppQuestion.TheVariants as of_app
 use Rattle.report.specs.declared.question.EventQuestion.TheVariants as of_event
 use Rattle.report.specs.declared.question.LineQuestion.TheVariants as of_line
@@ -39,17 +39,17 @@ offers_left_out_in line = number_in_kind (codes "connection") (codes "offers_lef
 
 module _ (window : Window) (lines : List (List ℕ)) where
   abbrev pub all_names : (Data → List RowName) → List RowName
-  all_names names = flat_map (λ line. names_if names (told window line)) lines
+  all_names names = flat_map (λ line. names_if names (event_in_window window line)) lines
 
   abbrev pub total : (Data → ℕ) → ℕ
-  total number = capped (sum_by (λ line. number_if number (told window line)) lines)
+  total number = capped (sum_by (λ line. number_if number (event_in_window window line)) lines)
 
   -- The table of each question counts the names in the lines that count: the server's, in the
   -- window. In other lines nothing is counted, but lines that aren't the server's are counted as
   -- `foreign`. The counts for a chart are made only if one is drawn.
   pub record Counts (drawn : Bool) (r : Report) : Type 0 where
     pub drawn_is : r.course.drawn ≡ drawn
-    pub lines_told : r.lines ≡ capped (count_by (λ line. is_some (told window line)) lines)
+    pub lines_counted : r.lines ≡ capped (count_by (λ line. is_some (event_in_window window line)) lines)
     pub foreign : r.foreign ≡ capped (count_by (λ line. is_none (event_in line)) lines)
     pub lost : r.lost ≡ total lost_in
     pub left_out : r.left_out ≡ total left_out_in
@@ -57,7 +57,7 @@ module _ (window : Window) (lines : List (List ℕ)) where
     pub kinds : IsTally 256 (all_names (line_names of_line.Kind)) r.kinds
     pub refusals : IsTally 256 (all_names (line_names of_line.Refusal)) r.refusals
     pub loads : IsTally 256 (all_names (line_names of_line.Load)) r.loads
-    pub asked : IsTally 256 (all_names (app_names of_app.Asked)) r.asked
+    pub update_checks : IsTally 256 (all_names (app_names of_app.UpdateCheck)) r.update_checks
     pub offered : IsTally 256 (all_names (app_names of_app.Offered)) r.offered
     pub unoffered : IsTally 256 (all_names (app_names of_app.Unoffered)) r.unoffered
     pub hours : IsTally 4096 (all_names (app_names of_app.Hour)) r.hours
@@ -84,7 +84,7 @@ one_if holds = if holds then 1 else 0
 
 -- the counts after a line: `event` is its event, if it is one, and `line` the same, if it counts
 pub record AddsLine (event line : Option Data) (old new : Report) : Type 0 where
-  pub lines_told : GoesUp old.lines new.lines (one_if (is_some line))
+  pub lines_counted : GoesUp old.lines new.lines (one_if (is_some line))
   pub foreign : GoesUp old.foreign new.foreign (one_if (is_none event))
   pub lost : GoesUp old.lost new.lost (number_if lost_in line)
   pub left_out : GoesUp old.left_out new.left_out (number_if left_out_in line)
@@ -93,7 +93,7 @@ pub record AddsLine (event line : Option Data) (old new : Report) : Type 0 where
   pub kinds : Notes old.kinds new.kinds (names_if (line_names of_line.Kind) line)
   pub refusals : Notes old.refusals new.refusals (names_if (line_names of_line.Refusal) line)
   pub loads : Notes old.loads new.loads (names_if (line_names of_line.Load) line)
-  pub asked : Notes old.asked new.asked (names_if (app_names of_app.Asked) line)
+  pub update_checks : Notes old.update_checks new.update_checks (names_if (app_names of_app.UpdateCheck) line)
   pub offered : Notes old.offered new.offered (names_if (app_names of_app.Offered) line)
   pub unoffered : Notes old.unoffered new.unoffered (names_if (app_names of_app.Unoffered) line)
   pub hours : Notes old.hours new.hours (names_if (app_names of_app.Hour) line)

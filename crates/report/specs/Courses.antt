@@ -8,7 +8,7 @@ use Rattle.serde_json.specs.Data.{Data}
 use Rattle.report.specs.Events.{event_names}
 use Rattle.report.specs.Names.{app_names, names_if}
 use Rattle.report.specs.Tallies.{RowName, Notes}
-use Rattle.report.specs.Told.{text_in}
+use Rattle.report.specs.LogEvents.{text_in}
 use Rattle.report.specs.declared.course.Course.{Course}
 use Rattle.report.specs.declared.question.AppQuestion.{AppQuestion}
 use Rattle.report.specs.declared.question.AppQuestion.TheVariants as of_app
@@ -22,12 +22,12 @@ three_names asks offers failures line =
 
 -- the versions of update checks, offers and failures
 abbrev pub version_names : Data → List RowName
-version_names line = three_names of_app.AskedBy of_app.Offered of_event.FailedTo line
+version_names line = three_names of_app.UpdateCheckBy of_app.Offered of_event.FailedTo line
 
 -- the same with this moment
 abbrev pub names_in_moment : Data → Option ℕ → List RowName
 names_in_moment line (Some moment) =
-    three_names (of_app.AskedAt moment) (of_app.OfferedAt moment) (of_event.FailedAt moment) line
+    three_names (of_app.UpdateCheckAt moment) (of_app.OfferedAt moment) (of_event.FailedAt moment) line
 names_in_moment line None = []
 
 -- the minute of a line since 1970, or `None` if its time isn't one that a server writes

@@ -6,7 +6,7 @@ use Rattle.std.specs.Prelude.{Option, Some, None, option_and_then, unwrap_or}
 use Rattle.serde_json.specs.Data.{Data, Items, no_items, item}
 use Rattle.json_value.specs.Bytes.{json_of}
 use Rattle.report.specs.Tallies.{RowName, Notes}
-use Rattle.report.specs.Told.{text_in, number_in, apps_in, is_number}
+use Rattle.report.specs.LogEvents.{text_in, number_in, apps_in, is_number}
 use Rattle.report.specs.Names.{two, three, course_name, if_holds, listed, text_or_mark}
 use Rattle.report.specs.Objects.{JsonPlace, after_byte, closes_object, json_start}
 use Rattle.report.specs.declared.question.EventQuestion.{EventQuestion}
@@ -51,23 +51,23 @@ abbrev pub is_failure : Data → Bool
 is_failure event =
     is_install event && is_number 0 (number_in (codes "eventresult") event)
 
-abbrev pub install_told : EventQuestion → Data → List ℕ → Data → RowName
-install_told Ended app appid event = install_name app appid event
-install_told Result app appid event = result_name app appid event
-install_told FailedTo app appid event = two appid (to_version event)
-install_told (FailedAt moment) app appid event =
+abbrev pub event_name_of : EventQuestion → Data → List ℕ → Data → RowName
+event_name_of Ended app appid event = install_name app appid event
+event_name_of Result app appid event = result_name app appid event
+event_name_of FailedTo app appid event = two appid (to_version event)
+event_name_of (FailedAt moment) app appid event =
     course_name (codes "failures") appid (to_version event) moment
 
 -- whether the question is about this event
-abbrev pub is_asked : EventQuestion → Data → Bool
-is_asked Ended event = is_install event
-is_asked Result event = is_install event
-is_asked FailedTo event = is_failure event
-is_asked (FailedAt moment) event = is_failure event
+abbrev pub is_about : EventQuestion → Data → Bool
+is_about Ended event = is_install event
+is_about Result event = is_install event
+is_about FailedTo event = is_failure event
+is_about (FailedAt moment) event = is_failure event
 
 abbrev pub event_name : EventQuestion → Data → List ℕ → Data → Option RowName
 event_name question app appid event =
-    if_holds (is_asked question event) (install_told question app appid event)
+    if_holds (is_about question event) (event_name_of question app appid event)
 
 -- ---- the events of an app, and of all apps of a line
 

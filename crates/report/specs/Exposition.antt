@@ -88,7 +88,7 @@ numbers r =
 
 abbrev pub asks : Report → List ℕ
 asks r =
-    metric (codes "rollout_asks") (codes "Asks for an update.") App r.asked
+    metric (codes "rollout_asks") (codes "Asks for an update.") App r.update_checks
     ++ metric (codes "rollout_offers") (codes "Asks that were offered a release.") Release r.offered
     ++ metric (codes "rollout_no_updates") (codes "Asks that got none.") App r.unoffered
     ++ metric (codes "rollout_installs") (codes "Installs that ended, by result.") Install r.results

@@ -1,6 +1,6 @@
 pub mod Tallies
 pub mod Lines
-pub mod Told
+pub mod LogEvents
 pub mod Names
 pub mod Objects
 pub mod Events

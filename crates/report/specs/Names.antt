@@ -8,12 +8,12 @@ use Rattle.std.specs.Str.{byte}
 use Rattle.printing.specs.Printed.{printed}
 use Rattle.serde_json.specs.Data.{Data, Items, no_items, item}
 use Rattle.report.specs.Tallies.{RowName}
-use Rattle.report.specs.Told.{text_in, number_in, flag_in, apps_in, is_kind, is_number, is_flag}
+use Rattle.report.specs.LogEvents.{text_in, number_in, flag_in, apps_in, is_kind, is_number, is_flag}
 use Rattle.report.specs.declared.question.AppQuestion.{AppQuestion}
-use Rattle.report.specs.declared.question.AppQuestion.TheVariants.{Asked, Offered, Unoffered}
+use Rattle.report.specs.declared.question.AppQuestion.TheVariants.{UpdateCheck, Offered, Unoffered}
 use Rattle.report.specs.declared.question.AppQuestion.TheVariants.{Hour, Bucket, Unknown}
 use Rattle.report.specs.declared.question.AppQuestion.TheVariants.{WithoutCohort, WithoutId}
-use Rattle.report.specs.declared.question.AppQuestion.TheVariants.{CutEvent, AskedBy, AskedAt}
+use Rattle.report.specs.declared.question.AppQuestion.TheVariants.{CutEvent, UpdateCheckBy, UpdateCheckAt}
 use Rattle.report.specs.declared.question.AppQuestion.TheVariants.{OfferedAt}
 use Rattle.report.specs.declared.question.LineQuestion.{LineQuestion}
 use Rattle.report.specs.declared.question.LineQuestion.TheVariants.{Kind, Refusal, Load}
@@ -51,8 +51,8 @@ abbrev pub is_answered : Data → Bool
 is_answered line = is_number 200 (number_in (codes "status") line)
 
 -- a known app made an update check, and the whole reply was sent
-abbrev pub has_asked : Data → Data → Bool
-has_asked line app = is_answered line && is_some (number_in (codes "choice") app)
+abbrev pub has_update_check : Data → Data → Bool
+has_update_check line app = is_answered line && is_some (number_in (codes "choice") app)
 
 abbrev pub has_no_update : Data → Data → Bool
 has_no_update line app = is_answered line && is_number 0 (number_in (codes "choice") app)
@@ -84,8 +84,8 @@ is_colon b = b == byte ":"
 abbrev pub hour_of : Data → List ℕ
 hour_of line = before_first is_colon (text_or_mark (text_in (codes "time") line))
 
-abbrev pub version_told : Data → List ℕ
-version_told app = text_or_mark (text_in (codes "version") app)
+abbrev pub version_or_mark : Data → List ℕ
+version_or_mark app = text_or_mark (text_in (codes "version") app)
 
 abbrev pub offered : Data → Data → List ℕ → Option RowName
 offered line app appid =
@@ -93,20 +93,20 @@ offered line app appid =
 
 abbrev pub hour_name : Data → Data → List ℕ → Option RowName
 hour_name line app appid =
-    if_holds (has_asked line app) (three appid (hour_of line) (version_told app))
+    if_holds (has_update_check line app) (three appid (hour_of line) (version_or_mark app))
 
 abbrev pub bucket_name : Data → Data → List ℕ → Option RowName
 bucket_name line app appid =
-    if has_asked line app
+    if has_update_check line app
     then option_map (λ n. two appid (decimal n)) (number_in (codes "bucket") app) else None
 
-abbrev pub asked_by : Data → Data → List ℕ → Option RowName
-asked_by line app appid = if_holds (has_asked line app) (two appid (version_told app))
+abbrev pub update_check_by : Data → Data → List ℕ → Option RowName
+update_check_by line app appid = if_holds (has_update_check line app) (two appid (version_or_mark app))
 
 -- with this minute or hour
-abbrev pub asked_at : ℕ → Data → Data → List ℕ → Option RowName
-asked_at moment line app appid =
-    if_holds (has_asked line app) (course_name (codes "asks") appid (version_told app) moment)
+abbrev pub update_check_at : ℕ → Data → Data → List ℕ → Option RowName
+update_check_at moment line app appid =
+    if_holds (has_update_check line app) (course_name (codes "asks") appid (version_or_mark app) moment)
 
 abbrev pub offer_at : ℕ → List ℕ → List ℕ → RowName
 offer_at moment appid release = course_name (codes "offers") appid release moment
@@ -117,7 +117,7 @@ offered_at moment line app appid =
     then option_map (offer_at moment appid) (text_in (codes "release") app) else None
 
 abbrev pub named : AppQuestion → Data → Data → List ℕ → Option RowName
-named Asked line app appid = if_holds (has_asked line app) (one appid)
+named UpdateCheck line app appid = if_holds (has_update_check line app) (one appid)
 named Offered line app appid = offered line app appid
 named Unoffered line app appid = if_holds (has_no_update line app) (one appid)
 named Hour line app appid = hour_name line app appid
@@ -126,8 +126,8 @@ named Unknown line app appid = if_holds (is_unknown app) (one appid)
 named WithoutCohort line app appid = if_holds (is_unnamed app) (one appid)
 named WithoutId line app appid = if_holds (has_no_id app) (one appid)
 named CutEvent line app appid = if_holds (has_cut_event app) (one appid)
-named AskedBy line app appid = asked_by line app appid
-named (AskedAt moment) line app appid = asked_at moment line app appid
+named UpdateCheckBy line app appid = update_check_by line app appid
+named (UpdateCheckAt moment) line app appid = update_check_at moment line app appid
 named (OfferedAt moment) line app appid = offered_at moment line app appid
 
 -- at most one name for each app

@@ -61,7 +61,7 @@ abbrev pub buckets_text : Report → List ℕ
 buckets_text r =
     if length r.buckets.rows.entries == 0 then []
     else codes "buckets\n"
-    ++ bucket_rows r.buckets.rows.entries r.asked.rows.entries ++ others_text r.buckets.others
+    ++ bucket_rows r.buckets.rows.entries r.update_checks.rows.entries ++ others_text r.buckets.others
 
 -- ---- results of installs
 
@@ -116,7 +116,7 @@ numbers_text r =
 
 abbrev pub asks_text : Report → List ℕ
 asks_text r =
-    table_text (codes "asks\n") r.asked ++ table_text (codes "offers\n") r.offered
+    table_text (codes "asks\n") r.update_checks ++ table_text (codes "offers\n") r.offered
     ++ table_text (codes "no update\n") r.unoffered ++ buckets_text r
     ++ table_text (codes "asks by hour and version\n") r.hours
 

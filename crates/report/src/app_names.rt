@@ -5,9 +5,9 @@ ghost use Rattle.std.specs.String.{string_bytes};
 ghost use Rattle.serde_json.specs.View.{view};
 ghost use Rattle.report.specs.Names as specs;
 
+use crate::log_events::{flag_in, is_number, number_in, text_in};
 use crate::name_text::{course_name, decimal, if_holds, text_or_mark, three, two};
 use crate::question::AppQuestion;
-use crate::told::{flag_in, is_number, number_in, text_in};
 use serde_json::Value;
 use std::alloc::{AllocError, Global};
 
@@ -41,7 +41,7 @@ fn named(
         ≡ specs.named question (view line.now) (view app.now) appid.now) }
 {
     match question {
-        AppQuestion::Asked => if_holds(alloc, has_asked(line, app), appid),
+        AppQuestion::UpdateCheck => if_holds(alloc, has_update_check(line, app), appid),
         AppQuestion::Offered => offered(alloc, line, app, appid),
         AppQuestion::Unoffered => if_holds(alloc, has_no_update(line, app), appid),
         AppQuestion::Hour => hour_name(alloc, line, app, appid),
@@ -50,8 +50,8 @@ fn named(
         AppQuestion::WithoutCohort => if_holds(alloc, is_unnamed(app), appid),
         AppQuestion::WithoutId => if_holds(alloc, has_no_id(app), appid),
         AppQuestion::CutEvent => if_holds(alloc, has_cut_event(app), appid),
-        AppQuestion::AskedBy => asked_by(alloc, line, app, appid),
-        AppQuestion::AskedAt(moment) => asked_at(alloc, line, app, appid, moment),
+        AppQuestion::UpdateCheckBy => update_check_by(alloc, line, app, appid),
+        AppQuestion::UpdateCheckAt(moment) => update_check_at(alloc, line, app, appid, moment),
         AppQuestion::OfferedAt(moment) => offered_at(alloc, line, app, appid, moment),
     }
 }
@@ -65,8 +65,8 @@ fn is_answered(line: &Value) -> bool
     is_number(200, number_in(line, "status"))
 }
 
-fn has_asked(line: &Value, app: &Value) -> bool
-    ensures { result ≡ specs.has_asked (view line.now) (view app.now) }
+fn has_update_check(line: &Value, app: &Value) -> bool
+    ensures { result ≡ specs.has_update_check (view line.now) (view app.now) }
 {
     is_answered(line) && number_in(app, "choice").is_some()
 }
@@ -136,10 +136,10 @@ fn hour_name(
     ensures { IfOk result (λ name. option_map string_bytes name
         ≡ specs.hour_name (view line.now) (view app.now) appid.now) }
 {
-    if !has_asked(line, app) {
+    if !has_update_check(line, app) {
         return Ok(None);
     }
-    Ok(Some(three(alloc, appid, hour_of(line), version_told(app))?))
+    Ok(Some(three(alloc, appid, hour_of(line), version_or_mark(app))?))
 }
 
 fn bucket_name(
@@ -151,7 +151,7 @@ fn bucket_name(
     ensures { IfOk result (λ name. option_map string_bytes name
         ≡ specs.bucket_name (view line.now) (view app.now) appid.now) }
 {
-    if !has_asked(line, app) {
+    if !has_update_check(line, app) {
         return Ok(None);
     }
     match number_in(app, "bucket") {
@@ -171,22 +171,22 @@ fn hour_of<'a>(line: &'a Value) -> &'a str
     }
 }
 
-fn asked_by(
+fn update_check_by(
     alloc: Global,
     line: &Value,
     app: &Value,
     appid: &str,
 ) -> Result<Option<String>, AllocError>
     ensures { IfOk result (λ name. option_map string_bytes name
-        ≡ specs.asked_by (view line.now) (view app.now) appid.now) }
+        ≡ specs.update_check_by (view line.now) (view app.now) appid.now) }
 {
-    if !has_asked(line, app) {
+    if !has_update_check(line, app) {
         return Ok(None);
     }
-    Ok(Some(two(alloc, appid, version_told(app))?))
+    Ok(Some(two(alloc, appid, version_or_mark(app))?))
 }
 
-fn asked_at(
+fn update_check_at(
     alloc: Global,
     line: &Value,
     app: &Value,
@@ -194,12 +194,12 @@ fn asked_at(
     moment: u64,
 ) -> Result<Option<String>, AllocError>
     ensures { IfOk result (λ name. option_map string_bytes name
-        ≡ specs.asked_at moment (view line.now) (view app.now) appid.now) }
+        ≡ specs.update_check_at moment (view line.now) (view app.now) appid.now) }
 {
-    if !has_asked(line, app) {
+    if !has_update_check(line, app) {
         return Ok(None);
     }
-    Ok(Some(course_name(alloc, "asks", appid, version_told(app), moment)?))
+    Ok(Some(course_name(alloc, "asks", appid, version_or_mark(app), moment)?))
 }
 
 fn offered_at(
@@ -222,8 +222,8 @@ fn offered_at(
 }
 
 // The version in an app's request.
-fn version_told<'a>(app: &'a Value) -> &'a str
-    ensures { result.now ≡ specs.version_told (view app.now) }
+fn version_or_mark<'a>(app: &'a Value) -> &'a str
+    ensures { result.now ≡ specs.version_or_mark (view app.now) }
 {
     text_or_mark(text_in(app, "version"))
 }

@@ -5,13 +5,13 @@ ghost use Rattle.serde_json.specs.Data.{Data};
 ghost use Rattle.serde_json.specs.View.{view};
 ghost use Rattle.report.specs.Counts as specs;
 ghost use Rattle.report.specs.Reading.{CountsLines};
-ghost use Rattle.report.specs.Told.{event_in, if_within, told};
+ghost use Rattle.report.specs.LogEvents.{event_in, event_in_window, if_within};
 
 use crate::course::Course;
+use crate::log_events::{event_in, is_kind, is_within, number_in};
 use crate::note::{note_apps, note_ends, note_line};
 use crate::question::{AppQuestion, EventQuestion, LineQuestion};
 use crate::tally::Tally;
-use crate::told::{event_in, is_kind, is_within, number_in};
 use crate::window::Window;
 use serde_json::Value;
 use std::alloc::{AllocError, Global};
@@ -42,7 +42,7 @@ pub struct Report {
     /// Loads by time, generation and path.
     pub loads: Tally,
     /// Update checks by app.
-    pub asked: Tally,
+    pub update_checks: Tally,
     /// Offers by app and release, and by app the update checks without an offer.
     pub offered: Tally,
     pub unoffered: Tally,
@@ -77,7 +77,7 @@ impl Report {
             kinds: Tally::new(alloc, NAMES),
             refusals: Tally::new(alloc, NAMES),
             loads: Tally::new(alloc, NAMES),
-            asked: Tally::new(alloc, NAMES),
+            update_checks: Tally::new(alloc, NAMES),
             offered: Tally::new(alloc, NAMES),
             unoffered: Tally::new(alloc, NAMES),
             hours: Tally::new(alloc, HOURS),
@@ -113,7 +113,7 @@ impl Report {
         line: &[u8],
     ) -> Result<(), AllocError>
         ensures { OnOk result
-            (specs.AddsLine (event_in line.now) (told window.now line.now) self.old self.new) }
+            (specs.AddsLine (event_in line.now) (event_in_window window.now line.now) self.old self.new) }
     {
         match event_in(alloc, line)? {
             Some(event) => self.add_event(alloc, window, &event),
@@ -168,7 +168,7 @@ impl Report {
         note_line(alloc, &mut self.kinds, LineQuestion::Kind, event)?;
         note_line(alloc, &mut self.refusals, LineQuestion::Refusal, event)?;
         note_line(alloc, &mut self.loads, LineQuestion::Load, event)?;
-        note_apps(alloc, &mut self.asked, AppQuestion::Asked, event)?;
+        note_apps(alloc, &mut self.update_checks, AppQuestion::UpdateCheck, event)?;
         note_apps(alloc, &mut self.offered, AppQuestion::Offered, event)?;
         note_apps(alloc, &mut self.unoffered, AppQuestion::Unoffered, event)?;
         note_apps(alloc, &mut self.hours, AppQuestion::Hour, event)?;

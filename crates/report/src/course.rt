@@ -7,10 +7,10 @@ ghost use Rattle.serde_json.specs.View.{view};
 ghost use Rattle.report.specs.Courses as specs;
 ghost use Rattle.report.specs.Tallies.{IsTally, Notes};
 
+use crate::log_events::text_in;
 use crate::note::{note_apps, note_ends};
 use crate::question::{AppQuestion, EventQuestion};
 use crate::tally::{Tally, note_nothing};
-use crate::told::text_in;
 use moments::minute_in;
 use serde_json::Value;
 use std::alloc::{AllocError, Global};
@@ -106,7 +106,7 @@ fn note_versions(alloc: Global, tally: &mut Tally, line: &Value) -> Result<(), A
     note_three(
         alloc,
         tally,
-        AppQuestion::AskedBy,
+        AppQuestion::UpdateCheckBy,
         AppQuestion::Offered,
         EventQuestion::FailedTo,
         line,
@@ -126,7 +126,7 @@ fn note_moment(
         Some(moment) => note_three(
             alloc,
             tally,
-            AppQuestion::AskedAt(moment),
+            AppQuestion::UpdateCheckAt(moment),
             AppQuestion::OfferedAt(moment),
             EventQuestion::FailedAt(moment),
             line,

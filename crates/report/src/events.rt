@@ -8,11 +8,11 @@ ghost use Rattle.report.specs.Names.{listed};
 ghost use Rattle.report.specs.Objects.{json_place};
 ghost use Rattle.report.specs.Tallies.{Notes};
 
+use crate::log_events::{is_number, number_in, text_in};
 use crate::name_text::{course_name, decimal, text_or_mark, three, two};
 use crate::objects::ObjectReader;
 use crate::question::EventQuestion;
 use crate::tally::{Tally, note_if, note_nothing};
-use crate::told::{is_number, number_in, text_in};
 use json_value::read_json;
 use serde_json::Value;
 use std::alloc::{AllocError, Global};
@@ -136,7 +136,7 @@ fn event_name(
     ensures { IfOk result (λ name. option_map string_bytes name
         ≡ specs.event_name question (view app.now) appid.now (view event.now)) }
 {
-    if !is_asked(question, event) {
+    if !is_about(question, event) {
         return Ok(None);
     }
     match question {
@@ -151,8 +151,8 @@ fn event_name(
 }
 
 // Whether the question is about this event.
-fn is_asked(question: EventQuestion, event: &Value) -> bool
-    ensures { result ≡ specs.is_asked question (view event.now) }
+fn is_about(question: EventQuestion, event: &Value) -> bool
+    ensures { result ≡ specs.is_about question (view event.now) }
 {
     match question {
         EventQuestion::Ended | EventQuestion::Result => is_install(event),

@@ -69,7 +69,7 @@ fn push_asks(text: &mut String, report: &Report) -> Result<(), AllocError>
         "rollout_asks",
         "Asks for an update.",
         SampleLabels::App,
-        &report.asked,
+        &report.update_checks,
     )?;
     let help = "Asks that were offered a release.";
     push_metric(

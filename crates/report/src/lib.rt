@@ -14,6 +14,7 @@ mod exposition;
 mod labels;
 mod line_names;
 mod lines;
+mod log_events;
 mod name_text;
 mod note;
 mod objects;
@@ -21,7 +22,6 @@ mod question;
 mod rows;
 mod screen;
 mod tally;
-mod told;
 mod window;
 
 pub use counting::Report;

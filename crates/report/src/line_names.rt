@@ -5,9 +5,9 @@ ghost use Rattle.std.specs.String.{string_bytes};
 ghost use Rattle.serde_json.specs.View.{view};
 ghost use Rattle.report.specs.Names as specs;
 
+use crate::log_events::{is_kind, number_in, text_in};
 use crate::name_text::{decimal, one, text_or_mark, three, two};
 use crate::question::LineQuestion;
-use crate::told::{is_kind, number_in, text_in};
 use serde_json::Value;
 use std::alloc::{AllocError, Global};
 

@@ -8,7 +8,7 @@ ghost use Rattle.report.specs.Lines.{grown, lines_behind};
 ghost use Rattle.report.specs.Reading.{CountsLines, ReadsBlock, ReadsLog};
 
 use crate::counting::Report;
-use crate::told::LINE_LIMIT;
+use crate::log_events::LINE_LIMIT;
 use crate::window::Window;
 use std::alloc::{AllocError, Global};
 use std::io::{self, Error, ErrorKind, Read};

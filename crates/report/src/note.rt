@@ -9,9 +9,9 @@ ghost use Rattle.report.specs.Tallies.{Notes};
 use crate::app_names::app_name;
 use crate::events::note_events;
 use crate::line_names::line_name;
+use crate::log_events::apps_in;
 use crate::question::{AppQuestion, EventQuestion, LineQuestion};
 use crate::tally::{Tally, note_if, note_nothing};
-use crate::told::apps_in;
 use serde_json::Value;
 use std::alloc::{AllocError, Global};
 

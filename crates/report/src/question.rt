@@ -4,7 +4,7 @@
 #[derive(Clone, Copy)]
 pub enum AppQuestion {
     /// It made an update check, which was answered.
-    Asked,
+    UpdateCheck,
     /// The release that it was offered.
     Offered,
     /// It was offered no release.
@@ -22,9 +22,9 @@ pub enum AppQuestion {
     /// A part of its event is left out.
     CutEvent,
     /// The version that made an update check.
-    AskedBy,
+    UpdateCheckBy,
     /// The same with this minute or hour since 1970.
-    AskedAt(u64),
+    UpdateCheckAt(u64),
     /// The offered release, with this minute or hour since 1970.
     OfferedAt(u64),
 }

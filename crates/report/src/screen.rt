@@ -64,7 +64,7 @@ fn push_left_out(text: &mut String, report: &Report) -> Result<(), AllocError>
 fn push_asks(text: &mut String, report: &Report) -> Result<(), AllocError>
     ensures { OnOk result (Puts text.old text.new (specs.asks_text report.now)) }
 {
-    push_table(text, "asks\n", &report.asked)?;
+    push_table(text, "asks\n", &report.update_checks)?;
     push_table(text, "offers\n", &report.offered)?;
     push_table(text, "no update\n", &report.unoffered)?;
     push_buckets(text, report)?;
@@ -92,7 +92,7 @@ fn push_buckets(text: &mut String, report: &Report) -> Result<(), AllocError>
         return Ok(());
     }
     text.push_str("buckets\n")?;
-    push_bucket_rows(text, &report.buckets.rows, &report.asked.rows)?;
+    push_bucket_rows(text, &report.buckets.rows, &report.update_checks.rows)?;
     push_others(text, report.buckets.others)?;
     Ok(())
 }
@@ -101,12 +101,12 @@ fn push_buckets(text: &mut String, report: &Report) -> Result<(), AllocError>
 fn push_bucket_rows(
     text: &mut String,
     buckets: &BTreeMap<String, u64>,
-    asked: &BTreeMap<String, u64>,
+    update_checks: &BTreeMap<String, u64>,
 ) -> Result<(), AllocError>
     ensures { OnOk result (Puts text.old text.new
-        (specs.bucket_rows buckets.now.entries asked.now.entries)) }
+        (specs.bucket_rows buckets.now.entries update_checks.now.entries)) }
 {
-    for (app, _asks) in asked.iter() {
+    for (app, _asks) in update_checks.iter() {
         push_bucket_row(text, buckets, app.as_str())?;
     }
     Ok(())

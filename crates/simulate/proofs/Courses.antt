@@ -10,7 +10,7 @@ use Rattle.attrs.specs.Attributes.{Attributes}
 use Rattle.bpf_semantics.specs.Program.{ShapedProgram}
 use Rattle.ruleset.specs.Rules.{AppRule}
 use Rattle.simulate.specs.Clients.{IsSameButCohort, IsSameButApp, attributes, clients}
-use Rattle.simulate.specs.Clients.{in_bucket, asking_for}
+use Rattle.simulate.specs.Clients.{in_bucket, requesting}
 use Rattle.simulate.specs.Course.{Chooses, InTurn, AsksForApp, AppByApp}
 use Rattle.simulate.specs.Course.InTurn.{none, next}
 use Rattle.simulate.specs.Course.AppByApp.{none as no_app, next as next_app}
@@ -90,7 +90,7 @@ one_app_more first now after old between new apps i app chosen longer choices so
     let apps_are : take (i + 1) apps ≡ take i apps ++ app ∷ [] =
     rw add-one (take-suc apps i app within
     ∙ ap (λ (a : AppRule). take i apps ++ a ∷ []) (sym found)) in
-    let said : clients (asking_for now app.appid) ≡ clients (asking_for first app.appid) =
+    let said : clients (requesting now app.appid) ≡ clients (requesting first app.appid) =
     λ k. λ bucket. ap attributes (so_far.client app.appid bucket) k in
     let own = subst (λ (c : ℕ → Attributes). InTurn app.program c between 10000 choices new)
     said asks in

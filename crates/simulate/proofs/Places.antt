@@ -21,15 +21,15 @@ none_left (x ∷ rest) few = absurd (omega (arith, few))
 
 module _ (apps : List AppRule) (appid : List ℕ) where
   -- the apps from a place on are left, and the one with the appid isn't before it
-  pub record IsBehind (place : ℕ) (left : List AppRule) : Type 0 where
+  pub record IsRemaining (place : ℕ) (left : List AppRule) : Type 0 where
     pub left_are : left ≡ drop place apps
     pub same : app_in left appid ≡ app_in apps appid
     pub within : place + length left ≡ length apps
 
-  pub all_left : IsBehind 0 apps
+  pub all_left : IsRemaining 0 apps
   all_left = record { left_are = refl; same = refl; within = omega arith }
 
-  module _ (place : ℕ) (left others : List AppRule) (app : AppRule) (at : IsBehind place left)
+  module _ (place : ℕ) (left others : List AppRule) (app : AppRule) (at : IsRemaining place left)
       (is : left ≡ app ∷ others) where
     count : length left ≡ length (app ∷ others)
     count = ap length is
@@ -37,7 +37,7 @@ module _ (apps : List AppRule) (appid : List ℕ) where
     inside : place < length apps
     inside = omega (arith, at.within, count)
 
-    pub goes_on : bytes_eq app.appid appid ≡ false → IsBehind (place + 1) others
+    pub goes_on : bytes_eq app.appid appid ≡ false → IsRemaining (place + 1) others
     goes_on other = record {
       left_are = ap (λ (l : List AppRule). drop 1 l)
           (sym is ∙ at.left_are ∙ drop_more apps place app inside);
@@ -61,6 +61,6 @@ module _ (apps : List AppRule) (appid : List ℕ) where
           within = inside;
         }
 
-  pub nowhere : (place : ℕ) (left : List AppRule) → IsBehind place left → left ≡ []
+  pub nowhere : (place : ℕ) (left : List AppRule) → IsRemaining place left → left ≡ []
       → app_in apps appid ≡ None
   nowhere place left at is = sym at.same ∙ ap (λ (l : List AppRule). app_in l appid) is

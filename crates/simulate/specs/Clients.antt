@@ -10,8 +10,8 @@ abbrev pub in_bucket : Client → ℕ → Client
 in_bucket c bucket = record c { app = record c.app { cohort = Some (told_cohort bucket) } }
 
 -- a client that requests the app with an appid
-abbrev pub asking_for : Client → List ℕ → Client
-asking_for c appid = record c { app = record c.app { appid = appid } }
+abbrev pub requesting : Client → List ℕ → Client
+requesting c appid = record c { app = record c.app { appid = appid } }
 
 -- the attributes of a client
 abbrev pub attributes : Client → Attributes
@@ -27,4 +27,4 @@ IsSameButCohort c d = (bucket : ℕ) → in_bucket d bucket ≡ in_bucket c buck
 
 abbrev pub IsSameButApp : Client → Client → Type 0
 IsSameButApp c d = (appid : List ℕ) (bucket : ℕ)
-    → in_bucket (asking_for d appid) bucket ≡ in_bucket (asking_for c appid) bucket
+    → in_bucket (requesting d appid) bucket ≡ in_bucket (requesting c appid) bucket

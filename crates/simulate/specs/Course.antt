@@ -8,7 +8,7 @@ use Rattle.bpf_semantics.specs.Program.{ShapedProgram}
 use Rattle.bpf_semantics.specs.Run.{Ends}
 use Rattle.bpf_semantics.specs.State.{opening}
 use Rattle.ruleset.specs.Rules.{AppRule}
-use Rattle.simulate.specs.Clients.{clients, asking_for}
+use Rattle.simulate.specs.Clients.{clients, requesting}
 use Rattle.simulate.specs.declared.client.Client.{Client}
 
 -- how many buckets there are
@@ -36,7 +36,7 @@ pub data InTurn (program : ShapedProgram) (client : ℕ → Attributes) (old : L
 -- the choices of the clients of all buckets for an app
 abbrev pub AsksForApp : Client → AppRule → (old choices new : List ℕ) → Type 0
 AsksForApp client app old choices new =
-    InTurn app.program (clients (asking_for client app.appid)) old bucket_count choices new
+    InTurn app.program (clients (requesting client app.appid)) old bucket_count choices new
 
 -- the apps, in order: the clients' choices for each, and the values that they leave
 pub data AppByApp (client : Client) (old : List ℕ)

@@ -16,12 +16,12 @@ pub struct Client {
 }
 
 impl Client {
-    ghost use Rattle.simulate.specs.Clients.{in_bucket, asking_for, attributes};
+    ghost use Rattle.simulate.specs.Clients.{in_bucket, requesting, attributes};
     ghost use Rattle.simulate.specs.Clients.{IsSameButCohort, IsSameButApp};
 
     /// Changes the app for which the client requests an update.
     pub(crate) fn ask_for(&mut self, alloc: Global, appid: &str) -> Result<(), AllocError>
-        ensures asks { OnOk result (self.new ≡ asking_for self.old appid.now) }
+        ensures asks { OnOk result (self.new ≡ requesting self.old appid.now) }
         ensures same { IsSameButApp self.old self.new }
     {
         let appid = String::from_str(alloc, appid)?;
@@ -34,7 +34,7 @@ impl Client {
         ensures moves { OnOk result (self.new ≡ in_bucket self.old bucket) }
         ensures same { IsSameButCohort self.old self.new }
     {
-        let cohort = told_cohort(alloc, bucket)?;
+        let cohort = cohort_of(alloc, bucket)?;
         self.app.cohort = Some(cohort);
         Ok(())
     }
@@ -52,7 +52,7 @@ impl Client {
 }
 
 // The cohort that a server gave to the client of a bucket: `b:` and four digits.
-fn told_cohort(alloc: Global, bucket: u16) -> Result<Text, AllocError>
+fn cohort_of(alloc: Global, bucket: u16) -> Result<Text, AllocError>
     ensures { IfOk result (λ text. text ≡ specs.told_cohort bucket) }
 {
     let first = bucket / 1000 % 10;

@@ -4,7 +4,7 @@ ghost use Rattle.std.specs.Prelude.{◌≡◌, length, IfOk};
 ghost use Rattle.simulate.specs.Clients.{IsSameButApp};
 ghost use Rattle.simulate.specs.Course.{AsksForApp, IsSimulated};
 
-use crate::asking::ask_all;
+use crate::runs::run_all;
 use crate::choices::Choices;
 use crate::client::Client;
 use cells::{PlainCells, PlainPass};
@@ -14,7 +14,7 @@ use std::alloc::{AllocError, Global};
 /// An observer of a simulation's progress.
 pub trait Onlooker {
     /// Reports that `done` of `all` apps are evaluated.
-    fn asked(&mut self, done: usize, all: usize);
+    fn evaluated(&mut self, done: usize, all: usize);
 }
 
 /// The choices of the clients of all buckets for each app, in the ruleset's order. All counters are
@@ -38,7 +38,7 @@ pub fn simulate<O: Onlooker>(
     for app in apps {
         let choices = ask_for_app(alloc, app, client, &cells, &mut pass)?;
         chosen.push(choices)?;
-        onlooker.asked(chosen.len(), apps.len());
+        onlooker.evaluated(chosen.len(), apps.len());
     }
     Ok(chosen)
 }
@@ -56,5 +56,5 @@ fn ask_for_app(
     ensures client { IsSameButApp client.old client.new }
 {
     client.ask_for(alloc, app.appid())?;
-    ask_all(alloc, app.program(), client, cells, pass)
+    run_all(alloc, app.program(), client, cells, pass)
 }

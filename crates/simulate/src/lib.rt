@@ -12,7 +12,6 @@
 // A simulation is kept with its ruleset, so the releases of an app are available with the choices
 // of its buckets. Each text is written by appending part after part, and each part is a definition.
 
-mod asking;
 mod bucket_square;
 mod choices;
 mod client;
@@ -26,6 +25,7 @@ mod move_objects;
 mod moves;
 mod objects;
 mod picturing;
+mod runs;
 mod share_objects;
 mod shares;
 mod simulated;

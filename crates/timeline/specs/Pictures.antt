@@ -155,13 +155,13 @@ drawing_over r t bins = record {
 abbrev pub undrawn_of : Report → Tally → Bins → Undrawn
 undrawn_of r t bins = record {
   counts = t.others;
-  asks = r.asked.others;
+  asks = r.update_checks.others;
   loads = r.loads.others + loads_outside bins r.loads.rows.entries;
 }
 
 abbrev pub picture_over : Report → Tally → Bins → List ℕ
 picture_over r t bins =
-    picture_with (drawing_over r t bins) r.asked.rows.entries (undrawn_of r t bins)
+    picture_with (drawing_over r t bins) r.update_checks.rows.entries (undrawn_of r t bins)
 
 abbrev pub picture_of_reach : Report → Tally → Bool → Option Reach → List ℕ
 picture_of_reach r t by_hour (Some reach) = picture_over r t (bins_over reach by_hour)
@@ -176,5 +176,5 @@ picture_when r by_hour = picture_by_table r (table_of r.course by_hour) by_hour
 -- an empty chart if no app has update checks, or no row has a readable time
 abbrev pub course_picture : Report → List ℕ
 course_picture r =
-    if length r.asked.rows.entries == 0 then picture_of_none
+    if length r.update_checks.rows.entries == 0 then picture_of_none
     else picture_when r (not (is_fine r.course.by_minute))

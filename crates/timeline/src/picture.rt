@@ -58,7 +58,7 @@ pub(crate) struct Undrawn {
 pub fn draw_course(alloc: Global, report: &Report) -> Result<String, AllocError>
     ensures { IfOk result (λ text. string_bytes text ≡ specs.course_picture report.now) }
 {
-    if report.asked.rows().is_empty() {
+    if report.update_checks.rows().is_empty() {
         return drawn_none(alloc);
     }
     let by_hour = !is_fine(&report.course.by_minute);
@@ -134,7 +134,7 @@ fn drawn_with<'a>(
 {
     let source = source_of(report, tally, bins);
     let undrawn = undrawn_of(report, tally, &bins)?;
-    picture_with(alloc, &source, report.asked.rows(), undrawn)
+    picture_with(alloc, &source, report.update_checks.rows(), undrawn)
 }
 
 fn undrawn_of(report: &Report, tally: &Tally, bins: &Bins) -> Result<Undrawn, AllocError>
@@ -145,7 +145,7 @@ fn undrawn_of(report: &Report, tally: &Tally, bins: &Bins) -> Result<Undrawn, Al
     let outside = loads_outside(bins, report.loads.rows())?;
     Ok(Undrawn {
         counts: tally.others(),
-        asks: report.asked.others(),
+        asks: report.update_checks.others(),
         loads: added(report.loads.others(), outside)?,
     })
 }

@@ -2,8 +2,8 @@
 //! replies.
 #![tactic(auto)]
 
+mod assignment;
 mod line;
-mod told;
 
-pub use line::told_lines;
-pub use told::ToldCell;
+pub use assignment::CellAssignment;
+pub use line::read_assignments;

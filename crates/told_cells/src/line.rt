@@ -2,17 +2,17 @@
 
 ghost use Rattle.std.specs.Prelude.{◌≡◌, IfOk, map};
 ghost use Rattle.std.specs.Str.Lines.{lines};
-ghost use Rattle.told_cells.specs.Told as specs;
+ghost use Rattle.told_cells.specs.Assignments as specs;
 
-use crate::told::ToldCell;
+use crate::assignment::CellAssignment;
 use std::alloc::{AllocError, Global};
 
 /// The cells in the lines of a text, each `NAME[INDEX] VALUE`; other lines are skipped.
-pub fn told_lines<'a>(alloc: Global, text: &'a str) -> Result<Vec<ToldCell<'a>>, AllocError>
-    ensures { IfOk result (λ v. v.items ≡ specs.told_by (lines text.now)) }
+pub fn read_assignments<'a>(alloc: Global, text: &'a str) -> Result<Vec<CellAssignment<'a>>, AllocError>
+    ensures { IfOk result (λ v. v.items ≡ specs.assignments_in (lines text.now)) }
 {
     let lines = lines_of(alloc, text)?;
-    let cells = told_by(alloc, &lines)?;
+    let cells = assignments_in(alloc, &lines)?;
     Ok(cells)
 }
 
@@ -22,13 +22,13 @@ fn lines_of<'a>(alloc: Global, text: &'a str) -> Result<Vec<&'a str>, AllocError
     text.lines().collect(alloc)
 }
 
-fn told_by<'a>(alloc: Global, lines: &[&'a str]) -> Result<Vec<ToldCell<'a>>, AllocError>
-    ensures { IfOk result (λ v. v.items ≡ specs.told_by (map (λ line. line.now) lines.now)) }
+fn assignments_in<'a>(alloc: Global, lines: &[&'a str]) -> Result<Vec<CellAssignment<'a>>, AllocError>
+    ensures { IfOk result (λ v. v.items ≡ specs.assignments_in (map (λ line. line.now) lines.now)) }
 {
     let mut cells = Vec::with_capacity(alloc, lines.len())?;
     let mut rest = lines;
     while let [line, more @ ..] = rest {
-        if let Some(cell) = ToldCell::listed(line) {
+        if let Some(cell) = CellAssignment::listed(line) {
             cells.push(cell)?;
         }
         rest = more;

@@ -10,7 +10,7 @@ use Rattle.dry_run.specs.Told.{IsUnanswered, RepliesAsTold}
 use Rattle.operator.specs.Done.{IsAskRefusal, IsDoneAs}
 use Rattle.operator_request.specs.declared.request.OperatorRequest.TheVariants as sent
 use Rattle.ruleset.specs.Rules.{Rules}
-use Rattle.told_cells.specs.Told.{Told, told_by}
+use Rattle.told_cells.specs.Assignments.{Assignment, assignments_in}
 use Rattle.tool_commands.specs.declared.fault.Fault.{Fault}
 use Rattle.tool_commands.specs.declared.fault.Fault.TheVariants.{Ask, DryRun, Resource}
 use Rattle.tool_words.specs.declared.args.AskArgs.{AskArgs}
@@ -18,10 +18,10 @@ use Rattle.tool_words.specs.declared.args.AskArgs.{AskArgs}
 -- ---- from a ruleset with its arrays, for a body
 
 -- the cells of some reply to `cells`, and none without a port
-abbrev pub AreServed : (port : Option ℕ) → List Told → Type 0
+abbrev pub AreServed : (port : Option ℕ) → List Assignment → Type 0
 AreServed None served = served ≡ []
 AreServed (Some port) served =
-    (reply : List ℕ) × IsDoneAs sent.Cells reply × (served ≡ told_by (lines reply))
+    (reply : List ℕ) × IsDoneAs sent.Cells reply × (served ≡ assignments_in (lines reply))
 
 -- the given moment, or any moment without one
 abbrev pub IsAt : (at : Option ℤ) → ℤ → Type 0
@@ -33,7 +33,7 @@ pub record IsReplyBy (rules : Rules) (arrays : List CellArray) (body : List ℕ)
     (args : AskArgs) (text : List ℕ) : Type 0 where
   pub moment : ℤ
   pub at : IsAt args.at moment
-  pub served : List Told
+  pub served : List Assignment
   pub counters : AreServed args.operator served
   pub replies : RepliesAsTold rules arrays body moment served args.cells.items text
 
@@ -41,7 +41,7 @@ pub record IsReplyBy (rules : Rules) (arrays : List CellArray) (body : List ℕ)
 -- nothing is claimed for out of memory
 abbrev pub IsReplyFault : List CellArray → (body : List ℕ) → AskArgs → Fault → Type 0
 IsReplyFault arrays body args (DryRun why) =
-    (served : List Told) × AreServed args.operator served
+    (served : List Assignment) × AreServed args.operator served
     × IsUnanswered arrays body served args.cells.items why
 IsReplyFault arrays body args (Ask why) = IsSome args.operator × IsAskRefusal sent.Cells why
 IsReplyFault arrays body args (Resource resource.Memory) = Unit {0}

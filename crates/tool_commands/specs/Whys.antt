@@ -6,7 +6,7 @@ use Rattle.dry_run.specs.Meanings.{AreOpenedWhy}
 use Rattle.dry_run.specs.Why.{TellsWhy}
 use Rattle.dry_run.specs.declared.why_files.OpenedWhy.{OpenedWhy}
 use Rattle.manifest_tools.specs.Checks.{digest_line}
-use Rattle.told_cells.specs.Told.{Told}
+use Rattle.told_cells.specs.Assignments.{Assignment}
 use Rattle.tool_commands.specs.DryRuns.{AreServed, IsAt, IsReplyFault}
 use Rattle.tool_commands.specs.declared.fault.Fault.{Fault}
 use Rattle.tool_commands.specs.declared.fault.Fault.TheVariants.{DryRun}
@@ -17,7 +17,7 @@ use Rattle.tool_words.specs.declared.args.AskArgs.{AskArgs}
 pub record IsWhyBy (opened : OpenedWhy) (args : AskArgs) (text : List ℕ) : Type 0 where
   pub moment : ℤ
   pub at : IsAt args.at moment
-  pub served : List Told
+  pub served : List Assignment
   pub counters : AreServed args.operator served
   pub lines : List ℕ
   pub tells : TellsWhy opened moment served args.cells.items lines

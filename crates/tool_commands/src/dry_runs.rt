@@ -4,7 +4,7 @@ ghost use Rattle.std.specs.Prelude.{IfOk, IfErr, IsSome};
 ghost use Rattle.std.specs.String.{string_bytes};
 ghost use Rattle.std.specs.Str.Lines.{lines};
 ghost use Rattle.operator.specs.Done.{IsAskRefusal};
-ghost use Rattle.told_cells.specs.Told.{told_by};
+ghost use Rattle.told_cells.specs.Assignments.{assignments_in};
 ghost use Rattle.tool_commands.specs.DryRuns as specs;
 ghost use Rattle.tool_commands.specs.Outputs.{IsOutput, IsRefused};
 
@@ -18,7 +18,7 @@ use operator::{RequestFault, ask_server};
 use operator_request::OperatorRequest;
 use std::net::{Net, TcpStream};
 use std::time::{Clock, SystemTime, UNIX_EPOCH};
-use told_cells::told_lines;
+use told_cells::read_assignments;
 use tool_words::{AskArgs, ToolCommand};
 
 /// The body of the reply, or why each app gets what it gets. The files are opened first; then a
@@ -77,7 +77,7 @@ where
         Ok(reply) => reply,
         Err(fault) => return Err(Fault::Ask(fault)),
     };
-    let Ok(served) = told_lines(rt.alloc(), reply.as_str()) else {
+    let Ok(served) = read_assignments(rt.alloc(), reply.as_str()) else {
         return Err(Fault::Resource(ResourceFault::Memory));
     };
     let moment = moment_of(rt, args.at);
@@ -91,7 +91,7 @@ where
 pub(crate) fn served_reply<R>(rt: &R, port: Option<u16>) -> Result<String, RequestFault>
 where
     R: AllocGlobal + Net<Stream = TcpStream>,
-    ensures served { IfOk result (λ t. specs.AreServed port (told_by (lines (string_bytes t)))) }
+    ensures served { IfOk result (λ t. specs.AreServed port (assignments_in (lines (string_bytes t)))) }
     ensures fault { IfErr result (λ fault. IsSome port × IsAskRefusal OperatorRequest.Cells fault) }
 {
     match port {

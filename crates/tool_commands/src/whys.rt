@@ -16,7 +16,7 @@ use manifest_tools::push_digest;
 use std::alloc::AllocError;
 use std::net::{Net, TcpStream};
 use std::time::Clock;
-use told_cells::told_lines;
+use told_cells::read_assignments;
 use tool_words::AskArgs;
 
 /// Why each app gets what it gets, and last the line `digest ..` that `check` prints for the
@@ -58,7 +58,7 @@ where
         Ok(reply) => reply,
         Err(fault) => return Err(Fault::Ask(fault)),
     };
-    let Ok(served) = told_lines(rt.alloc(), reply.as_str()) else {
+    let Ok(served) = read_assignments(rt.alloc(), reply.as_str()) else {
         return Err(Fault::Resource(ResourceFault::Memory));
     };
     let moment = moment_of(rt, args.at);

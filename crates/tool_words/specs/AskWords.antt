@@ -4,20 +4,20 @@ use Rattle.std.specs.Prelude.{Option, Some, None, option_and_then, option_map}
 use Rattle.clap.specs.Words.{Row, Text, first_of}
 use Rattle.command_line.specs.Seconds.{second_by}
 use Rattle.command_line.specs.Values.{HasFlag, HasShort, HasText, LacksShort, texts_of}
-use Rattle.told_cells.specs.Told.{Told, assigned}
+use Rattle.told_cells.specs.Assignments.{Assignment, assigned}
 use Rattle.tool_words.specs.declared.args.AskArgs.{AskArgs}
 
 -- ---- the counters
 
-abbrev pub joined : Option Told → Option (List Told) → Option (List Told)
+abbrev pub joined : Option Assignment → Option (List Assignment) → Option (List Assignment)
 joined first rest = option_and_then (λ c. option_map (λ cs. c ∷ cs) rest) first
 
 -- the cells that all texts give, each NAME[INDEX]=VALUE
-abbrev pub cells_in : List Text → Option (List Told)
+abbrev pub cells_in : List Text → Option (List Assignment)
 cells_in [] = Some []
 cells_in (text ∷ more) = joined (assigned text) (cells_in more)
 
-abbrev pub HasCells : List Row → List Told → Type 0
+abbrev pub HasCells : List Row → List Assignment → Type 0
 HasCells rows cells = cells_in (texts_of (codes "cells") rows) ≡ Some cells
 
 abbrev pub LacksCells : List Row → Type 0

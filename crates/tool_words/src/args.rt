@@ -3,7 +3,7 @@
 use attrs::Moment;
 use command_line::{AppArgs, DeclaredShape, RunArgs};
 use moments::NamedTime;
-use told_cells::ToldCell;
+use told_cells::CellAssignment;
 
 /// The arguments of `check`: manifests. With `strict`, each warning counts unless its name is among
 /// the allowed ones.
@@ -52,7 +52,7 @@ pub struct AskArgs<'a> {
     pub manifest: &'a str,
     pub request: &'a str,
     pub at: Option<Moment>,
-    pub cells: Vec<ToldCell<'a>>,
+    pub cells: Vec<CellAssignment<'a>>,
     pub operator: Option<u16>,
     /// Whether the output is why each app gets its offer, in place of the reply.
     pub why: bool,

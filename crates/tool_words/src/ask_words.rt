@@ -13,7 +13,7 @@ use command_line::{
     ArgsError, ArgumentFault, flag_of, optional_number, second_of, text_of, texts_of,
 };
 use std::alloc::Global;
-use told_cells::ToldCell;
+use told_cells::CellAssignment;
 
 /// The command of `ask`.
 pub(crate) fn read_ask<'a>(
@@ -49,7 +49,7 @@ fn ask_args<'a>(alloc: Global, found: &ArgMatches<'a>) -> Result<AskArgs<'a>, Ar
 
 // ---- the counters
 
-fn cells_of<'a>(alloc: Global, found: &ArgMatches<'a>) -> Result<Vec<ToldCell<'a>>, ArgsError>
+fn cells_of<'a>(alloc: Global, found: &ArgMatches<'a>) -> Result<Vec<CellAssignment<'a>>, ArgsError>
     ensures given { IfOk result (λ v. specs.HasCells (rows_of (found_of found.now)) v.items) }
     ensures lacking { OnWrong result (specs.LacksCells (rows_of (found_of found.now))) }
 {
@@ -60,7 +60,7 @@ fn cells_of<'a>(alloc: Global, found: &ArgMatches<'a>) -> Result<Vec<ToldCell<'a
 }
 
 // The cells that the texts give.
-fn cells_in<'a>(alloc: Global, given: &[&'a str]) -> Result<Vec<ToldCell<'a>>, ArgsError>
+fn cells_in<'a>(alloc: Global, given: &[&'a str]) -> Result<Vec<CellAssignment<'a>>, ArgsError>
     ensures given { IfOk result (λ v.
         specs.cells_in (map (λ text. text.now) given.now) ≡ Some v.items) }
     ensures lacking { OnWrong result (specs.cells_in (map (λ text. text.now) given.now) ≡ None) }
@@ -68,7 +68,7 @@ fn cells_in<'a>(alloc: Global, given: &[&'a str]) -> Result<Vec<ToldCell<'a>>, A
     let mut cells = Vec::new(alloc);
     let mut rest = given;
     while let [text, more @ ..] = rest {
-        let Some(cell) = ToldCell::assigned(text) else {
+        let Some(cell) = CellAssignment::assigned(text) else {
             return Err(ArgsError::Wrong(ArgumentFault::Cells));
         };
         match cells.push(cell) {

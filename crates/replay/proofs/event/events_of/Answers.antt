@@ -1,7 +1,7 @@
 use Rattle.std.proofs.Common.{rules, ◌≡◌, Err}
 use Rattle.replay.proofs.Sharing.{none_shared}
 use Rattle.replay.proofs.Walk.{begins, goes_on, ends, fails}
-use Rattle.replay.specs.Asked.{no_memory}
+use Rattle.replay.specs.LineEvents.{no_memory}
 use Rattle.replay.proofs.event.events_of.Goals as goal
 
 pub loop-line-init : goal.loop-line-init

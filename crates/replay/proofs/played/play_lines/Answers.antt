@@ -8,9 +8,9 @@ loop-left-init c = rw c.in_ok-replies.ensures.items (begins _ _ _)
 pub loop-left-preserved : goal.loop-left-preserved
 loop-left-preserved c =
     goes_on c.batches_compose.ensures.join c.args.world.now c.loop-left.world
-    c.play_line.new.world c.args.lines.now c.loop-left.left.now c.asked-item.result
+    c.play_line.new.world c.args.lines.now c.loop-left.left.now c.requested-item.result
     c.args.events.now c.loop-left.events.now c.event-item.result c.loop-left.replies.items
-    c.push.new.self.items c.in_ok-reply.reply (omega arith) c.asked-item.is (omega arith)
+    c.push.new.self.items c.in_ok-reply.reply (omega arith) c.requested-item.is (omega arith)
     c.event-item.is c.in_ok-push.ensures.items c.loop-left.invariant c.in_ok-reply.ensures
 
 pub returns : goal.returns

@@ -6,4 +6,4 @@ use Rattle.report.proofs.screen.push_bucket_rows.Given as goal
 abbrev pub invariant-loop-app : goal.invariant-loop-app
 invariant-loop-app l =
     string_bytes l.text ++ bucket_rows l.buckets.entries l.app-iterator
-    ≡ string_bytes l.fn.text ++ bucket_rows l.buckets.entries l.asked.entries
+    ≡ string_bytes l.fn.text ++ bucket_rows l.buckets.entries l.update_checks.entries

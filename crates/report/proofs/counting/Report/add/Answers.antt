@@ -5,7 +5,7 @@ use Rattle.report.proofs.counting.Report.add.Goals as goal
 
 pub returns : goal.returns
 returns c = record {
-  lines_told = c.raised-self.ensures;
+  lines_counted = c.raised-self.ensures;
   foreign = stays c.args.self.now.foreign;
   lost = subst (λ (k : ℕ). GoesUp c.args.self.now.lost c.raised-self-2.result k)
       c.number_in_kind-lost.ensures c.raised-self-2.ensures;
@@ -17,7 +17,7 @@ returns c = record {
   kinds = c.in_ok-note_line.ensures;
   refusals = c.in_ok-note_line-2.ensures;
   loads = c.in_ok-note_line-3.ensures;
-  asked = c.in_ok-note_apps.ensures;
+  update_checks = c.in_ok-note_apps.ensures;
   offered = c.in_ok-note_apps-2.ensures;
   unoffered = c.in_ok-note_apps-3.ensures;
   hours = c.in_ok-note_apps-4.ensures;

@@ -83,5 +83,5 @@ abbrev pub if_within : Window → Data → Option Data
 if_within window d = if is_within window (text_in (codes "time") d) then Some d else None
 
 -- the event of a line, if it is the server's and in the window
-abbrev pub told : Window → List ℕ → Option Data
-told window line = option_and_then (if_within window) (event_in line)
+abbrev pub event_in_window : Window → List ℕ → Option Data
+event_in_window window line = option_and_then (if_within window) (event_in line)

@@ -6,7 +6,7 @@ use Rattle.bpf_semantics.specs.Program.{ShapedProgram}
 use Rattle.bpf_semantics.specs.State.{opening}
 use Rattle.bpf_semantics.specs.Run.{Ends}
 use Rattle.simulate.specs.Clients.{attributes}
-use Rattle.simulate.proofs.asking.ask.Goals as goal
+use Rattle.simulate.proofs.runs.ask.Goals as goal
 
 pub returns-clause-chooses : goal.returns-clause-chooses
 returns-clause-chooses c =

@@ -15,7 +15,7 @@ use std::alloc::{AllocError, Global};
 use std::sync::Arc;
 
 /// The choices of the clients of all buckets, in order.
-pub(crate) fn ask_all(
+pub(crate) fn run_all(
     alloc: Global,
     program: &Arc<Verified>,
     client: &mut Client,

@@ -1,6 +1,6 @@
 use Rattle.std.specs.Arc.{arc_value}
 use Rattle.simulate.proofs.Courses.{none_yet, one_more}
-use Rattle.simulate.proofs.asking.ask_all.Goals as goal
+use Rattle.simulate.proofs.runs.run_all.Goals as goal
 
 pub loop-bucket-init : goal.loop-bucket-init
 loop-bucket-init c = rw c.in_ok-choices.ensures.items

@@ -1,7 +1,7 @@
 //! One cell of an array, with its value.
 
 ghost use Rattle.std.specs.Prelude.{◌≡◌, ◌≤◌, IfSome};
-ghost use Rattle.told_cells.specs.Told as specs;
+ghost use Rattle.told_cells.specs.Assignments as specs;
 
 use lexing::decimal_within;
 use std::marker::Model;
@@ -11,24 +11,24 @@ const LAST_INDEX: u64 = 65535;
 
 /// A cell, by the name of its array and its index, and its value. The array may not exist.
 #[derive(Debug, Drop)]
-pub struct ToldCell<'a> {
+pub struct CellAssignment<'a> {
     array: &'a str,
     index: u16,
     value: u64,
 }
 
-impl<'a> Model for ToldCell<'a> {
-    ghost use Rattle.told_cells.specs.Told.{Told};
+impl<'a> Model for CellAssignment<'a> {
+    ghost use Rattle.told_cells.specs.Assignments.{Assignment};
 
-    ghost Value = { Told };
+    ghost Value = { Assignment };
 
     ghost view = { λ c. record { array = c.array.now; index = c.index; value = c.value } };
 }
 
-impl<'a> ToldCell<'a> {
+impl<'a> CellAssignment<'a> {
     /// The cell of a text `NAME[INDEX]=VALUE`. The index is 0 to 65535, the value has 64 bits, both
     /// in decimal digits.
-    pub fn assigned(text: &'a str) -> Option<ToldCell<'a>>
+    pub fn assigned(text: &'a str) -> Option<CellAssignment<'a>>
         ensures { result ≡ specs.assigned text.now }
     {
         match text.split_once('=') {
@@ -38,7 +38,7 @@ impl<'a> ToldCell<'a> {
     }
 
     /// The cell of a text `NAME[INDEX] VALUE`.
-    pub fn listed(text: &'a str) -> Option<ToldCell<'a>>
+    pub fn listed(text: &'a str) -> Option<CellAssignment<'a>>
         ensures { result ≡ specs.listed text.now }
     {
         match text.split_once(' ') {
@@ -69,7 +69,7 @@ impl<'a> ToldCell<'a> {
     }
 }
 
-fn valued<'a>(cell: &'a str, value: Option<u64>) -> Option<ToldCell<'a>>
+fn valued<'a>(cell: &'a str, value: Option<u64>) -> Option<CellAssignment<'a>>
     ensures { result ≡ specs.valued cell.now value }
 {
     match cell.split_once('[') {
@@ -78,7 +78,7 @@ fn valued<'a>(cell: &'a str, value: Option<u64>) -> Option<ToldCell<'a>>
     }
 }
 
-fn indexed<'a>(array: &'a str, rest: &str, value: Option<u64>) -> Option<ToldCell<'a>>
+fn indexed<'a>(array: &'a str, rest: &str, value: Option<u64>) -> Option<CellAssignment<'a>>
     ensures { result ≡ specs.indexed array.now rest.now value }
 {
     match rest.split_once(']') {
@@ -93,7 +93,7 @@ fn ended<'a>(
     behind: &str,
     index: Option<u64>,
     value: Option<u64>,
-) -> Option<ToldCell<'a>>
+) -> Option<CellAssignment<'a>>
     requires { IfSome index (λ i. i ≤ 65535) }
     ensures { result ≡ specs.ended array.now behind.now index value }
 {
@@ -104,12 +104,12 @@ fn ended<'a>(
     }
 }
 
-fn of_parts<'a>(array: &'a str, index: Option<u64>, value: Option<u64>) -> Option<ToldCell<'a>>
+fn of_parts<'a>(array: &'a str, index: Option<u64>, value: Option<u64>) -> Option<CellAssignment<'a>>
     requires { IfSome index (λ i. i ≤ 65535) }
     ensures { result ≡ specs.of_parts array.now index value }
 {
     match (index, value) {
-        (Some(index), Some(value)) => Some(ToldCell {
+        (Some(index), Some(value)) => Some(CellAssignment {
             array,
             index: index as u16,
             value,

@@ -5,23 +5,23 @@ use Rattle.bpf_checks.specs.declared.refusal.VerifierRule.{VerifierRule}
 use Rattle.bpf_checks.specs.declared.refusal.VerifierRule.TheVariants as rule
 
 -- what a rule requires, in words
-unfoldable pub asked_of : VerifierRule → List ℕ
-asked_of rule.Unusable = codes " may be unset, or paths disagree on it"
-asked_of rule.WritesFrame = codes "r10 has the stack's top, and isn't written"
-asked_of rule.PointerArithmetic =
+unfoldable pub requirement_of : VerifierRule → List ℕ
+requirement_of rule.Unusable = codes " may be unset, or paths disagree on it"
+requirement_of rule.WritesFrame = codes "r10 has the stack's top, and isn't written"
+requirement_of rule.PointerArithmetic =
     codes ": only a place in context or stack is moved, by add or sub of a number in 64 bits"
-asked_of rule.OffsetRange = codes " may move it out of its region"
-asked_of rule.PointerCompare =
+requirement_of rule.OffsetRange = codes " may move it out of its region"
+requirement_of rule.PointerCompare =
     codes ": only what a lookup gave or a cell's address is compared, with 0 by 64-bit jeq or jne"
-asked_of rule.Access = codes " may lie outside the region"
-asked_of rule.StoresPointer = codes ": a pointer is stored to a whole slot of the stack alone"
-asked_of rule.WritesContext = codes ": the context isn't written"
-asked_of rule.NotAddress = codes " may be 0: compare it with 0 first"
-asked_of rule.Helper = codes "there is no helper "
-asked_of rule.MapIndex = codes "there is no array "
-asked_of rule.Kind = codes ": no atomic operation goes to the stack"
-asked_of rule.Result = codes ", and there are "
-asked_of rule.QuotaCell =
+requirement_of rule.Access = codes " may lie outside the region"
+requirement_of rule.StoresPointer = codes ": a pointer is stored to a whole slot of the stack alone"
+requirement_of rule.WritesContext = codes ": the context isn't written"
+requirement_of rule.NotAddress = codes " may be 0: compare it with 0 first"
+requirement_of rule.Helper = codes "there is no helper "
+requirement_of rule.MapIndex = codes "there is no array "
+requirement_of rule.Kind = codes ": no atomic operation goes to the stack"
+requirement_of rule.Result = codes ", and there are "
+requirement_of rule.QuotaCell =
     codes ", of an array with a quota: only a load or an atomic add of 1 with fetch touches it"
 
 -- for memory
@@ -33,8 +33,8 @@ unfoldable pub no_cell_at : List ℕ
 no_cell_at = codes " has no cell at byte "
 
 -- for a cell that isn't accessed like this
-unfoldable pub cells_ask : List ℕ
-cells_ask = codes ": a cell is accessed as a whole, at its own address and without a sign"
+unfoldable pub cell_requirement : List ℕ
+cell_requirement = codes ": a cell is accessed as a whole, at its own address and without a sign"
 
 unfoldable pub lookup_takes : List ℕ
 lookup_takes = codes "helper 1 takes a map and a number: "

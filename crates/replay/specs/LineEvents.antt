@@ -24,29 +24,29 @@ module _ (known : KnownFiles) where
   IsEventOf (line.Finish worker) old e new = (e ≡ event.Finish worker) × (new ≡ old)
   IsEventOf (line.Swap manifest) old (event.Swap rules) new =
       IsLoadedFrom known manifest old (arc_value rules) new
-  IsEventOf asked old e new = ⊥
+  IsEventOf requested old e new = ⊥
 
   -- the events of all lines
   abbrev pub AreEventsOf : List EventLine → List CellArray → List Event → List CellArray → Type 0
   AreEventsOf [] old [] new = new ≡ old
-  AreEventsOf (asked ∷ lines) old (e ∷ events) new =
-      (between : List CellArray) × IsEventOf asked old e between
+  AreEventsOf (requested ∷ lines) old (e ∷ events) new =
+      (between : List CellArray) × IsEventOf requested old e between
       × AreEventsOf lines between events new
   AreEventsOf lines old events new = ⊥
 
   -- why a line has no event: its manifest is refused
   abbrev pub RefusesLine : EventLine → List CellArray → ReplayFault → Type 0
   RefusesLine (line.Swap manifest) old fault = GivesNoRuleset known manifest old fault
-  RefusesLine asked old (Resource Memory) = Unit {0}
-  RefusesLine asked old fault = ⊥
+  RefusesLine requested old (Resource Memory) = Unit {0}
+  RefusesLine requested old fault = ⊥
 
   -- the fault of the first line that is refused
   pub data RefusesLines : List EventLine → List CellArray → ReplayFault → Type 0 where
     no_memory : {lines : List EventLine} {old : List CellArray}
         → RefusesLines lines old (Resource Memory)
-    this : {asked : EventLine} {lines : List EventLine} {old : List CellArray}
-        {fault : ReplayFault} → RefusesLine asked old fault
-        → RefusesLines (asked ∷ lines) old fault
-    later : {asked : EventLine} {lines : List EventLine} {old : List CellArray} (e : Event)
-        (between : List CellArray) {fault : ReplayFault} → IsEventOf asked old e between
-        → RefusesLines lines between fault → RefusesLines (asked ∷ lines) old fault
+    this : {requested : EventLine} {lines : List EventLine} {old : List CellArray}
+        {fault : ReplayFault} → RefusesLine requested old fault
+        → RefusesLines (requested ∷ lines) old fault
+    later : {requested : EventLine} {lines : List EventLine} {old : List CellArray} (e : Event)
+        (between : List CellArray) {fault : ReplayFault} → IsEventOf requested old e between
+        → RefusesLines lines between fault → RefusesLines (requested ∷ lines) old fault

@@ -4,7 +4,7 @@ use Rattle.cells.specs.declared.array.CellArray.{CellArray}
 use Rattle.explain.specs.Values.{HaveNames}
 use Rattle.explain.proofs.Naming.{named_plainly}
 use Rattle.explain.proofs.Skipped.{assembles}
-use Rattle.explain.proofs.telling.explain.Goals as goal
+use Rattle.explain.proofs.explained.explain.Goals as goal
 
 pub returns-clause-assembles : goal.returns-clause-assembles
 returns-clause-assembles c =

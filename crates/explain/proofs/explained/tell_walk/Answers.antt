@@ -7,7 +7,7 @@ use Rattle.explain.specs.declared.way.Way.{Way}
 use Rattle.explain.specs.Lines.{TellsOn}
 use Rattle.explain.proofs.Walking.{parts_next, tells_first, tells_next, tells_whole}
 use Rattle.explain.proofs.Walking.{line_grown, fine_way, refused_way}
-use Rattle.explain.proofs.telling.tell_walk.Goals as goal
+use Rattle.explain.proofs.explained.tell_walk.Goals as goal
 
 pub loop-slot-init : goal.loop-slot-init
 loop-slot-init c = (

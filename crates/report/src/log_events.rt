@@ -3,7 +3,7 @@
 ghost use Rattle.std.specs.Prelude.{◌≡◌, IfOk, codes, option_map};
 ghost use Rattle.std.specs.Option.{option_copied};
 ghost use Rattle.serde_json.specs.View.{view, items_view};
-ghost use Rattle.report.specs.Told as specs;
+ghost use Rattle.report.specs.LogEvents as specs;
 
 use crate::window::Window;
 use json_value::read_json;

@@ -2,7 +2,7 @@ use Rattle.std.proofs.Common.{◌-◌, None, length, string_bytes}
 use Rattle.bpf_semantics.specs.Program.{shaped}
 use Rattle.cells.specs.Arrays.{AppShape}
 use Rattle.explain.specs.Lines.{WalkParts, TellsOn}
-use Rattle.explain.proofs.telling.push_rest.Given as goal
+use Rattle.explain.proofs.explained.push_rest.Given as goal
 
 abbrev pub invariant-loop-slot : goal.invariant-loop-slot
 invariant-loop-slot l =

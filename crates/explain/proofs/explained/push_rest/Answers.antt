@@ -3,7 +3,7 @@ use Rattle.bpf_text.specs.Listing.{bare_line}
 use Rattle.bpf_semantics.specs.Program.{shaped}
 use Rattle.explain.proofs.Texts.{bare_gathered}
 use Rattle.explain.proofs.Walking.{place_there, parts_next, tells_next, tells_whole}
-use Rattle.explain.proofs.telling.push_rest.Goals as goal
+use Rattle.explain.proofs.explained.push_rest.Goals as goal
 
 pub insn-insn-requires : goal.insn-insn-requires
 insn-insn-requires c =

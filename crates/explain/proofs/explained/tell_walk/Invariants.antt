@@ -2,7 +2,7 @@ use Rattle.std.proofs.Common.{◌-◌, Some, length, string_bytes}
 use Rattle.bpf_verify.specs.Walk.{IsWalkBefore}
 use Rattle.bpf_semantics.specs.Program.{shaped}
 use Rattle.explain.specs.Lines.{TellsOn}
-use Rattle.explain.proofs.telling.tell_walk.Given as goal
+use Rattle.explain.proofs.explained.tell_walk.Given as goal
 
 abbrev pub invariant-loop-slot : goal.invariant-loop-slot
 invariant-loop-slot l =

@@ -1,7 +1,7 @@
 use Rattle.std.proofs.Common.{◌-◌}
 use Rattle.std.specs.Arc.{arc_value}
 use Rattle.simulate.proofs.Courses.{IsUnderWay}
-use Rattle.simulate.proofs.asking.ask_all.Given as goal
+use Rattle.simulate.proofs.runs.run_all.Given as goal
 
 abbrev pub invariant-loop-bucket : goal.invariant-loop-bucket
 invariant-loop-bucket l = IsUnderWay (arc_value l.program) l.initial.client l.client l.initial.pass

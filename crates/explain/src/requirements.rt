@@ -1,15 +1,15 @@
 //! What each rule requires, or what is wrong with what it finds.
 
 ghost use Rattle.std.specs.Prelude.{◌≡◌};
-ghost use Rattle.explain.specs.Asked as asked;
+ghost use Rattle.explain.specs.Requirements as requirements;
 ghost use Rattle.explain.specs.Sentences as specs;
 
 use bpf_verify::VerifierRule;
 
 /// The text of a rule.
-#[tactic(auto, unfolding(crate::specs::Asked::asked_of))]
-pub fn asked_by(rule: VerifierRule) -> &'static str
-    ensures { result.now ≡ asked.asked_of rule }
+#[tactic(auto, unfolding(crate::specs::Requirements::requirement_of))]
+pub fn requirement(rule: VerifierRule) -> &'static str
+    ensures { result.now ≡ requirements.requirement_of rule }
 {
     match rule {
         VerifierRule::Unusable => " may be unset, or paths disagree on it",
@@ -58,49 +58,49 @@ pub fn verifier_rule_number(rule: VerifierRule) -> u8
 }
 
 /// The arguments of a lookup.
-#[tactic(auto, unfolding(crate::specs::Asked::lookup_takes))]
+#[tactic(auto, unfolding(crate::specs::Requirements::lookup_takes))]
 pub fn lookup_takes() -> &'static str
-    ensures { result.now ≡ asked.lookup_takes }
+    ensures { result.now ≡ requirements.lookup_takes }
 {
     "helper 1 takes a map and a number: "
 }
 
 /// The arguments of the comparison with an attribute.
-#[tactic(auto, unfolding(crate::specs::Asked::attr_is_takes))]
+#[tactic(auto, unfolding(crate::specs::Requirements::attr_is_takes))]
 pub fn attr_is_takes() -> &'static str
-    ensures { result.now ≡ asked.attr_is_takes }
+    ensures { result.now ≡ requirements.attr_is_takes }
 {
     "helper 2 takes a number, and of the stack a place and a single length up to 64: "
 }
 
 /// How a cell must be accessed.
-#[tactic(auto, unfolding(crate::specs::Asked::cells_ask))]
-pub fn cells_ask() -> &'static str
-    ensures { result.now ≡ asked.cells_ask }
+#[tactic(auto, unfolding(crate::specs::Requirements::cell_requirement))]
+pub fn cell_requirement() -> &'static str
+    ensures { result.now ≡ requirements.cell_requirement }
 {
     ": a cell is accessed as a whole, at its own address and without a sign"
 }
 
 /// What is wrong with memory in which a byte may be unset.
-#[tactic(auto, unfolding(crate::specs::Asked::unset_byte))]
+#[tactic(auto, unfolding(crate::specs::Requirements::unset_byte))]
 pub fn unset_byte() -> &'static str
-    ensures { result.now ≡ asked.unset_byte }
+    ensures { result.now ≡ requirements.unset_byte }
 {
     " has a byte that may be unset"
 }
 
 /// What is wrong with an array that has no cell at some number of bytes after its first.
-#[tactic(auto, unfolding(crate::specs::Asked::no_cell_at))]
+#[tactic(auto, unfolding(crate::specs::Requirements::no_cell_at))]
 pub fn no_cell_at() -> &'static str
-    ensures { result.now ≡ asked.no_cell_at }
+    ensures { result.now ≡ requirements.no_cell_at }
 {
     " has no cell at byte "
 }
 
 /// What is wrong with a text that doesn't end in the stack.
-#[tactic(auto, unfolding(crate::specs::Asked::past_top))]
+#[tactic(auto, unfolding(crate::specs::Requirements::past_top))]
 pub fn past_top() -> &'static str
-    ensures { result.now ≡ asked.past_top }
+    ensures { result.now ≡ requirements.past_top }
 {
     ", which ends past the stack's top by "
 }
