@@ -9,8 +9,8 @@ use Rattle.cells.specs.Arrays.{AppShape}
 use Rattle.flow_check.specs.Fault.{HasOneVerdict, IsFlowFault}
 use Rattle.flow_check.specs.Flow.{IsAcceptedAs}
 use Rattle.flow_check.specs.declared.fault.FlowFault.TheVariants as flow
-use Rattle.acceptance.specs.declared.fault.ProgramFault.{ProgramFault}
-use Rattle.acceptance.specs.declared.fault.ProgramFault.TheVariants.{Flow, Verify}
+use Rattle.acceptance.specs.declared.program_fault.ProgramFault.{ProgramFault}
+use Rattle.acceptance.specs.declared.program_fault.ProgramFault.TheVariants.{Flow, Verify}
 
 -- the bytes pass the flow check as this program, and as no other
 pub record AreOnly (bytes : List ℕ) (code : Program) : Type 0 where

@@ -7,15 +7,15 @@ use Rattle.cells.specs.Arrays.{AppShape}
 use Rattle.flow_check.specs.Flow.{IsFlow}
 use Rattle.rule_compile.specs.Code.{rule_code}
 use Rattle.rule_compile.specs.Means.{Means}
-use Rattle.rule_compile.specs.declared.fault.CompileFault.TheVariants as compile
-use Rattle.rule_lang.specs.declared.fault.RuleFault.TheVariants as rule
-use Rattle.rule_lang.specs.declared.fault.RuleFaultKind.{RuleFaultKind}
-use Rattle.rule_lang.specs.declared.fault.RuleFaultKind.TheVariants.{Token}
+use Rattle.rule_compile.specs.declared.compile_fault.CompileFault.TheVariants as compile
+use Rattle.rule_lang.specs.declared.rule_fault.RuleFault.TheVariants as rule
+use Rattle.rule_lang.specs.declared.rule_fault.RuleFaultKind.{RuleFaultKind}
+use Rattle.rule_lang.specs.declared.rule_fault.RuleFaultKind.TheVariants.{Token}
 use Rattle.rule_lang.specs.declared.rule.Statement.{Statement}
 use Rattle.rule_lang.specs.Cost.{cost}
 use Rattle.rule_lang.specs.Verdicts.{IsVerdict}
-use Rattle.acceptance.specs.declared.fault.RuleTextFault.{RuleTextFault}
-use Rattle.acceptance.specs.declared.fault.RuleTextFault.TheVariants.{Text, Compile}
+use Rattle.acceptance.specs.declared.program_fault.RuleTextFault.{RuleTextFault}
+use Rattle.acceptance.specs.declared.program_fault.RuleTextFault.TheVariants.{Text, Compile}
 
 -- the bytes spell the rule, which fits the shape
 pub record IsTextOf (bytes : List ℕ) (shape : AppShape) (rule : List Statement) : Type 0 where

@@ -8,10 +8,10 @@
 // tests and benchmarks. `accept` runs the flow check and then the verifier. `rule_program` runs the
 // parser of rules and then their compiler, whose programs pass both by proof.
 
-mod fault;
 mod program;
+mod program_fault;
 mod rule;
 
-pub use fault::{ProgramFault, RuleTextFault};
 pub use program::accept;
+pub use program_fault::{ProgramFault, RuleTextFault};
 pub use rule::rule_program;

@@ -3,7 +3,7 @@
 ghost use Rattle.std.specs.Prelude.{◌≡◌, IfOk, IfErr};
 ghost use Rattle.acceptance.specs.Program.{IsProgramOf, RefusesProgram};
 
-use crate::fault::ProgramFault;
+use crate::program_fault::ProgramFault;
 use bpf_verify::{Shape, Verified, verify};
 use flow_check::{Flow, one_verdict};
 use std::alloc::Global;

@@ -3,7 +3,7 @@
 ghost use Rattle.std.specs.Prelude.{◌≡◌, IfOk, IfErr};
 ghost use Rattle.acceptance.specs.Rule.{IsProgramOfRule, RefusesRule};
 
-use crate::fault::RuleTextFault;
+use crate::program_fault::RuleTextFault;
 use bpf_verify::{Shape, Verified};
 use rule_compile::compile;
 use rule_lang::{RuleFault, RuleFaultKind, parse};

@@ -65,9 +65,11 @@ one_more {all} {line} {new} {comma} apps i room left more beside d within behind
     let app = get_or apps i d in
     let after = drop (i + 1) apps in
     let one = app_object room more app in
-    let rest = app_objects (left_after_event room app.event) (left_after_more more app.more) after in
+    let rest = app_objects (left_after_event room app.event) (left_after_more more app.more)
+    after in
     ap (λ (n : ℕ). new ++ spelled_from true (app_objects n beside after)) behind
-    ∙ ap (λ (n : ℕ). new ++ spelled_from true (app_objects (left_after_event room app.event) n after))
+    ∙ ap (λ (n : ℕ). new
+    ++ spelled_from true (app_objects (left_after_event room app.event) n after))
     other
     ∙ ap (λ l. l ++ spelled_from true rest) adds.text
     ∙ append_assoc line (spelled_from comma one) (spelled_from true rest)
@@ -168,7 +170,8 @@ pub adds_first : {a b c d : List ℕ} {front back : List LoggedApp} (n room : �
     → AddsTokens true true a d (first_apps n room apps)
 adds_first {a} {b} {c} {d} n room apps is also first next last =
     then_adds
-    (then_adds (subst (λ (xs : List LoggedApp). AddsTokens true true a b (list_of room xs)) is first)
+    (then_adds (subst (λ (xs : List LoggedApp). AddsTokens true true a b (list_of room xs))
+    is first)
     (subst (λ (xs : List LoggedApp). AddsTokens true true b c (more_left_out_member room xs))
     is next))
     (subst (λ (xs : List LoggedApp). AddsTokens true true c d (left_out_members xs)) also last)

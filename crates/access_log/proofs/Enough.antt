@@ -10,9 +10,10 @@ use Rattle.access_log.specs.Sizes.{event_count_size, app_size, count_fitting}
 use Rattle.access_log.specs.Sizes.{HasBriefRelease, IsBrief, AreBrief, ListsEnough}
 use Rattle.access_log.specs.declared.logged_app.LoggedApp.{LoggedApp}
 use Rattle.access_log.specs.declared.logged_app.Outcome.{Outcome}
-use Rattle.access_log.specs.declared.logged_app.Outcome.TheVariants.{Unknown, NotRequested, NoUpdate, Offered}
-use Rattle.access_log.specs.declared.event.LogEvent.{LogEvent}
-use Rattle.access_log.specs.declared.event.LogEvent.TheVariants as log
+use Rattle.access_log.specs.declared.logged_app.Outcome.TheVariants.{Unknown, NotRequested}
+use Rattle.access_log.specs.declared.logged_app.Outcome.TheVariants.{NoUpdate, Offered}
+use Rattle.access_log.specs.declared.log_event.LogEvent.{LogEvent}
+use Rattle.access_log.specs.declared.log_event.LogEvent.TheVariants as log
 use Rattle.access_log.specs.declared.excerpt.Excerpt.{Excerpt}
 
 -- ---- what a brief app takes

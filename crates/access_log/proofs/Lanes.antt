@@ -38,7 +38,8 @@ either f g v p q = ap₂ (zip2 bit_or) p q ∙ zip2-map f g v
 all_stand : (d : List ℕ) (i n : ℕ) (z : List ℕ) → i + n ≤ length d → n ≤ 64
     → ((k : ℕ) → Fits w8 (get_or d k 0)) → eqb (mask_l (map (top 7) z) % 2 ^ 64) 0 ≡ true
     → (f : ℕ → ℕ) → z ≡ map f (chunk i n d)
-    → agree_below (λ x. top 7 (f x) || stands x) (λ _. true) 256 ≡ true → ArePlainBetween d i (i + n)
+    → agree_below (λ x. top 7 (f x) || stands x) (λ _. true) 256 ≡ true
+    → ArePlainBetween d i (i + n)
 all_stand d i n z room few fits none f lanes all k from to =
     let v = chunk i n d in
     let long = length-chunk i n d room in

@@ -13,7 +13,8 @@ use Rattle.access_log.specs.Sizes.{left_after_event, left_after_events, event_si
 use Rattle.access_log.specs.Sizes.{listed_apps}
 use Rattle.access_log.specs.declared.logged_app.LoggedApp.{LoggedApp}
 use Rattle.access_log.specs.declared.logged_app.Outcome.{Outcome}
-use Rattle.access_log.specs.declared.logged_app.Outcome.TheVariants.{Unknown, NotRequested, NoUpdate, Offered}
+use Rattle.access_log.specs.declared.logged_app.Outcome.TheVariants.{Unknown, NotRequested}
+use Rattle.access_log.specs.declared.logged_app.Outcome.TheVariants.{NoUpdate, Offered}
 use Rattle.access_log.specs.declared.excerpt.Excerpt.{Excerpt}
 use Rattle.access_log.specs.declared.further_members.FurtherMembers.{FurtherMembers}
 use Rattle.access_log.proofs.Harmless.{HaveHarmlessNumbers, all_harmless, decimal_is_harmless}
@@ -154,7 +155,8 @@ objects room more [] = tt
 objects room more (a ∷ apps) =
     all_harmless (app_object room more a)
     (app_objects (left_after_event room a.event) (left_after_more more a.more) apps)
-    (object room more a) (objects (left_after_event room a.event) (left_after_more more a.more) apps)
+    (object room more a)
+    (objects (left_after_event room a.event) (left_after_more more a.more) apps)
 
 others : (apps : List LoggedApp) → HaveHarmlessNumbers (left_out_members apps)
 others apps =

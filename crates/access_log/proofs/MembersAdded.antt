@@ -10,13 +10,13 @@ use Rattle.access_log.specs.Line.{path_members, reply_members, start_members, st
 use Rattle.access_log.specs.Line.{stop_members, too_long_members, totals_members}
 use Rattle.access_log.specs.Members.{text_member, number_member, optional_member, count_member}
 use Rattle.access_log.specs.Spelled.{spelled}
-use Rattle.access_log.specs.declared.event.Connection.{Connection}
-use Rattle.access_log.specs.declared.event.Counter.{Counter}
-use Rattle.access_log.specs.declared.event.LogEvent.{LogEvent}
-use Rattle.access_log.specs.declared.event.LogEvent.TheVariants as log
-use Rattle.access_log.specs.declared.event.Load.{Load}
-use Rattle.access_log.specs.declared.event.Start.{Start}
-use Rattle.access_log.specs.declared.event.Totals.{Totals}
+use Rattle.access_log.specs.declared.log_event.Connection.{Connection}
+use Rattle.access_log.specs.declared.log_event.Counter.{Counter}
+use Rattle.access_log.specs.declared.log_event.LogEvent.{LogEvent}
+use Rattle.access_log.specs.declared.log_event.LogEvent.TheVariants as log
+use Rattle.access_log.specs.declared.log_event.Load.{Load}
+use Rattle.access_log.specs.declared.log_event.Start.{Start}
+use Rattle.access_log.specs.declared.log_event.Totals.{Totals}
 use Rattle.access_log.specs.declared.excerpt.Excerpt.{Excerpt}
 use Rattle.access_log.specs.declared.utc.Utc.{Utc}
 use Rattle.access_log.proofs.Harmless.{HaveHarmlessNumbers, all_harmless, decimal_is_harmless}
@@ -167,7 +167,8 @@ is_one time members line are is =
     let shown = print_is_harmless (object_at time members) all in
     (spelled (object_at time members), is, shown)
 
-pub event_is_one : (time : Utc) (e : LogEvent) (line : List ℕ) → line ≡ line_with time (members_of e)
+pub event_is_one : (time : Utc) (e : LogEvent) (line : List ℕ) → line
+    ≡ line_with time (members_of e)
     → IsOneLine line
 event_is_one time e line = is_one time (members_of e) line (says e)
 

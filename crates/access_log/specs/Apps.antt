@@ -9,7 +9,8 @@ use Rattle.access_log.specs.Sizes.{left_after_events}
 use Rattle.access_log.specs.More.{fitted_more, more_size, left_after_more, without_more}
 use Rattle.access_log.specs.declared.logged_app.LoggedApp.{LoggedApp}
 use Rattle.access_log.specs.declared.logged_app.Outcome.{Outcome}
-use Rattle.access_log.specs.declared.logged_app.Outcome.TheVariants.{Unknown, NotRequested, NoUpdate, Offered}
+use Rattle.access_log.specs.declared.logged_app.Outcome.TheVariants.{Unknown, NotRequested}
+use Rattle.access_log.specs.declared.logged_app.Outcome.TheVariants.{NoUpdate, Offered}
 use Rattle.access_log.specs.declared.excerpt.Excerpt.{Excerpt}
 
 -- a release, by its number and its version

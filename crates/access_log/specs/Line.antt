@@ -12,13 +12,13 @@ use Rattle.access_log.specs.Members.{count_member, excerpt_members, optional_exc
 use Rattle.access_log.specs.Sizes.{ListsEnough}
 use Rattle.access_log.specs.Spelled.{spelled}
 use Rattle.access_log.specs.Utc.{utc_text}
-use Rattle.access_log.specs.declared.event.Connection.{Connection}
-use Rattle.access_log.specs.declared.event.Counter.{Counter}
-use Rattle.access_log.specs.declared.event.LogEvent.{LogEvent}
-use Rattle.access_log.specs.declared.event.LogEvent.TheVariants as log
-use Rattle.access_log.specs.declared.event.Load.{Load}
-use Rattle.access_log.specs.declared.event.Start.{Start}
-use Rattle.access_log.specs.declared.event.Totals.{Totals}
+use Rattle.access_log.specs.declared.log_event.Connection.{Connection}
+use Rattle.access_log.specs.declared.log_event.Counter.{Counter}
+use Rattle.access_log.specs.declared.log_event.LogEvent.{LogEvent}
+use Rattle.access_log.specs.declared.log_event.LogEvent.TheVariants as log
+use Rattle.access_log.specs.declared.log_event.Load.{Load}
+use Rattle.access_log.specs.declared.log_event.Start.{Start}
+use Rattle.access_log.specs.declared.log_event.Totals.{Totals}
 use Rattle.access_log.specs.declared.excerpt.Excerpt.{Excerpt}
 use Rattle.access_log.specs.declared.utc.Utc.{Utc}
 

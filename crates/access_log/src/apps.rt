@@ -7,6 +7,8 @@ ghost use Rattle.access_log.specs.Apps as specs;
 ghost use Rattle.access_log.specs.Sizes.{event_size};
 
 use crate::excerpt::Excerpt;
+use crate::further_members::{left_after_more, write_more};
+use crate::json_text::write_quoted;
 use crate::left_out::{write_left_out, write_more_left_out};
 use crate::line_buffer::LineBuffer;
 use crate::logged_app::{LoggedApp, Outcome};
@@ -14,8 +16,6 @@ use crate::member::{
     write_count, write_excerpt, write_flag, write_left_out_of, write_number,
     write_optional_excerpt, write_text,
 };
-use crate::further_members::{left_after_more, write_more};
-use crate::json_text::write_quoted;
 use crate::sizes::{Listed, event_size, left_after_event, left_after_events, listed_apps};
 use std::alloc::AllocError;
 
@@ -31,7 +31,11 @@ pub fn write_apps(line: &mut LineBuffer, apps: &[LoggedApp<'_>]) -> Result<(), A
 }
 
 // The first `listed_before.count` apps, and what is left out.
-fn write_first(line: &mut LineBuffer, apps: &[LoggedApp<'_>], listed_before: Listed) -> Result<(), AllocError>
+fn write_first(
+    line: &mut LineBuffer,
+    apps: &[LoggedApp<'_>],
+    listed_before: Listed,
+) -> Result<(), AllocError>
     requires { listed_before.count ≤ length apps.now }
     ensures { OnOk result (AddsMembers line.old line.new
         (specs.first_apps listed_before.count listed_before.room apps.now)) }
@@ -155,7 +159,11 @@ fn write_event(
 }
 
 // An event; if it doesn't fit, only how many bytes it has.
-fn write_fitted_event(line: &mut LineBuffer, event: &Excerpt<'_>, room: usize) -> Result<(), AllocError>
+fn write_fitted_event(
+    line: &mut LineBuffer,
+    event: &Excerpt<'_>,
+    room: usize,
+) -> Result<(), AllocError>
     ensures { OnOk result (AddsMembers line.old line.new
         (specs.fitted_event room (event_size event.now) event.now)) }
 {

@@ -5,9 +5,9 @@ ghost use Rattle.access_log.specs.Line as specs;
 ghost use Rattle.access_log.specs.Spelled.{spelled};
 ghost use Rattle.access_log.specs.Tokens.{AddsMembers};
 
-use crate::event::LogEvent;
 use crate::events::{write_kind, write_members};
 use crate::line_buffer::LineBuffer;
+use crate::log_event::LogEvent;
 use crate::member::write_number;
 use crate::sizes::LINE_LIMIT;
 use crate::utc::Utc;
@@ -32,7 +32,11 @@ pub fn log_line(alloc: Global, time: &Utc, event: &LogEvent<'_>) -> Result<Vec<u
 /// line; if an allocation fails, it may have part of a line.
 // open: whether an allocation fails; the same as for `log_line`.
 #[tactic(auto, using(crate::proofs::Enough::lists_apps))]
-pub fn log_line_in(room: &mut LineBuffer, time: &Utc, event: &LogEvent<'_>) -> Result<(), AllocError>
+pub fn log_line_in(
+    room: &mut LineBuffer,
+    time: &Utc,
+    event: &LogEvent<'_>,
+) -> Result<(), AllocError>
     ensures text { OnOk result (room.new ≡ specs.event_line time.now event.now) }
     ensures limit { OnOk result (length room.new ≤ 4096) }
     ensures whole { OnOk result (specs.IsOneLine room.new) }

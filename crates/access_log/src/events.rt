@@ -6,9 +6,9 @@ ghost use Rattle.access_log.specs.Line as specs;
 ghost use Rattle.access_log.specs.Plain.{is_plain_text};
 
 use crate::apps::write_apps;
-use crate::event::{Connection, Counter, Load, LogEvent, Start, Totals};
 use crate::excerpt::Excerpt;
 use crate::line_buffer::LineBuffer;
+use crate::log_event::{Connection, Counter, Load, LogEvent, Start, Totals};
 use crate::member::{
     write_count, write_excerpt, write_number, write_optional, write_optional_excerpt, write_text,
     write_word,

@@ -26,7 +26,11 @@ pub struct FurtherMembers<'a> {
 }
 
 /// The members, if they fit in `room` bytes.
-pub fn write_more(line: &mut LineBuffer, more: &FurtherMembers<'_>, room: usize) -> Result<(), AllocError>
+pub fn write_more(
+    line: &mut LineBuffer,
+    more: &FurtherMembers<'_>,
+    room: usize,
+) -> Result<(), AllocError>
     ensures { OnOk result (AddsMembers line.old line.new
         (specs.fitted_more room (specs.more_size more.now) more.now)) }
 {

@@ -11,7 +11,6 @@
 #![tactic(auto)]
 
 mod apps;
-mod event;
 mod event_line;
 mod events;
 mod excerpt;
@@ -19,16 +18,17 @@ mod further_members;
 mod json_text;
 mod left_out;
 mod line_buffer;
+mod log_event;
 mod logged_app;
 mod member;
 mod sizes;
 mod unescaped;
 mod utc;
 
-pub use event::{Connection, Counter, Load, LogEvent, Start, Totals};
 pub use event_line::{log_line, log_line_in};
 pub use excerpt::Excerpt;
 pub use further_members::FurtherMembers;
 pub use line_buffer::LineBuffer;
+pub use log_event::{Connection, Counter, Load, LogEvent, Start, Totals};
 pub use logged_app::{LoggedApp, Outcome};
 pub use utc::Utc;

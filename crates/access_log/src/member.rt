@@ -79,7 +79,11 @@ fn write_bool(line: &mut LineBuffer, holds: bool) -> Result<(), AllocError>
 /// A member that is a text, if there is one.
 #[inline(always)]
 #[tactic(auto, using(crate::proofs::Added::adds_nothing))]
-pub fn write_optional(line: &mut LineBuffer, name: &str, text: Option<&str>) -> Result<(), AllocError>
+pub fn write_optional(
+    line: &mut LineBuffer,
+    name: &str,
+    text: Option<&str>,
+) -> Result<(), AllocError>
     requires { is_plain_text name.now ≡ true }
     ensures { OnOk result (AddsMembers line.old line.new
         (specs.optional_member name.now (option_copied text.entry))) }

@@ -10,9 +10,9 @@ use Rattle.http_front.specs.Reply.{code_of}
 use Rattle.omaha_json.specs.Request.{Request, request_in}
 use Rattle.omaha_json.specs.Found.{FoundApp}
 use Rattle.omaha_json.specs.Reply.{found_text}
-use Rattle.omaha_json.specs.declared.fault.OmahaFault.{OmahaFault}
-use Rattle.omaha_json.specs.declared.fault.OmahaFault.TheVariants.{Json, Shape, Protocol}
-use Rattle.omaha_json.specs.declared.fault.OmahaFault.TheVariants.{TooManyApps, Memory}
+use Rattle.omaha_json.specs.declared.omaha_fault.OmahaFault.{OmahaFault}
+use Rattle.omaha_json.specs.declared.omaha_fault.OmahaFault.TheVariants.{Json, Shape, Protocol}
+use Rattle.omaha_json.specs.declared.omaha_fault.OmahaFault.TheVariants.{TooManyApps, Memory}
 use Rattle.ruleset.specs.Rules.{Rules}
 use Rattle.answering.specs.Apps.{FindsApps, RunsFew}
 use Rattle.answering.specs.Answer.{RepliesToRequest, RepliesToBody, RepliesTo, RepliesByRuns}

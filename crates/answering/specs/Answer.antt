@@ -7,12 +7,12 @@ use Rattle.hot_swap.specs.Published.{KnownPrefix, IsLatest}
 use Rattle.http_front.specs.Faults.{post_name}
 use Rattle.http_front.specs.Faults.{status_of}
 use Rattle.http_front.specs.Post.{AnswersPost}
-use Rattle.http_front.specs.declared.fault.PostFault.{PostFault}
+use Rattle.http_front.specs.declared.post_fault.PostFault.{PostFault}
 use Rattle.http_front.specs.declared.status.Status.{Status}
 use Rattle.omaha_json.specs.Request.{Request, request_in}
 use Rattle.omaha_json.specs.Reply.{reply_text}
-use Rattle.omaha_json.specs.declared.fault.OmahaFault.{OmahaFault}
-use Rattle.omaha_json.specs.declared.fault.OmahaFault.TheVariants as omaha
+use Rattle.omaha_json.specs.declared.omaha_fault.OmahaFault.{OmahaFault}
+use Rattle.omaha_json.specs.declared.omaha_fault.OmahaFault.TheVariants as omaha
 use Rattle.ruleset.specs.Rules.{Rules}
 use Rattle.cells.specs.Grown.{Grows}
 use Rattle.answering.specs.Apps.{RunsApps, RunsFew}

@@ -7,7 +7,7 @@ use Rattle.net_io.specs.declared.counted.Counted.{Counted}
 use Rattle.hot_swap.specs.Published.{KnownPrefix}
 use Rattle.http_front.specs.Post.{AnswersPost}
 use Rattle.http_front.specs.Reply.{code_of}
-use Rattle.http_front.specs.declared.fault.PostFault.TheVariants as fault
+use Rattle.http_front.specs.declared.post_fault.PostFault.TheVariants as fault
 use Rattle.answering.specs.Answer.{RepliesByRuns, WritesNothing}
 use Rattle.answering.specs.Reply.{HttpReply, message_bytes, refusal_line}
 use Rattle.answering.specs.declared.answering.AnswerFault.{AnswerFault}

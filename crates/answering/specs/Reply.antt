@@ -1,14 +1,14 @@
 -- What is sent: a status and a text, which is Omaha's reply or the line of a refusal.
 use Rattle.std.specs.Prelude.{◌≢◌, ℕ, List, [], Result, Ok, Err, Vec}
 use Rattle.hot_swap.specs.Texts.{swap_text}
-use Rattle.hot_swap.specs.declared.fault.SwapFault.TheVariants as swap
+use Rattle.hot_swap.specs.declared.swap_fault.SwapFault.TheVariants as swap
 use Rattle.ruleset.specs.Texts.{line}
 use Rattle.http_front.specs.Reply.{reply_bytes}
 use Rattle.http_front.specs.declared.status.Status.{Status}
 use Rattle.http_front.specs.declared.status.Status.TheVariants as status
 use Rattle.omaha_json.specs.Faults.{omaha_name}
-use Rattle.omaha_json.specs.declared.fault.OmahaFault.{OmahaFault}
-use Rattle.omaha_json.specs.declared.fault.OmahaFault.TheVariants as omaha
+use Rattle.omaha_json.specs.declared.omaha_fault.OmahaFault.{OmahaFault}
+use Rattle.omaha_json.specs.declared.omaha_fault.OmahaFault.TheVariants as omaha
 
 -- a status with a text
 pub record HttpReply : Type 0 where

@@ -5,10 +5,10 @@ ghost use Rattle.hot_swap.specs.Published.{Extends};
 ghost use Rattle.answering.specs.Connection.{Answers};
 
 use crate::answer_buffers::AnswerBuffers;
+use crate::observer::NoObserver;
 use crate::sent::Sent;
 use crate::settling::answer_in;
 use crate::turn::Turn;
-use crate::observer::NoObserver;
 use attrs::Moment;
 use cells::CellSteps;
 use hot_swap::Watcher;

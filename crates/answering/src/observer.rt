@@ -8,7 +8,12 @@ use omaha_json::{AppObserver, FoundApp, Request, WrittenApp};
 pub trait RequestObserver: AppObserver {
     /// The apps have results, all under the ruleset of this generation. `found` has `None` for an
     /// app that isn't in the ruleset.
-    fn observe(&mut self, generation: Generation, request: &Request, found: &[Option<FoundApp<'_>>]);
+    fn observe(
+        &mut self,
+        generation: Generation,
+        request: &Request,
+        found: &[Option<FoundApp<'_>>],
+    );
 }
 
 /// A witness that does nothing.

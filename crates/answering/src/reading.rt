@@ -2,7 +2,7 @@
 
 ghost use Rattle.std.specs.Prelude.{◌≡◌, ◌+◌, ◌-◌, ◌^◌, ◌<◌, Err, IfOk, IfErr};
 ghost use Rattle.http_front.specs.Post.{AnswersPost};
-ghost use Rattle.http_front.specs.declared.fault.PostFault.TheVariants as fault;
+ghost use Rattle.http_front.specs.declared.post_fault.PostFault.TheVariants as fault;
 ghost use Rattle.answering.specs.Answer.{IsReceived, IsReceivedBody, WritesNothing};
 
 use crate::answering::AnswerFault;
@@ -42,7 +42,11 @@ pub fn receive_request<R: Read, W: RequestObserver>(
 }
 
 // The request that a body is, or its refusal.
-fn request_of<W: RequestObserver>(alloc: Global, body: &[u8], observer: &mut W) -> Result<Request, Rejection>
+fn request_of<W: RequestObserver>(
+    alloc: Global,
+    body: &[u8],
+    observer: &mut W,
+) -> Result<Request, Rejection>
     ensures { IsReceivedBody body.now result }
 {
     match read_request(alloc, body, observer) {

@@ -6,9 +6,9 @@ ghost use Rattle.answering.specs.Answer.{RepliesToRequest};
 ghost use Rattle.answering.specs.Reply.{settled_reply};
 
 use crate::apps::run_apps;
+use crate::observer::RequestObserver;
 use crate::rejection::Rejection;
 use crate::turn::Turn;
-use crate::observer::RequestObserver;
 use cells::CellSteps;
 use hot_swap::Watcher;
 use omaha_json::{OmahaFault, Request, found_text};

@@ -6,7 +6,7 @@
 
 mod disorder;
 mod kept;
-mod law;
+mod laws;
 mod leaving;
 mod order;
 mod plan;
@@ -16,5 +16,5 @@ mod ready;
 mod same;
 mod write;
 
-pub use law::{order_has_no_cycle, order_keeps_runs};
+pub use laws::{order_has_no_cycle, order_keeps_runs};
 pub use order::ordered;

@@ -10,8 +10,8 @@ use Rattle.std.specs.Io.KnownBytes.{Consumes, IsAtEnd}
 use Rattle.std.specs.declared.alloc.Global.{Global}
 use Rattle.bounded_files.specs.Kept.{IsKeptOf, KeepsOf, LeavesOpen}
 use Rattle.bounded_files.specs.SoFar.{IsReadSoFar, KeepsSoFar}
-use Rattle.bounded_files.specs.declared.kept.KeptBytes.{KeptBytes}
-use Rattle.bounded_files.specs.declared.kept.SoFar.{SoFar}
+use Rattle.bounded_files.specs.declared.kept_bytes.KeptBytes.{KeptBytes}
+use Rattle.bounded_files.specs.declared.kept_bytes.SoFar.{SoFar}
 
 -- ---- known bytes
 

@@ -4,8 +4,8 @@ use Rattle.std.proofs.Common.{Result, Ok, Err, IfOk, refl, arith}
 use Rattle.std.specs.declared.alloc.Global.{Global}
 use Rattle.bounded_files.specs.Files.{KnownFile, KnownFiles, ReadsAtMost, ReadsFile}
 use Rattle.bounded_files.specs.Files.{bytes_of, if_within, whole, within}
-use Rattle.bounded_files.specs.declared.fault.ResourceFault.{ResourceFault}
-use Rattle.bounded_files.specs.declared.fault.ResourceFault.TheVariants.{File, Memory}
+use Rattle.bounded_files.specs.declared.resource_fault.ResourceFault.{ResourceFault}
+use Rattle.bounded_files.specs.declared.resource_fault.ResourceFault.TheVariants.{File, Memory}
 
 kept : (most : ℕ) (file : Option KnownFile) (bytes : List ℕ) → bytes_of file ≡ Some bytes
     → length bytes ≤ most → bytes_of (if_within most file) ≡ Some bytes

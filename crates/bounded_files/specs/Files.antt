@@ -2,8 +2,8 @@
 use Rattle.std.specs.Prelude.{◌≡◌, ℕ, ◌+◌, ◌^◌, ◌<◌, ◌≤◌, nat_le, if◌then◌else◌, List, length, take}
 use Rattle.std.specs.Prelude.{Bool, Vec, Option, Some, None, option_map, IfSome, Result, Ok, Err}
 use Rattle.std.specs.declared.alloc.Global.{Global}
-use Rattle.bounded_files.specs.declared.fault.ResourceFault.{ResourceFault}
-use Rattle.bounded_files.specs.declared.fault.ResourceFault.TheVariants.{File, Memory}
+use Rattle.bounded_files.specs.declared.resource_fault.ResourceFault.{ResourceFault}
+use Rattle.bounded_files.specs.declared.resource_fault.ResourceFault.TheVariants.{File, Memory}
 
 -- what is known of a file: the bytes that reading it gives, and whether it is a regular file (not a
 -- FIFO, a folder, a terminal or another device)

@@ -3,10 +3,10 @@ use Rattle.std.specs.Prelude.{◌≡◌, ◌↔◌, ℕ, ◌<◌, ◌≤◌, Lis
 use Rattle.std.specs.Prelude.{IsUtf8, Option, Some, None, IfSome, Result, Ok, Err}
 use Rattle.std.specs.declared.alloc.Global.{Global}
 use Rattle.bounded_files.specs.Files.{Gives, KnownFiles}
-use Rattle.bounded_files.specs.declared.fault.ResourceFault.{ResourceFault}
-use Rattle.bounded_files.specs.declared.fault.ResourceFault.TheVariants.{File, Memory}
-use Rattle.bounded_files.specs.declared.kept.KeptBytes.{KeptBytes}
-use Rattle.bounded_files.specs.declared.kept.KeptBytes.TheVariants.{Whole, Longer}
+use Rattle.bounded_files.specs.declared.resource_fault.ResourceFault.{ResourceFault}
+use Rattle.bounded_files.specs.declared.resource_fault.ResourceFault.TheVariants.{File, Memory}
+use Rattle.bounded_files.specs.declared.kept_bytes.KeptBytes.{KeptBytes}
+use Rattle.bounded_files.specs.declared.kept_bytes.KeptBytes.TheVariants.{Whole, Longer}
 
 -- what is kept of bytes: all; or, of more than `most`, the first `most`, how many there are, and
 -- whether they are UTF-8 to their end

@@ -1,7 +1,7 @@
 -- What is kept of bytes while they are read.
 use Rattle.std.specs.Prelude.{◌≡◌, ℕ, List, length, take, Option}
 use Rattle.std.specs.Io.KnownBytes.{Consumes}
-use Rattle.bounded_files.specs.declared.kept.SoFar.{SoFar}
+use Rattle.bounded_files.specs.declared.kept_bytes.SoFar.{SoFar}
 use Rattle.bounded_files.specs.Kept.{LeavesOpen}
 
 -- of these bytes: the first `most`, how many they are, and the open end of a text

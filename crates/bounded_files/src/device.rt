@@ -6,8 +6,8 @@ ghost use Rattle.bounded_files.specs.Files.{IsBeginning, IsWithin, ReadsAtMost};
 ghost use Rattle.bounded_files.specs.Kept.{KeepsFile};
 
 use crate::disk::{Disk, MOST_BYTES};
-use crate::fault::{ResourceFault, fault_of};
-use crate::kept::{KeptBytes, keep};
+use crate::kept_bytes::{KeptBytes, keep};
+use crate::resource_fault::{ResourceFault, fault_of};
 use std::alloc::Global;
 use std::fs::{self, Metadata, OpenFile};
 use std::io::{self, Error, ErrorKind, Read};

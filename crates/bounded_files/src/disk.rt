@@ -6,8 +6,8 @@ ghost use Rattle.bounded_files.specs.Files.{most_bytes, regular_files, within};
 ghost use Rattle.bounded_files.specs.Files as specs;
 ghost use Rattle.bounded_files.specs.Kept.{KeepsFile};
 
-use crate::fault::ResourceFault;
-use crate::kept::{KeptBytes, keep_read};
+use crate::kept_bytes::{KeptBytes, keep_read};
+use crate::resource_fault::ResourceFault;
 
 /// The most bytes of a text, of a script, and of a file that a manifest names: 16 MiB.
 pub const MOST_BYTES: u32 = 0x100_0000;

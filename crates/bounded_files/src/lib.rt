@@ -10,18 +10,18 @@
 // file replaces the old one as a whole, if the folder allows it.
 //
 // For a file that may be longer than needed, only the beginning is kept, its length, and whether it
-// is text to its end (`kept.rt`). It is read in pieces. Between pieces only the few bytes of an
-// incomplete character are kept (`text.rt`).
+// is text to its end (`kept_bytes.rt`). It is read in pieces. Between pieces only the few bytes of
+// an incomplete character are kept (`utf8_text.rt`).
 
 mod device;
 mod disk;
-mod fault;
-mod kept;
-mod text;
+mod kept_bytes;
+mod resource_fault;
+mod utf8_text;
 mod written;
 
 pub use device::Device;
 pub use disk::{Disk, MOST_BYTES, read_regular_within, read_within};
-pub use fault::ResourceFault;
-pub use kept::{KeptBytes, keep_read};
+pub use kept_bytes::{KeptBytes, keep_read};
+pub use resource_fault::ResourceFault;
 pub use written::{may_write_over, write_file};

@@ -1,6 +1,6 @@
 //! Writing files.
 
-use crate::fault::{ResourceFault, fault_of};
+use crate::resource_fault::{ResourceFault, fault_of};
 use std::fs::{self, File, OpenFile, OpenOptions, Permissions};
 use std::io::{self, Error, ErrorKind, Read, Write};
 use std::path::Path;

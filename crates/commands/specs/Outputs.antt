@@ -16,8 +16,8 @@ use Rattle.serving.specs.Manifests.{RefusesToServe}
 use Rattle.commands.specs.Replays.{HasReplayed, IsReplayRefusal}
 use Rattle.command_words.specs.declared.request.Command.{Command}
 use Rattle.command_words.specs.declared.request.Command.TheVariants as command
-use Rattle.commands.specs.declared.fault.Fault.{Fault}
-use Rattle.commands.specs.declared.fault.Fault.TheVariants.{Ask, Program, Serving}
+use Rattle.commands.specs.declared.command_fault.Fault.{Fault}
+use Rattle.commands.specs.declared.command_fault.Fault.TheVariants.{Ask, Program, Serving}
 use Rattle.commands.specs.declared.output.CommandOutput.{CommandOutput}
 use Rattle.commands.specs.declared.output.CommandOutput.TheVariants as output
 

@@ -2,9 +2,9 @@
 use Rattle.std.specs.Prelude.{◌≡◌, ℕ, List}
 use Rattle.std.specs.List.{flat_map}
 use Rattle.bounded_files.specs.Files.{KnownFiles}
-use Rattle.bounded_files.specs.declared.fault.ResourceFault.TheVariants.{Memory}
-use Rattle.commands.specs.declared.fault.Fault.{Fault}
-use Rattle.commands.specs.declared.fault.Fault.TheVariants.{Replay, Resource}
+use Rattle.bounded_files.specs.declared.resource_fault.ResourceFault.TheVariants.{Memory}
+use Rattle.commands.specs.declared.command_fault.Fault.{Fault}
+use Rattle.commands.specs.declared.command_fault.Fault.TheVariants.{Replay, Resource}
 use Rattle.replay.specs.Replays.{IsReplay, IsReplayFault}
 use Rattle.replay.specs.Replies.{reply_text}
 use Rattle.replay.specs.declared.reply.Reply.{Reply}

@@ -4,8 +4,8 @@ use Rattle.std.specs.Fmt.{decimal}
 use Rattle.std.specs.String.{string_bytes}
 use Rattle.commands.specs.declared.output.CommandOutput.{CommandOutput}
 use Rattle.commands.specs.declared.output.CommandOutput.TheVariants as output
-use Rattle.commands.specs.declared.fault.Fault.{Fault}
-use Rattle.commands.specs.declared.fault.Fault.TheVariants as fault
+use Rattle.commands.specs.declared.command_fault.Fault.{Fault}
+use Rattle.commands.specs.declared.command_fault.Fault.TheVariants as fault
 use Rattle.program_tools.specs.Texts as program
 use Rattle.bounded_files.specs.Texts.{resource_text}
 use Rattle.operator.specs.Texts.{ask_text}

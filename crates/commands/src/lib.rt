@@ -9,7 +9,7 @@
 // `serve`, makes a server ready. Then the output's lines are printed. A ready server prints that it
 // serves, and serves until it is stopped. The status says whether all this was done.
 
-mod fault;
+mod command_fault;
 mod logged;
 mod output;
 mod replays;

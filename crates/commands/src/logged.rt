@@ -6,7 +6,7 @@ ghost use Rattle.std.specs.Prelude.{◌⊎◌, OnOk, IfErr};
 ghost use Rattle.serving.specs.Staffed.{IsStaffFault, IsEndFault};
 ghost use Rattle.workers.specs.Texts.{serving_line};
 
-use crate::fault::Fault;
+use crate::command_fault::Fault;
 use crate::serve::serve_by;
 use command_words::{Command, Plan};
 use load::Disk;

@@ -5,7 +5,7 @@ ghost use Rattle.std.specs.List.{flat_map};
 ghost use Rattle.std.specs.String.{string_bytes};
 ghost use Rattle.commands.specs.Replays.{HasReplayed, IsReplayRefusal, reply_line};
 
-use crate::fault::Fault;
+use crate::command_fault::Fault;
 use bounded_files::ResourceFault;
 use load::Disk;
 use replay::{Reply, replay_files};

@@ -3,7 +3,7 @@
 ghost use Rattle.std.specs.Prelude.{IfOk, IfErr};
 ghost use Rattle.commands.specs.Outputs.{IsOutput, IsRefused};
 
-use crate::fault::Fault;
+use crate::command_fault::Fault;
 use crate::output::CommandOutput;
 use crate::replays::replay_script;
 use command_line::RunArgs;

@@ -6,7 +6,7 @@ ghost use Rattle.command_line.specs.Printed.{IsGiven};
 ghost use Rattle.commands.specs.Commands.{AreWrong, IsAnswered, IsDone};
 ghost use Rattle.workers.specs.Texts.{serving_line};
 
-use crate::fault::Fault;
+use crate::command_fault::Fault;
 use crate::logged::note_refusal;
 use crate::output::CommandOutput;
 use crate::requests::output_of;

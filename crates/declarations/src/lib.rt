@@ -6,11 +6,11 @@
 
 mod declaration;
 mod declare;
-mod law;
+mod laws;
 mod parts;
 mod spec;
 
 pub use declaration::ArrayDeclaration;
 pub use declare::{RefusedArray, declare_all};
-pub use law::lists_declare_one_way;
+pub use laws::lists_declare_one_way;
 pub use spec::{SpecFault, read_spec};

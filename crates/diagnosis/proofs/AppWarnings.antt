@@ -37,14 +37,16 @@ module _ (number budget : ℕ) (app : AppSources) (source : ProgramSource)
   }
 
   -- for an app with a rule
-  pub adds_by_rule : (file : List ℕ) (old between new : List Warning) (left : ℕ) → source ≡ Rule file
+  pub adds_by_rule : (file : List ℕ) (old between new : List Warning) (left : ℕ) → source
+      ≡ Rule file
       → between ≡ old ++ app_warnings number app.entry
       → AddsRule number budget app between new left → AddsApp number budget app old new left
   adds_by_rule file old between new left is first more = record {
     reported = app_warnings number app.entry ++ more.by_rule;
     warns = record {
       by_rule = more.by_rule;
-      rule_warns = subst (λ (s : ProgramSource). WarnsOfSource number budget s app more.by_rule left)
+      rule_warns =
+          subst (λ (s : ProgramSource). WarnsOfSource number budget s app more.by_rule left)
           (sym is ∙ same) more.rule_warns;
       reported_is = refl;
     };

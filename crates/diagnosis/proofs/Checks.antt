@@ -10,10 +10,10 @@ use Rattle.cells.specs.Directory.{Declaration, IsDirectory}
 use Rattle.cells.specs.declared.array.CellArray.{CellArray}
 use Rattle.manifest.specs.Manifest.{Manifest, ReadsManifest}
 use Rattle.manifest.specs.OneReading.{HasOneManifest}
-use Rattle.manifest.specs.declared.fault.ManifestFault.{ManifestFault}
+use Rattle.manifest.specs.declared.manifest_fault.ManifestFault.{ManifestFault}
 use Rattle.bounded_files.specs.Files.{KnownFile}
-use Rattle.load.specs.declared.fault.LoadFault.{LoadFault}
-use Rattle.load.specs.declared.fault.LoadFault.TheVariants.{Memory}
+use Rattle.load.specs.declared.load_fault.LoadFault.{LoadFault}
+use Rattle.load.specs.declared.load_fault.LoadFault.TheVariants.{Memory}
 use Rattle.load.specs.declared.sources.Sources.{Sources}
 use Rattle.load.specs.Digest.{digest_of, framed_files}
 use Rattle.load.specs.Sources.{AreTaken, AreSources}
@@ -32,7 +32,7 @@ empty : IsDirectory []
 empty = record {
   names = λ i j a b at there same. absurd (none-some a at);
   places = λ i a at. absurd (none-some a at);
-  budget = λ w. omega arith;
+  room = λ w. omega arith;
   ranges = All-nil _;
 }
 

@@ -4,7 +4,7 @@ use Rattle.std.proofs.Common.{sym, ap, ◌∙◌, subst, append_assoc, append-ni
 use Rattle.diagnosis.specs.Undeclared.{AreFaultsOfArrays, JudgesArray, fault_of_array}
 use Rattle.diagnosis.specs.Undeclared.AreFaultsOfArrays.{none, next}
 use Rattle.diagnosis.specs.Undeclared.JudgesArray.{declared, refused}
-use Rattle.load.specs.declared.fault.LoadFault.{LoadFault}
+use Rattle.load.specs.declared.load_fault.LoadFault.{LoadFault}
 use Rattle.cells.specs.Directory.{Declaration, Declares, IsRefusedDeclaration, declaration}
 use Rattle.cells.specs.declared.array.CellArray.{CellArray}
 use Rattle.cells.specs.declared.array.CellWidth.{CellWidth}

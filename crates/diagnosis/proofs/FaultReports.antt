@@ -8,7 +8,7 @@ use Rattle.diagnosis.specs.Further.{AreFurther}
 use Rattle.diagnosis.specs.Lines.{fault_lines}
 use Rattle.diagnosis.specs.Reported.{AreFaultReports, IsFaultReport, TellsFurther}
 use Rattle.diagnosis.specs.declared.refused.FaultReport.{FaultReport}
-use Rattle.load.specs.declared.fault.LoadFault.{LoadFault}
+use Rattle.load.specs.declared.load_fault.LoadFault.{LoadFault}
 use Rattle.load.specs.declared.sources.AppSources.{AppSources}
 use Rattle.manifest.specs.declared.refused.Parsed.{Parsed}
 
@@ -20,7 +20,8 @@ pub none_yet : (old : List FaultReport) (left all : List LoadFault) → old ≡ 
 none_yet old left all empty is = ap (λ l. faults_in l ++ left) empty ∙ is
 
 -- the lines so far, and those of the faults that are left, are all lines
-pub lines_more : (old new : List ℕ) (reported : FaultReport) (left rest : List FaultReport) (all : List ℕ)
+pub lines_more : (old new : List ℕ) (reported : FaultReport) (left rest : List FaultReport)
+    (all : List ℕ)
     → old ++ flat_map fault_lines left ≡ all → left ≡ reported ∷ rest
     → new ≡ old ++ fault_lines reported → new ++ flat_map fault_lines rest ≡ all
 lines_more old new reported left rest all so_far left_is new_is =
@@ -51,7 +52,8 @@ module _ (arrays : List Declaration) (apps : List AppSources) where
       subst (λ (l : List FaultReport). All (IsFaultReport arrays apps) l) (sym is)
       (All-nil (IsFaultReport arrays apps))
 
-  pub each_more : (old new : List FaultReport) (t : FaultReport) → All (IsFaultReport arrays apps) old
+  pub each_more : (old new : List FaultReport) (t : FaultReport)
+      → All (IsFaultReport arrays apps) old
       → IsFaultReport arrays apps t → new ≡ old ++ t ∷ [] → All (IsFaultReport arrays apps) new
   each_more old new t each is new_is =
       subst (λ (l : List FaultReport). All (IsFaultReport arrays apps) l) (sym new_is)
@@ -62,20 +64,24 @@ module _ (arrays : List Declaration) (apps : List AppSources) where
       → faults_in reported ++ left ≡ faults → left ≡ [] → All (IsFaultReport arrays apps) reported
       → AreFaultReports arrays apps faults reported
   all_reported reported left faults are is each = record {
-    faults_are = sym (append-nil (faults_in reported)) ∙ ap (λ l. faults_in reported ++ l) (sym is) ∙ are;
+    faults_are = sym (append-nil (faults_in reported)) ∙ ap (λ l. faults_in reported ++ l)
+        (sym is) ∙ are;
     each = each;
   }
 
 module _ (parsed : Parsed) (arrays : List Declaration) (apps : List AppSources) where
   -- nine faults, and how many more there are
-  pub nine_reported : (fault : LoadFault) (faults few : List LoadFault) (reported : List FaultReport)
+  pub nine_reported : (fault : LoadFault) (faults few : List LoadFault)
+      (reported : List FaultReport)
       (count left_out : ℕ) → AreFurther parsed arrays apps fault faults → few ≡ take 9 faults
       → AreFaultReports arrays apps few reported → count ≡ length faults → left_out ≡ count - 9
       → TellsFurther parsed arrays apps fault reported left_out
-  nine_reported fault faults few reported count left_out further few_are lines count_is left_out_is =
+  nine_reported fault faults few reported count left_out further few_are lines count_is
+      left_out_is =
       record {
         faults = faults;
         further = further;
-        first = subst (λ (l : List LoadFault). AreFaultReports arrays apps l reported) few_are lines;
+        first = subst (λ (l : List LoadFault). AreFaultReports arrays apps l reported)
+            few_are lines;
         left_out_is = left_out_is ∙ ap (λ n. n - 9) count_is;
       }

@@ -2,10 +2,10 @@
 use Rattle.std.proofs.Common.{◌≡◌, [], refl, sym, subst}
 use Rattle.load.specs.Load.{IsLoadFault, of_bytes}
 use Rattle.load.specs.Sources.{AreArraysBeside, IsParsedBeside}
-use Rattle.load.specs.declared.fault.LoadFault.{LoadFault}
-use Rattle.load.specs.declared.fault.LoadFault.TheVariants.{Manifest}
-use Rattle.manifest.specs.declared.fault.ManifestFault.TheVariants.{Toml}
-use Rattle.manifest.specs.declared.fault.TomlFault.TheVariants.{TooLong}
+use Rattle.load.specs.declared.load_fault.LoadFault.{LoadFault}
+use Rattle.load.specs.declared.load_fault.LoadFault.TheVariants.{Manifest}
+use Rattle.manifest.specs.declared.manifest_fault.ManifestFault.TheVariants.{Toml}
+use Rattle.manifest.specs.declared.manifest_fault.TomlFault.TheVariants.{TooLong}
 use Rattle.manifest.specs.declared.refused.Parsed.TheVariants.{Nothing}
 use Rattle.diagnosis.specs.Check.{FailsIfLong, no_file}
 use Rattle.diagnosis.specs.Reported.{TellsRefused}

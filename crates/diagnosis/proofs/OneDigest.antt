@@ -5,8 +5,8 @@ use Rattle.std.proofs.lemmas.Option.{same_Some, none-some}
 use Rattle.std.specs.Prelude.{option_map, option_and_then}
 use Rattle.bounded_files.specs.Files.{KnownFile}
 use Rattle.bounded_files.specs.Kept.{IsKeptOf}
-use Rattle.bounded_files.specs.declared.kept.KeptBytes.{KeptBytes}
-use Rattle.bounded_files.specs.declared.kept.KeptBytes.TheVariants.{Longer, Whole}
+use Rattle.bounded_files.specs.declared.kept_bytes.KeptBytes.{KeptBytes}
+use Rattle.bounded_files.specs.declared.kept_bytes.KeptBytes.TheVariants.{Longer, Whole}
 use Rattle.cells.specs.declared.array.ArrayNo.{ArrayNo}
 use Rattle.cells.specs.declared.array.CellArray.{CellArray}
 use Rattle.manifest.specs.App.{AppEntry}

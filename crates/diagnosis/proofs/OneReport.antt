@@ -4,8 +4,8 @@ use Rattle.std.proofs.Common.{Ok, refl, sym, ap, ◌∙◌, subst}
 use Rattle.std.proofs.lemmas.Option.{same_Some}
 use Rattle.bounded_files.specs.Files.{KnownFile, bytes_of}
 use Rattle.bounded_files.specs.Kept.{IsKeptOf}
-use Rattle.bounded_files.specs.declared.kept.KeptBytes.{KeptBytes}
-use Rattle.bounded_files.specs.declared.kept.KeptBytes.TheVariants.{Whole, Longer}
+use Rattle.bounded_files.specs.declared.kept_bytes.KeptBytes.{KeptBytes}
+use Rattle.bounded_files.specs.declared.kept_bytes.KeptBytes.TheVariants.{Whole, Longer}
 use Rattle.acceptance.specs.Rule.{IsTextOf}
 use Rattle.bpf_semantics.specs.Program.{ShapedProgram}
 use Rattle.cells.specs.Arrays.{AppShape}
@@ -109,7 +109,8 @@ module _ (verdict : (s : AppShape) (text : Text) → RuleHasOneVerdict s text)
       (subst (λ (t : List ℕ). IsTextOf t a.shape p.rule) bytes p.spelled) in
       let rules = same_rule a b p.rule q.rule same
       (one_rule q.text b.shape p.rule q.rule there q.spelled) in (
-        p.by_rule_is ∙ ap (λ (r : RuleOfApp). rule_warnings number budget r) rules ∙ sym q.by_rule_is,
+        p.by_rule_is ∙ ap (λ (r : RuleOfApp). rule_warnings number budget r) rules
+            ∙ sym q.by_rule_is,
         p.left_is ∙ ap (λ (r : RuleOfApp). budget_left budget r) rules ∙ sym q.left_is,
       )
 
@@ -124,17 +125,20 @@ module _ (verdict : (s : AppShape) (text : Text) → RuleHasOneVerdict s text)
       by_rule_once number budget (Rule file) a b by_rule other left also same h k p q
 
   module _ (directory : List CellArray) (numbers more : List ArrayNo) where
-    app_once : (number budget : ℕ) (entry : AppEntry) (a b : AppSources) (reported other : List Warning)
+    app_once : (number budget : ℕ) (entry : AppEntry) (a b : AppSources)
+        (reported other : List Warning)
         (left also : ℕ) → AreAlike a b
         → AreAppSources (Some files) directory numbers entry a
-        → AreAppSources (Some files) directory more entry b → WarnsOfApp number budget a reported left
+        → AreAppSources (Some files) directory more entry b
+        → WarnsOfApp number budget a reported left
         → WarnsOfApp number budget b other also → (reported ≡ other) × (left ≡ also)
     app_once number budget entry a b reported other left also same h k p q =
         let first = subst (λ (e : AppEntry). WarnsOfSource number budget e.source a p.by_rule left)
         h.entry_is p.rule_warns in
         let second = subst (λ (e : AppEntry). WarnsOfSource number budget e.source b q.by_rule also)
         k.entry_is q.rule_warns in
-        let one = source_once number budget entry.source a b p.by_rule q.by_rule left also same h.kept_is
+        let one = source_once number budget entry.source a b p.by_rule q.by_rule left also same
+        h.kept_is
         k.kept_is first second in (
           p.reported_is
               ∙ ap (λ (e : AppEntry). app_warnings number e ++ p.by_rule)
@@ -150,20 +154,26 @@ module _ (verdict : (s : AppShape) (text : Text) → RuleHasOneVerdict s text)
         → AreJudged others also → apps_of apps programs ≡ apps_of others also
         → WarnsOfApps number budget apps reported → WarnsOfApps number budget others other
         → reported ≡ other
-    reported_once number budget [] [] [] programs also reported other g h p q same none_reported none_reported = refl
+    reported_once number budget [] [] [] programs also reported other g h p q same none_reported
+        none_reported = refl
     reported_once number budget [] (a ∷ apps) others programs also reported other g h p q same v w =
         elim g [ ]
     reported_once number budget [] [] (b ∷ others) programs also reported other g h p q same v w =
         elim h [ ]
-    reported_once number budget (e ∷ entries) [] others programs also reported other g h p q same v w =
+    reported_once number budget (e ∷ entries) [] others programs also reported other g h p q
+        same v w =
         elim g [ ]
-    reported_once number budget (e ∷ entries) (a ∷ apps) [] programs also reported other g h p q same v w =
+    reported_once number budget (e ∷ entries) (a ∷ apps) [] programs also reported other g h p q
+        same v w =
         elim h [ ]
-    reported_once number budget (e ∷ entries) (a ∷ apps) (b ∷ others) [] also reported other g h p q same v
+    reported_once number budget (e ∷ entries) (a ∷ apps) (b ∷ others) [] also reported other g h p
+        q same v
         w = elim p [ ]
-    reported_once number budget (e ∷ entries) (a ∷ apps) (b ∷ others) (x ∷ programs) [] reported other g h p
+    reported_once number budget (e ∷ entries) (a ∷ apps) (b ∷ others) (x ∷ programs) [] reported
+        other g h p
         q same v w = elim q [ ]
-    reported_once number budget (e ∷ entries) (a ∷ apps) (b ∷ others) (x ∷ programs) (y ∷ also) reported
+    reported_once number budget (e ∷ entries) (a ∷ apps) (b ∷ others) (x ∷ programs) (y ∷ also)
+        reported
         other (next_app g gs) (next_app h hs) (next_program p ps) (next_program q qs) same
         (next_reported {left = left} {reported = first} {rest = rest} v later)
         (next_reported {left = behind} {reported = second} {rest = others_told} w after) =

@@ -16,9 +16,10 @@ use Rattle.load.specs.Digest.{digest_of}
 use Rattle.load.specs.Sources.{AreArraysBeside, AreSources, IsParsedBeside, IsSourcesRefusal}
 use Rattle.load.specs.Judged.{AreJudged, IsLoadOf, RefusesFirst, apps_of}
 use Rattle.load.specs.Load.{IsLoadFault}
-use Rattle.load.specs.declared.fault.LoadFault.{LoadFault}
-use Rattle.load.specs.declared.fault.LoadFault.TheVariants.{Manifest as NoManifest, File, Program}
-use Rattle.load.specs.declared.fault.LoadFault.TheVariants.{Rule, Cells, Memory}
+use Rattle.load.specs.declared.load_fault.LoadFault.{LoadFault}
+use Rattle.load.specs.declared.load_fault.LoadFault.TheVariants.{Manifest as NoManifest, File}
+use Rattle.load.specs.declared.load_fault.LoadFault.TheVariants.{Program}
+use Rattle.load.specs.declared.load_fault.LoadFault.TheVariants.{Rule, Cells, Memory}
 use Rattle.load.specs.declared.sources.Sources.{Sources}
 use Rattle.load.specs.declared.sources.AppSources.{AppSources}
 use Rattle.load.specs.declared.sources.SourcesRefusal.{SourcesRefusal}
@@ -48,7 +49,8 @@ pub passes_apps : (bytes : List ℕ) (g : Sources) (programs : List ShapedProgra
     → WarnsOfApps 1 whole_budget gone by_rule → lent ≡ by_rule
     → reported.warnings.items ≡ unused_from 0 directory other ++ lent
     → digest_of bytes g.apps.items ≡ Some reported.digest → PassesApps bytes g reported
-passes_apps bytes g programs gone reported by_rule lent directory shown supplied other judged gone_are
+passes_apps bytes g programs gone reported by_rule lent directory shown supplied other judged
+    gone_are
     directory_is arrays_are shown_are supplied_are other_are apps_are text_is of_apps same
     warnings_are digest_is = record {
       programs = programs;
@@ -59,7 +61,8 @@ passes_apps bytes g programs gone reported by_rule lent directory shown supplied
           ∙ ap (λ (l : List AppRule). accepted_text reported.arrays.items l) supplied_are;
       warned = record {
         reported = by_rule;
-        of_apps = subst (λ (l : List AppSources). WarnsOfApps 1 whole_budget l by_rule) gone_are of_apps;
+        of_apps = subst (λ (l : List AppSources). WarnsOfApps 1 whole_budget l by_rule) gone_are
+            of_apps;
         warnings_are = warnings_are
             ∙ ap (λ (l : List CellArray). unused_from 0 l other ++ lent) directory_is
             ∙ ap (λ (l : List AppRule). unused_from 0 g.directory l ++ lent) (other_are ∙ apps_are)
@@ -80,7 +83,8 @@ none_parsed bytes apps Memory refuses = refl
 
 module _ (known : KnownFiles) (bytes : List ℕ) (g : Sources) (is : AreSources known [] bytes g)
     (load : IsLoadOf known [] bytes g is) where
-  pub passes : (reported : CheckedManifest) → PassesApps bytes g reported → PassesCheck known bytes reported
+  pub passes : (reported : CheckedManifest) → PassesApps bytes g reported
+      → PassesCheck known bytes reported
   passes reported h = record {
     g = g;
     sources = is;

@@ -13,7 +13,7 @@ use Rattle.load.specs.Digest.{digest_of}
 use Rattle.load.specs.Sources.{AreArraysBeside, AreSources, IsParsedBeside}
 use Rattle.load.specs.Judged.{AreJudged, RefusesFirst, apps_of}
 use Rattle.load.specs.Load.{IsRulesetOf, IsLoadFault}
-use Rattle.load.specs.declared.fault.LoadFault.{LoadFault}
+use Rattle.load.specs.declared.load_fault.LoadFault.{LoadFault}
 use Rattle.load.specs.declared.sources.Sources.{Sources}
 use Rattle.load.specs.declared.sources.AppSources.{AppSources}
 use Rattle.manifest.specs.declared.refused.Parsed.{Parsed}

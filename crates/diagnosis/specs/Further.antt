@@ -9,13 +9,14 @@ use Rattle.diagnosis.specs.Others.{AreOtherSchemaErrors, AreOtherDuplicates}
 use Rattle.diagnosis.specs.Undeclared.{AreUndeclared}
 use Rattle.load.specs.Apps.{in_app}
 use Rattle.load.specs.Judged.{IsJudged, RefusesSources}
-use Rattle.load.specs.declared.fault.AppFault.{AppFault}
-use Rattle.load.specs.declared.fault.AppFault.TheVariants as app
-use Rattle.load.specs.declared.fault.LoadFault.{LoadFault}
-use Rattle.load.specs.declared.fault.LoadFault.TheVariants.{Manifest as NoManifest, File, Program}
-use Rattle.load.specs.declared.fault.LoadFault.TheVariants.{Rule, Cells, Memory}
+use Rattle.load.specs.declared.load_fault.AppFault.{AppFault}
+use Rattle.load.specs.declared.load_fault.AppFault.TheVariants as app
+use Rattle.load.specs.declared.load_fault.LoadFault.{LoadFault}
+use Rattle.load.specs.declared.load_fault.LoadFault.TheVariants.{Manifest as NoManifest, File}
+use Rattle.load.specs.declared.load_fault.LoadFault.TheVariants.{Program}
+use Rattle.load.specs.declared.load_fault.LoadFault.TheVariants.{Rule, Cells, Memory}
 use Rattle.load.specs.declared.sources.AppSources.{AppSources}
-use Rattle.manifest.specs.declared.fault.ManifestFault.TheVariants as unread
+use Rattle.manifest.specs.declared.manifest_fault.ManifestFault.TheVariants as unread
 use Rattle.manifest.specs.declared.refused.Parsed.{Parsed}
 
 -- the fault of the app with this number, if it has one

@@ -3,7 +3,7 @@
 use Rattle.std.specs.Prelude.{◌≡◌, ◌⊎◌, ℕ, zero, suc, List, [], ◌++◌, codes, decimal, flat_map}
 use Rattle.std.specs.Prelude.{string_bytes}
 use Rattle.load.specs.Texts.{load_fault_text}
-use Rattle.load.specs.declared.fault.LoadFault.{LoadFault}
+use Rattle.load.specs.declared.load_fault.LoadFault.{LoadFault}
 use Rattle.diagnosis.specs.Texts.{unread_line}
 use Rattle.diagnosis.specs.declared.refused.FaultReport.{FaultReport}
 use Rattle.ruleset.specs.Texts.{line}

@@ -4,7 +4,7 @@ use Rattle.bounded_files.specs.Files.{KnownFile}
 use Rattle.cells.specs.declared.array.CellArray.{CellArray}
 use Rattle.load.specs.Sources.{AreSources}
 use Rattle.load.specs.Made.{IsMadeOf}
-use Rattle.load.specs.declared.fault.LoadFault.TheVariants.{Memory}
+use Rattle.load.specs.declared.load_fault.LoadFault.TheVariants.{Memory}
 use Rattle.load.specs.declared.sources.Sources.{Sources}
 use Rattle.ruleset.specs.declared.loaded.LoadedRuleset.{LoadedRuleset}
 use Rattle.diagnosis.specs.Check.{FailsCheck, PassesCheck}
@@ -30,7 +30,8 @@ pub record HasOneCheck (files : List ℕ → Option KnownFile) (bytes : List ℕ
   pub either : (reported : CheckedManifest) (r : Refused) → PassesCheck (Some files) bytes reported
       → FailsCheck (Some files) bytes r → r.fault ≡ Memory
   -- and each load of it has the reported digest, over any arrays
-  pub digest : (reported : CheckedManifest) (old : List CellArray) (g : Sources) (made : LoadedRuleset)
+  pub digest : (reported : CheckedManifest) (old : List CellArray) (g : Sources)
+      (made : LoadedRuleset)
       → PassesCheck (Some files) bytes reported → AreSources (Some files) old bytes g
       → IsMadeOf bytes g made → reported.digest ≡ made.digest
 

@@ -1,12 +1,12 @@
 -- The further faults of a manifest itself, from the document that its bytes were parsed as: schema
 -- errors and duplicate names.
 use Rattle.std.specs.Prelude.{◌≡◌, List, map, drop}
-use Rattle.load.specs.declared.fault.LoadFault.{LoadFault}
-use Rattle.load.specs.declared.fault.LoadFault.TheVariants.{Manifest}
+use Rattle.load.specs.declared.load_fault.LoadFault.{LoadFault}
+use Rattle.load.specs.declared.load_fault.LoadFault.TheVariants.{Manifest}
 use Rattle.manifest.specs.AllDuplicates.{HasAllDuplicates}
 use Rattle.manifest.specs.SchemaErrors.{schema_errors_of}
-use Rattle.manifest.specs.declared.fault.ManifestFault.TheVariants.{Field, Duplicate}
-use Rattle.manifest.specs.declared.fault.DuplicateName.{DuplicateName}
+use Rattle.manifest.specs.declared.manifest_fault.ManifestFault.TheVariants.{Field, Duplicate}
+use Rattle.manifest.specs.declared.manifest_fault.DuplicateName.{DuplicateName}
 use Rattle.manifest.specs.declared.schema_error.SchemaError.{SchemaError}
 use Rattle.manifest.specs.declared.refused.Parsed.{Parsed}
 use Rattle.manifest.specs.declared.refused.Parsed.TheVariants.{Document}

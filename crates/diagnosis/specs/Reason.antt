@@ -10,22 +10,23 @@ use Rattle.diagnosis.specs.declared.shown.Place.TheVariants.{Rule as InRule}
 use Rattle.diagnosis.specs.Shown.{ShowsPlace}
 use Rattle.diagnosis.specs.Texts.{file_line, cells_line}
 use Rattle.ruleset.specs.Texts.{line}
-use Rattle.load.specs.declared.fault.LoadFault.{LoadFault}
-use Rattle.load.specs.declared.fault.LoadFault.TheVariants.{Manifest as NoManifest, Cells, File}
-use Rattle.load.specs.declared.fault.LoadFault.TheVariants.{Program, Rule, Memory}
+use Rattle.load.specs.declared.load_fault.LoadFault.{LoadFault}
+use Rattle.load.specs.declared.load_fault.LoadFault.TheVariants.{Manifest as NoManifest, Cells}
+use Rattle.load.specs.declared.load_fault.LoadFault.TheVariants.{File}
+use Rattle.load.specs.declared.load_fault.LoadFault.TheVariants.{Program, Rule, Memory}
 use Rattle.load.specs.declared.sources.AppSources.{AppSources}
 use Rattle.bpf_checks.specs.declared.refusal.Refusal.TheVariants as verify
-use Rattle.acceptance.specs.declared.fault.ProgramFault.{ProgramFault}
-use Rattle.acceptance.specs.declared.fault.ProgramFault.TheVariants.{Flow, Verify}
-use Rattle.acceptance.specs.declared.fault.RuleTextFault.{RuleTextFault}
-use Rattle.acceptance.specs.declared.fault.RuleTextFault.TheVariants.{Text}
+use Rattle.acceptance.specs.declared.program_fault.ProgramFault.{ProgramFault}
+use Rattle.acceptance.specs.declared.program_fault.ProgramFault.TheVariants.{Flow, Verify}
+use Rattle.acceptance.specs.declared.program_fault.RuleTextFault.{RuleTextFault}
+use Rattle.acceptance.specs.declared.program_fault.RuleTextFault.TheVariants.{Text}
 use Rattle.flow_check.specs.declared.fault.FlowFault.TheVariants as flow
-use Rattle.rule_lang.specs.declared.fault.RuleFault.TheVariants as rule
+use Rattle.rule_lang.specs.declared.rule_fault.RuleFault.TheVariants as rule
 use Rattle.manifest.specs.Texts.{schema_error_text, duplicate_text}
-use Rattle.manifest.specs.declared.fault.ManifestFault.{ManifestFault}
-use Rattle.manifest.specs.declared.fault.ManifestFault.TheVariants as unread
-use Rattle.manifest.specs.declared.fault.TomlFault.{TomlFault}
-use Rattle.manifest.specs.declared.fault.TomlFault.TheVariants as toml
+use Rattle.manifest.specs.declared.manifest_fault.ManifestFault.{ManifestFault}
+use Rattle.manifest.specs.declared.manifest_fault.ManifestFault.TheVariants as unread
+use Rattle.manifest.specs.declared.manifest_fault.TomlFault.{TomlFault}
+use Rattle.manifest.specs.declared.manifest_fault.TomlFault.TheVariants as toml
 use Rattle.printing.specs.Printed.{printed_lines}
 
 -- ---- faults of the manifest's bytes and of its arrays
@@ -44,7 +45,8 @@ abbrev pub IsManifestReason : ManifestFault → List ℕ → Type 0
 IsManifestReason (unread.Toml fault) text = IsTomlReason fault text
 IsManifestReason (unread.Field schema_error) text =
     text ≡ line (schema_error_text schema_error) ++ advice schema_error
-IsManifestReason (unread.Duplicate duplicate) text = text ≡ duplicate_text duplicate ++ codes " stands twice\n"
+IsManifestReason (unread.Duplicate duplicate) text = text ≡ duplicate_text duplicate
+    ++ codes " stands twice\n"
 IsManifestReason unread.Memory text = text ≡ []
 
 -- for an array with too few cells left; over no arrays, arrays have no other fault

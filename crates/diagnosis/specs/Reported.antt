@@ -6,7 +6,7 @@ use Rattle.diagnosis.specs.Reason.{IsReason}
 use Rattle.diagnosis.specs.declared.refused.Refused.{Refused}
 use Rattle.diagnosis.specs.declared.refused.FaultReport.{FaultReport}
 use Rattle.cells.specs.Directory.{Declaration}
-use Rattle.load.specs.declared.fault.LoadFault.{LoadFault}
+use Rattle.load.specs.declared.load_fault.LoadFault.{LoadFault}
 use Rattle.load.specs.declared.sources.AppSources.{AppSources}
 use Rattle.manifest.specs.declared.refused.Parsed.{Parsed}
 

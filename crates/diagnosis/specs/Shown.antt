@@ -13,15 +13,16 @@ use Rattle.bpf_semantics.specs.Program.{shaped}
 use Rattle.explain.specs.RefusedPlace.{IsRefusedPlace}
 use Rattle.flow_check.specs.Flow.{IsFlow, program_bytes}
 use Rattle.printing.specs.Printed.{printed_lines}
-use Rattle.rule_lang.specs.declared.fault.RuleFaultKind.{RuleFaultKind}
+use Rattle.rule_lang.specs.declared.rule_fault.RuleFaultKind.{RuleFaultKind}
 use Rattle.cells.specs.Arrays.{AppShape}
 use Rattle.ruleset.specs.Texts.{line}
 use Rattle.rule_diagnosis.specs.Places.{line_text}
 use Rattle.rule_diagnosis.specs.Message.{IsRuleMessage, rule_too_long}
 use Rattle.load.specs.Source.{file_of}
 use Rattle.load.specs.declared.sources.AppSources.{AppSources}
-use Rattle.bounded_files.specs.declared.kept.KeptBytes.{KeptBytes}
-use Rattle.bounded_files.specs.declared.kept.KeptBytes.TheVariants.{Longer, Whole as WholeFile}
+use Rattle.bounded_files.specs.declared.kept_bytes.KeptBytes.{KeptBytes}
+use Rattle.bounded_files.specs.declared.kept_bytes.KeptBytes.TheVariants.{Longer}
+use Rattle.bounded_files.specs.declared.kept_bytes.KeptBytes.TheVariants.{Whole as WholeFile}
 
 -- a line and its number, from 1, as printed
 abbrev pub numbered_line : ℕ → List ℕ → List ℕ

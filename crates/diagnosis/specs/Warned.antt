@@ -34,7 +34,8 @@ app_rule app rule = record {
 }
 
 -- the warnings on the rule, and the budget left for the rules of other apps
-pub record WarnsOfRule (number budget : ℕ) (app : AppSources) (by_rule : List Warning) (left : ℕ) : Type 0
+pub record WarnsOfRule (number budget : ℕ) (app : AppSources) (by_rule : List Warning) (left : ℕ)
+    : Type 0
   where
     pub text : List ℕ
     pub kept_is : whole_file app.kept ≡ Some text
@@ -43,10 +44,12 @@ pub record WarnsOfRule (number budget : ℕ) (app : AppSources) (by_rule : List 
     pub by_rule_is : by_rule ≡ rule_warnings number budget (app_rule app rule)
     pub left_is : left ≡ budget_left budget (app_rule app rule)
 
-abbrev pub WarnsOfSource : (number budget : ℕ) → ProgramSource → AppSources → List Warning → (left : ℕ)
+abbrev pub WarnsOfSource : (number budget : ℕ) → ProgramSource → AppSources → List Warning
+    → (left : ℕ)
     → Type 0
 WarnsOfSource number budget (Program file) app by_rule left = (by_rule ≡ []) × (left ≡ budget)
-WarnsOfSource number budget (Rule file) app by_rule left = WarnsOfRule number budget app by_rule left
+WarnsOfSource number budget (Rule file) app by_rule left =
+    WarnsOfRule number budget app by_rule left
 
 -- for an app: the warnings on its appid and its releases, then on its rule
 pub record WarnsOfApp (number budget : ℕ) (app : AppSources) (reported : List Warning) (left : ℕ)

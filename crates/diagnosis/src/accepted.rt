@@ -56,7 +56,12 @@ pub(crate) fn tell_accepted(
     } = sources;
     let apps = supply(alloc, collected_apps, programs)?;
     let text = tell_loaded(alloc, arrays.as_slice(), apps.as_slice())?;
-    let warnings = tell_warnings(alloc, directory.arrays(), apps.as_slice(), reported.as_slice())?;
+    let warnings = tell_warnings(
+        alloc,
+        directory.arrays(),
+        apps.as_slice(),
+        reported.as_slice(),
+    )?;
     Ok(CheckedManifest {
         arrays,
         apps,

@@ -85,11 +85,7 @@ pub fn check<F: Files>(
 }
 
 // Judges the gathered apps: all pass, or the first that has no program is reported.
-fn check_apps(
-    alloc: Global,
-    manifest: &[u8],
-    sources: Sources,
-) -> Result<CheckedManifest, Refused>
+fn check_apps(alloc: Global, manifest: &[u8], sources: Sources) -> Result<CheckedManifest, Refused>
     requires { All HasItsReleases sources.apps.items }
     ensures passes { IfOk result (PassesApps manifest.now sources) }
     ensures fails { IfErr result (FailsApps sources) }
@@ -125,7 +121,8 @@ fn refuse_sources(alloc: Global, sources: &Sources, fault: LoadFault) -> Refused
 
 fn refuse_without_sources(alloc: Global, is_link: bool, refused_sources: SourcesRefusal) -> Refused
     ensures fault { result.fault ≡ refused_sources.fault }
-    ensures reported { TellsRefused refused_sources.parsed refused_sources.arrays.items [] 0 result }
+    ensures reported { TellsRefused refused_sources.parsed refused_sources.arrays.items [] 0
+        result }
 {
     let SourcesRefusal {
         fault,

@@ -7,11 +7,7 @@ use load::{AppFault, AppSources, LoadFault, in_app, judge_app};
 use std::alloc::{AllocError, Global};
 
 /// The faults of the apps after the one with this number; None if an allocation fails.
-pub(crate) fn faults_after(
-    alloc: Global,
-    apps: &[AppSources],
-    app: usize,
-) -> Option<Vec<LoadFault>>
+pub(crate) fn faults_after(alloc: Global, apps: &[AppSources], app: usize) -> Option<Vec<LoadFault>>
     ensures { IfSome result (λ v. AreFaultsAfter apps.now app v.items) }
 {
     if app > apps.len() {
@@ -25,11 +21,7 @@ pub(crate) fn faults_after(
 }
 
 // The faults of these apps, the first of which has this number.
-fn faults_of(
-    alloc: Global,
-    first: usize,
-    apps: &[AppSources],
-) -> Result<Vec<LoadFault>, AllocError>
+fn faults_of(alloc: Global, first: usize, apps: &[AppSources]) -> Result<Vec<LoadFault>, AllocError>
     requires { first + length apps.now < 2 ^ 64 }
     ensures { IfOk result (λ v. AreFaultsOf first apps.now v.items) }
 {

@@ -3,10 +3,12 @@
 ghost use Rattle.std.specs.Prelude.{◌≡◌, map, drop, IfOk, IfSome};
 ghost use Rattle.diagnosis.specs.Others.{AreOtherDuplicates, AreOtherSchemaErrors};
 ghost use Rattle.diagnosis.specs.Others as specs;
-ghost use Rattle.load.specs.declared.fault.LoadFault.{LoadFault};
+ghost use Rattle.load.specs.declared.load_fault.LoadFault.{LoadFault};
 
 use load::LoadFault;
-use manifest::{DuplicateName, ManifestFault, Parsed, SchemaError, all_duplicates, all_schema_errors};
+use manifest::{
+    DuplicateName, ManifestFault, Parsed, SchemaError, all_duplicates, all_schema_errors,
+};
 use std::alloc::{AllocError, Global};
 
 /// A reason why a document isn't a manifest.

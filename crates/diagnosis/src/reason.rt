@@ -96,7 +96,8 @@ fn tell_schema_error(alloc: Global, schema_error: &SchemaError) -> Option<String
 
 fn push_schema_error(text: &mut String, schema_error: &SchemaError) -> Result<(), AllocError>
     ensures { OnOk result
-        (Puts text.old text.new (line (schema_error_text schema_error.now) ++ advice schema_error.now)) }
+        (Puts text.old text.new
+        (line (schema_error_text schema_error.now) ++ advice schema_error.now)) }
 {
     writeln!(text, "{schema_error}")?;
     text.push_str(advice(schema_error))

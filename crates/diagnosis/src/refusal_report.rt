@@ -2,13 +2,14 @@
 
 ghost use Rattle.std.specs.Prelude.{◌≡◌, IfOk, IfSome};
 ghost use Rattle.diagnosis.specs.Further.{AreFurther};
-ghost use Rattle.diagnosis.specs.Reported.{AreFaultReports, IsFaultReport, TellsFurther, TellsOthers};
+ghost use Rattle.diagnosis.specs.Reported.{AreFaultReports, IsFaultReport, TellsFurther};
+ghost use Rattle.diagnosis.specs.Reported.{TellsOthers};
 ghost use Rattle.diagnosis.specs.Reported.{TellsRefused};
 
 use crate::later_faults::faults_after;
-use crate::lines::lines_of;
 use crate::others::{other_duplicates, other_schema_errors};
 use crate::reason::reason_of;
+use crate::refusal_lines::lines_of;
 use crate::refused::{FaultReport, Refused};
 use crate::undeclared::faults_after_array;
 use declarations::ArrayDeclaration;
@@ -44,7 +45,14 @@ pub(crate) fn tell_refused(
         alloc, parsed, is_link, arrays, apps, &fault,
     );
     let read = apps.len();
-    let reason = lines_of(alloc, own.as_str(), reported.as_slice(), left_out, read, unread);
+    let reason = lines_of(
+        alloc,
+        own.as_str(),
+        reported.as_slice(),
+        left_out,
+        read,
+        unread,
+    );
     Refused {
         fault,
         reason,

@@ -5,8 +5,8 @@ ghost use Rattle.diagnosis.specs.Unused.{unused_from};
 ghost use Rattle.diagnosis.specs.Warned.{WarnsOfApps};
 ghost use Rattle.warnings.specs.RuleWarnings.{whole_budget};
 
-use crate::warned_app::tell_app;
 use crate::unused::tell_unused;
+use crate::warned_app::tell_app;
 use cells::CellArray;
 use load::AppSources;
 use ruleset::App;
@@ -34,7 +34,10 @@ pub(crate) fn tell_warnings(
 }
 
 /// The warnings on apps, in their order.
-pub(crate) fn warnings_of_apps(alloc: Global, apps: &[AppSources]) -> Result<Vec<Warning>, AllocError>
+pub(crate) fn warnings_of_apps(
+    alloc: Global,
+    apps: &[AppSources],
+) -> Result<Vec<Warning>, AllocError>
     ensures { IfOk result (λ warnings. WarnsOfApps 1 whole_budget apps.now warnings.items) }
 {
     let mut warnings = Vec::new(alloc);

@@ -70,7 +70,8 @@ module _ (x : Scope) (d : Dimension) (line : IsLine x d) (a : Attributes) (g : S
   begins_in [] cut = refl
   begins_in (r ∷ rs) cut =
       let both = and_parts (is_cut d r) (list_all (is_cut d) rs) cut in
-      let both_ends = and_parts (decides d.starts d.last Ge r.low) (decides d.starts d.last Le r.high)
+      let both_ends =
+      and_parts (decides d.starts d.last Ge r.low) (decides d.starts d.last Le r.high)
       both.0 in
       ap₂ (λ (b c : Bool). b || c)
       (ap₂ (λ (b c : Bool). b && c) (low_is r.low both_ends.0) (high_is r.high both_ends.1))

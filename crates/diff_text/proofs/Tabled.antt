@@ -205,7 +205,8 @@ module _ (ds : List Dimension) where
 -- ---- parts of one table
 
 module _ (ds : List Dimension) where
-  pub test_table : (test : Test) (place : ℕ) (by : NumberComparison) (d : Dimension) (holds : List Bool)
+  pub test_table : (test : Test) (place : ℕ) (by : NumberComparison) (d : Dimension)
+      (holds : List Bool)
       → slice_get ds place ≡ Some d → IsAgainstAt ds place test by → holds ≡ truths by d.starts
       → IsTestTable ds test (record { dimension = place; holds = holds })
   test_table test place by d holds there h is = record {

@@ -4,7 +4,7 @@ use Rattle.std.specs.Prelude.{Option, Some, None, nat_lt, if◌then◌else◌}
 use Rattle.moments.specs.Calendar.{date_of}
 use Rattle.moments.specs.declared.calendar.CivilDate.{CivilDate}
 use Rattle.simulate.specs.Columns.{at_left, widest, width_of}
-use Rattle.diff_text.specs.declared.lines.LineWidths.{LineWidths}
+use Rattle.diff_text.specs.declared.row_lines.LineWidths.{LineWidths}
 use Rattle.diff_text.specs.declared.shown.AppRows.{AppRows}
 use Rattle.diff_text.specs.Conditions.{joined}
 use Rattle.diff_text.specs.Kinds.{mark_of}

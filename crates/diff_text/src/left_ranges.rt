@@ -65,7 +65,12 @@ fn is_cut(dimension: &Dimension, range: LeftRange) -> bool
     ensures { result ≡ tables.is_cut dimension.now range }
 {
     decides(&dimension.starts, dimension.last, Comparison::Ge, range.low)
-        && decides(&dimension.starts, dimension.last, Comparison::Le, range.high)
+        && decides(
+            &dimension.starts,
+            dimension.last,
+            Comparison::Le,
+            range.high,
+        )
 }
 
 fn are_cut(dimension: &Dimension, ranges: &[LeftRange]) -> bool
@@ -82,7 +87,11 @@ fn are_cut(dimension: &Dimension, ranges: &[LeftRange]) -> bool
 }
 
 // For each segment whether one of the ranges has the number at which it begins.
-fn segments_in(alloc: Global, ranges: &[LeftRange], starts: &[u128]) -> Result<Vec<bool>, AllocError>
+fn segments_in(
+    alloc: Global,
+    ranges: &[LeftRange],
+    starts: &[u128],
+) -> Result<Vec<bool>, AllocError>
     ensures { IfOk result (λ v. v.items ≡ map (specs.have_number ranges.now) starts.now) }
 {
     let mut holds = Vec::with_capacity(alloc, starts.len())?;

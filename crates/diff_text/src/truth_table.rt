@@ -33,7 +33,11 @@ fn is_so(against: NumberComparison, number: u128) -> bool
 }
 
 // The truths of a comparison, by the numbers at which the segments begin.
-fn truths(alloc: Global, against: NumberComparison, starts: &[u128]) -> Result<Vec<bool>, AllocError>
+fn truths(
+    alloc: Global,
+    against: NumberComparison,
+    starts: &[u128],
+) -> Result<Vec<bool>, AllocError>
     ensures { IfOk result (λ v. v.items ≡ specs.truths against starts.now) }
 {
     let mut holds = Vec::with_capacity(alloc, starts.len())?;

@@ -10,9 +10,9 @@ use Rattle.http_front.specs.declared.status.Status.TheVariants as status
 use Rattle.ruleset.specs.Rules.{Rules}
 use Rattle.omaha_json.specs.Reply.{reply_text}
 use Rattle.omaha_json.specs.Request.{Request, request_in}
-use Rattle.omaha_json.specs.declared.fault.OmahaFault.{OmahaFault}
-use Rattle.omaha_json.specs.declared.fault.OmahaFault.TheVariants.{Json, Shape, Protocol}
-use Rattle.omaha_json.specs.declared.fault.OmahaFault.TheVariants.{TooManyApps, Memory}
+use Rattle.omaha_json.specs.declared.omaha_fault.OmahaFault.{OmahaFault}
+use Rattle.omaha_json.specs.declared.omaha_fault.OmahaFault.TheVariants.{Json, Shape, Protocol}
+use Rattle.omaha_json.specs.declared.omaha_fault.OmahaFault.TheVariants.{TooManyApps, Memory}
 use Rattle.answering.specs.Answer.{RepliesToRequest, RepliesToBody}
 use Rattle.answering.specs.Answer.{replied, unowned, broken_off, accepted, refused, unread}
 use Rattle.answering.specs.Reply.{HttpReply, success, omaha_rejection, omaha_status}

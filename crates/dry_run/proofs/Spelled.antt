@@ -7,8 +7,8 @@ use Rattle.std.proofs.Math.Seq.{take-length}
 use Rattle.cells.specs.Arrays.{AppShape}
 use Rattle.rule_lang.specs.Parts.{OrFault}
 use Rattle.rule_lang.specs.Verdicts.{IsVerdict, IsRuleFault, RuleHasOneVerdict}
-use Rattle.rule_lang.specs.declared.fault.RuleFault.TheVariants.{At}
-use Rattle.rule_lang.specs.declared.fault.RuleFaultKind.{RuleFaultKind}
+use Rattle.rule_lang.specs.declared.rule_fault.RuleFault.TheVariants.{At}
+use Rattle.rule_lang.specs.declared.rule_fault.RuleFaultKind.{RuleFaultKind}
 use Rattle.rule_lang.specs.declared.rule.Statement.{Statement}
 use Rattle.load.specs.declared.sources.AppSources.{AppSources}
 use Rattle.dry_run.specs.KeptRules.{AreReadFrom, IsReadFrom, IsRuleOfText}

@@ -3,9 +3,9 @@ use Rattle.std.proofs.Common.{◌≡◌, ◌≢◌, ◌∙◌, ◌++◌, ℕ, Li
 use Rattle.std.specs.Prelude.{ℤ, Result}
 use Rattle.cells.specs.declared.array.CellArray.{CellArray}
 use Rattle.omaha_json.specs.Request.{Request, request_in}
-use Rattle.omaha_json.specs.declared.fault.OmahaFault.{OmahaFault}
-use Rattle.omaha_json.specs.declared.fault.OmahaFault.TheVariants.{Json, Shape, Protocol}
-use Rattle.omaha_json.specs.declared.fault.OmahaFault.TheVariants.{TooManyApps, Memory}
+use Rattle.omaha_json.specs.declared.omaha_fault.OmahaFault.{OmahaFault}
+use Rattle.omaha_json.specs.declared.omaha_fault.OmahaFault.TheVariants.{Json, Shape, Protocol}
+use Rattle.omaha_json.specs.declared.omaha_fault.OmahaFault.TheVariants.{TooManyApps, Memory}
 use Rattle.told_cells.specs.Assignments.{Assignment}
 use Rattle.dry_run.specs.Counters.{AreSetAsTold}
 use Rattle.dry_run.specs.IgnoredLines.{app_notes_in, request_note_in}
@@ -18,7 +18,8 @@ use Rattle.dry_run.specs.declared.why_files.OpenedWhy.{OpenedWhy}
 abbrev ReadsAs : (body : List ℕ) → Result Request OmahaFault → Type 0
 ReadsAs body read = read ≢ Err Memory → read ≡ request_in body
 
-pub told_why : (o : OpenedWhy) (moment : ℤ) (served words : List Assignment) (arrays : List CellArray)
+pub told_why : (o : OpenedWhy) (moment : ℤ) (served words : List Assignment)
+    (arrays : List CellArray)
     (counters : List ℕ) (request : Request) (front : List ℕ) (notes : List (List ℕ))
     (left text : List ℕ) → arrays ≡ o.directory → AreSetAsTold arrays served words counters
     → ReadsAs o.body.items (Ok request) → front ≡ request_note_in o.body.items

@@ -10,9 +10,9 @@ use Rattle.attrs.specs.declared.facts.AppFacts.{AppFacts}
 use Rattle.json_value.specs.Bytes.{json_of}
 use Rattle.omaha_json.specs.Request.{Request, all_facts, count_of, is_protocol, listed, of_apps}
 use Rattle.omaha_json.specs.Request.{of_request, of_value, or_fault, request_facts, text_in}
-use Rattle.omaha_json.specs.declared.fault.OmahaFault.{OmahaFault}
-use Rattle.omaha_json.specs.declared.fault.OmahaFault.TheVariants.{Json, Shape}
-use Rattle.omaha_json.specs.declared.fault.OmahaFault.TheVariants.{Protocol, TooManyApps}
+use Rattle.omaha_json.specs.declared.omaha_fault.OmahaFault.{OmahaFault}
+use Rattle.omaha_json.specs.declared.omaha_fault.OmahaFault.TheVariants.{Json, Shape}
+use Rattle.omaha_json.specs.declared.omaha_fault.OmahaFault.TheVariants.{Protocol, TooManyApps}
 use Rattle.dry_run.specs.IgnoredLines.{apps_written, notes_of}
 use Rattle.dry_run.specs.Noted.{IsWritten, ReadMembersAreTold}
 
@@ -20,12 +20,12 @@ abbrev asked_or : Request → Result Request OmahaFault → Request
 asked_or other (Ok asked) = asked
 asked_or other (Err fault) = other
 
-abbrev requirement_of : Members → List AppFacts → Result Request OmahaFault
-requirement_of ms each = Ok (record { facts = request_facts (object ms); apps = each })
+abbrev asked_of : Members → List AppFacts → Result Request OmahaFault
+asked_of ms each = Ok (record { facts = request_facts (object ms); apps = each })
 
 by_each : (ms : Members) (items : Items) (each : Option (List AppFacts)) (asked : Request)
     → unwrap_or (apps_written (object ms)) no_items ≡ items → all_facts items ≡ each
-    → or_fault Shape (requirement_of ms) each ≡ Ok asked → IsWritten (Some (object ms)) asked
+    → or_fault Shape (asked_of ms) each ≡ Ok asked → IsWritten (Some (object ms)) asked
 by_each ms items None asked list all is = absurd cc
 by_each ms items (Some each) asked list all is =
     let same = ap (asked_or asked) is in
@@ -40,7 +40,7 @@ by_each ms items (Some each) asked list all is =
 
 by_count : (ms : Members) (items : Items) (many : Bool) (asked : Request)
     → unwrap_or (apps_written (object ms)) no_items ≡ items
-    → (if many then Err TooManyApps else or_fault Shape (requirement_of ms) (all_facts items)) ≡ Ok asked
+    → (if many then Err TooManyApps else or_fault Shape (asked_of ms) (all_facts items)) ≡ Ok asked
     → IsWritten (Some (object ms)) asked
 by_count ms items true asked list is = absurd cc
 by_count ms items false asked list is = by_each ms items (all_facts items) asked list refl is

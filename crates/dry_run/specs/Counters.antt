@@ -44,7 +44,8 @@ with_known arrays counters (told ∷ more) =
 
 -- counters that are 0, except for those that a server gave, as far as they exist, and then for
 -- those that the command line gave
-pub record AreSetAsTold (arrays : List CellArray) (served words : List Assignment) (counters : List ℕ)
+pub record AreSetAsTold (arrays : List CellArray) (served words : List Assignment)
+    (counters : List ℕ)
     : Type 0 where
   pub zeros : List ℕ
   pub opens : AreZeros 8192 zeros

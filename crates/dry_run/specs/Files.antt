@@ -3,8 +3,8 @@ use Rattle.std.specs.Prelude.{ℕ, ◌^◌, ◌≤◌, List, [], length, codes, 
 use Rattle.std.specs.Prelude.{if◌then◌else◌}
 use Rattle.std.specs.Str.{bytes_eq}
 use Rattle.bounded_files.specs.Files.{KnownFiles, Gives, HasMore}
-use Rattle.bounded_files.specs.declared.fault.ResourceFault.TheVariants.{File}
-use Rattle.bounded_files.specs.declared.fault.ResourceFault.TheVariants as resource
+use Rattle.bounded_files.specs.declared.resource_fault.ResourceFault.TheVariants.{File}
+use Rattle.bounded_files.specs.declared.resource_fault.ResourceFault.TheVariants as resource
 use Rattle.cells.specs.declared.array.CellArray.{CellArray}
 use Rattle.load.specs.Loaded.{IsLoadedFrom, RefusesPath}
 use Rattle.ruleset.specs.Rules.{Rules}

@@ -7,8 +7,8 @@ use Rattle.bounded_files.specs.Files.{KnownFiles}
 use Rattle.bpf_semantics.specs.Program.{ShapedProgram}
 use Rattle.load.specs.Made.{IsMadeFrom}
 use Rattle.load.specs.declared.sources.AppSources.{AppSources}
-use Rattle.bounded_files.specs.declared.kept.KeptBytes.{KeptBytes}
-use Rattle.bounded_files.specs.declared.kept.KeptBytes.TheVariants.{Whole}
+use Rattle.bounded_files.specs.declared.kept_bytes.KeptBytes.{KeptBytes}
+use Rattle.bounded_files.specs.declared.kept_bytes.KeptBytes.TheVariants.{Whole}
 use Rattle.ruleset.specs.declared.loaded.LoadedRuleset.{LoadedRuleset}
 use Rattle.manifest.specs.declared.app.ProgramSource.{ProgramSource}
 use Rattle.manifest.specs.declared.app.ProgramSource.TheVariants as source

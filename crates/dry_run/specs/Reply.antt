@@ -6,8 +6,8 @@ use Rattle.cells.specs.declared.event.CellEvent.{CellEvent}
 use Rattle.ruleset.specs.Rules.{Rules}
 use Rattle.omaha_json.specs.Reply.{reply_text}
 use Rattle.omaha_json.specs.Request.{Request, request_in}
-use Rattle.omaha_json.specs.declared.fault.OmahaFault.{OmahaFault}
-use Rattle.omaha_json.specs.declared.fault.OmahaFault.TheVariants.{Memory}
+use Rattle.omaha_json.specs.declared.omaha_fault.OmahaFault.{OmahaFault}
+use Rattle.omaha_json.specs.declared.omaha_fault.OmahaFault.TheVariants.{Memory}
 use Rattle.answering.specs.Apps.{RunsApps}
 
 module _ (rules : Rules) (moment : ℤ) where

@@ -1,10 +1,10 @@
 -- The reply to a body on counters with given values, and why there is none.
 use Rattle.std.specs.Prelude.{◌≡◌, ℕ, ℤ, List, None, Err}
-use Rattle.bounded_files.specs.declared.fault.ResourceFault.TheVariants as resource
+use Rattle.bounded_files.specs.declared.resource_fault.ResourceFault.TheVariants as resource
 use Rattle.cells.specs.Events.{AreZeros}
 use Rattle.cells.specs.declared.array.CellArray.{CellArray}
 use Rattle.omaha_json.specs.Request.{request_in}
-use Rattle.omaha_json.specs.declared.fault.OmahaFault.TheVariants as omaha
+use Rattle.omaha_json.specs.declared.omaha_fault.OmahaFault.TheVariants as omaha
 use Rattle.ruleset.specs.Rules.{Rules}
 use Rattle.told_cells.specs.Assignments.{Assignment}
 use Rattle.dry_run.specs.Counters.{AreSetAsTold, with_cells, with_known}

@@ -11,8 +11,8 @@ use crate::kept_rules::read_rules;
 use bounded_files::{Disk, ResourceFault};
 use cells::Directory;
 use load::{
-    FolderFiles, SourcesRefusal, PathFault, collect_sources, sources_are_loaded, sources_are_made,
-    make_ruleset, manifest_bytes,
+    FolderFiles, PathFault, SourcesRefusal, collect_sources, make_ruleset, manifest_bytes,
+    sources_are_loaded, sources_are_made,
 };
 use rule_lang::Rule;
 use ruleset::{LoadedRuleset, Ruleset};

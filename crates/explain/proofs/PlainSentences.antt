@@ -37,9 +37,11 @@ module _ (shape : AppShape) (names : AreNamedPlainly shape.arrays) where
   unfolding requirements.requirement_of
   requirement_plain rule.Unusable = word (requirements.requirement_of rule.Unusable) refl
   requirement_plain rule.WritesFrame = word (requirements.requirement_of rule.WritesFrame) refl
-  requirement_plain rule.PointerArithmetic = word (requirements.requirement_of rule.PointerArithmetic) refl
+  requirement_plain rule.PointerArithmetic =
+      word (requirements.requirement_of rule.PointerArithmetic) refl
   requirement_plain rule.OffsetRange = word (requirements.requirement_of rule.OffsetRange) refl
-  requirement_plain rule.PointerCompare = word (requirements.requirement_of rule.PointerCompare) refl
+  requirement_plain rule.PointerCompare =
+      word (requirements.requirement_of rule.PointerCompare) refl
   requirement_plain rule.Access = word (requirements.requirement_of rule.Access) refl
   requirement_plain rule.StoresPointer = word (requirements.requirement_of rule.StoresPointer) refl
   requirement_plain rule.WritesContext = word (requirements.requirement_of rule.WritesContext) refl
@@ -176,7 +178,8 @@ module _ (shape : AppShape) (names : AreNamedPlainly shape.arrays) where
   choice_plain : (n : ℕ) (v : Abs) → IsPlain (sentences.choice_text n v)
   choice_plain n (Num a) =
       either (n == 1) (word (codes ", and there is 1 release") refl)
-      (both (both (requirement_plain rule.Result) (decimal_plain n)) (word (codes " releases") refl))
+      (both (both (requirement_plain rule.Result) (decimal_plain n))
+      (word (codes " releases") refl))
   choice_plain n v = word (codes ", which is no number") refl
 
   sentence_plain : (e : AbsState) (i : Insn) (k : VerifierRule)

@@ -5,8 +5,8 @@ ghost use Rattle.bpf_text.specs.Listing.{Appends};
 ghost use Rattle.bpf_semantics.specs.Helpers.{called_prototype};
 ghost use Rattle.explain.specs.Sentences as specs;
 
-use crate::requirements::{attr_is_takes, lookup_takes, past_top, requirement};
 use crate::operands::push_register_is;
+use crate::requirements::{attr_is_takes, lookup_takes, past_top, requirement};
 use crate::wrong::push_so_many;
 use abs_value::{Abs, AbsState};
 use bpf_insn::{Insn, Reg};

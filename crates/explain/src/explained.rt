@@ -12,7 +12,7 @@ ghost use Rattle.explain.specs.Lines.{IsExplained, IsFinding, WalkParts, TellsOn
 ghost use Rattle.explain.specs.Lines as specs;
 
 use crate::arrays::keep_names;
-use crate::line::push_line;
+use crate::insn_line::push_line;
 use crate::way::Way;
 use abs_value::AbsState;
 use bpf_insn::Insn;

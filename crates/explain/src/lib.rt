@@ -14,9 +14,9 @@ mod arrays;
 mod bits;
 mod called;
 mod explained;
+mod insn_line;
 mod known;
-mod law;
-mod line;
+mod laws;
 mod operands;
 mod reads;
 mod refused;
@@ -28,5 +28,5 @@ mod wrong;
 
 pub use arrays::push_counter;
 pub use explained::{Explained, explain};
-pub use law::registers_are_read;
+pub use laws::registers_are_read;
 pub use refused::{RefusedPlace, refused_place};

@@ -4,10 +4,10 @@ ghost use Rattle.std.specs.Prelude.{OnOk};
 ghost use Rattle.bpf_text.specs.Listing.{Appends};
 ghost use Rattle.explain.specs.Sentences as specs;
 
-use crate::requirements::{requirement, verifier_rule_number};
 use crate::called::push_helper;
 use crate::operands::{push_moved, push_pointer, push_register_is, push_unusable, stored_register};
 use crate::reads::{ReadRegisters, touched};
+use crate::requirements::{requirement, verifier_rule_number};
 use crate::wrong::{push_access, push_array_fault, push_quota};
 use abs_value::{Abs, AbsState};
 use bpf_insn::{Insn, Reg};

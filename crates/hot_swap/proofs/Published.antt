@@ -57,7 +57,8 @@ IsShown after new next = (after ≡ Some next.known.publisher)
     × (new.known.publisher ≡ next.known.publisher)
 
 -- the result of a publish, put together
-pub told : {U E : Type 0} (P Q : Type 0) (r : Result U E) (next : NextInstall) (old new : PublishedRuleset)
+pub told : {U E : Type 0} (P Q : Type 0) (r : Result U E) (next : NextInstall)
+    (old new : PublishedRuleset)
     (before after : Option PublisherId) (s : Stamp) → s ≡ brought next
     → MatchResult r (λ _. (stamp_of new ≡ s) × P) (λ _. (new ≡ old) × Q)
     → MatchResult r (λ _. TellsPublisher before old new after) (λ _. after ≡ before)

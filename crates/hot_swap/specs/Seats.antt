@@ -11,6 +11,7 @@ KnowOnePublisher shown views = (seat : ℕ) (id : PublisherId)
     → get_elem? views seat ≡ some (Some id) → id ≡ shown.known.publisher
 
 -- after a look or a publish the seat knows the publisher, which is the one that it knew, if any
-abbrev pub TellsPublisher : Option PublisherId → PublishedRuleset → PublishedRuleset → Option PublisherId → Type 0
+abbrev pub TellsPublisher : Option PublisherId → PublishedRuleset → PublishedRuleset
+    → Option PublisherId → Type 0
 TellsPublisher before old new after = (after ≡ Some new.known.publisher)
     × ((id : PublisherId) → before ≡ Some id → id ≡ new.known.publisher)

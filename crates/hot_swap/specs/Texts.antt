@@ -1,7 +1,7 @@
 -- The texts of a publisher's faults.
 use Rattle.std.specs.Prelude.{ℕ, List, codes}
-use Rattle.hot_swap.specs.declared.fault.SwapFault.{SwapFault}
-use Rattle.hot_swap.specs.declared.fault.SwapFault.TheVariants.{Memory, NoPlace, Exhausted}
+use Rattle.hot_swap.specs.declared.swap_fault.SwapFault.{SwapFault}
+use Rattle.hot_swap.specs.declared.swap_fault.SwapFault.TheVariants.{Memory, NoPlace, Exhausted}
 use Rattle.ruleset.specs.Texts.{line}
 
 abbrev pub swap_text : SwapFault → List ℕ

@@ -14,7 +14,6 @@
 #![tactic(auto)]
 
 mod book;
-mod fault;
 mod known_prefix;
 mod laws;
 mod list_end;
@@ -25,11 +24,12 @@ mod publisher;
 mod publisher_id;
 mod seats;
 mod showing;
+mod swap_fault;
 mod watcher;
 
-pub use fault::SwapFault;
 pub use known_prefix::Generation;
 pub use laws::generations_go_onwards;
 pub use notice::Notice;
 pub use publisher::Publisher;
+pub use swap_fault::SwapFault;
 pub use watcher::Watcher;

@@ -127,12 +127,20 @@ impl Absorb<NextInstall> for PublishedRuleset {
       publisher = x.known.publisher;
     } };
 
-    fn absorb_first(&mut self, operation: &NextInstall, _other: &PublishedRuleset) -> Result<(), AllocError> {
+    fn absorb_first(
+        &mut self,
+        operation: &NextInstall,
+        _other: &PublishedRuleset,
+    ) -> Result<(), AllocError> {
         *self = operation.listed()?;
         Ok(())
     }
 
-    fn absorb_second(&mut self, operation: NextInstall, _other: &PublishedRuleset) -> Result<(), NextInstall> {
+    fn absorb_second(
+        &mut self,
+        operation: NextInstall,
+        _other: &PublishedRuleset,
+    ) -> Result<(), NextInstall> {
         *self = operation.unlisted();
         Ok(())
     }

@@ -5,12 +5,12 @@ ghost use Rattle.std.specs.Prelude.{Err, IfOk, IfErr, All};
 ghost use Rattle.std.specs.Arc.{arc_value};
 
 use crate::known_prefix::{Generation, KnownPrefix};
-use crate::fault::SwapFault;
 use crate::list_end::ListEnd;
 use crate::next::NextInstall;
 use crate::notice::Notice;
 use crate::seats::{Shared, Taken};
 use crate::showing::{PublishedWriter, nothing_shown, show};
+use crate::swap_fault::SwapFault;
 use crate::watcher::Watcher;
 use core::mem::replace_with;
 use ruleset::Ruleset;

@@ -1,8 +1,8 @@
 //! What the seats (ghost tokens) of a publisher and its watchers know: the publisher. No value of
 //! these types is made; they are names for definitions.
 
-use crate::publisher_id::PublisherId;
 use crate::published_ruleset::PublishedRuleset;
+use crate::publisher_id::PublisherId;
 use atomic_table::{Join, Split};
 use crossbeam_utils::rule::{Outcome, Protocol};
 

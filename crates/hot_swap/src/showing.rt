@@ -15,7 +15,12 @@ use std::alloc::{AllocError, Global};
 use std::sync::{Arc, Wait};
 
 /// What publishes rulesets to the readers.
-pub(crate) type PublishedWriter = Writer<PublishedRuleset, NextInstall, Option<PublisherId>, OnePublisher>;
+pub(crate) type PublishedWriter = Writer<
+    PublishedRuleset,
+    NextInstall,
+    Option<PublisherId>,
+    OnePublisher,
+>;
 
 /// A writer that has published nothing yet, with places for 1 to 65 readers.
 pub(crate) fn nothing_shown(

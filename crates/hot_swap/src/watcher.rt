@@ -6,11 +6,11 @@ ghost use Rattle.left_right.specs.Sides.{view};
 ghost use Rattle.hot_swap.specs.Published.{HasLast, Extends};
 
 use crate::known_prefix::{Generation, KnownPrefix};
-use crate::fault::SwapFault;
 use crate::notice::Notice;
+use crate::published_ruleset::PublishedRuleset;
 use crate::publisher_id::PublisherId;
 use crate::seats::{OnePublisher, PublisherKnown};
-use crate::published_ruleset::PublishedRuleset;
+use crate::swap_fault::SwapFault;
 use core::mem::replace_with;
 use left_right::reader::Reader;
 use ruleset::Ruleset;
@@ -84,7 +84,10 @@ impl Watcher {
 }
 
 // Reads once what is published.
-fn look(reader: PublishedReader, known: KnownPrefix) -> (PublishedReader, (KnownPrefix, Option<Arc<Ruleset>>))
+fn look(
+    reader: PublishedReader,
+    known: KnownPrefix,
+) -> (PublishedReader, (KnownPrefix, Option<Arc<Ruleset>>))
     requires { view reader.place ≡ Some known.publisher }
     ensures same { view result.0.place ≡ Some known.publisher }
     ensures onwards { Extends known result.1.0 }

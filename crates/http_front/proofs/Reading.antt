@@ -14,8 +14,8 @@ use Rattle.httparse.specs.Grammar.{NeverHasRequest, RequestHead, print_request}
 use Rattle.httparse.specs.Spans.{RequestExceeds, IsRequestAt, IsRequestOf, IsRequestWithin}
 use Rattle.httparse.specs.Spans.{span_bytes, header_bytes, name_and_value}
 use Rattle.net_io.specs.declared.counted.Failed.{Failed}
-use Rattle.http_front.specs.declared.fault.PostFault.{PostFault}
-use Rattle.http_front.specs.declared.fault.PostFault.TheVariants as fault
+use Rattle.http_front.specs.declared.post_fault.PostFault.{PostFault}
+use Rattle.http_front.specs.declared.post_fault.PostFault.TheVariants as fault
 use Rattle.http_front.specs.declared.head.Found.{Found}
 use Rattle.http_front.specs.Reading.{GainsBytes}
 use Rattle.http_front.specs.Post.{Posts, whole, cut_short, refused, malformed, long, many, ended}
@@ -146,7 +146,8 @@ stands {a = a} {b = b} {buf = buf} {f = f} found room lines =
     }
 
 known_head : {xs ys seen : List ℕ} {headers : List HeaderSpan} {r : RequestSpans}
-    → (s : HasHeadAt (Some xs) (Some ys) seen headers r) → HasHead xs s.head.0 (drop r.len seen ++ ys)
+    → (s : HasHeadAt (Some xs) (Some ys) seen headers r)
+    → HasHead xs s.head.0 (drop r.len seen ++ ys)
 known_head {xs = xs} {ys = ys} {seen = seen} {headers = headers} {r = r} s =
     has_head xs ys seen headers r s.head.0 s.bytes s.short s.lines s.within s.head.1
 

@@ -6,8 +6,8 @@ use Rattle.std.specs.List.{starts_with, list_any}
 use Rattle.std.specs.Str.{bytes_eq, str_eq_ignore_ascii_case}
 use Rattle.httparse.specs.Grammar.{RequestHead}
 use Rattle.httparse.specs.Spans.{name_and_value}
-use Rattle.http_front.specs.declared.fault.PostFault.{PostFault}
-use Rattle.http_front.specs.declared.fault.PostFault.TheVariants as fault
+use Rattle.http_front.specs.declared.post_fault.PostFault.{PostFault}
+use Rattle.http_front.specs.declared.post_fault.PostFault.TheVariants as fault
 use Rattle.http_front.specs.Length.{content_length}
 
 -- a header line: its name, and its value without the blanks around it

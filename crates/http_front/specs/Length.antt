@@ -4,8 +4,8 @@ use Rattle.std.specs.Prelude.{Result, Ok, Err, Bool, ◌&&◌, ◌==◌, nat_lt,
 use Rattle.std.specs.Char.{is_ascii_digit}
 use Rattle.std.specs.List.{list_all}
 use Rattle.std.specs.Str.{bytes_eq, byte}
-use Rattle.http_front.specs.declared.fault.PostFault.{PostFault}
-use Rattle.http_front.specs.declared.fault.PostFault.TheVariants as fault
+use Rattle.http_front.specs.declared.post_fault.PostFault.{PostFault}
+use Rattle.http_front.specs.declared.post_fault.PostFault.TheVariants as fault
 
 -- one or more digits
 abbrev pub is_decimal : List ℕ → Bool

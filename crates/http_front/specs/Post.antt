@@ -11,8 +11,8 @@ use Rattle.net_io.specs.declared.counted.Counted.{Counted}
 use Rattle.httparse.specs.Grammar.{RequestHead, ReadsRequest, print_request}
 use Rattle.httparse.specs.Grammar.{HasNoRequest, NeverHasRequest, MayBecomeRequest}
 use Rattle.httparse.specs.Spans.{RequestExceeds}
-use Rattle.http_front.specs.declared.fault.PostFault.{PostFault}
-use Rattle.http_front.specs.declared.fault.PostFault.TheVariants as fault
+use Rattle.http_front.specs.declared.post_fault.PostFault.{PostFault}
+use Rattle.http_front.specs.declared.post_fault.PostFault.TheVariants as fault
 use Rattle.http_front.specs.Head.{body_length_by}
 
 abbrev pub head_limit : ℕ

@@ -5,8 +5,8 @@ use Rattle.std.specs.Io.KnownBytes.{Consumes, Keeps, prepend_known}
 use Rattle.httparse.specs.declared.spans.HeaderSpan.{HeaderSpan}
 use Rattle.httparse.specs.declared.spans.RequestSpans.{RequestSpans}
 use Rattle.httparse.specs.Spans.{span_bytes, header_bytes, IsRequestOf, IsRequestWithin}
-use Rattle.http_front.specs.declared.fault.PostFault.{PostFault}
-use Rattle.http_front.specs.declared.fault.PostFault.TheVariants as fault
+use Rattle.http_front.specs.declared.post_fault.PostFault.{PostFault}
+use Rattle.http_front.specs.declared.post_fault.PostFault.TheVariants as fault
 use Rattle.http_front.specs.declared.head.Found.{Found}
 use Rattle.http_front.specs.Head.{body_length, values_of}
 

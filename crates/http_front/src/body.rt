@@ -5,9 +5,9 @@ ghost use Rattle.std.specs.Prelude.{Ok, Err};
 ghost use Rattle.http_front.specs.Post.{CountsDevice, post_answer};
 ghost use Rattle.http_front.specs.Reading.{IsBodyAfter, FillsBody};
 
-use crate::fault::PostFault;
 use crate::head::read_more;
 use crate::post_buffers::{begin_body, put_body};
+use crate::post_fault::PostFault;
 use net_io::Counted;
 use std::io::Read;
 

@@ -8,7 +8,7 @@ ghost use Rattle.net_io.specs.Device.{CountsFailure};
 ghost use Rattle.http_front.specs.Post.{IsBegun, IsFrugal, IsHeadFault, AnswersPost, CountsDevice};
 ghost use Rattle.http_front.specs.Reading.{GainsBytes, IsFound};
 
-use crate::fault::PostFault;
+use crate::post_fault::PostFault;
 use httparse::spans::{HeaderSpan, RequestSpans, parse_request};
 use httparse::{Error, Status};
 use net_io::{Counted, Failed};

@@ -5,8 +5,8 @@ ghost use Rattle.httparse.specs.Spans.{IsRequestWithin};
 ghost use Rattle.http_front.specs.Head.{is_served, IsFaultOfHead};
 ghost use Rattle.http_front.specs.Reading.{body_length_at};
 
-use crate::fault::PostFault;
-use crate::lines::{content_length, has_line};
+use crate::header_lines::{content_length, has_line};
+use crate::post_fault::PostFault;
 use httparse::spans::{HeaderSpan, RequestSpans};
 
 // Whether the target is the one that is served, with or without a query.
@@ -17,7 +17,11 @@ fn is_served(target: &[u8]) -> bool
 }
 
 /// The length of the body, or the first rule that the head breaks.
-pub fn requested_length(buf: &[u8], headers: &[HeaderSpan], head: RequestSpans) -> Result<usize, PostFault>
+pub fn requested_length(
+    buf: &[u8],
+    headers: &[HeaderSpan],
+    head: RequestSpans,
+) -> Result<usize, PostFault>
     requires { IsRequestWithin buf.now headers.now head }
     ensures length { result ≡ body_length_at buf.now headers.now head }
     ensures rule { IfErr result IsFaultOfHead }

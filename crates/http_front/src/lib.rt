@@ -10,19 +10,19 @@
 #![tactic(auto)]
 
 mod body;
-mod fault;
 mod head;
 mod head_rules;
+mod header_lines;
 mod length;
-mod lines;
 mod post;
 mod post_buffers;
+mod post_fault;
 mod reply;
 mod status;
 
-pub use fault::PostFault;
 pub use post::read_post;
 pub use post_buffers::PostBuffers;
+pub use post_fault::PostFault;
 pub use reply::write_reply;
 pub use status::Status;
 

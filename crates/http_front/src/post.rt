@@ -4,10 +4,10 @@ ghost use Rattle.std.specs.Prelude.{◌≡◌, ◌-◌, ◌^◌, ◌<◌, length
 ghost use Rattle.http_front.specs.Post.{ReadsPost};
 
 use crate::body::read_body;
-use crate::fault::PostFault;
 use crate::head::read_head;
 use crate::head_rules::requested_length;
 use crate::post_buffers::PostBuffers;
+use crate::post_fault::PostFault;
 use httparse::spans::HeaderSpan;
 use net_io::Counted;
 use std::alloc::Global;

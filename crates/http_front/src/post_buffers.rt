@@ -3,8 +3,8 @@
 ghost use Rattle.std.specs.Prelude.{◌≡◌, ◌-◌, ◌^◌, ◌<◌, ◌≤◌, OnOk, length, take, []};
 ghost use Rattle.http_front.specs.Post.{ReadsPost};
 
-use crate::fault::PostFault;
 use crate::post::read_by;
+use crate::post_fault::PostFault;
 use httparse::spans::EMPTY_HEADER_SPAN;
 use net_io::Counted;
 use std::alloc::{AllocError, Global};

@@ -10,10 +10,10 @@ use Rattle.cells.specs.declared.array.CellArray.{CellArray}
 use Rattle.load.specs.Cause.{IsCause, RefusesTelling, cause_in, cause_of}
 use Rattle.load.specs.Sources.{AreArraysBeside}
 use Rattle.load.specs.Loaded.{RefusesPath}
-use Rattle.load.specs.declared.fault.LoadFault.{LoadFault}
-use Rattle.load.specs.declared.fault.LoadFault.TheVariants as load
-use Rattle.load.specs.declared.fault.PathFault.{PathFault}
-use Rattle.load.specs.declared.fault.PathFault.TheVariants.{Resource, Load}
+use Rattle.load.specs.declared.load_fault.LoadFault.{LoadFault}
+use Rattle.load.specs.declared.load_fault.LoadFault.TheVariants as load
+use Rattle.load.specs.declared.load_fault.PathFault.{PathFault}
+use Rattle.load.specs.declared.load_fault.PathFault.TheVariants.{Resource, Load}
 
 pub refuses : (known : KnownFiles) (path : List ℕ) (old : List CellArray) (fault : PathFault)
     (cause : Option (String Global)) → RefusesTelling known path old fault cause

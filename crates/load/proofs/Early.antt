@@ -4,14 +4,15 @@ use Rattle.cells.specs.Directory.{Declaration}
 use Rattle.cells.specs.declared.array.CellArray.{CellArray}
 use Rattle.manifest.specs.Manifest.{ReadsManifest}
 use Rattle.manifest.specs.Parsed.{IsParsed, IsNoManifest}
-use Rattle.manifest.specs.declared.fault.ManifestFault.{ManifestFault}
-use Rattle.manifest.specs.declared.fault.ManifestFault.TheVariants as unread
+use Rattle.manifest.specs.declared.manifest_fault.ManifestFault.{ManifestFault}
+use Rattle.manifest.specs.declared.manifest_fault.ManifestFault.TheVariants as unread
 use Rattle.manifest.specs.declared.refused.Parsed.{Parsed}
 use Rattle.manifest.specs.declared.refused.Parsed.TheVariants.{Document, Error, Nothing}
 use Rattle.manifest.specs.declared.refused.RefusedManifest.{RefusedManifest}
-use Rattle.load.specs.declared.fault.LoadFault.{LoadFault}
-use Rattle.load.specs.declared.fault.LoadFault.TheVariants.{Manifest as NoManifest, File, Program}
-use Rattle.load.specs.declared.fault.LoadFault.TheVariants.{Rule, Cells, Memory}
+use Rattle.load.specs.declared.load_fault.LoadFault.{LoadFault}
+use Rattle.load.specs.declared.load_fault.LoadFault.TheVariants.{Manifest as NoManifest, File}
+use Rattle.load.specs.declared.load_fault.LoadFault.TheVariants.{Program}
+use Rattle.load.specs.declared.load_fault.LoadFault.TheVariants.{Rule, Cells, Memory}
 use Rattle.load.specs.declared.sources.SourcesRefusal.{SourcesRefusal}
 use Rattle.load.specs.Sources.{AreArraysBeside, AreArraysOf, IsParsedBeside, IsSourcesRefusal}
 use Rattle.load.specs.Sources.{of_manifest}

@@ -7,17 +7,17 @@ use Rattle.bpf_semantics.specs.Program.{ShapedProgram}
 use Rattle.cells.specs.Directory.{Declaration}
 use Rattle.cells.specs.declared.array.CellArray.{CellArray}
 use Rattle.manifest.specs.declared.app.ProgramSource.{ProgramSource}
-use Rattle.load.specs.declared.fault.AppFault.TheVariants as app
-use Rattle.load.specs.declared.fault.LoadFault.{LoadFault}
-use Rattle.load.specs.declared.fault.LoadFault.TheVariants as load
+use Rattle.load.specs.declared.load_fault.AppFault.TheVariants as app
+use Rattle.load.specs.declared.load_fault.LoadFault.{LoadFault}
+use Rattle.load.specs.declared.load_fault.LoadFault.TheVariants as load
 use Rattle.load.specs.Sources.{AreArraysBeside, AreSources, failures_in}
 use Rattle.load.specs.Judged.{AreJudged, next_program, IsFirstRefused, here, there, RefusesFirst}
 use Rattle.load.specs.Judged.{CountsFault}
 use Rattle.load.specs.Kept.{CountsFile, IsProgramKept, is_unread}
 use Rattle.load.specs.declared.sources.Sources.{Sources}
 use Rattle.load.specs.declared.sources.AppSources.{AppSources}
-use Rattle.bounded_files.specs.declared.kept.KeptBytes.{KeptBytes}
-use Rattle.bounded_files.specs.declared.kept.KeptBytes.TheVariants.{Whole, Longer}
+use Rattle.bounded_files.specs.declared.kept_bytes.KeptBytes.{KeptBytes}
+use Rattle.bounded_files.specs.declared.kept_bytes.KeptBytes.TheVariants.{Whole, Longer}
 use Rattle.load.proofs.LongBytes.{file_is_unread}
 
 abbrev failures_of : Option KeptBytes → ℕ

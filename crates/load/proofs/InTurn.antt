@@ -4,9 +4,9 @@ use Rattle.std.proofs.Common.{All, sym, ap, ◌∙◌, subst, append_assoc, appe
 use Rattle.std.proofs.lemmas.List.Elements.{All-head, All-tail}
 use Rattle.bpf_semantics.specs.Program.{ShapedProgram}
 use Rattle.ruleset.specs.Rules.{AppRule}
-use Rattle.load.specs.declared.fault.AppFault.{AppFault}
-use Rattle.load.specs.declared.fault.AppFault.TheVariants as app
-use Rattle.load.specs.declared.fault.LoadFault.{LoadFault}
+use Rattle.load.specs.declared.load_fault.AppFault.{AppFault}
+use Rattle.load.specs.declared.load_fault.AppFault.TheVariants as app
+use Rattle.load.specs.declared.load_fault.LoadFault.{LoadFault}
 use Rattle.load.specs.declared.sources.AppSources.{AppSources}
 use Rattle.load.specs.Apps.{in_app}
 use Rattle.load.specs.Sources.{HasItsReleases}

@@ -5,8 +5,8 @@ use Rattle.std.proofs.Common.{refl, sym, ◌∙◌, subst}
 use Rattle.std.specs.Prelude.{◌↔◌, IsTrue, IsUtf8}
 use Rattle.std.specs.declared.alloc.Global.{Global}
 use Rattle.acceptance.specs.Rule.{no_rule, no_text}
-use Rattle.acceptance.specs.declared.fault.ProgramFault.TheVariants.{Flow}
-use Rattle.acceptance.specs.declared.fault.RuleTextFault.TheVariants.{Text}
+use Rattle.acceptance.specs.declared.program_fault.ProgramFault.TheVariants.{Flow}
+use Rattle.acceptance.specs.declared.program_fault.RuleTextFault.TheVariants.{Text}
 use Rattle.bounded_files.specs.Files.{KnownFiles, Gives}
 use Rattle.bounded_files.specs.Kept.{IsKeptOf, KeepsFile}
 use Rattle.bpf_semantics.specs.Program.{ShapedProgram}
@@ -16,12 +16,12 @@ use Rattle.flow_check.specs.declared.fault.FlowRule.TheVariants.{TooLong}
 use Rattle.manifest.specs.declared.app.ProgramSource.{ProgramSource}
 use Rattle.manifest.specs.declared.app.ProgramSource.TheVariants as source
 use Rattle.rule_lang.specs.Verdicts.{too_long}
-use Rattle.rule_lang.specs.declared.fault.RuleFault.TheVariants.{At}
-use Rattle.rule_lang.specs.declared.fault.RuleFaultKind.TheVariants as kind
-use Rattle.load.specs.declared.fault.AppFault.{AppFault}
-use Rattle.load.specs.declared.fault.AppFault.TheVariants as app
-use Rattle.bounded_files.specs.declared.kept.KeptBytes.{KeptBytes}
-use Rattle.bounded_files.specs.declared.kept.KeptBytes.TheVariants.{Whole, Longer}
+use Rattle.rule_lang.specs.declared.rule_fault.RuleFault.TheVariants.{At}
+use Rattle.rule_lang.specs.declared.rule_fault.RuleFaultKind.TheVariants as kind
+use Rattle.load.specs.declared.load_fault.AppFault.{AppFault}
+use Rattle.load.specs.declared.load_fault.AppFault.TheVariants as app
+use Rattle.bounded_files.specs.declared.kept_bytes.KeptBytes.{KeptBytes}
+use Rattle.bounded_files.specs.declared.kept_bytes.KeptBytes.TheVariants.{Whole, Longer}
 use Rattle.load.specs.Kept.{IsKeptFrom, IsLonger, IsProgramKept, RefusesKept}
 use Rattle.load.specs.Kept.{long_count, most_of}
 use Rattle.load.specs.Source.{IsProgramFrom, IsProgramIn, RefusesBytes, RefusesFile}

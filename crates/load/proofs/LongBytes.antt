@@ -9,9 +9,9 @@ use Rattle.std.proofs.lemmas.Str.{IsUtf8-from_ascii, encodes-chars}
 use lib.Utf8.{encode}
 use Rattle.cells.specs.Arrays.{AppShape}
 use Rattle.manifest.specs.declared.app.ProgramSource.{ProgramSource}
-use Rattle.load.specs.declared.fault.AppFault.TheVariants as app
-use Rattle.bounded_files.specs.declared.kept.KeptBytes.{KeptBytes}
-use Rattle.bounded_files.specs.declared.kept.KeptBytes.TheVariants.{Whole, Longer}
+use Rattle.load.specs.declared.load_fault.AppFault.TheVariants as app
+use Rattle.bounded_files.specs.declared.kept_bytes.KeptBytes.{KeptBytes}
+use Rattle.bounded_files.specs.declared.kept_bytes.KeptBytes.TheVariants.{Whole, Longer}
 use Rattle.load.specs.Kept.{IsLonger, RefusesKept, most_of}
 use Rattle.load.proofs.Keeping.{no_file}
 

@@ -33,7 +33,8 @@ module _ (known : KnownFiles) (old : List CellArray) (bytes : List ℕ) (g : Sou
       → ¬ HasDuplicate (appids_of (apps_of g.apps.items programs))
   once programs judged =
       let r = of_programs programs judged in
-      never_duplicate known g.directory r.numbers r.manifest (apps_of g.apps.items programs) r.read.1
+      never_duplicate known g.directory r.numbers r.manifest (apps_of g.apps.items programs)
+      r.read.1
       r.apps_are
 
   is_ruleset : (made : LoadedRuleset) → IsMadeOf bytes g made

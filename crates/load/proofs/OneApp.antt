@@ -13,8 +13,8 @@ use Rattle.cells.specs.declared.array.ArrayNo.{ArrayNo}
 use Rattle.cells.specs.declared.array.CellArray.{CellArray}
 use Rattle.manifest.specs.App.{AppEntry}
 use Rattle.ruleset.specs.Rules.{AppRule}
-use Rattle.load.specs.declared.fault.AppFault.{AppFault}
-use Rattle.load.specs.declared.fault.AppFault.TheVariants as app
+use Rattle.load.specs.declared.load_fault.AppFault.{AppFault}
+use Rattle.load.specs.declared.load_fault.AppFault.TheVariants as app
 use Rattle.load.specs.App.{IsShapeOf, IsAppOf, RefusesApp}
 use Rattle.load.specs.Apps.{AreAppsOf, next, IsRefusedApp}
 use Rattle.load.specs.Source.{file_of}

@@ -15,14 +15,15 @@ use Rattle.declarations.specs.Order.{AreDeclared, IsRefusedArray}
 use Rattle.declarations.specs.OneWay.{ListsDeclareOneWay}
 use Rattle.manifest.specs.Manifest.{Manifest, ReadsManifest}
 use Rattle.manifest.specs.OneReading.{HasOneManifest}
-use Rattle.manifest.specs.declared.fault.ManifestFault.{ManifestFault}
-use Rattle.manifest.specs.declared.fault.ManifestFault.TheVariants as manifest
+use Rattle.manifest.specs.declared.manifest_fault.ManifestFault.{ManifestFault}
+use Rattle.manifest.specs.declared.manifest_fault.ManifestFault.TheVariants as manifest
 use Rattle.ruleset.specs.Rules.{AppRule, Rules}
-use Rattle.load.specs.declared.fault.AppFault.{AppFault}
-use Rattle.load.specs.declared.fault.AppFault.TheVariants as app
-use Rattle.load.specs.declared.fault.LoadFault.{LoadFault}
-use Rattle.load.specs.declared.fault.LoadFault.TheVariants.{Manifest as NoManifest, Cells, File}
-use Rattle.load.specs.declared.fault.LoadFault.TheVariants.{Program as NoProgram, Rule, Memory}
+use Rattle.load.specs.declared.load_fault.AppFault.{AppFault}
+use Rattle.load.specs.declared.load_fault.AppFault.TheVariants as app
+use Rattle.load.specs.declared.load_fault.LoadFault.{LoadFault}
+use Rattle.load.specs.declared.load_fault.LoadFault.TheVariants.{Manifest as NoManifest, Cells}
+use Rattle.load.specs.declared.load_fault.LoadFault.TheVariants.{File}
+use Rattle.load.specs.declared.load_fault.LoadFault.TheVariants.{Program as NoProgram, Rule, Memory}
 use Rattle.load.specs.Apps.{AreAppsOf, RefusesApps, in_app}
 use Rattle.load.specs.Load.{Loads, IsLoadFault, of_bytes, of_arrays, of_apps, RefusesManifest}
 use Rattle.load.specs.Load.{RefusesArrays}

@@ -5,12 +5,12 @@ use Rattle.std.proofs.lemmas.Option.{same_Some, none-some}
 use Rattle.cells.specs.Directory.{IsDirectory}
 use Rattle.cells.specs.declared.array.CellArray.{CellArray}
 use Rattle.ruleset.specs.Rules.{Rules}
-use Rattle.load.specs.declared.fault.LoadFault.{LoadFault}
-use Rattle.load.specs.declared.fault.LoadFault.TheVariants.{Memory}
-use Rattle.load.specs.declared.fault.PathFault.{PathFault}
-use Rattle.load.specs.declared.fault.PathFault.TheVariants as path
+use Rattle.load.specs.declared.load_fault.LoadFault.{LoadFault}
+use Rattle.load.specs.declared.load_fault.LoadFault.TheVariants.{Memory}
+use Rattle.load.specs.declared.load_fault.PathFault.{PathFault}
+use Rattle.load.specs.declared.load_fault.PathFault.TheVariants as path
 use Rattle.bounded_files.specs.Files.{KnownFile, bytes_of, if_regular, if_within, most_bytes}
-use Rattle.bounded_files.specs.declared.fault.ResourceFault.TheVariants as resource
+use Rattle.bounded_files.specs.declared.resource_fault.ResourceFault.TheVariants as resource
 use Rattle.load.specs.Folder.{path_beside}
 use Rattle.load.specs.Load.{Loads}
 use Rattle.load.specs.Loaded.{LoadsFrom}

@@ -9,25 +9,25 @@ use Rattle.bpf_verify.specs.Accepted as verify
 use Rattle.bpf_verify.specs.Accepted.{IsRefusedAt}
 use Rattle.bpf_checks.specs.declared.refusal.Refusal.TheVariants as refusal
 use Rattle.bpf_checks.specs.declared.refusal.VerifierRule.{VerifierRule}
-use Rattle.acceptance.specs.declared.fault.ProgramFault.TheVariants.{Flow, Verify}
-use Rattle.acceptance.specs.declared.fault.RuleTextFault.TheVariants.{Text, Compile}
+use Rattle.acceptance.specs.declared.program_fault.ProgramFault.TheVariants.{Flow, Verify}
+use Rattle.acceptance.specs.declared.program_fault.RuleTextFault.TheVariants.{Text, Compile}
 use Rattle.cells.specs.Arrays.{AppShape}
 use Rattle.flow_check.specs.Fault.{HasOneVerdict, IsFlowFault}
 use Rattle.flow_check.specs.declared.fault.FlowFault.TheVariants as flow
 use Rattle.flow_check.specs.declared.fault.FlowRule.{FlowRule}
 use Rattle.rule_compile.specs.Code.{rule_code}
-use Rattle.rule_compile.specs.declared.fault.CompileFault.TheVariants as compile
+use Rattle.rule_compile.specs.declared.compile_fault.CompileFault.TheVariants as compile
 use Rattle.rule_lang.specs.Parts.{OrFault}
 use Rattle.rule_lang.specs.Verdicts as rules
-use Rattle.rule_lang.specs.declared.fault.RuleFault.TheVariants as rule
-use Rattle.rule_lang.specs.declared.fault.RuleFault.TheVariants.{At}
-use Rattle.rule_lang.specs.declared.fault.RuleFaultKind.{RuleFaultKind}
-use Rattle.rule_lang.specs.declared.fault.RuleFaultKind.TheVariants.{Token}
+use Rattle.rule_lang.specs.declared.rule_fault.RuleFault.TheVariants as rule
+use Rattle.rule_lang.specs.declared.rule_fault.RuleFault.TheVariants.{At}
+use Rattle.rule_lang.specs.declared.rule_fault.RuleFaultKind.{RuleFaultKind}
+use Rattle.rule_lang.specs.declared.rule_fault.RuleFaultKind.TheVariants.{Token}
 use Rattle.rule_lang.specs.declared.rule.Statement.{Statement}
 use Rattle.manifest.specs.declared.app.ProgramSource.{ProgramSource}
 use Rattle.manifest.specs.declared.app.ProgramSource.TheVariants as source
-use Rattle.load.specs.declared.fault.AppFault.{AppFault}
-use Rattle.load.specs.declared.fault.AppFault.TheVariants as app
+use Rattle.load.specs.declared.load_fault.AppFault.{AppFault}
+use Rattle.load.specs.declared.load_fault.AppFault.TheVariants as app
 use Rattle.load.specs.Source.{IsProgramFrom, RefusesFile}
 
 -- the outcome of a file's bytes for a shape

@@ -9,8 +9,8 @@ use Rattle.load.specs.Digest.{digest_of, framed, framed_file, framed_files}
 use Rattle.load.specs.Judged.{AreJudged, next_program}
 use Rattle.load.specs.Kept.{IsProgramKept}
 use Rattle.load.specs.declared.sources.AppSources.{AppSources}
-use Rattle.bounded_files.specs.declared.kept.KeptBytes.{KeptBytes}
-use Rattle.bounded_files.specs.declared.kept.KeptBytes.TheVariants.{Whole, Longer}
+use Rattle.bounded_files.specs.declared.kept_bytes.KeptBytes.{KeptBytes}
+use Rattle.bounded_files.specs.declared.kept_bytes.KeptBytes.TheVariants.{Whole, Longer}
 
 one_framed : (from : ProgramSource) (kept : Option KeptBytes) (p : ShapedProgram)
     → IsProgramKept from kept p → IsSome (framed_file kept)

@@ -4,10 +4,10 @@ use Rattle.cells.specs.declared.array.ArrayNo.{ArrayNo}
 use Rattle.cells.specs.declared.array.CellArray.{CellArray}
 use Rattle.manifest.specs.App.{AppEntry}
 use Rattle.ruleset.specs.Rules.{AppRule}
-use Rattle.load.specs.declared.fault.AppFault.{AppFault}
-use Rattle.load.specs.declared.fault.AppFault.TheVariants as app
-use Rattle.load.specs.declared.fault.LoadFault.{LoadFault}
-use Rattle.load.specs.declared.fault.LoadFault.TheVariants.{File, Program, Rule, Memory}
+use Rattle.load.specs.declared.load_fault.AppFault.{AppFault}
+use Rattle.load.specs.declared.load_fault.AppFault.TheVariants as app
+use Rattle.load.specs.declared.load_fault.LoadFault.{LoadFault}
+use Rattle.load.specs.declared.load_fault.LoadFault.TheVariants.{File, Program, Rule, Memory}
 use Rattle.bounded_files.specs.Files.{KnownFiles}
 use Rattle.load.specs.App.{IsAppOf, RefusesApp}
 

@@ -12,16 +12,16 @@ use Rattle.cells.specs.Directory.{Declaration, declaration, array_named}
 use Rattle.declarations.specs.Texts.{declaration_text}
 use Rattle.manifest.specs.Manifest.{Manifest, ReadsManifest}
 use Rattle.manifest.specs.Texts.{schema_error_text, duplicate_text}
-use Rattle.manifest.specs.declared.fault.ManifestFault.{ManifestFault}
-use Rattle.manifest.specs.declared.fault.ManifestFault.TheVariants as unread
+use Rattle.manifest.specs.declared.manifest_fault.ManifestFault.{ManifestFault}
+use Rattle.manifest.specs.declared.manifest_fault.ManifestFault.TheVariants as unread
 use Rattle.load.specs.Folder.{known_beside}
 use Rattle.load.specs.Load.{IsLoadFault}
 use Rattle.load.specs.Loaded.{RefusesPath}
 use Rattle.load.specs.Made.{IsMadeFrom}
-use Rattle.load.specs.declared.fault.LoadFault.{LoadFault}
-use Rattle.load.specs.declared.fault.LoadFault.TheVariants as load
-use Rattle.load.specs.declared.fault.PathFault.{PathFault}
-use Rattle.load.specs.declared.fault.PathFault.TheVariants.{Resource, Load}
+use Rattle.load.specs.declared.load_fault.LoadFault.{LoadFault}
+use Rattle.load.specs.declared.load_fault.LoadFault.TheVariants as load
+use Rattle.load.specs.declared.load_fault.PathFault.{PathFault}
+use Rattle.load.specs.declared.load_fault.PathFault.TheVariants.{Resource, Load}
 use Rattle.ruleset.specs.declared.loaded.LoadedRuleset.{LoadedRuleset}
 use Rattle.load.specs.declared.refusal.LoadRefusal.{LoadRefusal}
 

@@ -2,7 +2,7 @@
 use Rattle.std.specs.Prelude.{ℕ, List, [], ◌∷◌, ◌++◌, length, Option, Some}
 use Rattle.std.specs.Prelude.{option_map, option_and_then}
 use Rattle.std.specs.Int.{w64, to_be_bytes}
-use Rattle.bounded_files.specs.declared.kept.KeptBytes.{KeptBytes}
+use Rattle.bounded_files.specs.declared.kept_bytes.KeptBytes.{KeptBytes}
 use Rattle.sha2.specs.Sha256.{sha256}
 use Rattle.load.specs.declared.sources.AppSources.{AppSources}
 use Rattle.load.specs.Kept.{whole_file}

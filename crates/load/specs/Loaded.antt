@@ -4,11 +4,11 @@
 use Rattle.std.specs.Prelude.{ℕ, List, Some, None, Result, Ok, Err}
 use Rattle.cells.specs.declared.array.CellArray.{CellArray}
 use Rattle.bounded_files.specs.Files.{KnownFiles, Gives, regular_files}
-use Rattle.bounded_files.specs.declared.fault.ResourceFault.TheVariants.{File, Memory}
+use Rattle.bounded_files.specs.declared.resource_fault.ResourceFault.TheVariants.{File, Memory}
 use Rattle.load.specs.Folder.{known_beside}
 use Rattle.load.specs.Load.{IsRulesetOf, IsLoadFault}
-use Rattle.load.specs.declared.fault.PathFault.{PathFault}
-use Rattle.load.specs.declared.fault.PathFault.TheVariants.{Resource, Load}
+use Rattle.load.specs.declared.load_fault.PathFault.{PathFault}
+use Rattle.load.specs.declared.load_fault.PathFault.TheVariants.{Resource, Load}
 use Rattle.ruleset.specs.Rules.{Rules}
 
 module _ (known : KnownFiles) (path : List ℕ) (old : List CellArray) where

@@ -5,11 +5,11 @@ use Rattle.bpf_semantics.specs.Program.{ShapedProgram}
 use Rattle.cells.specs.Directory.{IsDirectory}
 use Rattle.cells.specs.declared.array.CellArray.{CellArray}
 use Rattle.ruleset.specs.Rules.{Rules}
-use Rattle.load.specs.declared.fault.LoadFault.{LoadFault}
-use Rattle.load.specs.declared.fault.LoadFault.TheVariants.{Memory}
-use Rattle.load.specs.declared.fault.PathFault.{PathFault}
-use Rattle.load.specs.declared.fault.PathFault.TheVariants as path
-use Rattle.bounded_files.specs.declared.fault.ResourceFault.TheVariants as resource
+use Rattle.load.specs.declared.load_fault.LoadFault.{LoadFault}
+use Rattle.load.specs.declared.load_fault.LoadFault.TheVariants.{Memory}
+use Rattle.load.specs.declared.load_fault.PathFault.{PathFault}
+use Rattle.load.specs.declared.load_fault.PathFault.TheVariants as path
+use Rattle.bounded_files.specs.declared.resource_fault.ResourceFault.TheVariants as resource
 use Rattle.load.specs.declared.sources.AppSources.{AppSources}
 use Rattle.load.specs.Judged.{AreJudged, RefusesFirst}
 use Rattle.load.specs.Load.{Loads}

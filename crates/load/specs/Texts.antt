@@ -4,11 +4,11 @@ use Rattle.bounded_files.specs.Texts.{resource_text}
 use Rattle.cells.specs.Texts.{cells_fault_text}
 use Rattle.acceptance.specs.Texts.{program_fault_text, rule_refusal_text}
 use Rattle.manifest.specs.Texts.{manifest_fault_text}
-use Rattle.load.specs.declared.fault.LoadFault.{LoadFault}
-use Rattle.load.specs.declared.fault.LoadFault.TheVariants.{Manifest, File, Program, Rule}
-use Rattle.load.specs.declared.fault.LoadFault.TheVariants.{Cells, Memory}
-use Rattle.load.specs.declared.fault.PathFault.{PathFault}
-use Rattle.load.specs.declared.fault.PathFault.TheVariants.{Resource, Load}
+use Rattle.load.specs.declared.load_fault.LoadFault.{LoadFault}
+use Rattle.load.specs.declared.load_fault.LoadFault.TheVariants.{Manifest, File, Program, Rule}
+use Rattle.load.specs.declared.load_fault.LoadFault.TheVariants.{Cells, Memory}
+use Rattle.load.specs.declared.load_fault.PathFault.{PathFault}
+use Rattle.load.specs.declared.load_fault.PathFault.TheVariants.{Resource, Load}
 
 abbrev pub load_fault_text : LoadFault → List ℕ
 load_fault_text (Manifest fault) = manifest_fault_text fault

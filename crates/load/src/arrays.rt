@@ -5,7 +5,7 @@ ghost use mathlib.Core.List.{IsPrefix};
 ghost use Rattle.declarations.specs.Order.{AreDeclared};
 ghost use Rattle.load.specs.Load.{RefusesArrays};
 
-use crate::fault::LoadFault;
+use crate::load_fault::LoadFault;
 use cells::{ArrayNo, CellsFault, Directory};
 use declarations::{ArrayDeclaration, RefusedArray, declare_all};
 use std::alloc::Global;

@@ -4,7 +4,7 @@ ghost use Rattle.std.specs.Prelude.{◌≡◌, ◌++◌, IfOk, IfSome, OnOk, Som
 ghost use Rattle.declarations.specs.Texts as declarations;
 ghost use Rattle.load.specs.Cause as specs;
 
-use crate::fault::LoadFault;
+use crate::load_fault::LoadFault;
 use cells::{CellArray, CellWidth, CellsFault, Directory};
 use declarations::ArrayDeclaration;
 use manifest::ManifestFault;

@@ -8,8 +8,8 @@ ghost use Rattle.sha2.specs.Hashers.{Holds256};
 ghost use Rattle.load.specs.Digest as specs;
 ghost use Rattle.load.specs.Judged.{AreJudged};
 
+use crate::kept_file::whole_file;
 use crate::sources::AppSources;
-use crate::kept::whole_file;
 use bpf_verify::Verified;
 use sha2::{Digest, Sha256};
 

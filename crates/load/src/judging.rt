@@ -8,7 +8,7 @@ ghost use Rattle.cells.specs.Arrays.{AppShape};
 ghost use Rattle.load.specs.Kept.{IsLonger, IsProgramKept, RefusesKept};
 ghost use Rattle.load.specs.Source.{IsProgramFrom, RefusesBytes, RefusesFile, RefusesText};
 
-use crate::fault::AppFault;
+use crate::load_fault::AppFault;
 use acceptance::{ProgramFault, RuleTextFault, accept, rule_program};
 use bounded_files::KeptBytes;
 use bpf_verify::Verified;

@@ -5,12 +5,12 @@
 
 // How a load works. First everything is gathered (`sources.rt`). The manifest is read, and its
 // arrays are declared in a copy of the directory. The arrays and the number of an app's releases
-// make the app's shape. Then as much of each app's file is kept as judging takes (`kept.rt`). What
-// was gathered is judged in the order of the apps (`programs.rt`), any number of times, without
-// reading a file again. Each file is verified as a program, or compiled as the text of a rule
-// (`judging.rt`); the first fault counts. If all apps have their programs, a ruleset is made of
-// them, with the digest of exactly the bytes that were judged (`made.rt`, `digest.rt`). Only then
-// is the directory replaced by the copy, so a refused load declares nothing.
+// make the app's shape. Then as much of each app's file is kept as judging takes (`kept_file.rt`).
+// What was gathered is judged in the order of the apps (`programs.rt`), any number of times,
+// without reading a file again. Each file is verified as a program, or compiled as the text of a
+// rule (`judging.rt`); the first fault counts. If all apps have their programs, a ruleset is made
+// of them, with the digest of exactly the bytes that were judged (`made.rt`, `digest.rt`). Only
+// then is the directory replaced by the copy, so a refused load declares nothing.
 //
 // A load takes a manifest's bytes and any files (`load_bytes` in `loading.rt`). Servers use it to
 // load the manifest at a path (`path.rt`); `load_over` and `load_ruleset` call it.
@@ -26,12 +26,12 @@
 mod arrays;
 mod cause;
 mod digest;
-mod fault;
 mod files;
 mod folder;
 mod judging;
-mod kept;
-mod law;
+mod kept_file;
+mod laws;
+mod load_fault;
 mod loading;
 mod made;
 mod path;
@@ -41,11 +41,11 @@ mod sources;
 
 pub use bounded_files::{Device, Disk};
 pub use digest::{digest_of, judged_digest};
-pub use fault::{AppFault, LoadFault, PathFault};
 pub use files::Files;
 pub use folder::FolderFiles;
-pub use kept::{file_of, whole_file};
-pub use law::{one_load, sources_are_loaded, sources_are_made};
+pub use kept_file::{file_of, whole_file};
+pub use laws::{one_load, sources_are_loaded, sources_are_made};
+pub use load_fault::{AppFault, LoadFault, PathFault};
 pub use loading::{load_over, load_ruleset};
 pub use made::make_ruleset;
 pub use path::{MOST_MANIFEST, load_path, load_with_digest, manifest_bytes};

@@ -11,11 +11,11 @@ ghost use Rattle.load.specs.Made.{IsMadeOver};
 ghost use Rattle.ruleset.specs.Rules.{KnowsOnly};
 
 use crate::cause::cause_of;
-use crate::fault::LoadFault;
 use crate::files::Files;
-use crate::sources::{SourcesRefusal, collect_sources};
-use crate::law::{sources_are_loaded, sources_are_made};
+use crate::laws::{sources_are_loaded, sources_are_made};
+use crate::load_fault::LoadFault;
 use crate::made::make_ruleset;
+use crate::sources::{SourcesRefusal, collect_sources};
 use cells::{Directory, arrays_stay};
 use ruleset::{LoadedRuleset, Ruleset};
 use std::alloc::Global;

@@ -8,7 +8,7 @@ ghost use Rattle.load.specs.Made.{IsMadeOf};
 ghost use Rattle.ruleset.specs.Rules.{HasDuplicate, appids_of};
 
 use crate::digest::judged_digest;
-use crate::fault::LoadFault;
+use crate::load_fault::LoadFault;
 use crate::programs::{judge, supply};
 use crate::sources::Sources;
 use ruleset::{LoadedRuleset, Ruleset};

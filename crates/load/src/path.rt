@@ -8,8 +8,8 @@ ghost use Rattle.load.specs.Cause.{LoadsTelling};
 ghost use Rattle.load.specs.Loaded.{IsLoadedFrom, LoadsFrom, RefusesPath};
 ghost use Rattle.ruleset.specs.Rules.{KnowsOnly};
 
-use crate::fault::{LoadFault, PathFault};
 use crate::folder::FolderFiles;
+use crate::load_fault::{LoadFault, PathFault};
 use crate::loading::{BytesRefusal, load_bytes};
 use crate::refusal::LoadRefusal;
 use bounded_files::Disk;

@@ -6,9 +6,9 @@ ghost use Rattle.load.specs.Sources.{HasItsReleases};
 ghost use Rattle.load.specs.Judged.{AreJudged, IsJudged, RefusesFirst, RefusesSources};
 ghost use Rattle.load.specs.Judged.{app_of, apps_of};
 
-use crate::fault::{AppFault, LoadFault};
-use crate::sources::AppSources;
 use crate::judging::judge_file;
+use crate::load_fault::{AppFault, LoadFault};
+use crate::sources::AppSources;
 use bpf_verify::Verified;
 use manifest::AppParts;
 use ruleset::App;

@@ -3,7 +3,7 @@
 ghost use Rattle.std.specs.Prelude.{◌≡◌, Some, None};
 ghost use Rattle.load.specs.Texts.{path_fault_text};
 
-use crate::fault::PathFault;
+use crate::load_fault::PathFault;
 use std::error::Error;
 use std::fmt;
 

@@ -12,9 +12,9 @@ ghost use Rattle.manifest.specs.Manifest.{ReadsManifest};
 ghost use Rattle.manifest.specs.Parsed.{IsNoManifest};
 
 use crate::arrays::declare_arrays;
-use crate::fault::LoadFault;
 use crate::files::Files;
-use crate::kept::{collect_file, file_of, long_count};
+use crate::kept_file::{collect_file, file_of, long_count};
+use crate::load_fault::LoadFault;
 use attrs::Text;
 use bounded_files::KeptBytes;
 use cells::{ArrayNo, Directory, Shape};
@@ -153,15 +153,20 @@ fn of_manifest(fault: ManifestFault) -> LoadFault
 {
     match fault {
         ManifestFault::Toml(fault) => LoadFault::Manifest(ManifestFault::Toml(fault)),
-        ManifestFault::Field(schema_error) => LoadFault::Manifest(ManifestFault::Field(schema_error)),
-        ManifestFault::Duplicate(duplicate) => LoadFault::Manifest(ManifestFault::Duplicate(duplicate)),
+        ManifestFault::Field(schema_error) => LoadFault::Manifest(ManifestFault::Field(
+            schema_error,
+        )),
+        ManifestFault::Duplicate(duplicate) => LoadFault::Manifest(ManifestFault::Duplicate(
+            duplicate,
+        )),
         ManifestFault::Memory => LoadFault::Memory,
     }
 }
 
 fn out_of_memory(arrays: Vec<ArrayDeclaration>) -> SourcesRefusal
     ensures fault { result.fault ≡ LoadFault.Memory }
-    ensures refused_sources { (old : List CellArray) (bytes : List ℕ) → AreArraysOf bytes arrays.items
+    ensures refused_sources { (old : List CellArray) (bytes : List ℕ)
+        → AreArraysOf bytes arrays.items
         → IsSourcesRefusal old bytes result }
 {
     SourcesRefusal {

@@ -9,8 +9,8 @@ use Rattle.std.specs.Str.{bytes_eq}
 use Rattle.toml.specs.Data.{Data, Members, get_member, as_str}
 use Rattle.cells.specs.Directory.{Declaration}
 use Rattle.manifest.specs.declared.kind.Kind.TheVariants as kind
-use Rattle.manifest.specs.declared.fault.DuplicateName.{DuplicateName}
-use Rattle.manifest.specs.declared.fault.DuplicateName.TheVariants as duplicate
+use Rattle.manifest.specs.declared.manifest_fault.DuplicateName.{DuplicateName}
+use Rattle.manifest.specs.declared.manifest_fault.DuplicateName.TheVariants as duplicate
 use Rattle.manifest.specs.declared.schema_error.InList.{InList}
 use Rattle.manifest.specs.declared.schema_error.InList.TheVariants.{Count}
 use Rattle.manifest.specs.declared.schema_error.AppError.{AppError}
@@ -25,8 +25,10 @@ use Rattle.manifest.specs.Kind.{only_or, unknown_member}
 use Rattle.manifest.specs.Manifest.{Manifest, IsTree, arrays_of, apps_of, none_of, once}
 use Rattle.manifest.specs.Manifest.{tables_of}
 use Rattle.manifest.specs.Member.{fits, needs, required}
-use Rattle.manifest.specs.SchemaErrors.{schema_error_in, schema_errors_between, schema_errors_from, schema_errors_of}
-use Rattle.manifest.specs.SchemaErrors.{app_schema_errors, array_schema_errors, schema_errors_of_rows, server_of}
+use Rattle.manifest.specs.SchemaErrors.{schema_error_in, schema_errors_between, schema_errors_from}
+use Rattle.manifest.specs.SchemaErrors.{schema_errors_of}
+use Rattle.manifest.specs.SchemaErrors.{app_schema_errors, array_schema_errors}
+use Rattle.manifest.specs.SchemaErrors.{schema_errors_of_rows, server_of}
 use Rattle.manifest.specs.Rows.{are_between, item_of, items_from, items_in, rows_of, some_rows}
 use Rattle.manifest.specs.Rows.{with_first}
 use Rattle.manifest.specs.DuplicateNames.{duplicate_names, names_without, repeated}
@@ -99,7 +101,8 @@ first_of_parts : (key server : Option (List ℕ))
     (apps : Result (List AppEntry) (InList AppError))
     → or_else (or_else (or_else (first (map schema_error.Unknown (option_to_list key)))
     (first (server_of server)))
-    (option_map schema_error.Arrays (fault_in arrays))) (option_map schema_error.Apps (fault_in apps))
+    (option_map schema_error.Arrays (fault_in arrays)))
+    (option_map schema_error.Apps (fault_in apps))
     ≡ fault_in {X = Manifest} (only_or key schema_error.Unknown (
     needs server schema_error.Server (λ server.
     fits arrays schema_error.Arrays (λ arrays.
@@ -155,12 +158,14 @@ first_of_once : (manifest : Manifest) → first (all_duplicates manifest) ≡ fa
 first_of_once manifest =
     let arrays = map (λ (a : Declaration). a.name) manifest.arrays in
     let apps = map (λ (a : AppEntry). a.appid) manifest.apps in
-    first-append (map duplicate.Array (duplicate_names arrays)) (map duplicate.App (duplicate_names apps))
+    first-append (map duplicate.Array (duplicate_names arrays))
+    (map duplicate.App (duplicate_names apps))
     ∙ ap (λ o. or_else o (first (map duplicate.App (duplicate_names apps))))
     (first-map duplicate.Array (duplicate_names arrays)
     ∙ ap (option_map duplicate.Array) (first_name arrays))
     ∙ ap (λ o. or_else (option_map duplicate.Array (repeated arrays)) o)
-    (first-map duplicate.App (duplicate_names apps) ∙ ap (option_map duplicate.App) (first_name apps))
+    (first-map duplicate.App (duplicate_names apps)
+    ∙ ap (option_map duplicate.App) (first_name apps))
     ∙ first_of_names manifest (repeated arrays) (repeated apps)
 
 -- ---- bytes

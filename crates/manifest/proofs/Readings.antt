@@ -3,11 +3,12 @@ use Rattle.std.proofs.Common.{◌≡◌, ◌≢◌, ℕ, List, Result, Ok, Err}
 use Rattle.std.proofs.Common.{refl, sym, ◌∙◌, ap, arith}
 use Rattle.std.proofs.lemmas.Option.{same_Some, none-some}
 use Rattle.toml.specs.Data.{Members}
-use Rattle.manifest.specs.declared.fault.ManifestFault.{ManifestFault}
-use Rattle.manifest.specs.declared.fault.ManifestFault.TheVariants.{Toml, Field, Duplicate, Memory}
-use Rattle.manifest.specs.declared.fault.TomlFault.{TomlFault}
-use Rattle.manifest.specs.declared.fault.TomlFault.TheVariants.{TooLong, Text}
-use Rattle.manifest.specs.declared.fault.DuplicateName.{DuplicateName}
+use Rattle.manifest.specs.declared.manifest_fault.ManifestFault.{ManifestFault}
+use Rattle.manifest.specs.declared.manifest_fault.ManifestFault.TheVariants.{Toml, Field, Duplicate}
+use Rattle.manifest.specs.declared.manifest_fault.ManifestFault.TheVariants.{Memory}
+use Rattle.manifest.specs.declared.manifest_fault.TomlFault.{TomlFault}
+use Rattle.manifest.specs.declared.manifest_fault.TomlFault.TheVariants.{TooLong, Text}
+use Rattle.manifest.specs.declared.manifest_fault.DuplicateName.{DuplicateName}
 use Rattle.manifest.specs.declared.schema_error.SchemaError.{SchemaError}
 use Rattle.manifest.specs.Manifest.{Manifest, IsTree, HasNoTree, ReadsManifest}
 use Rattle.manifest.specs.Manifest.{tables_of, once}

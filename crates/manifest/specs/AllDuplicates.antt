@@ -2,8 +2,8 @@
 use Rattle.std.specs.Prelude.{◌≡◌, List, ◌++◌, map, Ok}
 use Rattle.toml.specs.Data.{Members}
 use Rattle.cells.specs.Directory.{Declaration}
-use Rattle.manifest.specs.declared.fault.DuplicateName.{DuplicateName}
-use Rattle.manifest.specs.declared.fault.DuplicateName.TheVariants as duplicate
+use Rattle.manifest.specs.declared.manifest_fault.DuplicateName.{DuplicateName}
+use Rattle.manifest.specs.declared.manifest_fault.DuplicateName.TheVariants as duplicate
 use Rattle.manifest.specs.App.{AppEntry}
 use Rattle.manifest.specs.Manifest.{Manifest, tables_of}
 use Rattle.manifest.specs.DuplicateNames.{duplicate_names}

@@ -1,8 +1,8 @@
 -- The fault of refused bytes is the first of its kind.
 use Rattle.std.specs.Prelude.{◌≡◌, ℕ, List, ◌∷◌, Err}
 use Rattle.toml.specs.Data.{Members}
-use Rattle.manifest.specs.declared.fault.ManifestFault.TheVariants.{Field, Duplicate}
-use Rattle.manifest.specs.declared.fault.DuplicateName.{DuplicateName}
+use Rattle.manifest.specs.declared.manifest_fault.ManifestFault.TheVariants.{Field, Duplicate}
+use Rattle.manifest.specs.declared.manifest_fault.DuplicateName.{DuplicateName}
 use Rattle.manifest.specs.declared.schema_error.SchemaError.{SchemaError}
 use Rattle.manifest.specs.AllDuplicates.{HasAllDuplicates}
 use Rattle.manifest.specs.Manifest.{IsTree, ReadsManifest}
@@ -16,6 +16,8 @@ HasSchemaErrorFirst bytes = (schema_error : SchemaError) (tree : Members)
 
 -- the duplicate name of refused bytes is the first of their document
 abbrev pub HasDuplicateFirst : List ℕ → Type 0
-HasDuplicateFirst bytes = (duplicate : DuplicateName) (tree : Members) (duplicates : List DuplicateName)
-    → ReadsManifest bytes (Err (Duplicate duplicate)) → IsTree bytes tree → HasAllDuplicates tree duplicates
+HasDuplicateFirst bytes =
+    (duplicate : DuplicateName) (tree : Members) (duplicates : List DuplicateName)
+    → ReadsManifest bytes (Err (Duplicate duplicate)) → IsTree bytes tree
+    → HasAllDuplicates tree duplicates
     → (others : List DuplicateName) × (duplicates ≡ duplicate ∷ others)

@@ -4,12 +4,13 @@ use Rattle.std.specs.Prelude.{Option, Some, None, Result, Ok, Err, IsUtf8}
 use Rattle.toml.specs.Data.{Members, get_member, as_str}
 use Rattle.toml.specs.Parse.{parse_document}
 use Rattle.cells.specs.Directory.{Declaration}
-use Rattle.manifest.specs.declared.fault.ManifestFault.{ManifestFault}
-use Rattle.manifest.specs.declared.fault.ManifestFault.TheVariants.{Toml, Field, Duplicate, Memory}
-use Rattle.manifest.specs.declared.fault.TomlFault.{TomlFault}
-use Rattle.manifest.specs.declared.fault.TomlFault.TheVariants.{TooLong, Text}
-use Rattle.manifest.specs.declared.fault.DuplicateName.{DuplicateName}
-use Rattle.manifest.specs.declared.fault.DuplicateName.TheVariants as duplicate
+use Rattle.manifest.specs.declared.manifest_fault.ManifestFault.{ManifestFault}
+use Rattle.manifest.specs.declared.manifest_fault.ManifestFault.TheVariants.{Toml, Field, Duplicate}
+use Rattle.manifest.specs.declared.manifest_fault.ManifestFault.TheVariants.{Memory}
+use Rattle.manifest.specs.declared.manifest_fault.TomlFault.{TomlFault}
+use Rattle.manifest.specs.declared.manifest_fault.TomlFault.TheVariants.{TooLong, Text}
+use Rattle.manifest.specs.declared.manifest_fault.DuplicateName.{DuplicateName}
+use Rattle.manifest.specs.declared.manifest_fault.DuplicateName.TheVariants as duplicate
 use Rattle.manifest.specs.declared.kind.Kind.TheVariants as kind
 use Rattle.manifest.specs.declared.schema_error.InList.{InList}
 use Rattle.manifest.specs.declared.schema_error.AppError.{AppError}

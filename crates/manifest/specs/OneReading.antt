@@ -1,8 +1,8 @@
 -- Bytes have at most one reading.
 use Rattle.std.specs.Prelude.{◌≡◌, ◌≢◌, ℕ, List, Result, Err}
 use Rattle.manifest.specs.Manifest.{Manifest, ReadsManifest}
-use Rattle.manifest.specs.declared.fault.ManifestFault.{ManifestFault}
-use Rattle.manifest.specs.declared.fault.ManifestFault.TheVariants.{Memory}
+use Rattle.manifest.specs.declared.manifest_fault.ManifestFault.{ManifestFault}
+use Rattle.manifest.specs.declared.manifest_fault.ManifestFault.TheVariants.{Memory}
 
 -- bytes have one manifest or one fault, except for out of memory
 abbrev pub HasOneManifest : List ℕ → Type 0

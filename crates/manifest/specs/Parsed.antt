@@ -1,9 +1,10 @@
 -- What comes with a refused manifest: the result of the crate `toml` for its bytes.
 use Rattle.std.specs.Prelude.{ℕ, List, Err}
 use Rattle.toml.specs.View.{table_view}
-use Rattle.manifest.specs.declared.fault.ManifestFault.{ManifestFault}
-use Rattle.manifest.specs.declared.fault.ManifestFault.TheVariants.{Toml, Field, Duplicate, Memory}
-use Rattle.manifest.specs.declared.fault.TomlFault.TheVariants.{TooLong, Text}
+use Rattle.manifest.specs.declared.manifest_fault.ManifestFault.{ManifestFault}
+use Rattle.manifest.specs.declared.manifest_fault.ManifestFault.TheVariants.{Toml, Field, Duplicate}
+use Rattle.manifest.specs.declared.manifest_fault.ManifestFault.TheVariants.{Memory}
+use Rattle.manifest.specs.declared.manifest_fault.TomlFault.TheVariants.{TooLong, Text}
 use Rattle.manifest.specs.declared.refused.Parsed.{Parsed}
 use Rattle.manifest.specs.declared.refused.Parsed.TheVariants.{Document, Error, Nothing}
 use Rattle.manifest.specs.declared.refused.RefusedManifest.{RefusedManifest}

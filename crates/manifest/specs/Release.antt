@@ -25,7 +25,8 @@ packages_of table = rows_of package_of 1 16 (get_member (codes "package") table)
 abbrev pub release_of : Members → Result Release ReleaseError
 release_of table =
     only kind.Release table schema_error.Unknown (
-    needs (required (text_that is_version_text) (codes "version") table) schema_error.Version (λ version.
+    needs (required (text_that is_version_text) (codes "version") table) schema_error.Version
+    (λ version.
     needs (required as_str (codes "codebase") table) schema_error.Codebase (λ codebase.
     fits (packages_of table) schema_error.Packages (λ packages.
     Ok (record { version = version; codebase = codebase; packages = packages })))))

@@ -24,7 +24,8 @@ module _ {X M : Type 0} (row_of : Members → Result X M) where
   -- the schema errors of the items, which are numbered from this number
   abbrev pub schema_errors_from : ℕ → List Data → List (InList M)
   schema_errors_from n [] = []
-  schema_errors_from n (d ∷ ds) = schema_error_in (item_of row_of n d) ++ schema_errors_from (n + 1) ds
+  schema_errors_from n (d ∷ ds) = schema_error_in (item_of row_of n d)
+      ++ schema_errors_from (n + 1) ds
 
   abbrev pub schema_errors_between : ℕ → ℕ → Option (List Data) → List (InList M)
   schema_errors_between from to None = Count ∷ []
@@ -56,4 +57,5 @@ app_schema_errors table = schema_errors_of_rows app_of 1 256 (get_member (codes 
 abbrev pub schema_errors_of : Members → List SchemaError
 schema_errors_of table =
     own_schema_errors table
-    ++ map schema_error.Arrays (array_schema_errors table) ++ map schema_error.Apps (app_schema_errors table)
+    ++ map schema_error.Arrays (array_schema_errors table)
+    ++ map schema_error.Apps (app_schema_errors table)

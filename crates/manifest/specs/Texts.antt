@@ -1,10 +1,10 @@
 -- The texts of schema errors: the path of the member, and what is expected there. Tables of a list
 -- are numbered from 1. A key or a name of the manifest is escaped for printing.
 use Rattle.std.specs.Prelude.{ℕ, List, ◌++◌, codes, decimal}
-use Rattle.manifest.specs.declared.fault.ManifestFault.{ManifestFault}
-use Rattle.manifest.specs.declared.fault.ManifestFault.TheVariants as unread
-use Rattle.manifest.specs.declared.fault.DuplicateName.{DuplicateName}
-use Rattle.manifest.specs.declared.fault.DuplicateName.TheVariants as duplicate
+use Rattle.manifest.specs.declared.manifest_fault.ManifestFault.{ManifestFault}
+use Rattle.manifest.specs.declared.manifest_fault.ManifestFault.TheVariants as unread
+use Rattle.manifest.specs.declared.manifest_fault.DuplicateName.{DuplicateName}
+use Rattle.manifest.specs.declared.manifest_fault.DuplicateName.TheVariants as duplicate
 use Rattle.manifest.specs.declared.schema_error.InList.{InList}
 use Rattle.manifest.specs.declared.schema_error.InList.TheVariants.{Count, NoTable, At}
 use Rattle.manifest.specs.declared.schema_error.AppError.{AppError}
@@ -64,7 +64,8 @@ schema_error_text (schema_error.Unknown key) = printed key ++ codes ": no member
 schema_error_text schema_error.Server = codes "server: a text"
 schema_error_text (schema_error.Arrays list) =
     list_text array_text (codes "array") (codes "at most 64 tables") list
-schema_error_text (schema_error.Apps list) = list_text app_text (codes "app") (codes "1 to 256 tables") list
+schema_error_text (schema_error.Apps list) =
+    list_text app_text (codes "app") (codes "1 to 256 tables") list
 
 -- ---- duplicates
 

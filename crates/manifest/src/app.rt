@@ -10,8 +10,8 @@ ghost use Rattle.manifest.specs.App as specs;
 
 use crate::kind::{Kind, unknown_member};
 use crate::member::{member, text};
-use crate::schema_error::{AppError, InList, ReleaseError};
 use crate::rows::{TableRow, read_rows};
+use crate::schema_error::{AppError, InList, ReleaseError};
 use crate::table_fault::{TableFault, copy, quote};
 use attrs::Text;
 use cells::Shape;

@@ -10,8 +10,8 @@ ghost use Rattle.manifest.specs.Array as specs;
 
 use crate::kind::{Kind, unknown_member};
 use crate::member::{member, number, number_of, text};
-use crate::schema_error::ArrayError;
 use crate::rows::TableRow;
+use crate::schema_error::ArrayError;
 use crate::table_fault::{TableFault, quote};
 use cells::{ArrayName, CellArray, CellWidth};
 use declarations::ArrayDeclaration;

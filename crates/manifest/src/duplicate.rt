@@ -5,11 +5,11 @@ ghost use Rattle.std.specs.Prelude.{if◌then◌else◌, not, ◌&&◌};
 ghost use Rattle.std.specs.List.{list_any};
 ghost use Rattle.std.specs.Str.{bytes_eq};
 ghost use Rattle.manifest.specs.DuplicateNames.{duplicate_names, repeated};
-ghost use Rattle.manifest.specs.declared.fault.DuplicateName.{DuplicateName};
-ghost use Rattle.manifest.specs.declared.fault.DuplicateName.TheVariants as duplicate;
+ghost use Rattle.manifest.specs.declared.manifest_fault.DuplicateName.{DuplicateName};
+ghost use Rattle.manifest.specs.declared.manifest_fault.DuplicateName.TheVariants as duplicate;
 
 use crate::app::AppEntry;
-use crate::fault::DuplicateName;
+use crate::manifest_fault::DuplicateName;
 use crate::quote::Quote;
 use declarations::ArrayDeclaration;
 use std::alloc::{AllocError, Global};

@@ -36,10 +36,10 @@
 mod app;
 mod array;
 mod duplicate;
-mod fault;
 mod kind;
-mod law;
+mod laws;
 mod manifest;
+mod manifest_fault;
 mod member;
 mod package;
 mod quote;
@@ -53,9 +53,9 @@ mod schema_errors;
 mod table_fault;
 
 pub use app::{AppEntry, AppParts, ProgramSource};
-pub use fault::{DuplicateName, ManifestFault, TomlFault};
-pub use law::{first_duplicate, first_schema_error, one_reading};
+pub use laws::{first_duplicate, first_schema_error, one_reading};
 pub use manifest::{Manifest, ManifestParts};
+pub use manifest_fault::{DuplicateName, ManifestFault, TomlFault};
 pub use quote::Quote;
 pub use read::{MOST_MANIFEST, parse_manifest, read_manifest};
 pub use refused::{Parsed, RefusedManifest};

@@ -5,8 +5,8 @@ ghost use Rattle.toml.specs.View.{table_view};
 ghost use Rattle.manifest.specs.Manifest.{IsTree, ReadsManifest};
 ghost use Rattle.manifest.specs.Parsed.{IsNoManifest};
 
-use crate::fault::{ManifestFault, TomlFault};
 use crate::manifest::{Manifest, read_tables, without_duplicates};
+use crate::manifest_fault::{ManifestFault, TomlFault};
 use crate::refused::{Parsed, RefusedManifest};
 use crate::table_fault::TableFault;
 use std::alloc::Global;
@@ -51,7 +51,10 @@ pub fn parse_manifest(alloc: Global, bytes: &[u8]) -> Result<Manifest, RefusedMa
     };
     match without_duplicates(alloc, manifest) {
         Ok(manifest) => Ok(manifest),
-        Err(TableFault::SchemaError(duplicate)) => Err(unfit(ManifestFault::Duplicate(duplicate), table)),
+        Err(TableFault::SchemaError(duplicate)) => Err(unfit(
+            ManifestFault::Duplicate(duplicate),
+            table,
+        )),
         Err(TableFault::Memory) => Err(unparsed(ManifestFault::Memory)),
     }
 }

@@ -1,6 +1,6 @@
 //! A refused manifest, with the result of parsing it, so that it isn't parsed again.
 
-use crate::fault::ManifestFault;
+use crate::manifest_fault::ManifestFault;
 use toml::Table;
 use toml::de::Error;
 

@@ -8,8 +8,8 @@ ghost use Rattle.manifest.specs.Release as specs;
 
 use crate::kind::{Kind, unknown_member};
 use crate::member::text;
-use crate::schema_error::{InList, PackageError, ReleaseError};
 use crate::rows::{TableRow, read_rows};
+use crate::schema_error::{InList, PackageError, ReleaseError};
 use crate::table_fault::{TableFault, copy, quote};
 use attrs::read_version;
 use releases::{Package, Release};

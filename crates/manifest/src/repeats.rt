@@ -6,8 +6,8 @@ ghost use Rattle.manifest.specs.AllDuplicates.{HasAllDuplicates};
 ghost use Rattle.manifest.specs.AllDuplicates as specs;
 
 use crate::duplicate::push_duplicate_names;
-use crate::fault::DuplicateName;
 use crate::manifest::{Manifest, read_tables};
+use crate::manifest_fault::DuplicateName;
 use std::alloc::{AllocError, Global};
 use toml::Table;
 

@@ -99,7 +99,8 @@ pub(crate) fn read_item<R: TableRow>(
     match R::read(alloc, table) {
         Ok(row) => Ok(row),
         Err(TableFault::SchemaError(schema_error)) => Err(TableFault::SchemaError(InList::At(
-            number, schema_error,
+            number,
+            schema_error,
         ))),
         Err(TableFault::Memory) => Err(TableFault::Memory),
     }

@@ -84,7 +84,10 @@ impl Display for SchemaError {
             ),
             SchemaError::Apps(InList::Count) => f.write_str("app: 1 to 256 tables"),
             SchemaError::Apps(InList::NoTable(number)) => write!(f, "app[{number}]: a table"),
-            SchemaError::Apps(InList::At(number, schema_error)) => write!(f, "app[{number}].{schema_error}"),
+            SchemaError::Apps(InList::At(number, schema_error)) => write!(
+                f,
+                "app[{number}].{schema_error}"
+            ),
         }
     }
 }

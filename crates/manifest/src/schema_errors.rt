@@ -3,7 +3,8 @@
 ghost use Rattle.std.specs.Prelude.{◌≡◌, ◌++◌, map, IfOk, OnOk};
 ghost use Rattle.toml.specs.Data.{get_member};
 ghost use Rattle.toml.specs.View.{view, table_view};
-ghost use Rattle.manifest.specs.SchemaErrors.{schema_error_in, schema_errors_from, schema_errors_of, schema_errors_of_rows};
+ghost use Rattle.manifest.specs.SchemaErrors.{schema_error_in, schema_errors_from};
+ghost use Rattle.manifest.specs.SchemaErrors.{schema_errors_of, schema_errors_of_rows};
 ghost use Rattle.manifest.specs.SchemaErrors.{own_schema_errors};
 ghost use Rattle.manifest.specs.Rows.{item_of};
 ghost use Rattle.manifest.specs.declared.schema_error.InList.{InList};

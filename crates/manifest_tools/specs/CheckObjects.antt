@@ -5,7 +5,7 @@ use Rattle.std.specs.Prelude.{Option, Some, None, length}
 use Rattle.std.specs.Borrow.{Bor}
 use Rattle.std.specs.String.{string_bytes}
 use Rattle.bounded_files.specs.Files.{KnownFiles}
-use Rattle.bounded_files.specs.declared.fault.ResourceFault.TheVariants as resource
+use Rattle.bounded_files.specs.declared.resource_fault.ResourceFault.TheVariants as resource
 use Rattle.cells.specs.Directory.{Declaration}
 use Rattle.cells.specs.declared.array.CellWidth.{CellWidth}
 use Rattle.cells.specs.declared.array.CellWidth.TheVariants.{Bits32, Bits64}

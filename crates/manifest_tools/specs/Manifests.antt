@@ -6,7 +6,7 @@ use Rattle.load.specs.Folder.{known_beside}
 use Rattle.load.specs.Texts.{load_fault_text, path_fault_text}
 use Rattle.bounded_files.specs.Files.{KnownFiles, Gives, OfFile, regular_files}
 use Rattle.bounded_files.specs.Texts.{resource_text}
-use Rattle.bounded_files.specs.declared.fault.ResourceFault.TheVariants as resource
+use Rattle.bounded_files.specs.declared.resource_fault.ResourceFault.TheVariants as resource
 use Rattle.manifest_tools.specs.declared.fault.ManifestToolFault.{ManifestToolFault}
 use Rattle.manifest_tools.specs.declared.fault.ManifestToolFault.TheVariants as fault
 

@@ -14,8 +14,8 @@ use Rattle.simulate.specs.Course.{IsSimulated}
 use Rattle.simulate.specs.declared.client.Client.{Client}
 use Rattle.load.specs.Loaded.{IsLoadedFrom, RefusesPath}
 use Rattle.bounded_files.specs.Files.{KnownFiles}
-use Rattle.bounded_files.specs.declared.fault.ResourceFault.TheVariants as resource
-use Rattle.load.specs.declared.fault.PathFault.{PathFault}
+use Rattle.bounded_files.specs.declared.resource_fault.ResourceFault.TheVariants as resource
+use Rattle.load.specs.declared.load_fault.PathFault.{PathFault}
 use Rattle.cells.specs.declared.array.CellArray.{CellArray}
 use Rattle.ruleset.specs.Rules.{Rules, app_in}
 use Rattle.manifest_tools.specs.declared.fault.ManifestToolFault.{ManifestToolFault}

@@ -12,8 +12,8 @@ use Rattle.omaha_json.specs.Members.{request_member, request_with, AreMembersOf}
 use Rattle.omaha_json.specs.Members.{request_facts_of, request_found}
 use Rattle.omaha_json.specs.Request.{Request, text_in, is_protocol}
 use Rattle.omaha_json.specs.Request.{or_fault, of_apps, of_request, listed, request_facts}
-use Rattle.omaha_json.specs.declared.fault.OmahaFault.{OmahaFault}
-use Rattle.omaha_json.specs.declared.fault.OmahaFault.TheVariants.{Shape, Protocol}
+use Rattle.omaha_json.specs.declared.omaha_fault.OmahaFault.{OmahaFault}
+use Rattle.omaha_json.specs.declared.omaha_fault.OmahaFault.TheVariants.{Shape, Protocol}
 use Rattle.omaha_json.specs.declared.request_members.RequestMember.{RequestMember}
 use Rattle.omaha_json.specs.declared.request_members.RequestMember.TheVariants as asked
 use Rattle.omaha_json.specs.declared.request_members.RequestMembers.{RequestMembers}

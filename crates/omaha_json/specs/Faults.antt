@@ -1,7 +1,7 @@
 -- The text of each refusal.
 use Rattle.std.specs.Prelude.{ℕ, List, ◌++◌, codes}
-use Rattle.omaha_json.specs.declared.fault.OmahaFault.{OmahaFault}
-use Rattle.omaha_json.specs.declared.fault.OmahaFault.TheVariants as fault
+use Rattle.omaha_json.specs.declared.omaha_fault.OmahaFault.{OmahaFault}
+use Rattle.omaha_json.specs.declared.omaha_fault.OmahaFault.TheVariants as fault
 
 -- the number and the name
 abbrev pub omaha_name : OmahaFault → List ℕ

@@ -13,8 +13,8 @@ use Rattle.omaha_json.specs.Request.{Request, or_fault, of_apps, listed}
 use Rattle.omaha_json.specs.declared.app_members.AppMember.{AppMember}
 use Rattle.omaha_json.specs.declared.app_members.AppMember.TheVariants as app
 use Rattle.omaha_json.specs.declared.app_members.AppMembers.{AppMembers}
-use Rattle.omaha_json.specs.declared.fault.OmahaFault.{OmahaFault}
-use Rattle.omaha_json.specs.declared.fault.OmahaFault.TheVariants.{Shape, Protocol}
+use Rattle.omaha_json.specs.declared.omaha_fault.OmahaFault.{OmahaFault}
+use Rattle.omaha_json.specs.declared.omaha_fault.OmahaFault.TheVariants.{Shape, Protocol}
 use Rattle.omaha_json.specs.declared.request_members.RequestMember.{RequestMember}
 use Rattle.omaha_json.specs.declared.request_members.RequestMember.TheVariants as request
 use Rattle.omaha_json.specs.declared.request_members.RequestMembers.{RequestMembers}

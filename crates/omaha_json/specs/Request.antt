@@ -7,9 +7,9 @@ use Rattle.serde_json.specs.Find.{get, as_array, as_null, as_number, as_object, 
 use Rattle.json_value.specs.Bytes.{json_of}
 use Rattle.attrs.specs.declared.facts.AppFacts.{AppFacts}
 use Rattle.attrs.specs.declared.facts.RequestFacts.{RequestFacts}
-use Rattle.omaha_json.specs.declared.fault.OmahaFault.{OmahaFault}
-use Rattle.omaha_json.specs.declared.fault.OmahaFault.TheVariants.{Json, Shape}
-use Rattle.omaha_json.specs.declared.fault.OmahaFault.TheVariants.{Protocol, TooManyApps}
+use Rattle.omaha_json.specs.declared.omaha_fault.OmahaFault.{OmahaFault}
+use Rattle.omaha_json.specs.declared.omaha_fault.OmahaFault.TheVariants.{Json, Shape}
+use Rattle.omaha_json.specs.declared.omaha_fault.OmahaFault.TheVariants.{Protocol, TooManyApps}
 
 -- the facts of the request itself, and of each app, in order
 pub record Request : Type 0 where

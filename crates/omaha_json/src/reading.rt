@@ -8,8 +8,8 @@ ghost use Rattle.omaha_json.specs.Request.{all_facts, listed};
 ghost use Rattle.omaha_json.specs.Members.{request_found};
 
 use crate::app_members::app_facts;
-use crate::fault::OmahaFault;
 use crate::app_observer::{AppObserver, WrittenApp};
+use crate::omaha_fault::OmahaFault;
 use crate::request::Request;
 use crate::request_members::{RequestMembers, request_members};
 use crate::value::object_in;

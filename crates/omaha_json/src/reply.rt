@@ -7,8 +7,8 @@ ghost use Rattle.attrs.specs.Moment.{elapsed_days, elapsed_seconds};
 ghost use Rattle.omaha_json.specs.Reply as specs;
 
 use crate::app::write_apps;
-use crate::fault::OmahaFault;
 use crate::found::{FoundApp, find_apps};
+use crate::omaha_fault::OmahaFault;
 use crate::request::Request;
 use crate::tokens::{write_number, write_tokens};
 use attrs::{Elapsed, Moment, SharedFacts};

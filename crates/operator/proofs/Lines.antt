@@ -15,7 +15,7 @@ use Rattle.operator.specs.Line.{IsFirstRequest, LineGoesOn, IsPiece, IsWhole, li
 use Rattle.operator_request.specs.Requests.{is_line_feed, line_limit}
 use Rattle.operator_request.specs.Requests.{SpellsRequest, SpellsNoRequest}
 use Rattle.operator_request.specs.declared.request.OperatorRequest.{OperatorRequest}
-use Rattle.operator.specs.declared.line.Piece.TheVariants.{Last, Further}
+use Rattle.operator.specs.declared.request_line.Piece.TheVariants.{Last, Further}
 
 -- ---- a piece
 
@@ -145,7 +145,8 @@ module _ (line : List ℕ) where
       subst Of (sym (take_all (line_limit + 1) line (omega (arith, h.short)))) h
 
 -- the request that is found is that of the reader's bytes
-pub line_request_is : (input : Option (List ℕ)) (shown : List ℕ) (room : ℕ) (line_request : Option OperatorRequest)
+pub line_request_is : (input : Option (List ℕ)) (shown : List ℕ) (room : ℕ)
+    (line_request : Option OperatorRequest)
     → room ≡ line_limit + 1 → IfSome input (λ sent. shown ≡ take room (line_of sent))
     → IfSome line_request (SpellsRequest shown) → IfNone line_request (SpellsNoRequest shown)
     → IsFirstRequest input line_request

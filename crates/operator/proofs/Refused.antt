@@ -2,8 +2,8 @@
 use Rattle.std.proofs.Common.{◌≡◌, ◌≢◌, ℕ, ◌^◌, ◌-◌, Result, Err}
 use Rattle.std.specs.Prelude.{◌↔◌}
 use Rattle.hot_swap.specs.Latest.{Publishing}
-use Rattle.hot_swap.specs.declared.fault.SwapFault.{SwapFault}
-use Rattle.hot_swap.specs.declared.fault.SwapFault.TheVariants as swap
+use Rattle.hot_swap.specs.declared.swap_fault.SwapFault.{SwapFault}
+use Rattle.hot_swap.specs.declared.swap_fault.SwapFault.TheVariants as swap
 use Rattle.operator.specs.Control.{IsUninstallable}
 
 pub uninstallable : (old : Publishing) (fault : SwapFault) (result : Result ℕ SwapFault)

@@ -9,8 +9,8 @@ use Rattle.std.specs.Cmp.Lexicographic.{same_text}
 use Rattle.operator.specs.Done.{IsAskRefusal, IsDoneAs}
 use Rattle.operator.specs.Replies.{IsReplyTo, is_answer}
 use Rattle.operator_request.specs.declared.request.OperatorRequest.{OperatorRequest}
-use Rattle.operator.specs.declared.asking.RequestFault.{RequestFault}
-use Rattle.operator.specs.declared.asking.RequestFault.TheVariants as ask
+use Rattle.operator.specs.declared.server_reply.RequestFault.{RequestFault}
+use Rattle.operator.specs.declared.server_reply.RequestFault.TheVariants as ask
 use Rattle.operator_request.specs.Requests.{IsSendable}
 
 lacks_word : (word bytes : List ℕ) (r : Bool) → r ≡ starts_with nat_eq bytes word

@@ -4,8 +4,8 @@ use Rattle.std.specs.Prelude.{Bool, true}
 use mathlib.Core.List.{IsPrefix}
 use Rattle.cells.specs.declared.array.CellArray.{CellArray}
 use Rattle.hot_swap.specs.Latest.{Publishing, Installs}
-use Rattle.hot_swap.specs.declared.fault.SwapFault.{SwapFault}
-use Rattle.hot_swap.specs.declared.fault.SwapFault.TheVariants as swap
+use Rattle.hot_swap.specs.declared.swap_fault.SwapFault.{SwapFault}
+use Rattle.hot_swap.specs.declared.swap_fault.SwapFault.TheVariants as swap
 use Rattle.operator.specs.declared.reply.OperatorRefusal.{OperatorRefusal}
 use Rattle.operator.specs.declared.reply.OperatorRefusal.TheVariants as refusal
 use Rattle.ruleset.specs.Rules.{Rules, KnowsOnly}

@@ -1,8 +1,8 @@
 -- What a reply says to the operator's client: the request was done, or why it wasn't.
 use Rattle.std.specs.Prelude.{ℕ, List, IsTrue}
 use Rattle.operator.specs.Replies.{is_answer}
-use Rattle.operator.specs.declared.asking.RequestFault.{RequestFault}
-use Rattle.operator.specs.declared.asking.RequestFault.TheVariants.{Word}
+use Rattle.operator.specs.declared.server_reply.RequestFault.{RequestFault}
+use Rattle.operator.specs.declared.server_reply.RequestFault.TheVariants.{Word}
 use Rattle.operator_request.specs.Requests.{IsSendable}
 use Rattle.operator_request.specs.declared.request.OperatorRequest.{OperatorRequest}
 

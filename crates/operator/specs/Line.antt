@@ -4,8 +4,8 @@ use Rattle.std.specs.Prelude.{Option, None, Some, IfSome}
 use Rattle.std.specs.List.{before_first}
 use Rattle.operator_request.specs.Requests.{SpellsRequest, SpellsNoRequest, is_line_feed}
 use Rattle.operator_request.specs.declared.request.OperatorRequest.{OperatorRequest}
-use Rattle.operator.specs.declared.line.Piece.{Piece}
-use Rattle.operator.specs.declared.line.Piece.TheVariants.{Last, Further}
+use Rattle.operator.specs.declared.request_line.Piece.{Piece}
+use Rattle.operator.specs.declared.request_line.Piece.TheVariants.{Last, Further}
 
 -- the line that a connection sends: the bytes before the first line feed, or before the end
 abbrev pub line_of : List ℕ → List ℕ
@@ -18,7 +18,8 @@ IsRequestOfLine line (Some request) = SpellsRequest line request
 
 -- the request of the first line of the bytes, if these are known
 abbrev pub IsFirstRequest : Option (List ℕ) → Option OperatorRequest → Type 0
-IsFirstRequest input line_request = IfSome input (λ sent. IsRequestOfLine (line_of sent) line_request)
+IsFirstRequest input line_request =
+    IfSome input (λ sent. IsRequestOfLine (line_of sent) line_request)
 
 -- the line of the reader's bytes is this
 abbrev pub IsWhole : Option (List ℕ) → List ℕ → Type 0

@@ -5,12 +5,12 @@ use Rattle.std.specs.List.{flat_map}
 use Rattle.std.specs.Option.{option_map}
 use Rattle.std.specs.String.{string_bytes}
 use Rattle.bounded_files.specs.Texts.{resource_text}
-use Rattle.bounded_files.specs.declared.fault.ResourceFault.TheVariants as resource
+use Rattle.bounded_files.specs.declared.resource_fault.ResourceFault.TheVariants as resource
 use Rattle.cells.specs.declared.array.CellArray.{CellArray}
 use Rattle.hot_swap.specs.Latest.{Latest}
 use Rattle.hot_swap.specs.Texts.{swap_text}
-use Rattle.operator.specs.declared.asking.RequestFault.{RequestFault}
-use Rattle.operator.specs.declared.asking.RequestFault.TheVariants as ask
+use Rattle.operator.specs.declared.server_reply.RequestFault.{RequestFault}
+use Rattle.operator.specs.declared.server_reply.RequestFault.TheVariants as ask
 use Rattle.operator.specs.declared.reply.OperatorRefusal.{OperatorRefusal}
 use Rattle.operator.specs.declared.reply.OperatorRefusal.TheVariants as refusal
 use Rattle.operator.specs.declared.reply.OperatorReply.{OperatorReply}

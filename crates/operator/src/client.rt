@@ -8,7 +8,7 @@ ghost use Rattle.operator.specs.Replies.{IsReplyTo};
 ghost use Rattle.operator_request.specs.Requests.{IsSendable};
 ghost use Rattle.operator_request.specs.declared.request.OperatorRequest as request;
 
-use crate::asking::{RequestFault, ask};
+use crate::server_reply::{RequestFault, ask};
 use operator_request::OperatorRequest;
 use std::alloc::Global;
 use std::io::ErrorKind;

@@ -11,22 +11,22 @@
 //! See docs/DECISIONS.md, "The operator's port".
 #![tactic(auto)]
 
-mod answering;
-mod asking;
 mod client;
+mod connection;
 mod control;
-mod law;
-mod line;
+mod laws;
 mod loader;
 mod performing;
 mod reply;
 mod reply_forms;
-mod telling;
+mod reply_lines;
+mod request_line;
+mod server_reply;
 
-pub use answering::{answer, write_reply};
-pub use asking::RequestFault;
 pub use client::{ask_server, stop_and_wait};
+pub use connection::{answer, write_reply};
 pub use control::Control;
-pub use law::loads_go_on;
+pub use laws::loads_go_on;
 pub use loader::Loader;
 pub use reply::{OperatorRefusal, OperatorReply};
+pub use server_reply::RequestFault;

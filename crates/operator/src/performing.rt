@@ -7,7 +7,7 @@ ghost use Rattle.cells.specs.Grown.{Grows};
 use crate::control::Control;
 use crate::loader::Loader;
 use crate::reply::{OperatorRefusal, OperatorReply};
-use crate::telling::{counter_lines, ruleset_lines};
+use crate::reply_lines::{counter_lines, ruleset_lines};
 use cells::CellSteps;
 use operator_request::OperatorRequest;
 use std::alloc::Global;

@@ -3,7 +3,7 @@
 
 ghost use Rattle.operator.specs.Texts.{refusal_text, reply_text};
 
-use crate::asking::WORD_NAME;
+use crate::server_reply::WORD_NAME;
 use bounded_files::ResourceFault;
 use hot_swap::{Generation, SwapFault};
 use std::fmt::{self, Display};

@@ -2,8 +2,8 @@
 //! paths. No control character reaches the terminal, and no text can start a line.
 #![tactic(auto)]
 
-mod law;
-mod text;
+mod escaped_text;
+mod laws;
 
-pub use law::no_control_is_printed;
-pub use text::{Printed, PrintedLines, has_control, is_control};
+pub use escaped_text::{Printed, PrintedLines, has_control, is_control};
+pub use laws::no_control_is_printed;

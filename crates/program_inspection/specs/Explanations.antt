@@ -1,7 +1,7 @@
 -- The results of the command `explain` for the bytes of a file.
 use Rattle.std.specs.Prelude.{ℕ, List, Option, Ok}
 use Rattle.acceptance.specs.Program.{AreOnly}
-use Rattle.acceptance.specs.declared.fault.ProgramFault.TheVariants.{Verify}
+use Rattle.acceptance.specs.declared.program_fault.ProgramFault.TheVariants.{Verify}
 use Rattle.bounded_files.specs.Files.{KnownFiles, OfFile}
 use Rattle.bpf_checks.specs.declared.refusal.Refusal.{Refusal}
 use Rattle.bpf_checks.specs.declared.refusal.Refusal.TheVariants as refusal
@@ -13,8 +13,8 @@ use Rattle.command_line.specs.declared.declared_shape.DeclaredShape.{DeclaredSha
 use Rattle.explain.specs.Lines.{IsExplained, IsFinding}
 use Rattle.program_tools.specs.Programs.{IsProgramFault, IsRefusedUnder, IsShapeFor}
 use Rattle.program_tools.specs.Programs.{IsUnreadProgram}
-use Rattle.program_tools.specs.declared.fault.ProgramToolFault.{ProgramToolFault}
-use Rattle.program_tools.specs.declared.fault.ProgramToolFault.TheVariants.{Program}
+use Rattle.program_tools.specs.declared.program_tool_fault.ProgramToolFault.{ProgramToolFault}
+use Rattle.program_tools.specs.declared.program_tool_fault.ProgramToolFault.TheVariants.{Program}
 
 -- the bytes are a program that is accepted with the shape, or refused like this; the text has what
 -- is known about it, and assembles to the same bytes

@@ -1,6 +1,6 @@
 -- The results of the command `order` for the bytes of a file.
 use Rattle.std.specs.Prelude.{◌≡◌, ◌⊎◌, ℕ, List}
-use Rattle.acceptance.specs.declared.fault.ProgramFault.TheVariants.{Flow}
+use Rattle.acceptance.specs.declared.program_fault.ProgramFault.TheVariants.{Flow}
 use Rattle.block_order.specs.Order.{IsOrdered}
 use Rattle.block_order.specs.Refusal.{IsOrderFault}
 use Rattle.bounded_files.specs.Files.{KnownFiles, OfFile}
@@ -9,8 +9,8 @@ use Rattle.flow_check.specs.Flow.{IsAcceptedAs}
 use Rattle.flow_check.specs.declared.fault.FlowFault.{FlowFault}
 use Rattle.flow_check.specs.declared.fault.FlowFault.TheVariants as flow
 use Rattle.program_tools.specs.Programs.{IsUnreadProgram}
-use Rattle.program_tools.specs.declared.fault.ProgramToolFault.{ProgramToolFault}
-use Rattle.program_tools.specs.declared.fault.ProgramToolFault.TheVariants as fault
+use Rattle.program_tools.specs.declared.program_tool_fault.ProgramToolFault.{ProgramToolFault}
+use Rattle.program_tools.specs.declared.program_tool_fault.ProgramToolFault.TheVariants as fault
 
 -- the bytes are a program, and this is the same program in order; a program that is already in
 -- order stays the same, byte for byte

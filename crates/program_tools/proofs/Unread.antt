@@ -1,10 +1,10 @@
 -- A file that can't be read.
 use Rattle.std.proofs.Common.{ℕ, List, Err}
 use Rattle.bounded_files.specs.Files.{KnownFiles, ReadsAtMost, ReadsFile}
-use Rattle.bounded_files.specs.declared.fault.ResourceFault.{ResourceFault}
-use Rattle.bounded_files.specs.declared.fault.ResourceFault.TheVariants.{File, Memory}
+use Rattle.bounded_files.specs.declared.resource_fault.ResourceFault.{ResourceFault}
+use Rattle.bounded_files.specs.declared.resource_fault.ResourceFault.TheVariants.{File, Memory}
 use Rattle.program_tools.specs.Resources.{IsNoFile}
-use Rattle.program_tools.specs.declared.fault.ProgramToolFault.TheVariants.{Resource}
+use Rattle.program_tools.specs.declared.program_tool_fault.ProgramToolFault.TheVariants.{Resource}
 
 module _ (known : KnownFiles) (path : List ℕ) where
   pub unread : (most : ℕ) (fault : ResourceFault) → ReadsAtMost most known path (Err fault)

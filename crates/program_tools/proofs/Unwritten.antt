@@ -3,9 +3,13 @@ use Rattle.std.proofs.Common.{ℕ, List, inl}
 use Rattle.bounded_files.specs.Files.{KnownFiles}
 use Rattle.command_line.specs.declared.declared_shape.DeclaredShape.{DeclaredShape}
 use Rattle.program_tools.specs.Rules.{IsRuleRefusal, IsCompileRefusal}
-use Rattle.program_tools.specs.declared.fault.ProgramToolFault.{ProgramToolFault}
-use Rattle.program_tools.specs.declared.fault.ProgramToolFault.TheVariants.{Resource, Arrays, Text}
-use Rattle.program_tools.specs.declared.fault.ProgramToolFault.TheVariants.{Rule, Bytes, Program}
+use Rattle.program_tools.specs.declared.program_tool_fault.ProgramToolFault.{ProgramToolFault}
+use Rattle.program_tools.specs.declared.program_tool_fault.ProgramToolFault.TheVariants.{Resource}
+use Rattle.program_tools.specs.declared.program_tool_fault.ProgramToolFault.TheVariants.{Arrays}
+use Rattle.program_tools.specs.declared.program_tool_fault.ProgramToolFault.TheVariants.{Text}
+use Rattle.program_tools.specs.declared.program_tool_fault.ProgramToolFault.TheVariants.{Rule}
+use Rattle.program_tools.specs.declared.program_tool_fault.ProgramToolFault.TheVariants.{Bytes}
+use Rattle.program_tools.specs.declared.program_tool_fault.ProgramToolFault.TheVariants.{Program}
 
 module _ (known : KnownFiles) (path : List ℕ) (options : DeclaredShape) where
   pub no_program : (fault : ProgramToolFault) → IsRuleRefusal known path options fault

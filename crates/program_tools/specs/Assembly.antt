@@ -9,8 +9,10 @@ use Rattle.bpf_text.specs.Assembly.{Assembles, at_line, IsAsmFault}
 use Rattle.bpf_text.specs.Listing.{Lists, IsFirstFault}
 use Rattle.bounded_files.specs.Files.{KnownFiles, most_bytes, within, OfFileWithin}
 use Rattle.program_tools.specs.Resources.{IsNoFile}
-use Rattle.program_tools.specs.declared.fault.ProgramToolFault.{ProgramToolFault}
-use Rattle.program_tools.specs.declared.fault.ProgramToolFault.TheVariants.{Resource, Text, Bytes}
+use Rattle.program_tools.specs.declared.program_tool_fault.ProgramToolFault.{ProgramToolFault}
+use Rattle.program_tools.specs.declared.program_tool_fault.ProgramToolFault.TheVariants.{Resource}
+use Rattle.program_tools.specs.declared.program_tool_fault.ProgramToolFault.TheVariants.{Text}
+use Rattle.program_tools.specs.declared.program_tool_fault.ProgramToolFault.TheVariants.{Bytes}
 
 -- ---- asm
 

@@ -1,9 +1,9 @@
 -- Files that can't be read.
 use Rattle.std.specs.Prelude.{ℕ, List, None}
 use Rattle.bounded_files.specs.Files.{KnownFiles, Gives}
-use Rattle.bounded_files.specs.declared.fault.ResourceFault.TheVariants.{File, Memory}
-use Rattle.program_tools.specs.declared.fault.ProgramToolFault.{ProgramToolFault}
-use Rattle.program_tools.specs.declared.fault.ProgramToolFault.TheVariants.{Resource}
+use Rattle.bounded_files.specs.declared.resource_fault.ResourceFault.TheVariants.{File, Memory}
+use Rattle.program_tools.specs.declared.program_tool_fault.ProgramToolFault.{ProgramToolFault}
+use Rattle.program_tools.specs.declared.program_tool_fault.ProgramToolFault.TheVariants.{Resource}
 
 -- the file can't be read; running out of memory is always allowed
 abbrev pub IsNoFile : KnownFiles → List ℕ → ProgramToolFault → Type 0

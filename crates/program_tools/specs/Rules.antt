@@ -6,8 +6,9 @@ use Rattle.cells.specs.Arrays.{AppShape}
 use Rattle.acceptance.specs.Rule.{IsProgramOfRule, RefusesRule}
 use Rattle.bounded_files.specs.Files.{KnownFiles, most_bytes, within, OfFileWithin}
 use Rattle.command_line.specs.declared.declared_shape.DeclaredShape.{DeclaredShape}
-use Rattle.program_tools.specs.declared.fault.ProgramToolFault.{ProgramToolFault}
-use Rattle.program_tools.specs.declared.fault.ProgramToolFault.TheVariants.{Resource, Rule}
+use Rattle.program_tools.specs.declared.program_tool_fault.ProgramToolFault.{ProgramToolFault}
+use Rattle.program_tools.specs.declared.program_tool_fault.ProgramToolFault.TheVariants.{Resource}
+use Rattle.program_tools.specs.declared.program_tool_fault.ProgramToolFault.TheVariants.{Rule}
 use Rattle.program_tools.specs.Programs.{IsShapeFor, IsRefusedUnder}
 use Rattle.program_tools.specs.Resources.{IsNoFile}
 

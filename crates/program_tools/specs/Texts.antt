@@ -4,8 +4,8 @@ use Rattle.bounded_files.specs.Texts.{resource_text}
 use Rattle.cells.specs.Texts.{cells_fault_text}
 use Rattle.bpf_text.specs.Faults.{asm_fault_text, list_fault_text}
 use Rattle.acceptance.specs.Texts.{program_fault_text, rule_refusal_text}
-use Rattle.program_tools.specs.declared.fault.ProgramToolFault.{ProgramToolFault}
-use Rattle.program_tools.specs.declared.fault.ProgramToolFault.TheVariants as tool
+use Rattle.program_tools.specs.declared.program_tool_fault.ProgramToolFault.{ProgramToolFault}
+use Rattle.program_tools.specs.declared.program_tool_fault.ProgramToolFault.TheVariants as tool
 
 abbrev pub fault_text : ProgramToolFault → List ℕ
 fault_text (tool.Resource fault) = resource_text fault

@@ -4,7 +4,7 @@ ghost use Rattle.std.specs.Prelude.{IfOk, IfErr};
 ghost use Rattle.program_tools.specs.Assembly.{IsAssembled, IsAssembledFrom, IsAssemblyFault};
 ghost use Rattle.program_tools.specs.Assembly.{IsAssemblyRefusal, IsTextRefusal};
 
-use crate::fault::ProgramToolFault;
+use crate::program_tool_fault::ProgramToolFault;
 use bounded_files::{Disk, MOST_BYTES, read_within, write_file};
 use bpf_text::{AsmFault, AsmFaultKind, assemble};
 use std::alloc::Global;

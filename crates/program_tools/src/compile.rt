@@ -4,8 +4,8 @@ ghost use Rattle.std.specs.Prelude.{IfOk, IfErr};
 ghost use Rattle.program_tools.specs.Rules.{HasCompiled, IsCompileRefusal};
 ghost use Rattle.program_tools.specs.Rules.{IsRuleProgramFor, IsRuleRefusal};
 
-use crate::fault::ProgramToolFault;
 use crate::program::declared_shape;
+use crate::program_tool_fault::ProgramToolFault;
 use acceptance::rule_program;
 use bounded_files::{Disk, MOST_BYTES, read_within, write_file};
 use bpf_verify::Verified;

@@ -9,16 +9,16 @@
 
 mod asm;
 mod compile;
-mod fault;
 mod list;
 mod program;
+mod program_tool_fault;
 mod run;
 mod verify;
 
 pub use asm::assemble_file;
 pub use compile::compile_file;
-pub use fault::ProgramToolFault;
 pub use list::list_file;
 pub use program::{declared_shape, program_of_file, read_program};
+pub use program_tool_fault::ProgramToolFault;
 pub use run::{run_file, shared_attributes};
 pub use verify::verify_file;

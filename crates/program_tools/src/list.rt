@@ -4,7 +4,7 @@ ghost use Rattle.std.specs.Prelude.{IfOk, IfErr};
 ghost use Rattle.std.specs.String.{string_bytes};
 ghost use Rattle.program_tools.specs.Assembly.{IsListedFrom, IsListingRefusal};
 
-use crate::fault::ProgramToolFault;
+use crate::program_tool_fault::ProgramToolFault;
 use bounded_files::{Disk, MOST_BYTES, ResourceFault, read_within};
 use bpf_text::{ListFault, listing};
 use std::alloc::Global;

@@ -5,7 +5,7 @@ ghost use Rattle.bounded_files.specs.Files.{Gives};
 ghost use Rattle.program_tools.specs.Programs.{IsProgramFor, IsProgramRefusal};
 ghost use Rattle.program_tools.specs.Programs.{IsShapeFor, IsShapeRefusal, IsUnreadProgram};
 
-use crate::fault::ProgramToolFault;
+use crate::program_tool_fault::ProgramToolFault;
 use acceptance::{ProgramFault, accept};
 use bounded_files::Disk;
 use bpf_verify::Verified;

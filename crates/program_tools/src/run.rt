@@ -5,8 +5,8 @@ ghost use Rattle.std.specs.Arc.{arc_value};
 ghost use Rattle.command_line.specs.Apps.{app_attributes};
 ghost use Rattle.program_tools.specs.Programs.{HasChosen, IsRunRefusal, RunsTo};
 
-use crate::fault::ProgramToolFault;
 use crate::program::program_of_file;
+use crate::program_tool_fault::ProgramToolFault;
 use attrs::{Attrs, Bucket};
 use bounded_files::{Disk, ResourceFault};
 use bpf_machine::Run;

@@ -3,8 +3,8 @@
 ghost use Rattle.std.specs.Prelude.{IfOk, IfErr};
 ghost use Rattle.program_tools.specs.Programs.{HasSlots, IsProgramRefusal};
 
-use crate::fault::ProgramToolFault;
 use crate::program::program_of_file;
+use crate::program_tool_fault::ProgramToolFault;
 use bounded_files::Disk;
 use command_line::DeclaredShape;
 use std::alloc::Global;

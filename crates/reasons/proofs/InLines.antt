@@ -29,7 +29,8 @@ data ArePlainLines : List (List ℕ) → Type 0 where
 
 -- ---- the reported lines
 
-when_is_plain : (steps : List Step) (report : List ℕ) → IsPlain report → IsPlain (when_line steps report)
+when_is_plain : (steps : List Step) (report : List ℕ) → IsPlain report
+    → IsPlain (when_line steps report)
 when_is_plain steps report plain =
     joined (joined (joined (known (codes "  line ") refl) (number (first_test_line steps)))
     (known (codes ": ") refl)) plain

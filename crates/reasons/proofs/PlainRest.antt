@@ -6,7 +6,7 @@ use Rattle.rule_lang.specs.Lexed.{Placed}
 use Rattle.rule_lang.specs.Parts.{OrFault, ◌>>?◌}
 use Rattle.rule_lang.specs.Phrases.{Phrase, Ends, Needs, Maybe, behind, takes}
 use Rattle.rule_lang.specs.Tests as tests
-use Rattle.rule_lang.specs.declared.fault.RuleFault.{RuleFault}
+use Rattle.rule_lang.specs.declared.rule_fault.RuleFault.{RuleFault}
 use Rattle.reasons.proofs.PlainTokens.{ArePlainTokens, next_token}
 
 -- the value has this property, unless it is a fault
@@ -67,7 +67,7 @@ mutual
       → ArePlainTokens rest
   fact_leaves (g.denied is f) plain = fact_leaves f (one_less plain)
   fact_leaves (g.enclosed is c closes) plain = one_less (cond_leaves c (one_less plain))
-  fact_leaves (g.asked t) plain = test_leaves t plain
+  fact_leaves (g.leaf t) plain = test_leaves t plain
 
   pub term_leaves : {ts rest : List Placed} → g.IsTerm ts rest → ArePlainTokens ts
       → ArePlainTokens rest

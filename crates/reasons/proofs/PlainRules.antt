@@ -134,7 +134,7 @@ module _ (s : AppShape) where
         (next_step {x = step.Not} tt no_step)))) no_more
     fact_is_plain depth (g.enclosed {p = p} is c closes) plain =
         if_says (nat_lt depth 32) (cond_is_plain (depth + 1) c (one_less plain)) no_more
-    fact_is_plain depth (g.asked {p = p} t) plain =
+    fact_is_plain depth (g.leaf {p = p} t) plain =
         then_says (says.test_says s t) _ (test_is_plain t plain)
         (λ x more. said (Leaf p.line x) (one_plain x p.line more))
 

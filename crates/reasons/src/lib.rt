@@ -10,7 +10,7 @@
 // appears. If that part turns out not to count, its text is dropped, and what its takes added is
 // undone. For this a part keeps the cells that it took from, with their previous values.
 //
-// Laws of the definitions (`law.rt`): each reported truth is that of its test; a `when` is one
+// Laws of the definitions (`laws.rt`): each reported truth is that of its test; a `when` is one
 // line; the rule chooses by the last line; different texts of clients look different in quotes. No
 // line has a control: numbers and words have none, a rule's own texts are printable ASCII, and a
 // client's texts are quoted.
@@ -18,15 +18,15 @@
 mod condition;
 mod counters;
 mod found;
-mod law;
-mod line;
+mod laws;
 mod part;
 mod quoted;
+mod rule_lines;
 mod rule_report;
 mod test_text;
 mod words;
 
-pub use law::{
+pub use laws::{
     conditions_are_so, endings_are_meant, last_line_chooses, quotes_end_texts, quotes_tell_apart,
     truths_are_so, whens_are_lines, whens_decide,
 };

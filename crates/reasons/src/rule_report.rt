@@ -8,8 +8,8 @@ ghost use Rattle.rule_lang.specs.Meaning.{behaviour};
 
 use crate::condition::read_condition;
 use crate::counters::{add_one, cell_of};
-use crate::law::{endings_are_meant, whens_decide};
-use crate::line::{push_otherwise, push_when};
+use crate::laws::{endings_are_meant, whens_decide};
+use crate::rule_lines::{push_otherwise, push_when};
 use attrs::Attrs;
 use cells::{ArrayName, PlainPass, Shape};
 use rule_lang::{Rule, RuleCondition, Statement, array_named};

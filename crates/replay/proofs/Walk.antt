@@ -6,8 +6,8 @@ use Rattle.cells.specs.declared.array.CellArray.{CellArray}
 use Rattle.bounded_files.specs.Files.{KnownFiles}
 use Rattle.world.specs.declared.event.Event.{Event}
 use Rattle.replay.specs.LineEvents.{IsEventOf, AreEventsOf, RefusesLine, RefusesLines, this, later}
-use Rattle.replay.specs.declared.fault.ReplayFault.{ReplayFault}
-use Rattle.replay.specs.declared.line.EventLine.{EventLine}
+use Rattle.replay.specs.declared.replay_fault.ReplayFault.{ReplayFault}
+use Rattle.replay.specs.declared.script_line.EventLine.{EventLine}
 
 module _ (known : KnownFiles) where
   -- the events of the lines that are left, after those so far, are the events of all lines
@@ -27,7 +27,8 @@ module _ (known : KnownFiles) where
   left : (lines : List EventLine) (i : ℕ) (requested : EventLine) → i < length lines
       → requested ≡ get_or lines i requested → drop i lines ≡ requested ∷ drop (i + 1) lines
   left lines i requested within found =
-      drop_more lines i requested within ∙ ap (λ (l : EventLine). l ∷ drop (i + 1) lines) (sym found)
+      drop_more lines i requested within ∙ ap (λ (l : EventLine). l ∷ drop (i + 1) lines)
+      (sym found)
 
   pub goes_on : (lines : List EventLine) (i : ℕ) (requested : EventLine)
       (old between new : List CellArray) (done longer : List Event) (e : Event)
@@ -49,8 +50,10 @@ module _ (known : KnownFiles) where
       let here = rw (drop_all i lines beyond) at so_far in
       rw (append-nil events) at (here.asks [] new refl)
 
-  pub fails : (lines : List EventLine) (i : ℕ) (requested : EventLine) (old between : List CellArray)
-      (done : List Event) (fault : ReplayFault) → i < length lines → requested ≡ get_or lines i requested
+  pub fails : (lines : List EventLine) (i : ℕ) (requested : EventLine)
+      (old between : List CellArray)
+      (done : List Event) (fault : ReplayFault) → i < length lines → requested
+      ≡ get_or lines i requested
       → Leads lines (drop i lines) old between done → RefusesLine known requested between fault
       → RefusesLines known lines old fault
   fails lines i requested old between done fault within found so_far refused =

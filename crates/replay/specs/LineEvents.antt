@@ -5,15 +5,15 @@ use Rattle.std.specs.Arc.{arc_value}
 use Rattle.attrs.specs.Attributes as attrs
 use Rattle.cells.specs.declared.array.CellArray.{CellArray}
 use Rattle.bounded_files.specs.Files.{KnownFiles}
-use Rattle.bounded_files.specs.declared.fault.ResourceFault.TheVariants.{Memory}
+use Rattle.bounded_files.specs.declared.resource_fault.ResourceFault.TheVariants.{Memory}
 use Rattle.load.specs.Loaded.{IsLoadedFrom}
 use Rattle.world.specs.declared.event.Event.{Event}
 use Rattle.world.specs.declared.event.Event.TheVariants as event
 use Rattle.replay.specs.Loaded.{GivesNoRuleset}
-use Rattle.replay.specs.declared.fault.ReplayFault.{ReplayFault}
-use Rattle.replay.specs.declared.fault.ReplayFault.TheVariants.{Resource}
-use Rattle.replay.specs.declared.line.EventLine.{EventLine}
-use Rattle.replay.specs.declared.line.EventLine.TheVariants as line
+use Rattle.replay.specs.declared.replay_fault.ReplayFault.{ReplayFault}
+use Rattle.replay.specs.declared.replay_fault.ReplayFault.TheVariants.{Resource}
+use Rattle.replay.specs.declared.script_line.EventLine.{EventLine}
+use Rattle.replay.specs.declared.script_line.EventLine.TheVariants as line
 
 module _ (known : KnownFiles) where
   -- the event that a line requests in a world, a swap with the ruleset of its manifest

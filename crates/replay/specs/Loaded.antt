@@ -3,10 +3,10 @@ use Rattle.std.specs.Prelude.{ℕ, List, All}
 use Rattle.std.specs.Arc.{arc_value}
 use Rattle.cells.specs.declared.array.CellArray.{CellArray}
 use Rattle.bounded_files.specs.Files.{KnownFiles}
-use Rattle.bounded_files.specs.declared.fault.ResourceFault.TheVariants.{Memory}
+use Rattle.bounded_files.specs.declared.resource_fault.ResourceFault.TheVariants.{Memory}
 use Rattle.load.specs.Loaded.{IsLoadedFrom, RefusesPath}
-use Rattle.replay.specs.declared.fault.ReplayFault.{ReplayFault}
-use Rattle.replay.specs.declared.fault.ReplayFault.TheVariants.{Resource, Manifest}
+use Rattle.replay.specs.declared.replay_fault.ReplayFault.{ReplayFault}
+use Rattle.replay.specs.declared.replay_fault.ReplayFault.TheVariants.{Resource, Manifest}
 use Rattle.replay.specs.declared.shared.SharedLoad.{SharedLoad}
 
 -- running out of memory is always allowed, here and below

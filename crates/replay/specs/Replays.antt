@@ -2,7 +2,7 @@
 use Rattle.std.specs.Prelude.{ℕ, List, [], Some, None}
 use Rattle.cells.specs.declared.array.CellArray.{CellArray}
 use Rattle.bounded_files.specs.Files.{KnownFiles, Gives, most_bytes, within}
-use Rattle.bounded_files.specs.declared.fault.ResourceFault.TheVariants.{File, Memory}
+use Rattle.bounded_files.specs.declared.resource_fault.ResourceFault.TheVariants.{File, Memory}
 use Rattle.load.specs.Loaded.{IsLoadedFrom}
 use Rattle.ruleset.specs.Rules.{Rules}
 use Rattle.world.specs.World.{opening_world}
@@ -11,10 +11,10 @@ use Rattle.replay.specs.LineEvents.{AreEventsOf, RefusesLines}
 use Rattle.replay.specs.Loaded.{GivesNoRuleset}
 use Rattle.replay.specs.Played.{AreRepliesTo}
 use Rattle.replay.specs.Script.{IsScript, IsScriptFault}
-use Rattle.replay.specs.declared.fault.ReplayFault.{ReplayFault}
-use Rattle.replay.specs.declared.fault.ReplayFault.TheVariants.{Resource, Script}
-use Rattle.replay.specs.declared.fault.ScriptFault.TheVariants.{Malformed}
-use Rattle.replay.specs.declared.line.EventLine.{EventLine}
+use Rattle.replay.specs.declared.replay_fault.ReplayFault.{ReplayFault}
+use Rattle.replay.specs.declared.replay_fault.ReplayFault.TheVariants.{Resource, Script}
+use Rattle.replay.specs.declared.replay_fault.ScriptFault.TheVariants.{Malformed}
+use Rattle.replay.specs.declared.script_line.EventLine.{EventLine}
 use Rattle.replay.specs.declared.reply.Reply.{Reply}
 
 -- the lines of the script at a path

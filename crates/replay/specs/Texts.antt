@@ -2,10 +2,10 @@
 use Rattle.std.specs.Prelude.{ℕ, List, ◌++◌, codes, decimal}
 use Rattle.bounded_files.specs.Texts.{resource_text}
 use Rattle.load.specs.Texts.{path_fault_text}
-use Rattle.replay.specs.declared.fault.ReplayFault.{ReplayFault}
-use Rattle.replay.specs.declared.fault.ReplayFault.TheVariants.{Resource, Script, Manifest}
-use Rattle.replay.specs.declared.fault.ScriptFault.{ScriptFault}
-use Rattle.replay.specs.declared.fault.ScriptFault.TheVariants.{Malformed, Memory}
+use Rattle.replay.specs.declared.replay_fault.ReplayFault.{ReplayFault}
+use Rattle.replay.specs.declared.replay_fault.ReplayFault.TheVariants.{Resource, Script, Manifest}
+use Rattle.replay.specs.declared.replay_fault.ScriptFault.{ScriptFault}
+use Rattle.replay.specs.declared.replay_fault.ScriptFault.TheVariants.{Malformed, Memory}
 
 abbrev pub script_fault_text : ScriptFault → List ℕ
 script_fault_text (Malformed number) = codes "B2 Script at line " ++ decimal number

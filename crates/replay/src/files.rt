@@ -6,13 +6,13 @@ ghost use Rattle.world.specs.World.{opening_world};
 ghost use Rattle.replay.specs.Played.{AreRepliesTo};
 ghost use Rattle.replay.specs.Replays.{AreLinesOf, RefusesScript, IsReplay, IsReplayFault};
 
-use crate::event::events_of;
-use crate::fault::{ReplayFault, ScriptFault};
-use crate::line::EventLine;
-use crate::lines::read_script;
+use crate::line_events::events_of;
 use crate::loaded::load_rules;
 use crate::played::play_lines;
+use crate::replay_fault::{ReplayFault, ScriptFault};
 use crate::reply::Reply;
+use crate::script::read_script;
+use crate::script_line::EventLine;
 use bounded_files::{Disk, MOST_BYTES, ResourceFault, read_within};
 use cells::Directory;
 use ruleset::Ruleset;

@@ -35,19 +35,19 @@
 // Files are read through a trait, so that files in memory can replace those of a device; for files
 // in memory the contract says which replies or which refusal they give.
 
-mod event;
-mod fault;
 mod files;
-mod line;
-mod lines;
+mod line_events;
 mod loaded;
 mod number;
 mod played;
+mod replay_fault;
 mod reply;
+mod script;
+mod script_line;
 mod shared;
 
-pub use fault::{ReplayFault, ScriptFault};
 pub use files::replay_files;
-pub use line::EventLine;
-pub use lines::read_script;
+pub use replay_fault::{ReplayFault, ScriptFault};
 pub use reply::Reply;
+pub use script::read_script;
+pub use script_line::EventLine;

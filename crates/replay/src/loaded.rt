@@ -6,7 +6,7 @@ ghost use Rattle.std.specs.Arc.{arc_value};
 ghost use Rattle.load.specs.Loaded.{IsLoadedFrom};
 ghost use Rattle.replay.specs.Loaded.{GivesNoRuleset};
 
-use crate::fault::ReplayFault;
+use crate::replay_fault::ReplayFault;
 use bounded_files::ResourceFault;
 use cells::Directory;
 use load::{Disk, load_path};

@@ -8,8 +8,8 @@ ghost use Rattle.cells.specs.declared.array.CellArray.{CellArray};
 ghost use Rattle.load.specs.Loaded.{IsLoadedFrom};
 ghost use Rattle.replay.specs.Loaded.{AreShared, GivesNoRuleset};
 
-use crate::fault::ReplayFault;
 use crate::loaded::load_rules;
+use crate::replay_fault::ReplayFault;
 use attrs::Text;
 use bounded_files::ResourceFault;
 use cells::Directory;

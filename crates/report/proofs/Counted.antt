@@ -59,11 +59,13 @@ module _ (window : Window) (before : List (List ℕ)) (line : List ℕ) where
       → IsTally limit (all_names window (before ++ line ∷ []) (if_drawn drawn names)) new
   more_course drawn limit names was old new same notes counted =
       more_tally limit (if_drawn drawn names) old new
-      (subst (λ (b : Bool). Notes old new (names_if (if_drawn b names) (event_in_window window line))) same
+      (subst (λ (b : Bool). Notes old new
+      (names_if (if_drawn b names) (event_in_window window line))) same
       notes) counted
 
 pub counts_one : (window : Window) (line : List ℕ) (old new : Report)
-    → AddsLine (event_in line) (event_in_window window line) old new → CountsLines window (line ∷ []) old new
+    → AddsLine (event_in line) (event_in_window window line) old new
+    → CountsLines window (line ∷ []) old new
 counts_one window line old new adds = record {
   behind = λ drawn before counted. record {
     drawn_is = adds.course.drawn ∙ counted.drawn_is;
@@ -78,7 +80,8 @@ counts_one window line old new adds = record {
     kinds = more_tally window before line 256 _ _ _ adds.kinds counted.kinds;
     refusals = more_tally window before line 256 _ _ _ adds.refusals counted.refusals;
     loads = more_tally window before line 256 _ _ _ adds.loads counted.loads;
-    update_checks = more_tally window before line 256 _ _ _ adds.update_checks counted.update_checks;
+    update_checks = more_tally window before line 256 _ _ _ adds.update_checks
+        counted.update_checks;
     offered = more_tally window before line 256 _ _ _ adds.offered counted.offered;
     unoffered = more_tally window before line 256 _ _ _ adds.unoffered counted.unoffered;
     hours = more_tally window before line 4096 _ _ _ adds.hours counted.hours;

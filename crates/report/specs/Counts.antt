@@ -49,7 +49,8 @@ module _ (window : Window) (lines : List (List ℕ)) where
   -- `foreign`. The counts for a chart are made only if one is drawn.
   pub record Counts (drawn : Bool) (r : Report) : Type 0 where
     pub drawn_is : r.course.drawn ≡ drawn
-    pub lines_counted : r.lines ≡ capped (count_by (λ line. is_some (event_in_window window line)) lines)
+    pub lines_counted : r.lines
+        ≡ capped (count_by (λ line. is_some (event_in_window window line)) lines)
     pub foreign : r.foreign ≡ capped (count_by (λ line. is_none (event_in line)) lines)
     pub lost : r.lost ≡ total lost_in
     pub left_out : r.left_out ≡ total left_out_in
@@ -93,7 +94,8 @@ pub record AddsLine (event line : Option Data) (old new : Report) : Type 0 where
   pub kinds : Notes old.kinds new.kinds (names_if (line_names of_line.Kind) line)
   pub refusals : Notes old.refusals new.refusals (names_if (line_names of_line.Refusal) line)
   pub loads : Notes old.loads new.loads (names_if (line_names of_line.Load) line)
-  pub update_checks : Notes old.update_checks new.update_checks (names_if (app_names of_app.UpdateCheck) line)
+  pub update_checks : Notes old.update_checks new.update_checks
+      (names_if (app_names of_app.UpdateCheck) line)
   pub offered : Notes old.offered new.offered (names_if (app_names of_app.Offered) line)
   pub unoffered : Notes old.unoffered new.unoffered (names_if (app_names of_app.Unoffered) line)
   pub hours : Notes old.hours new.hours (names_if (app_names of_app.Hour) line)

@@ -27,7 +27,8 @@ version_names line = three_names of_app.UpdateCheckBy of_app.Offered of_event.Fa
 -- the same with this moment
 abbrev pub names_in_moment : Data → Option ℕ → List RowName
 names_in_moment line (Some moment) =
-    three_names (of_app.UpdateCheckAt moment) (of_app.OfferedAt moment) (of_event.FailedAt moment) line
+    three_names (of_app.UpdateCheckAt moment) (of_app.OfferedAt moment)
+    (of_event.FailedAt moment) line
 names_in_moment line None = []
 
 -- the minute of a line since 1970, or `None` if its time isn't one that a server writes

@@ -8,12 +8,14 @@ use Rattle.std.specs.Str.{byte}
 use Rattle.printing.specs.Printed.{printed}
 use Rattle.serde_json.specs.Data.{Data, Items, no_items, item}
 use Rattle.report.specs.Tallies.{RowName}
-use Rattle.report.specs.LogEvents.{text_in, number_in, flag_in, apps_in, is_kind, is_number, is_flag}
+use Rattle.report.specs.LogEvents.{text_in, number_in, flag_in, apps_in, is_kind, is_number}
+use Rattle.report.specs.LogEvents.{is_flag}
 use Rattle.report.specs.declared.question.AppQuestion.{AppQuestion}
 use Rattle.report.specs.declared.question.AppQuestion.TheVariants.{UpdateCheck, Offered, Unoffered}
 use Rattle.report.specs.declared.question.AppQuestion.TheVariants.{Hour, Bucket, Unknown}
 use Rattle.report.specs.declared.question.AppQuestion.TheVariants.{WithoutCohort, WithoutId}
-use Rattle.report.specs.declared.question.AppQuestion.TheVariants.{CutEvent, UpdateCheckBy, UpdateCheckAt}
+use Rattle.report.specs.declared.question.AppQuestion.TheVariants.{CutEvent, UpdateCheckBy}
+use Rattle.report.specs.declared.question.AppQuestion.TheVariants.{UpdateCheckAt}
 use Rattle.report.specs.declared.question.AppQuestion.TheVariants.{OfferedAt}
 use Rattle.report.specs.declared.question.LineQuestion.{LineQuestion}
 use Rattle.report.specs.declared.question.LineQuestion.TheVariants.{Kind, Refusal, Load}
@@ -101,12 +103,14 @@ bucket_name line app appid =
     then option_map (λ n. two appid (decimal n)) (number_in (codes "bucket") app) else None
 
 abbrev pub update_check_by : Data → Data → List ℕ → Option RowName
-update_check_by line app appid = if_holds (has_update_check line app) (two appid (version_or_mark app))
+update_check_by line app appid =
+    if_holds (has_update_check line app) (two appid (version_or_mark app))
 
 -- with this minute or hour
 abbrev pub update_check_at : ℕ → Data → Data → List ℕ → Option RowName
 update_check_at moment line app appid =
-    if_holds (has_update_check line app) (course_name (codes "asks") appid (version_or_mark app) moment)
+    if_holds (has_update_check line app)
+    (course_name (codes "asks") appid (version_or_mark app) moment)
 
 abbrev pub offer_at : ℕ → List ℕ → List ℕ → RowName
 offer_at moment appid release = course_name (codes "offers") appid release moment

@@ -61,7 +61,8 @@ abbrev pub buckets_text : Report → List ℕ
 buckets_text r =
     if length r.buckets.rows.entries == 0 then []
     else codes "buckets\n"
-    ++ bucket_rows r.buckets.rows.entries r.update_checks.rows.entries ++ others_text r.buckets.others
+    ++ bucket_rows r.buckets.rows.entries r.update_checks.rows.entries
+    ++ others_text r.buckets.others
 
 -- ---- results of installs
 

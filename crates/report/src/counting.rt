@@ -113,7 +113,8 @@ impl Report {
         line: &[u8],
     ) -> Result<(), AllocError>
         ensures { OnOk result
-            (specs.AddsLine (event_in line.now) (event_in_window window.now line.now) self.old self.new) }
+            (specs.AddsLine (event_in line.now) (event_in_window window.now line.now) self.old
+            self.new) }
     {
         match event_in(alloc, line)? {
             Some(event) => self.add_event(alloc, window, &event),
@@ -168,7 +169,12 @@ impl Report {
         note_line(alloc, &mut self.kinds, LineQuestion::Kind, event)?;
         note_line(alloc, &mut self.refusals, LineQuestion::Refusal, event)?;
         note_line(alloc, &mut self.loads, LineQuestion::Load, event)?;
-        note_apps(alloc, &mut self.update_checks, AppQuestion::UpdateCheck, event)?;
+        note_apps(
+            alloc,
+            &mut self.update_checks,
+            AppQuestion::UpdateCheck,
+            event,
+        )?;
         note_apps(alloc, &mut self.offered, AppQuestion::Offered, event)?;
         note_apps(alloc, &mut self.unoffered, AppQuestion::Unoffered, event)?;
         note_apps(alloc, &mut self.hours, AppQuestion::Hour, event)?;

@@ -8,7 +8,7 @@ ghost use Rattle.rule_compile.specs.Ranges.{IsBucketInRange};
 ghost use Rattle.rule_compile.specs.Instructions as instructions;
 
 use crate::code::Code;
-use crate::fault::CompileFault;
+use crate::compile_fault::CompileFault;
 use crate::instructions as insn;
 use attrs::Context;
 use bpf_insn::{AtomicSize, Condition, LoadKind, Reg};

@@ -4,7 +4,7 @@ ghost use Rattle.std.specs.Prelude.{◌≡◌, ◌<◌, ◌≤◌, ◌+◌, ◌-
 ghost use Rattle.std.specs.Prelude.{true, false, length, OnOk};
 ghost use Rattle.flow_check.specs.Laid.{is_wide, laid};
 
-use crate::fault::CompileFault;
+use crate::compile_fault::CompileFault;
 use bpf_insn::{Insn, MOST_SLOTS};
 use std::alloc::{AllocError, Global};
 use std::marker::Model;

@@ -7,7 +7,7 @@ ghost use Rattle.rule_compile.specs.Ranges.{IsStepInRange};
 
 use crate::blocks::label_if;
 use crate::code::Code;
-use crate::fault::CompileFault;
+use crate::compile_fault::CompileFault;
 use crate::goals::{Goal, Goals};
 use crate::test::put_test;
 use cells::Shape;

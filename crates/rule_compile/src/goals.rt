@@ -2,7 +2,7 @@
 
 ghost use Rattle.std.specs.Prelude.{◌≡◌, [], ◌∷◌, OnOk, IfErr, IfSome, IfNone};
 
-use crate::fault::CompileFault;
+use crate::compile_fault::CompileFault;
 use std::alloc::Global;
 use std::marker::Model;
 

@@ -23,8 +23,8 @@
 mod blocks;
 mod bytes;
 mod code;
+mod compile_fault;
 mod conditions;
-mod fault;
 mod goals;
 mod instructions;
 mod rule;
@@ -33,5 +33,5 @@ mod test;
 mod texts;
 mod versions;
 
-pub use fault::CompileFault;
+pub use compile_fault::CompileFault;
 pub use rule::compile;

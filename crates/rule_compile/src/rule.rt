@@ -12,7 +12,7 @@ ghost use Rattle.rule_compile.specs.Means.{Means};
 ghost use Rattle.rule_compile.specs.Writing.{CanEncode};
 
 use crate::bytes::program_bytes;
-use crate::fault::CompileFault;
+use crate::compile_fault::CompileFault;
 use crate::statements::emit;
 use bpf_insn::Insn;
 use bpf_verify::{Verified, table_is_enough};

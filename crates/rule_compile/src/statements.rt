@@ -10,8 +10,8 @@ ghost use Rattle.rule_lang.specs.Trees.{IsCondition};
 
 use crate::blocks::put_count;
 use crate::code::Code;
+use crate::compile_fault::CompileFault;
 use crate::conditions::put_step;
-use crate::fault::CompileFault;
 use crate::goals::Goals;
 use crate::instructions as insn;
 use crate::test::{array_number, place_named};

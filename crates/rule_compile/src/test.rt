@@ -8,7 +8,7 @@ ghost use Rattle.rule_lang.specs.Shapes as shapes;
 
 use crate::blocks::{put_bucket, put_field, put_flag, put_take};
 use crate::code::Code;
-use crate::fault::CompileFault;
+use crate::compile_fault::CompileFault;
 use crate::goals::Goal;
 use crate::instructions::turned;
 use crate::texts::put_attribute;

@@ -7,7 +7,7 @@ ghost use Rattle.rule_compile.specs.Blocks as code;
 
 use crate::blocks::put_jump;
 use crate::code::Code;
-use crate::fault::CompileFault;
+use crate::compile_fault::CompileFault;
 use crate::instructions as insn;
 use bpf_insn::{Condition, Reg};
 use bpf_semantics::helpers::ATTR_IS;

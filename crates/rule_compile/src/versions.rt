@@ -5,7 +5,7 @@ ghost use Rattle.rule_compile.specs.Blocks as code;
 
 use crate::blocks::{label_if, put_field, put_jump};
 use crate::code::Code;
-use crate::fault::CompileFault;
+use crate::compile_fault::CompileFault;
 use crate::instructions::turned;
 use bpf_insn::{Condition, LoadKind, Reg};
 

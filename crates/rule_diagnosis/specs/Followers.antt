@@ -6,8 +6,8 @@ use Rattle.cells.specs.Arrays.{AppShape}
 use Rattle.rule_diagnosis.specs.declared.follower.Follower.{Follower}
 use Rattle.rule_diagnosis.specs.declared.follower.Follower.TheVariants as follower
 use Rattle.rule_diagnosis.specs.Places.{line_at}
-use Rattle.rule_lang.specs.declared.fault.RuleFault.TheVariants.{At}
-use Rattle.rule_lang.specs.declared.fault.RuleFaultKind.TheVariants.{Shape}
+use Rattle.rule_lang.specs.declared.rule_fault.RuleFault.TheVariants.{At}
+use Rattle.rule_lang.specs.declared.rule_fault.RuleFaultKind.TheVariants.{Shape}
 use Rattle.rule_lang.specs.declared.rule.Statement.{Statement}
 use Rattle.rule_lang.specs.Parts.{OrFault}
 use Rattle.rule_lang.specs.Tokens.{Text}

@@ -12,9 +12,9 @@ use Rattle.rule_diagnosis.specs.Lexemes.{spread, lexeme_start}
 use Rattle.rule_diagnosis.specs.Places.{line_text, line_at, pad_at}
 use Rattle.rule_diagnosis.specs.Sentences.{lexeme_text, token_sentence, name_sentence}
 use Rattle.rule_diagnosis.specs.Sentences.{range_sentence, test_hint}
-use Rattle.rule_lang.specs.declared.fault.RuleFault.TheVariants.{At}
-use Rattle.rule_lang.specs.declared.fault.RuleFaultKind.{RuleFaultKind}
-use Rattle.rule_lang.specs.declared.fault.RuleFaultKind.TheVariants as kind
+use Rattle.rule_lang.specs.declared.rule_fault.RuleFault.TheVariants.{At}
+use Rattle.rule_lang.specs.declared.rule_fault.RuleFaultKind.{RuleFaultKind}
+use Rattle.rule_lang.specs.declared.rule_fault.RuleFaultKind.TheVariants as kind
 use Rattle.rule_lang.specs.Tokens.{Text}
 use Rattle.rule_lang.specs.Verdicts.{IsVerdict}
 
@@ -108,4 +108,5 @@ pub record HasRulePlace (s : AppShape) (text : Text) (line : ℕ) (k : RuleFault
   pub lines : AreLines s text k row message
 
 abbrev pub IsRuleMessage : AppShape → Text → (line : ℕ) → RuleFaultKind → (message : Text) → Type 0
-IsRuleMessage s text line k message = IsRuleTooLong text k message ⊎ HasRulePlace s text line k message
+IsRuleMessage s text line k message = IsRuleTooLong text k message
+    ⊎ HasRulePlace s text line k message

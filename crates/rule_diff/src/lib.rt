@@ -16,7 +16,7 @@ mod classes;
 mod condition;
 mod contents;
 mod diff;
-mod law;
+mod laws;
 mod merging;
 mod plan_run;
 mod possible;
@@ -26,5 +26,5 @@ mod truth;
 
 pub use contents::{Contents, contents_of};
 pub use diff::{Diff, MOST_STEPS, compare};
-pub use law::runs_are_in_states;
+pub use laws::runs_are_in_states;
 pub use row::{Row, SegmentSet};

@@ -6,8 +6,8 @@ use Rattle.std.proofs.lemmas.Bool.Decides.{leb_tells}
 use Rattle.cells.specs.Arrays.{AppShape}
 use Rattle.rule_lang.specs.declared.draft.Mode.{Mode}
 use Rattle.rule_lang.specs.declared.draft.Mode.TheVariants as mode
-use Rattle.rule_lang.specs.declared.fault.RuleFault.TheVariants.{At}
-use Rattle.rule_lang.specs.declared.fault.RuleFaultKind.TheVariants.{Range}
+use Rattle.rule_lang.specs.declared.rule_fault.RuleFault.TheVariants.{At}
+use Rattle.rule_lang.specs.declared.rule_fault.RuleFaultKind.TheVariants.{Range}
 use Rattle.rule_lang.specs.declared.keyword.Keyword.TheVariants as keyword
 use Rattle.rule_lang.specs.declared.phrase.Want.{Want}
 use Rattle.rule_lang.specs.declared.phrase.Want.TheVariants as want
@@ -30,7 +30,7 @@ use Rattle.rule_lang.specs.Tests.{row, rest_phrase, kind_of}
 use Rattle.rule_lang.specs.Tokens.{Text, Token}
 use Rattle.rule_lang.specs.Verdicts.{HasVerdict, too_long, no_token}
 use Rattle.rule_lang.proofs.Keeping.{same_ok, no_ok, bound, fewer, behind_rest}
-use Rattle.rule_lang.proofs.Laws.{spelled}
+use Rattle.rule_lang.proofs.Verdicts.{spelled}
 use Rattle.rule_lang.proofs.Machine.{tail}
 use Rattle.rule_lang.proofs.ReadOn.{done_is}
 use Rattle.rule_lang.proofs.Takes.{one_taken}

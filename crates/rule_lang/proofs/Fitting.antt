@@ -6,7 +6,7 @@ use Rattle.std.specs.List.{list_all}
 use Rattle.std.proofs.lemmas.List.Folds.{list_all-append}
 use Rattle.cells.specs.Arrays.{AppShape}
 use Rattle.rule_lang.specs.declared.condition.Step.TheVariants as step
-use Rattle.rule_lang.specs.declared.fault.RuleFault.{RuleFault}
+use Rattle.rule_lang.specs.declared.rule_fault.RuleFault.{RuleFault}
 use Rattle.rule_lang.specs.declared.rule.Statement.{Statement}
 use Rattle.rule_lang.specs.declared.rule.Statement.TheVariants.{When}
 use Rattle.rule_lang.specs.declared.test.Test.{Test}

@@ -2,8 +2,8 @@
 use Rattle.std.proofs.Common.{◌≡◌, ℕ, suc, zero, ◌+◌, ◌-◌, ◌≤◌, List, [], ◌∷◌, ◌++◌, length, drop}
 use Rattle.std.proofs.Common.{Option, Some, None, Ok, Err, refl, sym, ap, ◌∙◌, arith}
 use Rattle.std.proofs.Common.{append_assoc, length-drop}
-use Rattle.rule_lang.specs.declared.fault.RuleFault.TheVariants as fault
-use Rattle.rule_lang.specs.declared.fault.RuleFaultKind.TheVariants as kind
+use Rattle.rule_lang.specs.declared.rule_fault.RuleFault.TheVariants as fault
+use Rattle.rule_lang.specs.declared.rule_fault.RuleFaultKind.TheVariants as kind
 use Rattle.rule_lang.specs.declared.token.Piece.TheVariants.{Blank, LineEnd, Token}
 use Rattle.rule_lang.specs.declared.token.Token.TheVariants as token
 use Rattle.rule_lang.specs.Lexed.{Placed, Lexed, on, ahead, after_piece, lexed}

@@ -6,7 +6,7 @@ pub mod Keeping
 pub mod OperatorsKept
 pub mod ReadOn
 pub mod Parsing
-pub mod Laws
+pub mod Verdicts
 pub mod FittingParts
 pub mod Fitting
 pub mod PhraseFitting

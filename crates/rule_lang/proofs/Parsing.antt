@@ -1,12 +1,12 @@
 -- The verdict on a text, from its tokens.
 use Rattle.std.proofs.Common.{◌≡◌, ◌≤◌, inl, inr, List, length, Result, Ok, Err, IfOk, IfErr}
 use Rattle.cells.specs.Arrays.{AppShape}
-use Rattle.rule_lang.specs.declared.fault.RuleFault.{RuleFault}
+use Rattle.rule_lang.specs.declared.rule_fault.RuleFault.{RuleFault}
 use Rattle.rule_lang.specs.Lexed.{Placed, tokens_in, IsTokenFault}
 use Rattle.rule_lang.specs.Reader.Results.{IsReadFault}
 use Rattle.rule_lang.specs.Tokens.{Text}
 use Rattle.rule_lang.specs.Verdicts.{IsRuleFault, no_token}
-use Rattle.rule_lang.proofs.Laws.{spelled}
+use Rattle.rule_lang.proofs.Verdicts.{spelled}
 
 pub token_fault : (s : AppShape) (text : Text) (e : RuleFault) → length text ≤ 65536
     → IsTokenFault text e → IsRuleFault s text e

@@ -5,8 +5,8 @@ use Rattle.std.proofs.Common.{None, Ok, Err, true, false, refl, sym, ap, ◌∙�
 use Rattle.cells.specs.Arrays.{AppShape}
 use Rattle.rule_lang.specs.declared.draft.Mode.{Mode}
 use Rattle.rule_lang.specs.declared.draft.Mode.TheVariants as mode
-use Rattle.rule_lang.specs.declared.fault.RuleFault.{RuleFault}
-use Rattle.rule_lang.specs.declared.fault.RuleFault.TheVariants.{Memory}
+use Rattle.rule_lang.specs.declared.rule_fault.RuleFault.{RuleFault}
+use Rattle.rule_lang.specs.declared.rule_fault.RuleFault.TheVariants.{Memory}
 use Rattle.rule_lang.specs.declared.rule.Statement.{Statement}
 use Rattle.rule_lang.specs.declared.lexer.Placed as the_placed
 use Rattle.rule_lang.specs.Lexed.{Placed}

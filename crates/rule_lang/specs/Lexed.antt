@@ -1,9 +1,9 @@
 -- The tokens of a whole text, each with its line; or the line of the first place without a token.
 use Rattle.std.specs.Prelude.{◌≡◌, ◌⊎◌, ℕ, zero, suc, ◌+◌, ◌-◌, List, [], ◌∷◌, ◌++◌, Option, Some}
 use Rattle.std.specs.Prelude.{None, Result, Ok, Err}
-use Rattle.rule_lang.specs.declared.fault.RuleFault.{RuleFault}
-use Rattle.rule_lang.specs.declared.fault.RuleFault.TheVariants as fault
-use Rattle.rule_lang.specs.declared.fault.RuleFaultKind.TheVariants as kind
+use Rattle.rule_lang.specs.declared.rule_fault.RuleFault.{RuleFault}
+use Rattle.rule_lang.specs.declared.rule_fault.RuleFault.TheVariants as fault
+use Rattle.rule_lang.specs.declared.rule_fault.RuleFaultKind.TheVariants as kind
 use Rattle.rule_lang.specs.declared.lexer.Placed as the_placed
 use Rattle.rule_lang.specs.declared.token.Piece.TheVariants.{Blank, LineEnd, Token}
 use Rattle.rule_lang.specs.declared.token.Token.TheVariants as token

@@ -10,7 +10,7 @@ use Rattle.rule_lang.specs.declared.token.Piece.TheVariants as piece
 use Rattle.rule_lang.specs.declared.token.Token as the_token
 use Rattle.rule_lang.specs.declared.token.Token.TheVariants as token
 use Rattle.cells.specs.declared.array.CellArray.{CellArray}
-use Rattle.rule_lang.specs.declared.fault.RuleFault.{RuleFault}
+use Rattle.rule_lang.specs.declared.rule_fault.RuleFault.{RuleFault}
 use Rattle.rule_lang.specs.declared.lexer.Placed as the_placed
 use Rattle.rule_lang.specs.Lexed.{Placed, on}
 use Rattle.rule_lang.specs.Tokens.{Text, Token, Piece}

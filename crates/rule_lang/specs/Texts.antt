@@ -1,9 +1,9 @@
 -- The printed texts of a rule's faults.
 use Rattle.std.specs.Prelude.{ℕ, List, ◌++◌, codes, decimal}
-use Rattle.rule_lang.specs.declared.fault.RuleFault.{RuleFault}
-use Rattle.rule_lang.specs.declared.fault.RuleFault.TheVariants as rule
-use Rattle.rule_lang.specs.declared.fault.RuleFaultKind.{RuleFaultKind}
-use Rattle.rule_lang.specs.declared.fault.RuleFaultKind.TheVariants as kind
+use Rattle.rule_lang.specs.declared.rule_fault.RuleFault.{RuleFault}
+use Rattle.rule_lang.specs.declared.rule_fault.RuleFault.TheVariants as rule
+use Rattle.rule_lang.specs.declared.rule_fault.RuleFaultKind.{RuleFaultKind}
+use Rattle.rule_lang.specs.declared.rule_fault.RuleFaultKind.TheVariants as kind
 
 abbrev pub rule_kind_text : RuleFaultKind → List ℕ
 rule_kind_text kind.Token = codes "L1 Token"

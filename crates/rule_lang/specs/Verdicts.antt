@@ -4,9 +4,9 @@
 -- number out of range (L4).
 use Rattle.std.specs.Prelude.{◌≡◌, ◌⊎◌, ◌<◌, ◌≤◌, List, [], ◌∷◌, ◌++◌, length, Ok, Err}
 use Rattle.cells.specs.Arrays.{AppShape}
-use Rattle.rule_lang.specs.declared.fault.RuleFault.{RuleFault}
-use Rattle.rule_lang.specs.declared.fault.RuleFault.TheVariants.{At, Memory}
-use Rattle.rule_lang.specs.declared.fault.RuleFaultKind.TheVariants.{Range}
+use Rattle.rule_lang.specs.declared.rule_fault.RuleFault.{RuleFault}
+use Rattle.rule_lang.specs.declared.rule_fault.RuleFault.TheVariants.{At, Memory}
+use Rattle.rule_lang.specs.declared.rule_fault.RuleFaultKind.TheVariants.{Range}
 use Rattle.rule_lang.specs.declared.rule.Statement.{Statement}
 use Rattle.rule_lang.specs.Grammar.{IsRule, Begins}
 use Rattle.rule_lang.specs.Lexed.{Placed, tokens_in}

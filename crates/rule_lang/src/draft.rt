@@ -6,10 +6,10 @@ ghost use Rattle.rule_lang.specs.Reader.Reading as reading;
 ghost use Rattle.rule_lang.specs.Trees.{IsCondition};
 
 use crate::condition::{RuleCondition, Step};
-use crate::fault::RuleFault;
 use crate::frame::{Frames, first_frame};
 use crate::pending::Pending;
 use crate::rule::Statement;
+use crate::rule_fault::RuleFault;
 use std::alloc::{AllocError, Global};
 use std::mem;
 
@@ -62,7 +62,8 @@ pub fn note(draft: &mut Draft, fault: RuleFault)
 
 /// Notes a fault, if `holds` is set.
 pub fn note_if(draft: &mut Draft, holds: bool, fault: RuleFault)
-    ensures { draft_as_lists draft.new ≡ reading.with_fault_if holds fault (draft_as_lists draft.old) }
+    ensures { draft_as_lists draft.new ≡ reading.with_fault_if holds fault
+        (draft_as_lists draft.old) }
 {
     if holds {
         note(draft, fault);
@@ -71,7 +72,8 @@ pub fn note_if(draft: &mut Draft, holds: bool, fault: RuleFault)
 
 /// Adds a statement.
 pub fn add(draft: &mut Draft, statement: Statement) -> Result<(), AllocError>
-    ensures { OnOk result (draft_as_lists draft.new ≡ reading.with_statement statement (draft_as_lists
+    ensures { OnOk result
+        (draft_as_lists draft.new ≡ reading.with_statement statement (draft_as_lists
         draft.old)) }
 {
     draft.statements.push(statement)?;
@@ -81,7 +83,8 @@ pub fn add(draft: &mut Draft, statement: Statement) -> Result<(), AllocError>
 // Takes the steps out of a condition.
 fn take_steps(alloc: Global, pending: &mut Pending) -> Vec<Step>
     ensures steps { result.items ≡ pending.old.steps.items }
-    ensures emptied { pending_as_lists pending.new ≡ reading.emptied (pending_as_lists pending.old) }
+    ensures emptied { pending_as_lists pending.new
+        ≡ reading.emptied (pending_as_lists pending.old) }
 {
     mem::replace(&mut pending.steps, Vec::new(alloc))
 }

@@ -4,7 +4,7 @@ ghost use Rattle.std.specs.Prelude.{◌≡◌, ◌≤◌, ◌-◌, drop, length,
 ghost use Rattle.rule_lang.specs.Lexed.{tokens_in, IsTokenFault};
 ghost use Rattle.rule_lang.specs.Named.{placed_named, AddsToken};
 
-use crate::fault::{RuleFault, RuleFaultKind};
+use crate::rule_fault::{RuleFault, RuleFaultKind};
 use crate::token::{Piece, Token, piece_of};
 use std::alloc::{AllocError, Global};
 

@@ -47,11 +47,10 @@
 
 mod condition;
 mod draft;
-mod fault;
 mod fits;
 mod frame;
 mod keyword;
-mod law;
+mod laws;
 mod lexer;
 mod literal;
 mod parser;
@@ -60,6 +59,7 @@ mod pending;
 mod phrase;
 mod reader;
 mod rule;
+mod rule_fault;
 mod statements;
 mod test;
 mod test_reader;
@@ -67,10 +67,10 @@ mod test_table;
 mod token;
 
 pub use condition::{RuleCondition, Step};
-pub use fault::{RuleFault, RuleFaultKind};
 pub use fits::array_named;
-pub use law::{one_verdict, some_verdict, words_are_exact};
+pub use laws::{one_verdict, some_verdict, words_are_exact};
 pub use literal::Literal;
 pub use parser::{MOST_RULE, parse};
 pub use rule::{Rule, Statement};
+pub use rule_fault::{RuleFault, RuleFaultKind};
 pub use test::{Comparison, Test};

@@ -4,10 +4,10 @@ ghost use Rattle.std.specs.Prelude.{◌≡◌, true, IfOk, IfErr, Ok};
 ghost use Rattle.rule_lang.specs.Fits.{fits};
 ghost use Rattle.rule_lang.specs.Verdicts.{IsVerdict, IsRuleFault};
 
-use crate::fault::{RuleFault, RuleFaultKind};
 use crate::lexer::tokens_of;
 use crate::reader::read;
 use crate::rule::Rule;
+use crate::rule_fault::{RuleFault, RuleFaultKind};
 use cells::Shape;
 use std::alloc::Global;
 

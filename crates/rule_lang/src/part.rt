@@ -4,10 +4,10 @@ ghost use Rattle.std.specs.Prelude.{◌≡◌};
 ghost use Rattle.rule_lang.specs.Named.{token_named, placed_named, placed_all, array_given};
 ghost use Rattle.rule_lang.specs.Parts as parts;
 
-use crate::fault::{RuleFault, RuleFaultKind};
 use crate::fits::array_named;
 use crate::keyword::Keyword;
 use crate::lexer::Placed;
+use crate::rule_fault::{RuleFault, RuleFaultKind};
 use crate::test::Comparison;
 use crate::token::Token;
 use attrs::{Attribute, Flag, attribute_named, flag_named, read_version};

@@ -53,7 +53,8 @@ fn push_nots(steps: &mut Vec<Step>, count: u8) -> Result<(), AllocError>
 
 // Writes the operators that a fact completes.
 fn fact_done(pending: &mut Pending) -> Result<(), AllocError>
-    ensures { OnOk result (pending_as_lists pending.new ≡ drafts.fact_done (pending_as_lists pending.old)) }
+    ensures { OnOk result
+        (pending_as_lists pending.new ≡ drafts.fact_done (pending_as_lists pending.old)) }
 {
     let top = pending.top;
     push_nots(&mut pending.steps, top.nots)?;
@@ -88,7 +89,8 @@ pub fn deny(pending: &mut Pending)
 
 /// Reads `(`.
 pub fn open(pending: &mut Pending) -> Result<(), AllocError>
-    ensures { OnOk result (pending_as_lists pending.new ≡ drafts.opened (pending_as_lists pending.old)) }
+    ensures { OnOk result
+        (pending_as_lists pending.new ≡ drafts.opened (pending_as_lists pending.old)) }
 {
     let top = pending.top;
     pending.below.push(top)?;
@@ -99,7 +101,8 @@ pub fn open(pending: &mut Pending) -> Result<(), AllocError>
 
 /// Reads a test.
 pub fn test(pending: &mut Pending, step: Step) -> Result<(), AllocError>
-    ensures { OnOk result (pending_as_lists pending.new ≡ drafts.tested step (pending_as_lists pending.old)) }
+    ensures { OnOk result
+        (pending_as_lists pending.new ≡ drafts.tested step (pending_as_lists pending.old)) }
 {
     push(&mut pending.steps, step)?;
     fact_done(pending)
@@ -114,7 +117,8 @@ pub fn join(pending: &mut Pending)
 
 /// Reads `or`.
 pub fn part(pending: &mut Pending) -> Result<(), AllocError>
-    ensures { OnOk result (pending_as_lists pending.new ≡ drafts.parted (pending_as_lists pending.old)) }
+    ensures { OnOk result
+        (pending_as_lists pending.new ≡ drafts.parted (pending_as_lists pending.old)) }
 {
     let top = pending.top;
     push_if(&mut pending.steps, top.or, Step::Or)?;

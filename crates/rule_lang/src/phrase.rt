@@ -4,9 +4,9 @@ ghost use Rattle.std.specs.Prelude.{◌≡◌, ◌≤◌, ◌+◌, ◌∷◌, le
 ghost use Rattle.rule_lang.specs.Named.{token_named, placed_all};
 ghost use Rattle.rule_lang.specs.Phrases as phrases;
 
-use crate::fault::{RuleFault, RuleFaultKind};
 use crate::keyword::{Keyword, is_modulus_word};
 use crate::lexer::Placed;
+use crate::rule_fault::{RuleFault, RuleFaultKind};
 use crate::token::Token;
 
 /// What a place of a phrase accepts.

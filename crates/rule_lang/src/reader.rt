@@ -2,7 +2,8 @@
 //! here recurses on the text.
 
 ghost use Rattle.std.specs.Prelude.{◌≡◌, ◌<◌, length, IfOk, ◌≤◌, IfErr, None, Ok};
-ghost use Rattle.rule_lang.specs.Named.{token_named, placed_named, placed_all, pending_as_lists, draft_as_lists};
+ghost use Rattle.rule_lang.specs.Named.{token_named, placed_named, placed_all, pending_as_lists};
+ghost use Rattle.rule_lang.specs.Named.{draft_as_lists};
 ghost use Rattle.rule_lang.specs.Parts as parts;
 ghost use Rattle.rule_lang.specs.Parts.{out_of_range as out_of};
 ghost use Rattle.rule_lang.specs.Reader.Reading as reading;
@@ -14,13 +15,13 @@ ghost use Rattle.rule_lang.specs.Trees.{IsCondition};
 
 use crate::condition::Step;
 use crate::draft::{Draft, Mode, add_when, first_draft, note, note_if};
-use crate::fault::RuleFault;
 use crate::keyword::Keyword;
 use crate::lexer::Placed;
 use crate::part::{out_of_range, part, release};
 use crate::pending::{self, MOST_DEPTH};
 use crate::phrase::{OFFER, behind, ended, misplaced};
 use crate::rule::Rule;
+use crate::rule_fault::RuleFault;
 use crate::statements::read_statement;
 use crate::test_reader::test_of;
 use crate::test_table::{TestKind, kind_of, wants_of};
@@ -72,7 +73,8 @@ fn read_fact<'t, 'a>(
     after: &'t [Placed<&'a str>],
 ) -> Result<&'t [Placed<&'a str>], RuleFault>
     requires { length after.now < length tokens.now }
-    ensures next { ReadsTo result (draft_as_lists draft.new) (reading.fact_next shape.now (draft_as_lists
+    ensures next { ReadsTo result (draft_as_lists draft.new)
+        (reading.fact_next shape.now (draft_as_lists
         draft.old) (token_named first.entry.token) (placed_named first.entry) (placed_all
         tokens.now) (placed_all after.now)) }
     ensures shorter { IfOk result (λ rest. length rest.now < length tokens.now) }

@@ -7,7 +7,6 @@ ghost use Rattle.rule_lang.specs.Says as says;
 ghost use Rattle.rule_lang.specs.Reader.Results.{IsFaultOf, ReadsTo, Makes};
 
 use crate::draft::{Draft, Mode, add, note};
-use crate::fault::RuleFault;
 use crate::frame::Frames;
 use crate::keyword::Keyword;
 use crate::lexer::Placed;
@@ -15,6 +14,7 @@ use crate::part::{array, index, part};
 use crate::pending;
 use crate::phrase::{COUNT, OTHERWISE, behind, misplaced};
 use crate::rule::Statement;
+use crate::rule_fault::RuleFault;
 use crate::token::Token;
 use cells::{ArrayName, Shape};
 use std::alloc::Global;

@@ -6,7 +6,6 @@ ghost use Rattle.rule_lang.specs.Parts as parts;
 ghost use Rattle.rule_lang.specs.Reader.Results.{IsFaultOf};
 ghost use Rattle.rule_lang.specs.Tests as tests;
 
-use crate::fault::RuleFault;
 use crate::lexer::Placed;
 use crate::literal::Literal;
 use crate::part::{
@@ -14,6 +13,7 @@ use crate::part::{
     version,
 };
 use crate::phrase::{Want, takes};
+use crate::rule_fault::RuleFault;
 use crate::test::Test;
 use crate::test_table::TestKind;
 use cells::{ArrayName, Shape};

@@ -55,7 +55,8 @@ next_out v e count starts others over h = record {
   room = let room = h.room in omega arith;
 }
 
-pub at_end : (v count : ℕ) (starts : List ℕ) → Counts v starts count [] → count - 1 ≡ cell_at starts v
+pub at_end : (v count : ℕ) (starts : List ℕ) → Counts v starts count [] → count - 1
+    ≡ cell_at starts v
 at_end v count starts h =
     ap (λ (n : ℕ). n - 1) (sym (add-zero count) ∙ h.all)
 
@@ -89,7 +90,8 @@ pub record IsAt (starts : List ℕ) (v c : ℕ) : Type 0 where
   pub is_cell : c < length starts
   pub begin : slice_index starts c ≤ v
   pub end : (next : ℕ) → slice_get starts (suc c) ≡ Some next → v < next
-  pub most : (n : ℕ) → list_any (λ start. start == n) starts ≡ true → n ≤ v → n ≤ slice_index starts c
+  pub most : (n : ℕ) → list_any (λ start. start == n) starts ≡ true → n ≤ v
+      → n ≤ slice_index starts c
 
 first_there : (x : ℕ) (xs : List ℕ) → list_any (λ start. start == x) (x ∷ xs) ≡ true
 first_there x xs = or_left (x == x) (list_any (λ start. start == x) xs) (eq-eqb x x refl)
@@ -141,7 +143,8 @@ at_count last v x (y ∷ ys) rising low =
           (at_count last v y ys both.1 within))
     ]
 
-pub is_at : (last v : ℕ) (starts : List ℕ) → are_rising last starts ≡ true → slice_index starts 0 ≤ v
+pub is_at : (last v : ℕ) (starts : List ℕ) → are_rising last starts ≡ true
+    → slice_index starts 0 ≤ v
     → IsAt starts v (cell_at starts v)
 is_at last v [] rising low = absurd cc
 is_at last v (x ∷ xs) rising low =
@@ -241,4 +244,5 @@ pub begins_alike : (starts : List ℕ) (last v n : ℕ) (r : Comparison) → are
     → slice_index starts 0 ≤ v → v ≤ last → decides starts last r n ≡ true
     → allows r (nat_cmp (begin_at starts v) n) ≡ allows r (nat_cmp v n)
 begins_alike starts last v n r rising low high cut =
-    begins_alike_at starts last v (cell_at starts v) low high (is_at last v starts rising low) r n cut
+    begins_alike_at starts last v (cell_at starts v) low high
+    (is_at last v starts rising low) r n cut

@@ -100,10 +100,12 @@ module _ (ds : List Dimension) (a : Attributes) (g : State) (place : ℕ) (d : D
       → cell_at d.starts (index_or_count (texts_at ds text) (text_in k a))
       ≡ cell_at d.starts (index_or_count d.texts (slice_index_or a.texts (attribute_number n) []))
   by_text kind.Version attribute.Version text member =
-      ap (λ (ts : List (List ℕ)). cell_at d.starts (index_or_count ts (slice_index_or a.texts 1 [])))
+      ap (λ (ts : List (List ℕ)). cell_at d.starts
+      (index_or_count ts (slice_index_or a.texts 1 [])))
       (by_place kind.Version text member)
   by_text kind.Bucket attribute.Cohort text member =
-      ap (λ (ts : List (List ℕ)). cell_at d.starts (index_or_count ts (slice_index_or a.texts 5 [])))
+      ap (λ (ts : List (List ℕ)). cell_at d.starts
+      (index_or_count ts (slice_index_or a.texts 5 [])))
       (by_place kind.Bucket text member)
   by_text k n text member = absurd cc
 

@@ -106,7 +106,8 @@ module _ (x : Scope) (ds : List Dimension) (lines : All (IsLine x) ds) (a : Attr
   version_fits_at texts low high from to =
       let number = ap version_number version_is in
       ap₂
-      (λ (t : List ℕ) (k : Bool). version_fits (slice_get texts (index_or_count texts t)) k low high)
+      (λ (t : List ℕ) (k : Bool). version_fits (slice_get texts (index_or_count texts t)) k
+      low high)
       text_is (has_flags app is.machine.request is.machine.moment a made).version
       ∙ version_ok app.version low high (subst (λ (n : ℕ). low ≤ n) number from)
       (λ next there. subst (λ (n : ℕ). n < next) number (to next there)) texts

@@ -82,7 +82,8 @@ module _ (o : Option (List ℕ)) (low : ℕ) (high : Option ℕ)
       ∙ numbers_in low high numbers from to
 
   pub version_ok : (texts : List (List ℕ))
-      → version_fits (slice_get texts (index_or_count texts (kept_text o))) (is_some numbers) low high
+      → version_fits (slice_get texts (index_or_count texts (kept_text o))) (is_some numbers)
+      low high
       ≡ true
   version_ok texts =
       named_or_not texts (kept_text o)

@@ -23,7 +23,8 @@ pub record IsAgainst (of : Coordinate) (texts : List (List ℕ)) (t : Test) (by 
       → test_holds a s 0 t ≡ allows by.comparison (nat_cmp (number_in of texts a g) by.number)
 
 -- the same for a dimension at a place, whose cells decide it
-pub record IsAgainstAt (ds : List Dimension) (at : ℕ) (t : Test) (by : NumberComparison) : Type 0 where
+pub record IsAgainstAt (ds : List Dimension) (at : ℕ) (t : Test) (by : NumberComparison)
+    : Type 0 where
   pub dimension : Dimension
   pub is_at : slice_get ds at ≡ Some dimension
   pub against : IsAgainst dimension.of dimension.texts t by

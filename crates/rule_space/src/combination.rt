@@ -10,7 +10,7 @@ use crate::coordinate::Coordinate;
 use crate::dimension::Dimension;
 use crate::family::{Family, GroupKind, line_at, texts_at};
 use crate::fits::{cohort_fits, version_fits};
-use crate::line::cell_at;
+use crate::number_line::cell_at;
 use attrs::{Bucket, fnv1a, four_digits};
 use rule_lang::Literal;
 use std::alloc::{AllocError, Global};

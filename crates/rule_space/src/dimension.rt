@@ -6,7 +6,7 @@ ghost use Rattle.rule_space.specs.Scopes.{scope_of};
 
 use crate::bounds::{Bounds, most_takes};
 use crate::coordinate::Coordinate;
-use crate::line::{MOST_CELLS, are_rising};
+use crate::number_line::{MOST_CELLS, are_rising};
 use attrs::{Attribute, Bucket, Context, Elapsed, Flag};
 use cells::Shape;
 use rule_lang::{Literal, Test, array_named};

@@ -4,7 +4,7 @@ ghost use Rattle.std.specs.Prelude.{◌≡◌, option_copied};
 ghost use Rattle.std.specs.List.{list_any};
 ghost use Rattle.rule_space.specs.Fits as specs;
 
-use crate::line::version_number;
+use crate::number_line::version_number;
 use attrs::{cohort_bucket, read_version};
 use rule_lang::Literal;
 

@@ -13,7 +13,7 @@ use crate::combination::{Combination, cells_of, is_possible};
 use crate::dimension::Dimension;
 use crate::family::{Family, GroupKind, family_of, line_at, members_of, texts_at};
 use crate::group::Group;
-use crate::line::MOST_CELLS;
+use crate::number_line::MOST_CELLS;
 use attrs::Bucket;
 use std::alloc::{AllocError, Global};
 

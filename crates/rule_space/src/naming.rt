@@ -4,7 +4,7 @@
 use crate::bounds::{Bounds, RuleSide};
 use crate::coordinate::Coordinate;
 use crate::dimension::{Dimension, dimension_of};
-use crate::line::{add_cuts, add_start};
+use crate::number_line::{add_cuts, add_start};
 use crate::plan_test::is_declared_as;
 use crate::test_line::{against_of, index_or_count};
 use attrs::Flag;

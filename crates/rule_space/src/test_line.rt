@@ -5,7 +5,7 @@ ghost use Rattle.rule_space.specs.Coordinates as coordinates;
 ghost use Rattle.rule_space.specs.Tests.{IsAgainst};
 
 use crate::coordinate::Coordinate;
-use crate::line::version_number;
+use crate::number_line::version_number;
 use attrs::{Attribute, Context, Flag};
 use rule_lang::{Comparison, Literal, Test};
 
@@ -159,7 +159,11 @@ fn text_against(own: Attribute, texts: &[Literal], test: &Test) -> Option<Number
 
 /// The comparison that a test makes with the number of a coordinate, if it is about that; none for
 /// a take, whose number changes along a run, or for a text that isn't among these.
-pub(crate) fn against_of(of: &Coordinate, texts: &[Literal], test: &Test) -> Option<NumberComparison>
+pub(crate) fn against_of(
+    of: &Coordinate,
+    texts: &[Literal],
+    test: &Test,
+) -> Option<NumberComparison>
     ensures { IfSome result (IsAgainst of.now texts.now test.now) }
 {
     match of {

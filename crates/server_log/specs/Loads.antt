@@ -3,8 +3,8 @@ use Rattle.std.specs.Prelude.{◌≡◌, ℕ, List, Option, Some, None, IfSome}
 use Rattle.std.specs.Prelude.{option_copied, option_map}
 use Rattle.access_log.specs.Excerpt.{IsExcerpt}
 use Rattle.access_log.specs.Line.{event_line}
-use Rattle.access_log.specs.declared.event.Load.{Load}
-use Rattle.access_log.specs.declared.event.LogEvent.TheVariants as log
+use Rattle.access_log.specs.declared.log_event.Load.{Load}
+use Rattle.access_log.specs.declared.log_event.LogEvent.TheVariants as log
 use Rattle.access_log.specs.declared.excerpt.Excerpt.{Excerpt}
 use Rattle.access_log.specs.declared.utc.Utc.{Utc}
 use Rattle.hex.specs.Hex.{encode_lower}

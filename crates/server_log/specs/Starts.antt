@@ -2,8 +2,8 @@
 use Rattle.std.specs.Prelude.{◌≡◌, ℕ, List, Option, Some, None, option_copied, option_map}
 use Rattle.access_log.specs.Excerpt.{IsExcerpt}
 use Rattle.access_log.specs.Line.{event_line}
-use Rattle.access_log.specs.declared.event.LogEvent.TheVariants as log
-use Rattle.access_log.specs.declared.event.Start.{Start}
+use Rattle.access_log.specs.declared.log_event.LogEvent.TheVariants as log
+use Rattle.access_log.specs.declared.log_event.Start.{Start}
 use Rattle.access_log.specs.declared.utc.Utc.{Utc}
 use Rattle.ruleset.specs.declared.loaded.LoadedRuleset.{LoadedRuleset}
 use Rattle.server_log.specs.Loads.{IsExcerptOf}

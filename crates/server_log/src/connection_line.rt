@@ -136,7 +136,10 @@ fn refusal_of(outcome: &Result<Sent, AnswerFault>) -> Option<&'static str> {
 }
 
 // How the device failed, if it did.
-fn cause_of(outcome: &Result<Sent, AnswerFault>, recorded: &ConnectionRecord) -> Option<&'static str> {
+fn cause_of(
+    outcome: &Result<Sent, AnswerFault>,
+    recorded: &ConnectionRecord,
+) -> Option<&'static str> {
     match outcome {
         Ok(_) | Err(AnswerFault::Ended) => None,
         Err(_) => recorded.cause,

@@ -228,7 +228,12 @@ impl AppObserver for ConnectionRecord {
 }
 
 impl RequestObserver for ConnectionRecord {
-    fn observe(&mut self, generation: Generation, request: &Request, found: &[Option<FoundApp<'_>>]) {
+    fn observe(
+        &mut self,
+        generation: Generation,
+        request: &Request,
+        found: &[Option<FoundApp<'_>>],
+    ) {
         self.generation = generation;
         if self.is_kept {
             let is_kept = self.keep(request, found).is_ok();

@@ -31,7 +31,8 @@ one_worker table known passes rest pass workers more watcher split grown seen ne
     )
 
 -- the operator takes the last pass, and each worker takes one of the others
-pub is_staff : (cells : CellsView) (known : KnownPrefix) (all rest : List PassView) (pass : PassView)
+pub is_staff : (cells : CellsView) (known : KnownPrefix) (all rest : List PassView)
+    (pass : PassView)
     (workers : List (PassView × KnownPrefix))
     → cells.passes ≡ length all → All (IsNewPass cells.table) all → all ≡ rest ++ pass ∷ []
     → length workers ≡ length rest

@@ -39,7 +39,8 @@ record HasAnswered (from to : KnownPrefix) (pass : PassView) : Type 0 where
   pub ran : AreOfRuns to.rulesets (runs_in_turn answers) pass.events
 
 -- a worker that has read only what was published
-has_answered : Laws → (cells : CellsView) (known to : KnownPrefix) (old new : PassView × KnownPrefix)
+has_answered : Laws → (cells : CellsView) (known to : KnownPrefix)
+    (old new : PassView × KnownPrefix)
     → IsNewWorker cells.table known old → WorkerBack (IsPassOf cells) Gained old new
     → Extends new.1 to → HasAnswered known to new.0
 has_answered laws cells known to old new is back seen =

@@ -5,8 +5,8 @@ use Rattle.bounded_files.specs.Files.{KnownFiles}
 use Rattle.load.specs.Cause.{RefusesTelling}
 use Rattle.load.specs.Loaded.{IsLoadedFrom}
 use Rattle.ruleset.specs.Rules.{Rules}
-use Rattle.serving.specs.declared.fault.ServingFault.{ServingFault}
-use Rattle.serving.specs.declared.fault.ServingFault.TheVariants as serving
+use Rattle.serving.specs.declared.serving_fault.ServingFault.{ServingFault}
+use Rattle.serving.specs.declared.serving_fault.ServingFault.TheVariants as serving
 
 -- the manifest has a ruleset
 pub record HasRuleset (known : KnownFiles) (manifest : List ℕ) : Type 0 where

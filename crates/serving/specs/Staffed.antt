@@ -1,10 +1,10 @@
 -- Why a ready server gets no workers, and why a server that has served returns no counters.
 use Rattle.std.specs.Prelude.{◌≡◌}
-use Rattle.bounded_files.specs.declared.fault.ResourceFault.TheVariants as resource
-use Rattle.shared_cells.specs.declared.fault.SharedFault.TheVariants as shared
-use Rattle.hot_swap.specs.declared.fault.SwapFault.TheVariants as swap
-use Rattle.serving.specs.declared.fault.ServingFault.{ServingFault}
-use Rattle.serving.specs.declared.fault.ServingFault.TheVariants as serving
+use Rattle.bounded_files.specs.declared.resource_fault.ResourceFault.TheVariants as resource
+use Rattle.shared_cells.specs.declared.shared_fault.SharedFault.TheVariants as shared
+use Rattle.hot_swap.specs.declared.swap_fault.SwapFault.TheVariants as swap
+use Rattle.serving.specs.declared.serving_fault.ServingFault.{ServingFault}
+use Rattle.serving.specs.declared.serving_fault.ServingFault.TheVariants as serving
 
 -- out of memory for the counters, for the publisher of the rulesets or a watcher, or for the server
 -- itself

@@ -4,8 +4,8 @@ use Rattle.shared_cells.specs.Texts.{shared_text}
 use Rattle.bounded_files.specs.Texts.{resource_text}
 use Rattle.load.specs.Texts.{path_fault_text}
 use Rattle.hot_swap.specs.Texts.{swap_text}
-use Rattle.serving.specs.declared.fault.ServingFault.{ServingFault}
-use Rattle.serving.specs.declared.fault.ServingFault.TheVariants as serving
+use Rattle.serving.specs.declared.serving_fault.ServingFault.{ServingFault}
+use Rattle.serving.specs.declared.serving_fault.ServingFault.TheVariants as serving
 
 abbrev pub serving_text : ServingFault → List ℕ
 serving_text (serving.Manifest refusal) = path_fault_text refusal.fault

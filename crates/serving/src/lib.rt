@@ -9,14 +9,14 @@
 #![tactic(auto)]
 
 mod ended;
-mod fault;
 mod last_values;
 mod manifests;
 mod server;
+mod serving_fault;
 mod staffed;
 mod worker_list;
 
-pub use fault::ServingFault;
 pub use manifests::Manifests;
 pub use server::{Server, prepare};
+pub use serving_fault::ServingFault;
 pub use staffed::{StaffedServer, staff};

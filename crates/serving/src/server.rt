@@ -8,7 +8,7 @@ ghost use Rattle.ruleset.specs.Rules.{KnowsOnly};
 ghost use Rattle.serving.specs.Manifests.{RefusesToServe};
 ghost use Rattle.serving.specs.Staffed.{IsStaffFault};
 
-use crate::fault::ServingFault;
+use crate::serving_fault::ServingFault;
 use crate::staffed::{StaffedServer, staff};
 use cells::Directory;
 use load::{Disk, load_with_digest};

@@ -12,8 +12,8 @@ ghost use Rattle.serving.specs.Staff.{IsStaff};
 ghost use Rattle.serving.specs.Staffed.{IsEndFault, IsStaffFault};
 
 use crate::ended::close_cells;
-use crate::fault::ServingFault;
 use crate::last_values::note_end;
+use crate::serving_fault::ServingFault;
 use crate::worker_list::worker_list;
 use bounded_files::ResourceFault;
 use cells::Directory;
@@ -119,10 +119,10 @@ impl StaffedServer {
     /// written. Returns B3 if `out` can't be written, and H2 if a worker's watcher can't be read at
     /// the end: the log then has this fault and the counters.
     ///
-    /// By `world` the counters are this server's. What all threads did to them is one legal history,
-    /// that of one world, under rulesets that the operator's lines loaded one after the other. Its
-    /// runs are those of answers, one list for each worker, in turn, under rulesets that never went
-    /// back. Each run ended in time, with 0 or a release, and each quota is granted.
+    /// By `world` the counters are this server's. What all threads did to them is one legal
+    /// history, that of one world, under rulesets that the operator's lines loaded one after the
+    /// other. Its runs are those of answers, one list for each worker, in turn, under rulesets that
+    /// never went back. Each run ended in time, with 0 or a release, and each quota is granted.
     // open: when B4, B3 or H2 is returned; that the log has the last values, and that the line
     // takes one write: tests.
     pub fn serve<H, L, O>(

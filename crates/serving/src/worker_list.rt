@@ -6,7 +6,7 @@ ghost use Rattle.shared_cells.specs.Passes.{IsNewPass};
 ghost use Rattle.serving.specs.Staff.{IsNewWorker};
 ghost use Rattle.serving.specs.Staffed.{IsStaffFault};
 
-use crate::fault::ServingFault;
+use crate::serving_fault::ServingFault;
 use bounded_files::ResourceFault;
 use hot_swap::{Publisher, Watcher};
 use shared_cells::SharedPass;

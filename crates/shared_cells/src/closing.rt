@@ -5,10 +5,10 @@ ghost use Rattle.std.specs.Prelude.{◌≡◌, All, length, slice_index, IfOk, I
 ghost use Rattle.shared_cells.specs.Passes.{AreClosed, AreLeftBy, IsPassOf};
 ghost use Rattle.shared_cells.specs.Quotas.{QuotasAreExact};
 
-use crate::fault::SharedFault;
 use crate::pass::SharedPass;
 use crate::rule::TakeIn;
 use crate::shared::SharedCells;
+use crate::shared_fault::SharedFault;
 use crate::word::to_value;
 use cells::CellNo;
 use std::alloc::Global;

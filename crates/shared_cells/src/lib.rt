@@ -45,16 +45,16 @@
 // own.
 
 mod closing;
-mod fault;
 mod laws;
 mod opening;
 mod pass;
 mod rule;
 mod shared;
+mod shared_fault;
 mod word;
 
 pub use closing::Closed;
-pub use fault::SharedFault;
 pub use laws::{loads_can_go, passes_gain_lists};
 pub use pass::SharedPass;
 pub use shared::SharedCells;
+pub use shared_fault::SharedFault;

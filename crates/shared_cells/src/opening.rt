@@ -6,10 +6,10 @@ ghost use Rattle.cells.specs.Events.{AreZeros};
 ghost use Rattle.shared_cells.specs.Rule.{account, new_accounts};
 ghost use Rattle.shared_cells.specs.Passes.{IsNewPass};
 
-use crate::fault::SharedFault;
 use crate::pass::SharedPass;
 use crate::rule::{CutFirst, OneHistory, View};
 use crate::shared::SharedCells;
+use crate::shared_fault::SharedFault;
 use atomic_table::{Seat, Shared, Table};
 use cells::CellNo;
 use std::alloc::{AllocError, Global};

@@ -4,9 +4,9 @@ ghost use Rattle.std.specs.Prelude.{◌≡◌, length, IfOk};
 ghost use Rattle.simulate.specs.Clients.{IsSameButApp};
 ghost use Rattle.simulate.specs.Course.{AsksForApp, IsSimulated};
 
-use crate::runs::run_all;
 use crate::choices::Choices;
 use crate::client::Client;
+use crate::runs::run_all;
 use cells::{PlainCells, PlainPass};
 use ruleset::{App, Ruleset};
 use std::alloc::{AllocError, Global};

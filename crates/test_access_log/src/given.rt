@@ -1,6 +1,8 @@
 //! What the tests use: a time, an app, a connection, and the line of an event.
 
-use access_log::{Connection, Excerpt, FurtherMembers, LogEvent, LoggedApp, Outcome, Utc, log_line};
+use access_log::{
+    Connection, Excerpt, FurtherMembers, LogEvent, LoggedApp, Outcome, Utc, log_line,
+};
 use std::alloc::{AllocError, Global};
 use std::io::{self, ErrorKind};
 

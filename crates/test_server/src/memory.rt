@@ -76,7 +76,7 @@ fn refusal_in(alloc: Global, written: &[u8]) -> Result<MemoryAnswer, AllocError>
 }
 
 /// The outcome of an exchange with a server whose counter was `before`.
-fn requirement_of(alloc: Global, received: &Exchanged, before: u64) -> Result<MemoryAnswer, AllocError> {
+fn asked_of(alloc: Global, received: &Exchanged, before: u64) -> Result<MemoryAnswer, AllocError> {
     let written = received.written.as_slice();
     let text = if before == 0 { OFFERED } else { NO_UPDATE };
     let is_reply = is_reply(alloc, written, text)?;
@@ -100,7 +100,7 @@ fn requested(alloc: Global, server: &mut Answering) -> Result<MemoryAnswer, Allo
         input.as_slice(),
     );
     let rise = server.pass.value(CellNo::new(0)).wrapping_sub(before);
-    let requested = again!(requirement_of(alloc, &received, before))?;
+    let requested = again!(asked_of(alloc, &received, before))?;
     let is_right = rise == 1 || rise == 0 && requested != MemoryAnswer::Replied;
     Ok(if is_right {
         requested

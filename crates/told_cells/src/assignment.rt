@@ -104,7 +104,11 @@ fn ended<'a>(
     }
 }
 
-fn of_parts<'a>(array: &'a str, index: Option<u64>, value: Option<u64>) -> Option<CellAssignment<'a>>
+fn of_parts<'a>(
+    array: &'a str,
+    index: Option<u64>,
+    value: Option<u64>,
+) -> Option<CellAssignment<'a>>
     requires { IfSome index (λ i. i ≤ 65535) }
     ensures { result ≡ specs.of_parts array.now index value }
 {

@@ -3,7 +3,7 @@
 #![tactic(auto)]
 
 mod assignment;
-mod line;
+mod cell_lines;
 
 pub use assignment::CellAssignment;
-pub use line::read_assignments;
+pub use cell_lines::read_assignments;

@@ -3,7 +3,7 @@
 use Rattle.std.specs.Prelude.{◌≡◌, ◌⊎◌, ℕ, ℤ, List, [], Option, Some, None, IsSome}
 use Rattle.std.specs.Str.Lines.{lines}
 use Rattle.bounded_files.specs.Files.{KnownFiles}
-use Rattle.bounded_files.specs.declared.fault.ResourceFault.TheVariants as resource
+use Rattle.bounded_files.specs.declared.resource_fault.ResourceFault.TheVariants as resource
 use Rattle.cells.specs.declared.array.CellArray.{CellArray}
 use Rattle.dry_run.specs.Files.{AreOpened, IsOpenFault}
 use Rattle.dry_run.specs.Told.{IsUnanswered, RepliesAsTold}

@@ -91,7 +91,8 @@ where
 pub(crate) fn served_reply<R>(rt: &R, port: Option<u16>) -> Result<String, RequestFault>
 where
     R: AllocGlobal + Net<Stream = TcpStream>,
-    ensures served { IfOk result (λ t. specs.AreServed port (assignments_in (lines (string_bytes t)))) }
+    ensures served { IfOk result
+        (λ t. specs.AreServed port (assignments_in (lines (string_bytes t)))) }
     ensures fault { IfErr result (λ fault. IsSome port × IsAskRefusal OperatorRequest.Cells fault) }
 {
     match port {

@@ -11,7 +11,7 @@
 mod changes;
 mod counter;
 mod jump;
-mod line;
+mod step_line;
 mod traced;
 
 pub use jump::Jump;

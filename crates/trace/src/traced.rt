@@ -6,7 +6,7 @@ ghost use Rattle.bpf_semantics.specs.State.{opening};
 ghost use Rattle.trace.specs.Trace.{IsTrace, IsTraced, IsTracedRun};
 
 use crate::jump::{Jump, latest_jump};
-use crate::line::push_step;
+use crate::step_line::push_step;
 use attrs::Attrs;
 use bpf_insn::Insn;
 use bpf_semantics::counts_instructions;

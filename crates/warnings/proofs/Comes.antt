@@ -143,7 +143,8 @@ abbrev pub AnswersAlike : Spot → (version : List ℕ) → Test → Type 0
 AnswersAlike spot version (test.Version r w) = spot_cmp spot (spot_at w) ≡ version_cmp version w
 AnswersAlike spot version t = Unit {0}
 
-module _ (spot : Spot) (evaluated a : Attributes) (is : IsOneOf spot evaluated a) (s : AppShape) where
+module _ (spot : Spot) (evaluated a : Attributes) (is : IsOneOf spot evaluated a)
+    (s : AppShape) where
   same_bucket : (salt : Option ℕ) → bucket_by a salt ≡ bucket_by evaluated salt
   same_bucket None = is.bucket
   same_bucket (Some salt) =

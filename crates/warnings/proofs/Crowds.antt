@@ -10,7 +10,8 @@ use Rattle.rule_lang.specs.declared.rule.Statement.TheVariants.{Count, When}
 use Rattle.warnings.specs.declared.possible.Asker.{Asker}
 use Rattle.warnings.specs.declared.possible.Asker.TheVariants.{AllAt}
 use Rattle.warnings.specs.declared.spot.Spot.{Spot}
-use Rattle.warnings.specs.Evaluation.{RuleOfApp, any_below, arrives, in_some_bucket, may_end, someone}
+use Rattle.warnings.specs.Evaluation.{RuleOfApp, any_below, arrives, in_some_bucket, may_end}
+use Rattle.warnings.specs.Evaluation.{someone}
 use Rattle.warnings.specs.Marks.{AreMarked, Crowd, each_by, is_count, is_ended, is_reached, nobody}
 use Rattle.warnings.specs.Marks.{with_buckets, with_one}
 use Rattle.warnings.proofs.Buckets.{IsAsker, moved, moves, none_below_zero}
@@ -154,7 +155,8 @@ module _ (r : RuleOfApp) where
         → ((crowd : Crowd) → AreMarked r crowd reached ends
         → AreMarked r (with_one crowd (AllAt spot) b) reached_now ends_now)
         → AreBucketsMarked reached_first ends_first spot b (n + 1) reached_now ends_now
-    next_bucket a b n reached ends reached_now ends_now h more is reached_length ends_length marked =
+    next_bucket a b n reached ends reached_now ends_now h more is reached_length ends_length
+        marked =
         record {
           within = omega (arith, more);
           asker = moves r.appid None a b n h.asker is;

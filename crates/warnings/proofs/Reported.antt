@@ -113,7 +113,8 @@ pub next_release : (app number : ℕ) (r : RuleOfApp) (spots : List Spot) (left 
     → given ≡ someone r spots (may_give r number)
     → old ++ evaluated_releases app number r spots left ≡ first
     → new ≡ old ++ given_warnings app number r given x
-    → new ++ evaluated_releases app (number + 1) r spots (take (length left - 1) (drop 1 left)) ≡ first
+    → new ++ evaluated_releases app (number + 1) r spots (take (length left - 1) (drop 1 left))
+    ≡ first
 next_release app number r spots left x given first old new some is gives before reported =
     let rest = take (length left - 1) (drop 1 left) in
     let later = evaluated_releases app (number + 1) r spots rest in

@@ -14,7 +14,8 @@ use Rattle.rule_lang.specs.declared.rule.Statement.TheVariants.{Count, When}
 use Rattle.warnings.specs.declared.possible.Asker.{Asker}
 use Rattle.warnings.specs.declared.possible.Asker.TheVariants.{AllAt}
 use Rattle.warnings.specs.declared.spot.Spot.{Spot}
-use Rattle.warnings.specs.Evaluation.{RuleOfApp, any_below, arrives, in_some_bucket, may_end, may_give}
+use Rattle.warnings.specs.Evaluation.{RuleOfApp, any_below, arrives, in_some_bucket, may_end}
+use Rattle.warnings.specs.Evaluation.{may_give}
 use Rattle.warnings.specs.Evaluation.{someone, tests_for}
 use Rattle.warnings.specs.Course.{may_offer, offered, statement_possible}
 use Rattle.warnings.specs.Marks.{AreMarked, each_by, is_ended, is_given}

@@ -138,7 +138,8 @@ given_warnings app number r given release =
     ++ got_warning app number r Eq release.version kind.OfferedAgain
     ++ got_warning app number r Lt release.version kind.OfferedLower
 
-abbrev pub evaluated_releases : (app number : ℕ) → RuleOfApp → List Spot → List Release → List Warning
+abbrev pub evaluated_releases : (app number : ℕ) → RuleOfApp → List Spot → List Release
+    → List Warning
 evaluated_releases app number r spots [] = []
 evaluated_releases app number r spots (release ∷ later) =
     given_warnings app number r (someone r spots (may_give r number)) release
@@ -181,7 +182,8 @@ warnings_within None app r = warned (place.App app) kind.NotEvaluated
 
 -- tests are read in any case
 abbrev pub rule_warnings : (app budget : ℕ) → RuleOfApp → List Warning
-rule_warnings app budget r = parts_of_rule app r.rule ++ warnings_within (budget_after r budget) app r
+rule_warnings app budget r = parts_of_rule app r.rule
+    ++ warnings_within (budget_after r budget) app r
 
 -- a rule that isn't evaluated costs nothing
 abbrev pub budget_left : (budget : ℕ) → RuleOfApp → ℕ

@@ -76,7 +76,13 @@ fn gets(
     ensures { IfOk result (λ yes.
         yes ≡ specs.gets (specs.rule_of evaluated.now) by version.now Asker.One attrs.now) }
 {
-    let choice = first_offer(stack, Asker::One, attrs, evaluated.shape, evaluated.statements)?;
+    let choice = first_offer(
+        stack,
+        Asker::One,
+        attrs,
+        evaluated.shape,
+        evaluated.statements,
+    )?;
     Ok(choice_compares(by, evaluated.releases, version, choice))
 }
 

@@ -84,7 +84,8 @@ pub(crate) fn tell_all_releases(
         → AreMarked (rule_of evaluated.now) (someone (rule_of evaluated.now) spots)
         marks.now.reached.items marks.now.ends.items → OnOk result (warnings.new.items
         ≡ warnings.old.items
-        ++ specs.evaluated_releases app 1 (rule_of evaluated.now) spots (rule_of evaluated.now).releases) }
+        ++ specs.evaluated_releases app 1 (rule_of evaluated.now) spots
+        (rule_of evaluated.now).releases) }
 {
     let mut number = 1;
     let mut left = evaluated.releases;

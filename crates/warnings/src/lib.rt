@@ -24,9 +24,9 @@
 // without evaluating it (`parts.rt`). So is a take before the test of the version (`takes.rt`).
 //
 // A warning is a place and a kind (`warning.rt`), so that a pipeline can allow some by name and
-// count the others. Its line is made of both (`line.rt`).
+// count the others. Its line is made of both (`warning_lines.rt`).
 //
-// Law (`law.rt`): warnings on a rule are true for all clients. No run does what a warning denies,
+// Law (`laws.rt`): warnings on a rule are true for all clients. No run does what a warning denies,
 // and some run does what a warning says may happen. No law covers the warning on a take.
 
 mod appid;
@@ -36,24 +36,24 @@ mod course;
 mod evaluating;
 mod given;
 mod holding;
-mod law;
-mod line;
+mod laws;
 mod marks;
-mod names;
 mod parts;
 mod possible;
 mod release;
+mod rule_warnings;
 mod spot;
 mod takes;
-mod telling;
 mod warning;
+mod warning_lines;
+mod warning_names;
 mod whens;
 
 pub use appid::tell_appid;
 pub use evaluating::EvaluatedRule;
-pub use law::{warnings_are_named, warnings_are_so};
-pub use line::{push_warning_text, push_warnings};
-pub use names::{is_warning_name, some_counts};
+pub use laws::{warnings_are_named, warnings_are_so};
 pub use release::tell_releases;
-pub use telling::tell_rule;
+pub use rule_warnings::tell_rule;
 pub use warning::{Warning, WarningKind, WarningPlace, warn_if};
+pub use warning_lines::{push_warning_text, push_warnings};
+pub use warning_names::{is_warning_name, some_counts};

@@ -7,8 +7,8 @@ ghost use Rattle.warnings.specs.Evaluation.{rule_of, someone};
 ghost use Rattle.warnings.specs.Marks.{AreMarked, Crowd, nobody, with_buckets, with_one};
 ghost use Rattle.warnings.specs.Marks as specs;
 
-use crate::evaluating::EvaluatedRule;
 use crate::course::{offered, statement_possible};
+use crate::evaluating::EvaluatedRule;
 use crate::possible::{Asker, Possible};
 use crate::spot::Spot;
 use attrs::{Attrs, Bucket};
@@ -99,7 +99,8 @@ fn mark_buckets(
     requires reached { length reached.old ≡ length evaluated.now.statements.now }
     requires ends { length ends.old ≡ length evaluated.now.statements.now }
     ensures { (crowd : Crowd) → AreMarked (rule_of evaluated.now) crowd reached.old ends.old
-        → OnOk result (AreMarked (rule_of evaluated.now) (with_buckets (rule_of evaluated.now) crowd spot)
+        → OnOk result
+        (AreMarked (rule_of evaluated.now) (with_buckets (rule_of evaluated.now) crowd spot)
         reached.new ends.new) }
 {
     let Ok(mut attrs) = Attrs::plain(alloc, evaluated.appid, None, 0) else {
@@ -113,7 +114,14 @@ fn mark_buckets(
         }
         let place = Bucket::new(bucket);
         attrs = attrs.in_bucket(place);
-        mark_way(&mut stack, evaluated, Asker::AllAt(spot), &attrs, reached, ends)?;
+        mark_way(
+            &mut stack,
+            evaluated,
+            Asker::AllAt(spot),
+            &attrs,
+            reached,
+            ends,
+        )?;
         bucket += 1;
     }
     Ok(())
@@ -127,7 +135,8 @@ fn mark_spots(
     ends: &mut [bool],
 ) -> Result<(), AllocError>
     requires { AreMarked (rule_of evaluated.now) nobody reached.old ends.old }
-    ensures { OnOk result (AreMarked (rule_of evaluated.now) (someone (rule_of evaluated.now) spots.now)
+    ensures { OnOk result
+        (AreMarked (rule_of evaluated.now) (someone (rule_of evaluated.now) spots.now)
         reached.new ends.new) }
 {
     let mut left = spots;

@@ -30,7 +30,12 @@ module _ {F P : Type 0} (loads : Loading F) (grew : P → CellEvent → P → Ty
   of_some_line known m c q d reply did = record {
     events = did.events;
     grown = did.grown;
-    of = record { line_request = did.of.line_request; line_request_is = tt; performs = did.of.performs };
+    of = record {
+      line_request = did.of.line_request;
+      line_request_is = tt;
+      performs =
+          did.of.performs;
+    };
   }
 
   module _ (belongs : P → Type 0) where

@@ -6,9 +6,9 @@ ghost use Rattle.workers.specs.Back.{WorkersBack};
 ghost use Rattle.workers.specs.Promised.{ArePromised};
 
 use crate::clients::serve_returning;
-use crate::fault::ServeFault;
 use crate::gate::Gate;
 use crate::promise::WorkerPromises;
+use crate::serve_fault::ServeFault;
 use crate::worker::ServeOptions;
 use cells::CellSteps;
 use crossbeam_channel::Sender;

@@ -6,9 +6,9 @@ ghost use Rattle.workers.specs.Back.{WorkersBack};
 
 use crate::accept::Call;
 use crate::crew::{joined, start_workers};
-use crate::fault::ServeFault;
 use crate::gate::Gate;
 use crate::queue::{WAITING, fill};
+use crate::serve_fault::ServeFault;
 use crate::worker::ServeOptions;
 use cells::CellSteps;
 use crossbeam_channel::Sender;

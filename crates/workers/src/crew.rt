@@ -6,9 +6,9 @@ ghost use Rattle.std.specs.List.{AllZip};
 ghost use Rattle.workers.specs.Promised.{IsPromiseOf};
 
 use crate::accept::Call;
-use crate::fault::ServeFault;
 use crate::gate::Gate;
 use crate::promise::WorkerPromise;
+use crate::serve_fault::ServeFault;
 use crate::worker::{ServeOptions, work};
 use cells::CellSteps;
 use core::thread::Stack;

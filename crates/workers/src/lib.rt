@@ -24,7 +24,6 @@ mod beside;
 mod clients;
 mod clock;
 mod crew;
-mod fault;
 mod gate;
 mod laws;
 mod operating;
@@ -34,18 +33,19 @@ mod queue;
 mod ready;
 mod returned;
 mod running;
+mod serve_fault;
 mod stopping;
 mod worker;
 
 pub use accept::OperatorEnd;
 pub use clients::{serve, serve_returning};
-pub use fault::ServeFault;
 pub use gate::{Gate, NoGate};
 pub use laws::answers_are_runs;
 pub use operating::{OperatorSeat, operate};
 pub use ports::{Ports, bind};
 pub use returned::Returned;
 pub use running::run;
+pub use serve_fault::ServeFault;
 pub use worker::ServeOptions;
 
 // The names in the contracts here are exported with them.

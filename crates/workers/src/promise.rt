@@ -1,7 +1,7 @@
 //! The promises of a server's threads: to return the workers that they were given, with what these
 //! did.
 
-use crate::fault::ServeFault;
+use crate::serve_fault::ServeFault;
 use cells::CellSteps;
 use hot_swap::Watcher;
 use std::snapshot::Snapshot;

@@ -133,7 +133,15 @@ where
     count_begun(service.log, waited);
     recorded.begin();
     let outcome = answer_within(rt, &call.stream, seat, moment, limits, recorded);
-    server_log::note_connection(rt, log, call.peer, waited, begun(limits), &outcome, recorded);
+    server_log::note_connection(
+        rt,
+        log,
+        call.peer,
+        waited,
+        begun(limits),
+        &outcome,
+        recorded,
+    );
     let finished = finish(rt, &call.stream, &outcome);
     count_ended(service.log, &outcome);
     finished

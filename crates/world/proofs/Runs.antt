@@ -120,7 +120,8 @@ pub all_fit : (es ds : List CellEvent) → AllFit es → AllFit ds → AllFit (e
 all_fit [] ds first second = second
 all_fit (e ∷ es) ds first second = (first.0, all_fit es ds first.1 second)
 
-pub accesses_fit : Laws → (cells : List ℕ) (o : Outcome) → AreCells cells → AllFit (accesses cells o)
+pub accesses_fit : Laws → (cells : List ℕ) (o : Outcome) → AreCells cells
+    → AllFit (accesses cells o)
 accesses_fit law cells (Going t) fit = tt
 accesses_fit law cells (Asks cell op next) fit = (reply_fits law cells cell op fit, tt)
 accesses_fit law cells (Done choice) fit = tt

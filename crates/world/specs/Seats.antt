@@ -37,7 +37,8 @@ pub record EndedAs (run : Held) (held chosen number : ℕ) (program : ShapedProg
 
 abbrev pub SeatStandsFor : Seat → Worker → Type 0
 SeatStandsFor Empty Idle = Unit {0}
-SeatStandsFor (Taken run held None) (Running number program s) = ContinuesAs run held number program s
+SeatStandsFor (Taken run held None) (Running number program s) =
+    ContinuesAs run held number program s
 SeatStandsFor (Taken run held (Some chosen)) (Ended number program a choice instructions) =
     EndedAs run held chosen number program a choice instructions
 SeatStandsFor seat worker = ⊥

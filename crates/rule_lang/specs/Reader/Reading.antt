@@ -6,7 +6,7 @@ use Rattle.cells.specs.Arrays.{AppShape}
 use Rattle.rule_lang.specs.declared.condition.Step.TheVariants as step
 use Rattle.rule_lang.specs.declared.draft.Mode.{Mode}
 use Rattle.rule_lang.specs.declared.draft.Mode.TheVariants as mode
-use Rattle.rule_lang.specs.declared.fault.RuleFault.{RuleFault}
+use Rattle.rule_lang.specs.declared.rule_fault.RuleFault.{RuleFault}
 use Rattle.rule_lang.specs.declared.keyword.Keyword.TheVariants as keyword
 use Rattle.rule_lang.specs.declared.rule.Statement.{Statement}
 use Rattle.rule_lang.specs.declared.rule.Statement.TheVariants.{When}

@@ -2,8 +2,8 @@
 use Rattle.std.specs.Prelude.{◌≡◌, ◌⊎◌, ℕ, List, Result, Ok, Err}
 use Rattle.std.specs.Borrow.{Bor}
 use Rattle.cells.specs.Arrays.{AppShape}
-use Rattle.rule_lang.specs.declared.fault.RuleFault.{RuleFault}
-use Rattle.rule_lang.specs.declared.fault.RuleFault.TheVariants.{Memory}
+use Rattle.rule_lang.specs.declared.rule_fault.RuleFault.{RuleFault}
+use Rattle.rule_lang.specs.declared.rule_fault.RuleFault.TheVariants.{Memory}
 use Rattle.rule_lang.specs.declared.lexer.Placed as the_placed
 use Rattle.rule_lang.specs.Named.{placed_all}
 use Rattle.rule_lang.specs.Lexed.{Placed}

@@ -1,6 +1,6 @@
 use Rattle.std.proofs.Common.{sym, subst}
 use Rattle.commands.specs.Outputs.{IsRefused}
-use Rattle.commands.specs.declared.fault.Fault.TheVariants.{Program}
+use Rattle.commands.specs.declared.command_fault.Fault.TheVariants.{Program}
 use Rattle.command_words.specs.declared.request.Command.{Command}
 use Rattle.commands.proofs.requests.output_of.Goals as goal
 

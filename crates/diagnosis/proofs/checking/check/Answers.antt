@@ -27,6 +27,7 @@ returns-in-Ok-clause-fails g c =
 pub returns-clause-fails : goal.returns-clause-fails
 returns-clause-fails g c =
     fails_early _ _ c.in-Err.refused_sources _
-    (subst (λ (old : List CellArray). IsSourcesRefusal old c.args.manifest.now c.in-Err.refused_sources)
+    (subst (λ (old : List CellArray). IsSourcesRefusal old c.args.manifest.now
+    c.in-Err.refused_sources)
     c.new-directory.ensures c.in-Err.ensures.fault) c.refuse_without_sources.ensures.fault
     c.refuse_without_sources.ensures.reported

@@ -1,6 +1,6 @@
 use Rattle.std.proofs.Common.{subst, sym}
 use Rattle.load.specs.Judged.{RefusesSources}
-use Rattle.load.specs.declared.fault.AppFault.{AppFault}
+use Rattle.load.specs.declared.load_fault.AppFault.{AppFault}
 use Rattle.diagnosis.specs.Further.JudgesApp.{supplied, refused}
 use Rattle.diagnosis.proofs.later_faults.fault_in.Goals as goal
 

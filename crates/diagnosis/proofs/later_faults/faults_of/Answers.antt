@@ -1,7 +1,7 @@
 use Rattle.std.proofs.Common.{List, arith}
 use Rattle.std.proofs.lemmas.Grind.{common_steps}
 use Rattle.diagnosis.specs.Further.{AreFaultsOf}
-use Rattle.load.specs.declared.fault.LoadFault.{LoadFault}
+use Rattle.load.specs.declared.load_fault.LoadFault.{LoadFault}
 use Rattle.diagnosis.proofs.AppWarnings.{first_rest, none_left}
 use Rattle.diagnosis.proofs.Judged.{judged_all, judged_more}
 use Rattle.diagnosis.proofs.later_faults.faults_of.Goals as goal

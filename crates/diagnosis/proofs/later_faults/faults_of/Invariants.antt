@@ -1,6 +1,6 @@
 use Rattle.std.proofs.Common.{◌≡◌, ◌+◌, ◌++◌, List, length}
 use Rattle.diagnosis.specs.Further.{AreFaultsOf}
-use Rattle.load.specs.declared.fault.LoadFault.{LoadFault}
+use Rattle.load.specs.declared.load_fault.LoadFault.{LoadFault}
 use Rattle.diagnosis.proofs.later_faults.faults_of.Given as goal
 
 -- the faults so far, followed by those of the apps that are left, are the faults of all

@@ -1,6 +1,7 @@
 use Rattle.std.proofs.Common.{◌∙◌, length, sym, ap, arith, rules}
 use Rattle.diagnosis.proofs.AppWarnings.{none_left}
-use Rattle.diagnosis.proofs.FaultReports.{all_reported, each_more, faults_more, none_reported, none_yet}
+use Rattle.diagnosis.proofs.FaultReports.{all_reported, each_more, faults_more, none_reported}
+use Rattle.diagnosis.proofs.FaultReports.{none_yet}
 use Rattle.diagnosis.proofs.refusal_report.tell_faults.Goals as goal
 
 pub loop-fault-init : goal.loop-fault-init

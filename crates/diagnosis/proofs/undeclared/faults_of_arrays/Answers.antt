@@ -1,7 +1,7 @@
 use Rattle.std.proofs.Common.{List, arith}
 use Rattle.std.proofs.lemmas.Grind.{common_steps}
 use Rattle.diagnosis.specs.Undeclared.{AreFaultsOfArrays}
-use Rattle.load.specs.declared.fault.LoadFault.{LoadFault}
+use Rattle.load.specs.declared.load_fault.LoadFault.{LoadFault}
 use Rattle.diagnosis.proofs.AppWarnings.{first_rest, none_left}
 use Rattle.diagnosis.proofs.Declared.{declared_all, declared_more}
 use Rattle.diagnosis.proofs.undeclared.faults_of_arrays.Goals as goal

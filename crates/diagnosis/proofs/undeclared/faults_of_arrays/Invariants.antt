@@ -1,6 +1,6 @@
 use Rattle.std.proofs.Common.{◌≡◌, ◌+◌, ◌++◌, List, length}
 use Rattle.diagnosis.specs.Undeclared.{AreFaultsOfArrays}
-use Rattle.load.specs.declared.fault.LoadFault.{LoadFault}
+use Rattle.load.specs.declared.load_fault.LoadFault.{LoadFault}
 use Rattle.diagnosis.proofs.undeclared.faults_of_arrays.Given as goal
 
 -- the faults so far, followed by those of the arrays that are left, are the faults of all

@@ -10,7 +10,8 @@ pub loop-left-preserved : goal.loop-left-preserved
 loop-left-preserved c = record {
   so_far = λ rest later.
       more_reported _ _ _ _ _ _ _ _ rest
-      (λ (t : List Warning). WarnsOfApps 1 whole_budget c.args.apps.now t) c.loop-left.invariant.so_far
+      (λ (t : List Warning). WarnsOfApps 1 whole_budget c.args.apps.now t)
+      c.loop-left.invariant.so_far
       c.in_ok-budget.ensures
       (first_rest c.loop-left.left.now c.app-item.result (omega arith) c.app-item.is) later;
   within = grind (arith, common_steps);

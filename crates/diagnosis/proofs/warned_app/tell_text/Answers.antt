@@ -6,9 +6,9 @@ use Rattle.diagnosis.proofs.warned_app.tell_text.Goals as goal
 pub returns : goal.returns
 returns c =
     added_rule c.args.number c.args.budget c.args.app.now _ c.in-Ok.spelled.now
-    (rule_of c.of-by_rule.result) c.in-Ok-parse.rule _ _ c.in_ok-left.left
+    (rule_of c.of-evaluated.result) c.in-Ok-parse.rule _ _ c.in_ok-left.left
     (sym c.in-Some.ensures) c.in-Ok.ensures.cases.0 c.in-Ok.ensures.cases.1
-    (c.of-by_rule.ensures.appid ∙ c.appid.ensures.appid) c.of-by_rule.ensures.shape
-    (c.of-by_rule.ensures.releases ∙ c.releases.ensures.releases)
-    (c.of-by_rule.ensures.rule ∙ c.statements.ensures) c.in-Ok-parse.ensures.rule
+    (c.of-evaluated.ensures.appid ∙ c.appid.ensures.appid) c.of-evaluated.ensures.shape
+    (c.of-evaluated.ensures.releases ∙ c.releases.ensures.releases)
+    (c.of-evaluated.ensures.rule ∙ c.statements.ensures) c.in-Ok-parse.ensures.rule
     c.in_ok-left.ensures.reported c.in_ok-left.ensures.budget

@@ -1,6 +1,6 @@
 use Rattle.std.proofs.Common.{◌<◌, take, arith}
 use Rattle.http_front.specs.Post.{head_limit}
-use Rattle.http_front.specs.declared.fault.PostFault.TheVariants as fault
+use Rattle.http_front.specs.declared.post_fault.PostFault.TheVariants as fault
 use Rattle.http_front.proofs.Reading.{begun_at, fault_at, long_at, ended_at, frugal_at}
 use Rattle.http_front.proofs.head.read_head.Goals as goal
 

@@ -12,7 +12,8 @@ returns-in_err-size g c =
     let fault = c.in_err-size.field-0.0 in
     let is : c.from_residual-in_err-size.result ≡ Err fault = search rules in
     rw is (record {
-      answers = refused_at _ _ _ _ _ fault here (sym c.requested_length.ensures.length ∙ c.in_err-size.was);
+      answers = refused_at _ _ _ _ _ fault here
+          (sym c.requested_length.ensures.length ∙ c.in_err-size.was);
       frugal = frugal_at head.found.filled (omega arith) fault;
       count = counts_head (Unit {0}) _ _ fault c.in_err-size.ensures.rule head.count;
     })
@@ -29,7 +30,8 @@ returns g c =
     let new = c.read_body.new.body.items in
     let body = c.read_body.ensures.body in
     record {
-      answers = body_at _ _ _ _ _ size _ (post_answer result (λ _. new)) here requested_length behind body;
+      answers = body_at _ _ _ _ _ size _ (post_answer result (λ _. new)) here requested_length
+          behind body;
       frugal = frugal_behind _ _ _ _ _ _ size _ result (λ _. new) here body;
       count =
           subst (λ (n : ℕ). CountsDevice n c.read_body.new.reader.failures result)

@@ -1,5 +1,5 @@
 use Rattle.std.proofs.Common.{Some, ap}
-use Rattle.bounded_files.specs.declared.kept.KeptBytes.{KeptBytes}
+use Rattle.bounded_files.specs.declared.kept_bytes.KeptBytes.{KeptBytes}
 use Rattle.load.proofs.Keeping.{longer_fault, whole_fault, whole_program}
 use Rattle.load.proofs.judging.judge_kept.Goals as goal
 

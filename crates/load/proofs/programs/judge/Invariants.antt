@@ -1,6 +1,6 @@
 use Rattle.std.proofs.Common.{ℕ, ◌+◌, ◌++◌, List, length}
 use Rattle.bpf_semantics.specs.Program.{ShapedProgram}
-use Rattle.load.specs.declared.fault.AppFault.{AppFault}
+use Rattle.load.specs.declared.load_fault.AppFault.{AppFault}
 use Rattle.load.specs.Judged.{AreJudged, IsFirstRefused}
 use Rattle.load.proofs.programs.judge.Given as goal
 

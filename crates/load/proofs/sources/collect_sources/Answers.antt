@@ -24,5 +24,6 @@ returns-in-Err-declare_arrays-clause-fault g c =
 
 pub returns-in-Err-collect_apps-clause-fault : goal.returns-in-Err-collect_apps-clause-fault
 returns-in-Err-collect_apps-clause-fault g c =
-    c.out_of_memory-in-Err-collect_apps.ensures.refused_sources c.args.directory.now c.args.manifest.now
+    c.out_of_memory-in-Err-collect_apps.ensures.refused_sources c.args.directory.now
+    c.args.manifest.now
     (c.in-Ok.manifest, c.in-Ok.ensures.manifest, c.into_parts-server.ensures.arrays)

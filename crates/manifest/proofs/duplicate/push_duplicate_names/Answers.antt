@@ -24,7 +24,8 @@ loop-left-preserved g c =
     let so = c.loop-left.invariant in
     record {
       so_far = next_reported g.N.Named.reported_as g.N.Named.name_of c.loop-left.duplicates.items
-          c.push_duplicate.new.duplicates.items _ list left c.split_at.result.0.now place item after is
+          c.push_duplicate.new.duplicates.items _ list left c.split_at.result.0.now place item
+          after is
           so.whole so.within c.split_at.ensures.front so.so_far c.in_ok-push_duplicate.ensures;
       whole = whole_next list left place item after is so.whole so.within;
       within = within_next left place (length list) item after is so.within;

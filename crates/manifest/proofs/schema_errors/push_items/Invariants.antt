@@ -10,7 +10,8 @@ invariant-loop-rest g l = record {
       ++ map g.R.ManifestRow.reported_as
       (schema_errors_from g.R.TableRow.row_of l.number (map view l.rest))
       ≡ l.initial.schema_errors.items
-      ++ map g.R.ManifestRow.reported_as (schema_errors_from g.R.TableRow.row_of 1 (map view l.items));
+      ++ map g.R.ManifestRow.reported_as
+      (schema_errors_from g.R.TableRow.row_of 1 (map view l.items));
   within : l.number + length l.rest ≡ 1 + length l.items;
 }
 

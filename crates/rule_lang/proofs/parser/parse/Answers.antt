@@ -1,12 +1,12 @@
 use Rattle.std.proofs.Common.{rules, arith, ◌≡◌, ◌<◌, ◌≤◌, length, List, Ok, inr, true}
-use Rattle.rule_lang.specs.declared.fault.RuleFault.{RuleFault}
+use Rattle.rule_lang.specs.declared.rule_fault.RuleFault.{RuleFault}
 use Rattle.rule_lang.specs.declared.rule.Statement.{Statement}
 use Rattle.rule_lang.specs.Lexed.{Lexed, tokens_in}
 use Rattle.rule_lang.specs.Named.{placed_all}
 use Rattle.rule_lang.specs.Reader.Reading.{Reads, first_draft}
 use Rattle.rule_lang.specs.Reader.Results.{IsReadFault}
 use Rattle.rule_lang.specs.Verdicts.{IsVerdict, IsRuleFault, too_long}
-use Rattle.rule_lang.proofs.Laws.{spelled}
+use Rattle.rule_lang.proofs.Verdicts.{spelled}
 use Rattle.rule_lang.specs.Fits.{fits}
 use Rattle.rule_lang.proofs.PhraseFitting.{rule_fits}
 use Rattle.rule_lang.proofs.Parsing.{token_fault, read_fault, ok_then, err_then}

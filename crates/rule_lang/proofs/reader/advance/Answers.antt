@@ -10,5 +10,6 @@ returns-clause-next c =
     let back = c.in_ok-behind.behind.now in
     let read : ◌≡◌ {A = Next} (next c.args.shape.now (draft_as_lists c.args.draft.now) (placed_all
     rest)) (Ok (draft_as_lists c.read_next.new.draft, placed_all back)) = search rules in
-    next_place c.args.shape.now (draft_as_lists c.args.draft.now) (draft_as_lists c.read_next.new.draft)
+    next_place c.args.shape.now (draft_as_lists c.args.draft.now)
+    (draft_as_lists c.read_next.new.draft)
     c.args.tokens.now rest back c.args.place c.requires.sound c.split_at.ensures.back read

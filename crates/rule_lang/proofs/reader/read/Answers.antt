@@ -1,6 +1,6 @@
 use Rattle.std.proofs.Common.{rules, arith, ◌≡◌, Ok, Err, Some, None, Option, true, false, drop}
 use Rattle.std.proofs.Common.{sym, subst, inr}
-use Rattle.rule_lang.specs.declared.fault.RuleFault.{RuleFault}
+use Rattle.rule_lang.specs.declared.rule_fault.RuleFault.{RuleFault}
 use Rattle.rule_lang.specs.Named.{draft_as_lists, placed_all}
 use Rattle.rule_lang.specs.Reader.Reading.{Draft, Next, next, Reads, goes_on, first_draft, is_done}
 use Rattle.rule_lang.specs.Reader.Sound.{IsSound}

@@ -9,6 +9,7 @@ use Rattle.rule_lang.proofs.reader.read_operator.Goals as goal
 pub read_offer-requires : goal.read_offer-requires
 read_offer-requires c = λ clean.
     let p = pending_as_lists c.args.draft.now.condition in
-    let ended : (p.below ≡ []) × (pending_as_lists c.end.new.pending ≡ term_done p) = search rules in
+    let ended : (p.below ≡ []) × (pending_as_lists c.end.new.pending ≡ term_done p) =
+    search rules in
     subst (λ (xs : List Step). IsCondition xs) (sym (ap (λ (q : Pending). q.steps) ended.1))
     (ends_whole p (c.requires.sound clean) ended.0)

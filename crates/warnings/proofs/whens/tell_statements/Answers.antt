@@ -1,12 +1,14 @@
 use Rattle.std.proofs.Common.{arith, false, get_or}
 use Rattle.warnings.specs.Evaluation.{rule_of}
-use Rattle.warnings.proofs.Reported.{all_reported, first_got, first_rest, next_reported, none_left, none_reported}
+use Rattle.warnings.proofs.Reported.{all_reported, first_got, first_rest, next_reported, none_left}
+use Rattle.warnings.proofs.Reported.{none_reported}
 use Rattle.warnings.proofs.whens.tell_statements.Goals as goal
 
 pub loop-left-init : goal.loop-left-init
 loop-left-init c = λ spots marked.
     rw (c.as_slice-reached.ensures.value, c.as_slice-ends.ensures.value)
-    (none_reported c.args.app (rule_of c.args.evaluated.now) spots c.args.warnings.now.items _ _ marked)
+    (none_reported c.args.app (rule_of c.args.evaluated.now) spots c.args.warnings.now.items _
+    _ marked)
 
 pub loop-left-preserved : goal.loop-left-preserved
 loop-left-preserved c = λ spots marked.

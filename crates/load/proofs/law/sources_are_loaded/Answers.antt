@@ -1,5 +1,0 @@
-use Rattle.load.proofs.Gathers.{sources_are_loaded}
-use Rattle.load.proofs.law.sources_are_loaded.Goals as goal
-
-pub returns : goal.returns
-returns c = sources_are_loaded

@@ -1,5 +1,0 @@
-use Rattle.load.proofs.Making.{sources_are_made}
-use Rattle.load.proofs.law.sources_are_made.Goals as goal
-
-pub returns : goal.returns
-returns c = sources_are_made

@@ -1,5 +1,0 @@
-use Rattle.warnings.proofs.AllNamed.{all_named}
-use Rattle.warnings.proofs.law.warnings_are_named.Goals as goal
-
-pub returns : goal.returns
-returns c = all_named
