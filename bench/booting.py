@@ -188,13 +188,34 @@ def wrong_ends(it):
             return f"{words}: {found}"
 
 
+def wrong_guard(it):
+    """With rollout-nft a server starts only if the rules are loaded, and a restart of rollout-nft
+    doesn't restart the server."""
+    stub = 'printf "#!/bin/sh\\nexec $0\\n" > /usr/sbin/nft && chmod 755 /usr/sbin/nft'
+    it.call("sh", "-c", stub, "false")
+    it.call("systemctl", "enable", "rollout-nft")
+    it.call("systemctl", "reset-failed")
+    found = it.call("systemctl", "start", "rollout")
+    if found[0] == 0 or it.told("ActiveState") != "inactive" or it.is_asked():
+        return f"without its rules it starts: {found}"
+    it.call("sh", "-c", stub, "true")
+    if wrong := it.started():
+        return f"with its rules: {wrong}"
+    process = it.told("MainPID")
+    if (found := it.call("systemctl", "restart", "rollout-nft"))[0] != 0:
+        return f"no restart of rollout-nft: {found}"
+    if it.told("MainPID") != process or not it.is_asked():
+        return "a restart of rollout-nft restarts the server"
+    it.call("systemctl", "stop", "rollout")
+
+
 def booted_unit(folder):
     """The unchanged unit, run by systemd."""
     needs("unshare", "nsenter", "ip", "setpriv", "curl", "systemctl", "systemd-sysusers", FIRST)
     needs_root()
     with booted(folder) as into:
         it = Booted(into)
-        return wrong_start(it) or wrong_places(it) or wrong_ends(it)
+        return wrong_start(it) or wrong_places(it) or wrong_ends(it) or wrong_guard(it)
 
 
 BOOTED = {"examples/deploy: the unit, run by a systemd of its own": booted_unit}
