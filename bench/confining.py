@@ -147,16 +147,23 @@ def image(host):
     def words(name):
         return json.loads(re.search(rf"^{name}\b.*?(\[.*\])$", text, re.M)[1])
 
-    [entry], health = words("ENTRYPOINT"), words("HEALTHCHECK")
-    entry = host.file(entry)
+    [name] = words("ENTRYPOINT")
+    entry = host.top / "opt" / "rollout" / "bin" / name
+    host.file(name).rename(entry)
     entry.chmod(0o755)
-    return [str(entry), *words("CMD")], [program_of(host), *health[1:]]
+    return [str(entry), *words("CMD")], words("HEALTHCHECK")
 
 
-def wrong_alone(host, words, healthy):
+def is_healthy(host, health, number):
+    """Whether the image's health check succeeds, within the namespaces of the first process."""
+    path = f"PATH={host.top / 'opt' / 'rollout' / 'bin'}:{os.environ['PATH']}"
+    return called("nsenter", "-t", str(number), "-p", "-m", "env", path, *health)[0] == 0
+
+
+def wrong_alone(host, words, health):
     """As the first process the program ignores SIGTERM and SIGINT, as the page says."""
     with first(host, ["rollout", "serve", *words]) as (process, number):
-        if not awaited(lambda: called(*healthy)[0] == 0):
+        if not awaited(lambda: is_healthy(host, health, number)):
             return "the program alone doesn't serve"
         for it in (signal.SIGTERM, signal.SIGINT):
             os.kill(number, it)
@@ -168,11 +175,13 @@ def wrong_alone(host, words, healthy):
             return f"{stop}: the program alone ends with {process.returncode}"
 
 
-def wrong_entry(host, entry, healthy):
+def wrong_entry(host, entry, health):
     """The script finishes the request in progress, and ends with the server's status."""
+    # With another operator's port than that of the image.
+    entry = [PORTS["8091"] if it == PORTS["8081"] else it for it in entry]
     for it in (signal.SIGTERM, signal.SIGINT):
         with first(host, entry) as (process, number), contextlib.ExitStack() as rest_of:
-            if not awaited(lambda: called(*healthy)[0] == 0):
+            if not awaited(lambda: is_healthy(host, health, number)):
                 return "by the entry script it doesn't serve"
             slow = rest_of.enter_context(connect())
             slow.sendall(HEAD.encode())
@@ -205,14 +214,14 @@ def wrong_early(host, entry):
 
 def entry_script(folder):
     """entry.sh with the image's words, as the first process of a container."""
-    needs("unshare", "pgrep")
+    needs("unshare", "nsenter", "pgrep")
     if called("unshare", "--pid", "--fork", "--mount-proc", "true")[0] != 0:
         raise Skipped("no processes of their own for this user")
     host = Host(folder / "image")
-    entry, healthy = image(host)
+    entry, health = image(host)
     return (
-        wrong_alone(host, entry[1:], healthy)
-        or wrong_entry(host, entry, healthy)
+        wrong_alone(host, entry[1:], health)
+        or wrong_entry(host, entry, health)
         or wrong_early(host, entry)
     )
 

@@ -3,13 +3,24 @@
 # a process no default action for a signal, so by itself the server would ignore SIGTERM, by which a
 # container is stopped. Here SIGTERM and SIGINT do what `rollout stop --wait` does: all accepted
 # connections are answered, and then the container ends.
-set -u
-operator= before=
-for word; do
-    [ "$before" = --operator ] && operator=$word
-    case $word in --operator=*) operator=${word#*=} ;; esac
-    before=$word
-done
+#
+# `entry.sh --health` calls `rollout show` at the operator's port of the first process.
+set -fu
+
+# The operator's port that these arguments name.
+operator_of() {
+    before=
+    for word; do
+        [ "$before" = --operator ] && echo "$word"
+        case $word in --operator=*) echo "${word#*=}" ;; esac
+        before=$word
+    done
+}
+
+if [ "$*" = --health ]; then
+    exec rollout show --operator "$(operator_of $(tr '\0' ' ' </proc/1/cmdline))"
+fi
+operator=$(operator_of "$@")
 
 rollout serve "$@" &
 server=$!
