@@ -114,8 +114,9 @@ def site_of_nginx(folder):
         with host.started(host.file("rollout.service")):
             if wrong := wrong_answers(host):
                 return wrong
-        if proxied(host, "/healthz", [], "")[0] != "502":
-            return "healthy without a server"
+        last, others = proxied(host, "/healthz?[1-30]", ["-o", "/dev/null"], "")
+        if others.split()[:1] != ["502"] or last != "429":
+            return f"thirty health checks at once, without a server: {others.split()} {last}"
 
 
 BALANCER = [("10.0.0.0/8", "127.0.0.0/8"), ("#set_real_ip_from", "set_real_ip_from")]
