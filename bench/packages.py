@@ -1,10 +1,11 @@
 """Checks what ./build delivers: an install, an archive and a Debian package, made from scratch
-repositories whose toolchain proves nothing. It also installs this repository's package on this
-host.
+repositories whose toolchain proves nothing. It also installs this repository's package in a
+copy-on-write root over this host's files.
 
 Each check returns nothing, or what was wrong. If a command isn't installed, the check is skipped
 with that name.
 """
+import contextlib
 import os
 import re
 import shutil
@@ -15,7 +16,7 @@ import tarfile
 from pathlib import Path
 
 from asking import program_of
-from hosts import DEPLOY, Skipped, called, needs
+from hosts import DEPLOY, Skipped, called, needs, needs_root
 from launching import BARE, BUILT_FROM, HELP, ROOT, Repository
 
 SHARED = ["README.md", "CHANGELOG.md", "VERSION", "built-from"]
@@ -27,6 +28,13 @@ INSTALLED |= {f"share/rollout/{it}" for it in SHARED}
 RUNS = [(["stop", ""], "<rollout><stop><>"), (["ask"], "<rollout-tools><ask>")]
 RUNS += [(["frob"], "<rollout><frob>"), ([], "<rollout>"), (["--version"], BUILT_FROM)]
 PORTS = [18098, 18099]
+FOLDERS = ["etc/rollout", "var/log/rollout"]
+UNITS = ["rollout.service", "rollout@.service", "rollout-nft.service"]
+UNITS = [f"usr/lib/systemd/system/{it}" for it in UNITS]
+# What else a purge removes.
+MADE = ["usr/bin/rollout", "usr/share/rollout", "var/log/rollout"]
+MADE += ["etc/systemd/system/multi-user.target.wants/rollout.service"]
+NO_LOGIN = ["/", "/usr/sbin/nologin\n"]
 
 
 def tree(folder):
@@ -111,7 +119,6 @@ def archives(folder):
         return f"{files(place)}"
     called("dpkg-deb", "--extract", str(place / package), str(place / "deb"))
     more = {f"lib/systemd/system/{it.name}" for it in DEPLOY.glob("*.service")}
-    more |= {f"lib/{it}.d/rollout.conf" for it in ("sysusers", "tmpfiles")}
     more |= {"share/doc/rollout/copyright"}
     if files(place / "deb" / "usr") != INSTALLED | more:
         return f"{files(place / 'deb')}"
@@ -125,9 +132,37 @@ def request(port):
         return stream.makefile().read()
 
 
-def served(manifest):
+# Makes of the empty folder $1 a copy-on-write root over this host's files, without the commands of
+# systemd that make users and folders.
+ROOT_OF_ITS_OWN = """
+mount -t tmpfs tmpfs "$1" && mkdir "$1/up" "$1/work" "$1/new"
+mount -t overlay -o lowerdir=/,upperdir="$1/up",workdir="$1/work" overlay "$1/new"
+cd "$1/new"
+for it in dev proc sys; do mount --rbind /$it $it; done
+mount -t tmpfs tmpfs run && mount -t tmpfs -o mode=1777 tmpfs tmp
+rm -rf etc/rollout var/log/rollout usr/bin/systemd-sysusers usr/bin/systemd-tmpfiles
+exec chroot . sh -c 'echo ready && exec sleep 600'
+"""
+
+
+@contextlib.contextmanager
+def root_of_its_own(folder):
+    """The words that run a command in this root, and the root's path from outside."""
+    words = ["unshare", "--mount", "sh", "-ec", ROOT_OF_ITS_OWN, "root", str(folder)]
+    folder.mkdir()
+    with subprocess.Popen(words, stdout=subprocess.PIPE, stderr=subprocess.PIPE, text=True) as it:
+        try:
+            if it.stdout.readline() != "ready\n":
+                raise Skipped(f"no root of its own: {it.stderr.read().strip()}")
+            into = ["nsenter", "-t", str(it.pid), "-m", "-r", "-w", "env", "-i"]
+            yield [*into, "PATH=/usr/sbin:/usr/bin:/sbin:/bin"], Path(f"/proc/{it.pid}/root")
+        finally:
+            it.kill()
+
+
+def served(into, manifest):
     """What is wrong with the installed programs, run as the package's user."""
-    user = ["setpriv", "--reuid=rollout", "--regid=rollout", "--clear-groups"]
+    user = [*into, "setpriv", "--reuid=rollout", "--regid=rollout", "--clear-groups"]
     checked = called(*user, "rollout", "check", manifest)
     if checked[0] != 0 or "\ndigest " not in checked[1]:
         return f"{checked}"
@@ -139,7 +174,7 @@ def served(manifest):
         if server.stdout.readline() != "serving generation 1\n":
             return "it doesn't serve"
         found = request(PORTS[0])
-        stop = called("rollout", "stop", "--operator", str(PORTS[1]), "--wait")
+        stop = called(*into, "rollout", "stop", "--operator", str(PORTS[1]), "--wait")
         if '"version":"2.0.4"' not in found or stop != (0, "stopping\n") or server.wait(30) != 0:
             return f"{found} {stop}"
     finally:
@@ -147,37 +182,47 @@ def served(manifest):
         server.wait()
 
 
+def wrong_package(into, root):
+    """What is wrong with the installed package: its user, its folders, its units, its server."""
+    for it in FOLDERS:
+        if not (root / it).is_dir():
+            return f"no folder {it}"
+    if called(*into, "getent", "passwd", "rollout")[1].split(":")[-2:] != NO_LOGIN:
+        return f"no user: {called(*into, 'getent', 'passwd', 'rollout')}"
+    # The third unit's command may not be installed here.
+    found = called(*into, "systemd-analyze", "verify", "--man=no", *(f"/{it}" for it in UNITS[:2]))
+    if found != (0, "") or called(*into, "systemctl", "enable", "rollout")[0] != 0:
+        return f"its units: {found}"
+    for it in (ROOT / "examples" / "staged").iterdir():
+        shutil.copy(it, root / "etc" / "rollout")
+    return served(into, "/etc/rollout/manifest.toml")
+
+
 def package(folder):
-    """The package of this repository: installed on this host, served from, and removed."""
-    needs("dpkg", "dpkg-deb", "systemd-sysusers", "systemd-tmpfiles", "setpriv")
-    if os.geteuid() != 0:
-        raise Skipped("not root")
-    if any(Path(it).exists() for it in ("/usr/bin/rollout", "/etc/rollout", "/var/log/rollout")):
-        raise Skipped("a rollout is installed here")
+    """The package of this repository, without systemd: installed, served from, installed again, and
+    purged, which leaves the manifests."""
+    needs("dpkg", "dpkg-deb", "unshare", "nsenter", "setpriv", "systemctl")
+    needs_root()
     built = called(sys.executable, str(ROOT / "build"), "--deb", str(folder))
+    if built[0] != 0:
+        return f"not built: {built}"
     [file] = folder.glob("rollout_*_amd64.deb")
-    if built[0] != 0 or called("dpkg", "--install", str(file))[0] != 0:
-        return f"not installed: {built}"
-    try:
-        for it in (ROOT / "examples" / "staged").iterdir():
-            shutil.copy(it, "/etc/rollout")
-        names = ["rollout.service", "rollout@.service", "rollout-nft.service"]
-        units = [f"/usr/lib/systemd/system/{it}" for it in names]
-        # The third unit's command may not be installed here.
-        found = called("systemd-analyze", "verify", "--man=no", *units[:2])
-        wrong = served("/etc/rollout/manifest.toml") or (None if found == (0, "") else f"{found}")
-    finally:
-        removed = called("dpkg", "--purge", "rollout")
-        shutil.rmtree("/etc/rollout", ignore_errors=True)
-    if wrong or removed[0] != 0:
-        return wrong or f"not removed: {removed}"
-    left = ["/usr/bin/rollout", "/usr/share/rollout", "/var/log/rollout", *units]
-    left = [it for it in left if Path(it).exists()]
-    return f"left behind: {left}" if left else None
+    with root_of_its_own(folder / "root") as (into, root):
+        shutil.copy(file, root / "tmp" / "rollout.deb")
+        for _ in range(2):
+            if (found := called(*into, "dpkg", "--install", "/tmp/rollout.deb"))[0] != 0:
+                return f"not installed: {found}"
+            if wrong := wrong_package(into, root):
+                return wrong
+        if (found := called(*into, "dpkg", "--purge", "rollout"))[0] != 0:
+            return f"not removed: {found}"
+        left = [it for it in [*UNITS, *MADE] if os.path.lexists(root / it)]
+        if left or not (root / "etc" / "rollout" / "manifest.toml").exists():
+            return f"left behind: {left}, or no manifest is left"
 
 
 PACKAGES = {
     "./build --install": installs,
     "./build --archive and --deb": archives,
-    "the package, on this host": package,
+    "the package, without systemd": package,
 }

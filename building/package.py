@@ -16,6 +16,8 @@ from building.version import first_line, number
 DEBIAN = ROOT / "packaging"
 DEPLOY = ROOT / "examples" / "deploy"
 UNITS = ["rollout.service", "rollout@.service", "rollout-nft.service"]
+# The folders of the manifests and of the unit's log, which dpkg makes.
+FOLDERS = ["etc/rollout", "var/log/rollout"]
 
 
 def moment():
@@ -72,11 +74,11 @@ def unit(name):
 def lay_out(tree):
     """The files of the package at their places, and the files for dpkg."""
     copy_all(tree / "usr")
+    for it in FOLDERS:
+        (tree / it).mkdir(parents=True)
     texts = {it.name: it.read_text() for it in DEBIAN.iterdir()}
     places = {
         **{f"usr/lib/systemd/system/{name}": unit(name) for name in UNITS},
-        "usr/lib/sysusers.d/rollout.conf": (DEPLOY / "rollout.sysusers").read_text(),
-        "usr/lib/tmpfiles.d/rollout.conf": texts.pop("tmpfiles"),
         "usr/share/doc/rollout/copyright": texts.pop("copyright"),
         "etc/logrotate.d/rollout": (DEPLOY / "rollout.logrotate").read_text(),
         **{f"DEBIAN/{name}": text for name, text in texts.items()},
