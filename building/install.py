@@ -102,8 +102,10 @@ def set_in_place(place, undo):
 
 
 def cause(error):
-    """The first of several faults in the copy of a folder."""
-    return error.args[0][0][2] if isinstance(error.args[0], list) else error
+    """The path and the reason; of several faults in the copy of a folder, the first."""
+    if isinstance(error.args[0], list):
+        return error.args[0][0][2]
+    return f"{error.filename}: {error.strerror}" if error.filename else error
 
 
 def copy_all(folder):
