@@ -18,8 +18,8 @@ second_of_digits text = option_map (λ second. pos second) (decimal_within 0 las
 abbrev pub second_in : Text → Option ℤ
 second_in text = option_or (second_of_digits text) (second_of_time text)
 
--- the day of `--today`, and day 0 without it
-abbrev pub day_by : (today : Option Text) → Option ℕ
+-- the day of an option, and day 0 without it
+abbrev pub day_by : Option Text → Option ℕ
 day_by None = Some 0
 day_by (Some text) = day_in 2919382 text
 

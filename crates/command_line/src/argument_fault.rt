@@ -12,6 +12,7 @@ pub enum ArgumentFault {
     /// `--at` and `--today` are both given.
     AtAndToday,
     Installed,
+    From,
     Attributes,
     /// The attributes name a client, and a simulation is for all of them.
     OneClient,
@@ -45,6 +46,9 @@ impl ArgumentFault {
             ArgumentFault::AtAndToday => "'--at' and '--today' can't be given together",
             ArgumentFault::Installed => {
                 "'--installed' wants a day from 0 to 4294967294, or a date from 2007-01-01 on"
+            }
+            ArgumentFault::From => {
+                "'--from' wants a day from 0 to 2919382, or a date from 2007-01-01 to 9999-12-31"
             }
             ArgumentFault::Attributes => {
                 "'--attr' wants NAME=TEXT: appid, brand, ap, lang, cohort or platform, each once"

@@ -18,6 +18,7 @@ Serve and operate:
 Manifests and rules:
   check     Check manifests, and show what they declare or why they are refused
   simulate  Count how many of the 10000 buckets get which release by a manifest
+  diff      Show what changes from one manifest to another, and for which machines
   ask       Print the reply that a server of a manifest would send to a request
   report    Count the requests, offers, installs and refusals in a server's log
   replay    Play a script of runs and changes of manifest, without a server

@@ -36,7 +36,7 @@ pub use fault::WordsFault;
 pub use matches::read_matches;
 pub use row::{CommandRow, command_found};
 pub use run_args::{RunArgs, read_run};
-pub use second::second_of;
+pub use second::{from_of, second_of};
 pub use shared_arguments::{
     ARRAYS, AT, ATTR, BUCKET, BYTES, EVENT, INSTALLED, MANIFEST, OPERATOR, PING, PORTS, PROGRAM,
     RELEASES, TODAY, VERSION,

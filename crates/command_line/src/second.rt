@@ -1,6 +1,6 @@
 //! The moment that the options name, as a Unix second.
 
-ghost use Rattle.std.specs.Prelude.{◌≡◌, ◌≤◌, IfSome, codes, option_copied};
+ghost use Rattle.std.specs.Prelude.{◌≡◌, ◌≤◌, IfOk, IfSome, codes, option_copied};
 ghost use Rattle.std.specs.Result.{result_ok};
 ghost use Rattle.clap.specs.Words.{first_of, found_of, rows_of};
 ghost use Rattle.command_line.specs.Seconds as specs;
@@ -29,12 +29,12 @@ fn second_in(text: &str) -> Option<Moment>
     }
 }
 
-// The day of `--today`; day 0 without it.
-fn day_by(today: Option<&str>) -> Option<u32>
-    ensures day { result ≡ specs.day_by (option_copied today.entry) }
+// The day of an option; day 0 without it.
+fn day_by(text: Option<&str>) -> Option<u32>
+    ensures day { result ≡ specs.day_by (option_copied text.entry) }
     ensures limit { IfSome result (λ day. day ≤ 2919382) }
 {
-    match today {
+    match text {
         Some(text) => day_in(Elapsed::LAST_DAY, text),
         None => Some(0),
     }
@@ -86,5 +86,19 @@ fn second_by(text: Option<&str>) -> Result<Option<Moment>, ArgsError>
             None => Err(ArgsError::Wrong(ArgumentFault::At)),
         },
         None => Ok(None),
+    }
+}
+
+// ---- days
+
+/// The day of `--from`; day 0 without it.
+pub fn from_of(found: &ArgMatches<'_>) -> Result<u32, ArgsError>
+    ensures day { result_ok result
+        ≡ specs.day_by (first_of (codes "from") (rows_of (found_of found.now))) }
+    ensures limit { IfOk result (λ day. day ≤ 2919382) }
+{
+    match day_by(optional_text(found, "from")) {
+        Some(day) => Ok(day),
+        None => Err(ArgsError::Wrong(ArgumentFault::From)),
     }
 }

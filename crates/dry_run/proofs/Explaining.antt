@@ -13,7 +13,8 @@ use Rattle.attrs.specs.declared.facts.RequestFacts.{RequestFacts}
 use Rattle.ruleset.specs.Rules.{AppRule, Rules, IsApp, ListsApp, app_in, app_of}
 use Rattle.dry_run.specs.AppLines.{head_line, offer_line, unasked_line, unknown_line}
 use Rattle.dry_run.specs.Courses.{TellsCourse}
-use Rattle.dry_run.specs.Meanings.{HasMeaning, HaveMeanings, KnownRule, known_rule_of}
+use Rattle.app_rules.specs.Rules.{KnownRule}
+use Rattle.dry_run.specs.Meanings.{HasMeaning, HaveMeanings, known_rule_of}
 use Rattle.dry_run.specs.Meanings.{no_meaning, next_meaning}
 use Rattle.dry_run.specs.Why.{ExplainsAll, ExplainsApp, ExplainsApps, ExplainsOne}
 use Rattle.dry_run.specs.Why.{ExplainsRequest}

@@ -3,7 +3,6 @@ mod Requests
 mod Sending
 mod Finding
 mod Opening
-mod Spelled
 mod WholeRuns
 mod Noted
 mod MembersNoted

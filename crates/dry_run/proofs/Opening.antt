@@ -1,15 +1,14 @@
 -- Files give no ruleset or no body; and a manifest's files give the rules of its apps.
 use Rattle.std.proofs.Common.{◌≡◌, ◌∙◌, ℕ, List, [], Option, Some, None, ap, sym, subst}
+use Rattle.app_rules.specs.Rules.{AreRulesKept, AreRulesOf, IsRuleKept, KnownRule}
+use Rattle.app_rules.specs.Rules.{no_rule, next_rule}
 use Rattle.bounded_files.specs.Files.{KnownFiles, Gives, regular_files}
 use Rattle.bounded_files.specs.declared.resource_fault.ResourceFault.TheVariants.{File}
 use Rattle.bounded_files.specs.declared.resource_fault.ResourceFault.TheVariants as resource
 use Rattle.bpf_semantics.specs.Program.{ShapedProgram}
-use Rattle.cells.specs.Arrays.{AppShape}
 use Rattle.cells.specs.declared.array.CellArray.{CellArray}
-use Rattle.acceptance.specs.Rule.{IsTextOf}
 use Rattle.load.specs.Sources.{AreSources}
-use Rattle.load.specs.Judged.{AreJudged, apps_of, no_program, next_program}
-use Rattle.load.specs.Kept.{IsProgramKept}
+use Rattle.load.specs.Judged.{apps_of}
 use Rattle.load.specs.Folder.{known_beside}
 use Rattle.load.specs.Loaded.{IsLoadedFrom}
 use Rattle.load.specs.Made.{SourcesAreMade, IsMadeFrom, IsMadeOf}
@@ -22,11 +21,9 @@ use Rattle.manifest.specs.declared.app.ProgramSource.{ProgramSource}
 use Rattle.manifest.specs.declared.app.ProgramSource.TheVariants as source
 use Rattle.ruleset.specs.Rules.{AppRule, Rules}
 use Rattle.dry_run.specs.Files.{IsBodyFault, IsBodyIn, ComesToRuleset, IsOpenFault}
-use Rattle.dry_run.specs.KeptRules.{AreReadFrom, IsReadOf, nothing_read, next_read}
-use Rattle.dry_run.specs.Meanings.{AreOpenedWhy, AreRulesKept, HasMeaning, HaveMeanings}
+use Rattle.dry_run.specs.Meanings.{AreOpenedWhy, HasMeaning, HaveMeanings}
 use Rattle.dry_run.specs.Meanings.{IsLoadedWhy, OpensTheSame, made_in}
-use Rattle.dry_run.specs.Meanings.{IsRuleKept, KnownRule, no_meaning, next_meaning, no_rule}
-use Rattle.dry_run.specs.Meanings.{next_rule}
+use Rattle.dry_run.specs.Meanings.{no_meaning, next_meaning}
 use Rattle.dry_run.specs.declared.fault.DryRunFault.{DryRunFault}
 use Rattle.dry_run.specs.declared.fault.DryRunFault.TheVariants as fault
 use Rattle.dry_run.specs.declared.why_files.OpenedWhy.{OpenedWhy}
@@ -74,27 +71,6 @@ opens_the_same makes known manifest request o is = record {
   short = is.read.short;
 }
 
--- ---- the rule of an app
-
-rule_from : (from : ProgramSource) (kept : Option KeptBytes) (shape : AppShape)
-    (program : ShapedProgram) (rule : KnownRule) → IsProgramKept from kept program
-    → program.shape ≡ shape
-    → IsReadOf from kept shape rule → IsRuleKept from kept program rule
-rule_from (source.Program file) kept shape program rule is same read = read
-rule_from (source.Rule file) None shape program rule is same read = absurd is
-rule_from (source.Rule file) (Some (Longer v n is_text)) shape program rule is same read = absurd is
-rule_from (source.Rule file) (Some (Whole v)) shape program rule is same read = (
-  is,
-  read is.rule (subst (λ (s : AppShape). IsTextOf v.items s is.rule) same is.text),
-)
-
-pub rules_in : {apps : List AppSources} {programs : List ShapedProgram} {rules : List KnownRule}
-    → AreJudged apps programs → AreReadFrom apps rules → AreRulesKept apps programs rules
-rules_in no_program nothing_read = no_rule
-rules_in (next_program {app} {program} judged others) (next_read {rule} read more) =
-    next_rule (rule_from app.entry.source app.kept app.shape program rule judged.program_is
-    judged.shape_is read) (rules_in others more)
-
 -- ---- what they mean
 
 has_meaning : (from : ProgramSource) (kept : Option KeptBytes) (program : ShapedProgram)
@@ -117,7 +93,7 @@ have_meanings (next_rule {app} {program} {rule} is more) =
 pub loaded : (known : KnownFiles) (path bytes : List ℕ) (g : Sources) (made : LoadedRuleset)
     (rules : List KnownRule) → Gives (regular_files known) path (Some bytes)
     → AreSources (known_beside known path) [] bytes g → IsMadeOf bytes g made
-    → AreReadFrom g.apps.items rules → IsLoadedWhy known path made rules
+    → AreRulesOf g.apps.items rules → IsLoadedWhy known path made rules
 loaded known path bytes g made rules given is of read = record {
   made_from = record {
     bytes = bytes;
@@ -126,7 +102,7 @@ loaded known path bytes g made rules given is of read = record {
     are_sources = is;
     made_of = of;
   };
-  rules_are = rules_in of.judged read;
+  rules_are = read.kept of.programs of.judged;
 }
 
 -- the parts of what is opened
@@ -156,8 +132,8 @@ opened_why known manifest request made o rules arrays digest is read = record {
 }
 
 pub loaded_meanings : (bytes : List ℕ) (g : Sources) (made : LoadedRuleset)
-    (rules : List KnownRule) → IsMadeOf bytes g made → AreReadFrom g.apps.items rules
+    (rules : List KnownRule) → IsMadeOf bytes g made → AreRulesOf g.apps.items rules
     → HaveMeanings made.rules.apps rules
 loaded_meanings bytes g made rules of read =
     subst (λ (apps : List AppRule). HaveMeanings apps rules) (sym of.apps_are)
-    (have_meanings (rules_in of.judged read))
+    (have_meanings (read.kept of.programs of.judged))

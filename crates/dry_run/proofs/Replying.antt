@@ -14,7 +14,7 @@ use Rattle.omaha_json.specs.Reply.{reply_text}
 use Rattle.ruleset.specs.Rules.{Rules}
 use Rattle.told_cells.specs.Assignments.{Assignment}
 use Rattle.dry_run.specs.Counters.{AreSetAsTold, with_cells, with_known}
-use Rattle.dry_run.specs.Meanings.{KnownRule}
+use Rattle.app_rules.specs.Rules.{KnownRule}
 use Rattle.dry_run.specs.Reply.{RepliesToBodyOn}
 use Rattle.dry_run.specs.Why.{ExplainsApp, ExplainsApps, TellsTheReply}
 use Rattle.dry_run.specs.Why.{not_known, not_asked, was_run, no_reason, next_reason}

@@ -8,6 +8,5 @@ pub mod AppLines
 pub mod IgnoredLines
 pub mod Noted
 pub mod Meanings
-pub mod KeptRules
 pub mod Courses
 pub mod Why

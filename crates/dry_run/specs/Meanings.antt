@@ -1,26 +1,16 @@
 -- The rules of a ruleset's apps, as the files of its manifest spell them.
-use Rattle.std.specs.Prelude.{◌≡◌, ℕ, List, [], ◌∷◌, Option, Some, None, if◌then◌else◌}
+use Rattle.std.specs.Prelude.{ℕ, List, [], ◌∷◌, Some, None, if◌then◌else◌}
 use Rattle.std.specs.Str.{bytes_eq}
+use Rattle.app_rules.specs.Rules.{AreRulesKept, KnownRule}
 use Rattle.attrs.specs.Attributes.{Attributes}
-use Rattle.acceptance.specs.Rule.{IsProgramOfRule}
 use Rattle.bounded_files.specs.Files.{KnownFiles}
 use Rattle.bpf_semantics.specs.Program.{ShapedProgram}
 use Rattle.load.specs.Made.{IsMadeFrom}
-use Rattle.load.specs.declared.sources.AppSources.{AppSources}
-use Rattle.bounded_files.specs.declared.kept_bytes.KeptBytes.{KeptBytes}
-use Rattle.bounded_files.specs.declared.kept_bytes.KeptBytes.TheVariants.{Whole}
 use Rattle.ruleset.specs.declared.loaded.LoadedRuleset.{LoadedRuleset}
-use Rattle.manifest.specs.declared.app.ProgramSource.{ProgramSource}
-use Rattle.manifest.specs.declared.app.ProgramSource.TheVariants as source
 use Rattle.rule_compile.specs.Means.{Means}
-use Rattle.rule_lang.specs.declared.rule.Statement.{Statement}
 use Rattle.ruleset.specs.Rules.{AppRule}
 use Rattle.dry_run.specs.Files.{AreOpened, IsBodyIn}
 use Rattle.dry_run.specs.declared.why_files.OpenedWhy.{OpenedWhy}
-
--- a rule, if there is one
-abbrev pub KnownRule : Type 0
-KnownRule = Option (List Statement)
 
 -- the rule of the first app with an appid, if it is known
 abbrev pub known_rule_of : List AppRule → List KnownRule → (appid : List ℕ) → KnownRule
@@ -39,22 +29,6 @@ pub data HaveMeanings : List AppRule → List KnownRule → Type 0 where
   next_meaning : {app : AppRule} {rule : KnownRule} {apps : List AppRule} {rules : List KnownRule}
       → HasMeaning app.program rule → HaveMeanings apps rules
       → HaveMeanings (app ∷ apps) (rule ∷ rules)
-
--- the rule that the kept bytes of an app's file spell and from which its program is compiled; none
--- if the file is a program
-abbrev pub IsRuleKept : ProgramSource → Option KeptBytes → ShapedProgram → KnownRule → Type 0
-IsRuleKept (source.Program file) kept program rule = rule ≡ None
-IsRuleKept (source.Rule file) (Some (Whole v)) program rule =
-    (is : IsProgramOfRule v.items program) × (rule ≡ Some is.rule)
-IsRuleKept (source.Rule file) kept program rule = ⊥
-
--- for each gathered app, with its program
-pub data AreRulesKept : List AppSources → List ShapedProgram → List KnownRule → Type 0 where
-  no_rule : AreRulesKept [] [] []
-  next_rule : {app : AppSources} {program : ShapedProgram} {rule : KnownRule}
-      {apps : List AppSources} {programs : List ShapedProgram} {rules : List KnownRule}
-      → IsRuleKept app.entry.source app.kept program rule → AreRulesKept apps programs rules
-      → AreRulesKept (app ∷ apps) (program ∷ programs) (rule ∷ rules)
 
 -- what a manifest gives: a ruleset with its arrays and the digest of everything, and the rule of
 -- each app. The rules are those of exactly the bytes that this digest covers

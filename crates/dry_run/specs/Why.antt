@@ -15,7 +15,8 @@ use Rattle.dry_run.specs.AppLines.{head_line, offer_line, unasked_line, unknown_
 use Rattle.dry_run.specs.Counters.{AreSetAsTold}
 use Rattle.dry_run.specs.Courses.{TellsCourse}
 use Rattle.dry_run.specs.IgnoredLines.{app_notes_in, request_note_in}
-use Rattle.dry_run.specs.Meanings.{KnownRule, known_rule_of}
+use Rattle.app_rules.specs.Rules.{KnownRule}
+use Rattle.dry_run.specs.Meanings.{known_rule_of}
 use Rattle.dry_run.specs.Told.{RepliesAsTold}
 use Rattle.dry_run.specs.declared.why_files.OpenedWhy.{OpenedWhy}
 

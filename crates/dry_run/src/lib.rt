@@ -12,7 +12,7 @@
 // exactly this rule, so it has its meaning, and on counters with given values a run has one course.
 // If a program isn't a rule's, it is run step by step, like `trace`, but on these counters.
 // The manifest and its files are gathered once (`why_files.rt`), and the text of a rule, which has
-// one verdict, is parsed again for its meaning (`kept_rules.rt`).
+// one verdict, is parsed again for its meaning (crate `app_rules`).
 
 mod app_lines;
 mod app_runs;
@@ -21,7 +21,6 @@ mod fault;
 mod files;
 mod ignored;
 mod ignored_lines;
-mod kept_rules;
 mod law;
 mod length_lines;
 mod member_kinds;

@@ -7,7 +7,7 @@ ghost use Rattle.dry_run.specs.Meanings as specs;
 
 use crate::fault::DryRunFault;
 use crate::files::read_body;
-use crate::kept_rules::read_rules;
+use app_rules::read_rules;
 use bounded_files::{Disk, ResourceFault};
 use cells::Directory;
 use load::{

@@ -1,6 +1,7 @@
 use Rattle.std.proofs.Common.{◌∙◌, List, ap}
 use Rattle.dry_run.proofs.Explaining.{run_told, unasked_told, unknown_told}
-use Rattle.dry_run.specs.Meanings.{KnownRule, known_rule_of}
+use Rattle.app_rules.specs.Rules.{KnownRule}
+use Rattle.dry_run.specs.Meanings.{known_rule_of}
 use Rattle.dry_run.proofs.why.explain_app.Goals as goal
 
 pub returns-in_default : goal.returns-in_default

@@ -1,9 +1,9 @@
 use Rattle.std.proofs.Common.{rules, ℕ, List, [], subst}
+use Rattle.app_rules.specs.Rules.{AreRulesOf}
 use Rattle.load.specs.Folder.{known_beside}
 use Rattle.load.specs.Sources.{AreSources}
 use Rattle.load.specs.Made.{IsMadeOf}
 use Rattle.load.specs.declared.sources.AppSources.{AppSources}
-use Rattle.dry_run.specs.KeptRules.{AreReadFrom}
 use Rattle.dry_run.proofs.Opening.{loaded}
 use Rattle.dry_run.proofs.why_files.load_why.Goals as goal
 
@@ -26,7 +26,7 @@ returns-in-Ok-make_ruleset-clause-loaded g c =
     c.in-Ok.ensures.given is
     (subst (λ (b : List ℕ). IsMadeOf b sources made) c.deref-3.ensures.value
     c.in-Ok-make_ruleset.ensures.made)
-    (subst (λ (apps : List AppSources). AreReadFrom apps known_rules) c.deref-2.ensures.value
+    (subst (λ (apps : List AppSources). AreRulesOf apps known_rules) c.deref-2.ensures.value
     c.in-Ok-read_rules.ensures)
 
 pub returns-clause-fault : goal.returns-clause-fault
