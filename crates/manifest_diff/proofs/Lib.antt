@@ -1,0 +1,12 @@
+pub mod Kept
+pub mod Opening
+pub mod SameApps
+pub mod RowSides
+pub mod Reported
+pub mod Declared
+pub mod CellsLeft
+pub mod SameCells
+pub mod Served
+pub mod NoRow
+pub mod Floatless
+pub mod FirstArrays

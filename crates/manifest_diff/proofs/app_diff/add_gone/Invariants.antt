@@ -1,0 +1,16 @@
+use Rattle.std.proofs.Common.{length, map}
+use Rattle.load.specs.declared.sources.AppSources.{AppSources}
+use Rattle.std.specs.Option.{option_copied}
+use Rattle.manifest_diff.specs.Adding.{AddsMore, gone_among}
+use Rattle.manifest_diff.specs.Reports.{gone_appids}
+use Rattle.manifest_diff.proofs.app_diff.add_gone.Given as goal
+
+abbrev pub invariant-loop-left : goal.invariant-loop-left
+invariant-loop-left l =
+    AddsMore l.both l.within.from_day l.within.used.now (option_copied l.only)
+    (gone_appids l.both)
+    (gone_among l.both (map (λ (app : AppSources). app.entry.appid) l.left))
+    l.initial.diffs.items l.diffs.items
+
+abbrev pub decreases-loop-left : goal.decreases-loop-left
+decreases-loop-left l = length l.left

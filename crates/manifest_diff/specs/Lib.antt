@@ -1,0 +1,13 @@
+pub mod Apps
+pub mod Arrays
+pub mod Opened
+pub mod Sides
+pub mod Same
+pub mod Outcomes
+pub mod Reports
+pub mod Adding
+pub mod NoRow
+pub mod Counters
+pub mod Texts
+pub mod Objects
+pub mod Outputs

@@ -1,0 +1,119 @@
+-- The promise of a comparison: a machine that is in no row of a compared app gets the same from
+-- both manifests. One that is in a row gets what the row says, and none is in two (`IsDiff`). What
+-- a server gives is what some state gives. A comparison may always say that an app isn't compared.
+use Rattle.std.specs.Prelude.{◌≡◌, ◌⊎◌, ℕ, List, map, Contains, Option, Some, None, true}
+use Rattle.std.specs.String.{string_bytes}
+use Rattle.attrs.specs.Attributes.{Attributes}
+use Rattle.cells.specs.Arrays.{AppShape, IsShape}
+use Rattle.cells.specs.declared.event.CellEvent.{CellEvent}
+use Rattle.rule_diff.specs.Replies.{GrantsAlike, RepliesAreFrom, RepliesRise}
+use Rattle.rule_diff.specs.Rows.{AreApart, AreComplete, AreTrue, Row, row_agrees}
+use Rattle.rule_space.specs.Coordinates.{place_of}
+use Rattle.rule_lang.specs.Meaning.{HasTrace, behaviour}
+use Rattle.rule_space.specs.declared.bounds.CellBound.{CellBound}
+use Rattle.rule_space.specs.Machines.{IsMachine, Side, State, content_of, declared}
+use Rattle.rule_space.specs.Machines.{gets}
+use Rattle.rule_space.specs.Scopes.{IsWithin, Scope}
+use Rattle.rule_space.specs.Spaces.{Space}
+use Rattle.manifest_diff.specs.Apps.{IsSameProgram, ManifestApp, releases_in, side_in}
+use Rattle.manifest_diff.specs.Outcomes.{HasRows, IsSame}
+use Rattle.manifest_diff.specs.Reports.{AreAppDiffs, IsAppDiff, have_app}
+use Rattle.manifest_diff.specs.declared.opened.OpenedBoth.{OpenedBoth}
+use Rattle.manifest_diff.specs.declared.app_diff.AppDiff.{AppDiff}
+
+-- ---- the same app
+
+-- a machine in a state gets the same content from both manifests
+pub record GetsTheSame (old new : Option ManifestApp) (a : Attributes) (g : State) : Type 0 where
+  pub old_side : Side
+  pub new_side : Side
+  pub old_is : side_in (releases_in old new) old ≡ Some old_side
+  pub new_is : side_in (releases_in old new) new ≡ Some new_side
+  pub same : gets old_side a g ≡ gets new_side a g
+
+-- so it does, or both have the app with the same program, of which nothing more is said
+pub data IsAlike (old new : Option ManifestApp) (a : Attributes) (g : State) : Type 0 where
+  same_content : GetsTheSame old new a g → IsAlike old new a g
+  same_program : (app other : ManifestApp) → old ≡ Some app → new ≡ Some other
+      → IsSameProgram app other → IsAlike old new a g
+
+-- ---- servers
+
+-- the shape of an app on a server: as many releases, and arrays that are declared alike, at
+-- whichever cells the server has for them
+pub record IsServedShape (own served : AppShape) : Type 0 where
+  pub shape : IsShape served
+  pub releases : served.releases ≡ own.releases
+  pub arrays : map declared own.arrays ≡ map declared served.arrays
+
+abbrev pub served_side : Side → AppShape → Side
+served_side side shape =
+    record { shape = shape; statements = side.statements; contents = side.contents }
+
+-- a run on a server, as the rule means it, gives a machine this content. The replies of a cell with
+-- a quota rise along the run, and are at least the value that the cell is known to have
+pub record Serves (x : Scope) (side : Side) (a : Attributes) (content : ℕ) : Type 0 where
+  pub shape : AppShape
+  pub served : IsServedShape side.shape shape
+  pub machine : IsMachine x.appid x.from_day a
+  pub events : List CellEvent
+  pub choice : ℕ
+  pub run : HasTrace (behaviour a shape side.statements) events choice
+  pub rise : RepliesRise shape events
+  pub from : RepliesAreFrom x.used shape events
+  pub content_is : content ≡ content_of side.contents choice
+
+-- a state gives the machine this content, and grants the takes that the run's cells granted
+pub record GivesAlike (x : Scope) (side : Side) (a : Attributes) (content : ℕ)
+    (run : Serves x side a content) : Type 0 where
+  pub state : State
+  pub within : IsWithin x a state
+  pub gives : gets side a state ≡ content
+  pub alike : GrantsAlike run.shape run.events state
+
+-- the row has the machine in the state
+abbrev pub HasMachine : Space → Row → Attributes → State → Type 0
+HasMachine space row a g = row_agrees row (place_of space.dimensions a g) ≡ true
+
+-- a row has the machine in the state, and says this content by one manifest; or the other manifest
+-- also gives it this content
+abbrev pub IsSaid : Space → List Row → (said : Row → ℕ) → (other : Side) → Attributes → State
+    → (content : ℕ) → Type 0
+IsSaid space rows said other a g content =
+    ((row : Row) × Contains rows row × HasMachine space row a g × (said row ≡ content))
+    ⊎ (gets other a g ≡ content)
+
+-- what a server of one manifest gives a machine, the rows say in a state that grants the same takes
+abbrev pub SaysRuns : Scope → Space → List Row → (side other : Side) → (said : Row → ℕ) → Type 0
+SaysRuns x space rows side other said =
+    (a : Attributes) (content : ℕ) (run : Serves x side a content)
+    → (given : GivesAlike x side a content run) × IsSaid space rows said other a given.state content
+
+-- ---- the promise of the command
+
+-- of an app that is compared by rows: for machines in states, and for runs of servers
+pub record RowsAreSo (x : Scope) (old new : Option ManifestApp) (space : Space) (rows : List Row)
+    (has : HasRows x old new space rows) : Type 0 where
+  pub no_row : AreComplete x has.old_side has.new_side space rows
+  pub true_of : AreTrue x has.old_side has.new_side space rows
+  pub apart : AreApart x has.old_side has.new_side space rows
+  pub old_runs : SaysRuns x space rows has.old_side has.new_side (λ row. row.current)
+  pub new_runs : SaysRuns x space rows has.new_side has.old_side (λ row. row.next)
+
+-- the comparison of an app is among these
+pub record IsReported (both : OpenedBoth) (from_day : ℕ) (used : List CellBound)
+    (diffs : List AppDiff) (appid : List ℕ) : Type 0 where
+  pub diff : AppDiff
+  pub there : Contains diffs diff
+  pub appid_is : string_bytes diff.appid ≡ appid
+  pub is_diff : IsAppDiff both from_day used diff
+
+pub record DiffIsSo : Type 0 where
+  -- each app of either manifest is reported: by rows, as the same, or as not compared
+  pub report : (both : OpenedBoth) (from_day : ℕ) (used : List CellBound) (diffs : List AppDiff)
+      → AreAppDiffs both from_day used None diffs → (appid : List ℕ) → have_app both appid ≡ true
+      → IsReported both from_day used diffs appid
+  pub rows : (x : Scope) (old new : Option ManifestApp) (space : Space) (rows : List Row)
+      (has : HasRows x old new space rows) → RowsAreSo x old new space rows has
+  pub same : (old new : Option ManifestApp) → IsSame old new → (a : Attributes) (g : State)
+      → IsAlike old new a g

@@ -1,0 +1,66 @@
+-- What `diff` prints of two manifests, and why it prints nothing.
+use Rattle.std.specs.Prelude.{◌≡◌, ℕ, List, Option, Some, None, option_copied}
+use Rattle.std.specs.Prelude.{Bool, true, false, not, is_some, if◌then◌else◌}
+use Rattle.std.specs.String.{string_bytes}
+use Rattle.bounded_files.specs.declared.resource_fault.ResourceFault.TheVariants as resource
+use Rattle.rule_space.specs.declared.bounds.CellBound.{CellBound}
+use Rattle.simulate.specs.Objects.{json_line}
+use Rattle.told_cells.specs.Assignments.{Assignment}
+use Rattle.manifest_diff.specs.Arrays.{ArrayChange, array_changes}
+use Rattle.manifest_diff.specs.Counters.{are_declared, arrays_in, used_in}
+use Rattle.manifest_diff.specs.Objects.{diff_object}
+use Rattle.manifest_diff.specs.Reports.{AreAppDiffs, have_app, is_lossy}
+use Rattle.manifest_diff.specs.Texts.{diff_text, is_same}
+use Rattle.manifest_diff.specs.declared.diff_fault.DiffFault.{DiffFault}
+use Rattle.manifest_diff.specs.declared.diff_fault.DiffFault.TheVariants as fault
+use Rattle.manifest_diff.specs.declared.opened.OpenedBoth.{OpenedBoth}
+use Rattle.manifest_diff.specs.declared.output.DiffOptions.{DiffOptions}
+use Rattle.manifest_diff.specs.declared.output.DiffOutput.{DiffOutput}
+use Rattle.manifest_diff.specs.declared.app_diff.AppDiff.{AppDiff}
+
+-- neither manifest has the one app
+abbrev pub lacks_app : OpenedBoth → (only : Option (List ℕ)) → Bool
+lacks_app both None = false
+lacks_app both (Some appid) = not (have_app both appid)
+
+abbrev pub changes_in : OpenedBoth → List ArrayChange
+changes_in both = array_changes both.old.sources.arrays.items both.new.sources.arrays.items
+
+-- a comparison as JSON, with the servers' names
+abbrev pub json_of : (old new : List ℕ) → List ArrayChange → List AppDiff → (loses : Bool) → List ℕ
+json_of old new changes diffs loses =
+    json_line (diff_object old new changes diffs loses (is_same old new changes diffs))
+
+module _ (both : OpenedBoth) (changes : List ArrayChange) where
+  -- as lines of all apps or of one, or as JSON
+  abbrev pub text_of : DiffOptions → List AppDiff → (loses : Bool) → List ℕ
+  text_of options diffs loses =
+      if options.json
+      then json_of both.old.sources.server both.new.sources.server changes diffs loses
+      else diff_text both.old.sources.server both.new.sources.server changes
+      (is_some (option_copied options.only)) diffs
+
+-- a comparison of the apps, as a text; and whether it loses anything
+pub record IsOutputOf (both : OpenedBoth) (used : List CellBound) (options : DiffOptions)
+    (output : DiffOutput) : Type 0 where
+  pub diffs : List AppDiff
+  pub are_diffs : AreAppDiffs both options.from_day used (option_copied options.only) diffs
+  pub text_is : string_bytes output.text
+      ≡ text_of both (changes_in both) options diffs output.loses
+  pub loses_is : output.loses ≡ is_lossy both diffs
+
+-- with the cells of a server and the given ones
+abbrev pub IsDiffOutput : OpenedBoth → (served given : List Assignment) → DiffOptions → DiffOutput
+    → Type 0
+IsDiffOutput both served given options output =
+    IsOutputOf both (used_in both served given) options output
+
+-- neither manifest has the app, or neither has a given cell; nothing is claimed for out of memory
+abbrev pub IsDiffFault : OpenedBoth → (given : List Assignment) → DiffOptions → DiffFault → Type 0
+IsDiffFault both given options fault.NoApp =
+    lacks_app both (option_copied options.only) ≡ true
+IsDiffFault both given options fault.Cell =
+    (lacks_app both (option_copied options.only) ≡ false)
+    × (are_declared (arrays_in both) given ≡ false)
+IsDiffFault both given options (fault.Resource resource.Memory) = Unit {0}
+IsDiffFault both given options why = ⊥

@@ -1,0 +1,73 @@
+-- The comparison of two manifests, app by app.
+use Rattle.std.specs.Prelude.{◌≡◌, ℕ, List, ◌++◌, map, All, Option, Some, None}
+use Rattle.std.specs.Prelude.{Bool, true, not, ◌||◌, ◌==◌, length}
+use Rattle.std.specs.List.{filter, list_any}
+use Rattle.std.specs.Str.{bytes_eq}
+use Rattle.std.specs.String.{string_bytes}
+use Rattle.rule_space.specs.declared.bounds.CellBound.{CellBound}
+use Rattle.rule_space.specs.Scopes.{Scope}
+use Rattle.manifest_diff.specs.Apps.{ManifestApp}
+use Rattle.manifest_diff.specs.Arrays.{array_changes}
+use Rattle.manifest_diff.specs.Opened.{app_of, manifest_appids}
+use Rattle.manifest_diff.specs.Outcomes.{IsOutcome, app_loses, change_of}
+use Rattle.manifest_diff.specs.declared.opened.OpenedBoth.{OpenedBoth}
+use Rattle.manifest_diff.specs.declared.app_diff.AppDiff.{AppDiff}
+
+-- ---- which apps
+
+-- all apps, or one
+abbrev pub is_reported : (only : Option (List ℕ)) → (appid : List ℕ) → Bool
+is_reported None appid = true
+is_reported (Some only) appid = bytes_eq only appid
+
+abbrev pub has_appid : List (List ℕ) → (appid : List ℕ) → Bool
+has_appid appids appid = list_any (λ other. bytes_eq other appid) appids
+
+-- those of OLD that NEW lacks
+abbrev pub gone_appids : OpenedBoth → List (List ℕ)
+gone_appids both =
+    filter (λ appid. not (has_appid (manifest_appids both.new) appid)) (manifest_appids both.old)
+
+-- the apps of NEW, in its order, and then those that are gone
+abbrev pub reported_appids : Option (List ℕ) → OpenedBoth → List (List ℕ)
+reported_appids only both =
+    filter (is_reported only) (manifest_appids both.new) ++ filter (is_reported only)
+    (gone_appids both)
+
+abbrev pub have_app : OpenedBoth → (appid : List ℕ) → Bool
+have_app both appid =
+    has_appid (manifest_appids both.new) appid || has_appid (manifest_appids both.old) appid
+
+-- ---- their comparison
+
+-- for machines from a day on, while these cells have at least these values
+module _ (both : OpenedBoth) (from_day : ℕ) (used : List CellBound) where
+  abbrev pub scope_for : AppDiff → Scope
+  scope_for d = record { appid = string_bytes d.appid; from_day = from_day; used = used }
+
+  -- the app in OLD, and in NEW
+  abbrev pub old_app : AppDiff → Option ManifestApp
+  old_app d = app_of both.old (string_bytes d.appid)
+
+  abbrev pub new_app : AppDiff → Option ManifestApp
+  new_app d = app_of both.new (string_bytes d.appid)
+
+  pub record IsAppDiff (d : AppDiff) : Type 0 where
+    pub change_is : d.change ≡ change_of (old_app d) (new_app d)
+    pub outcome_is : IsOutcome (scope_for d) (old_app d) (new_app d) d.outcome
+
+  pub record AreAppDiffs (only : Option (List ℕ)) (apps : List AppDiff) : Type 0 where
+    pub all : map (λ d. string_bytes d.appid) apps ≡ reported_appids only both
+    pub each : All IsAppDiff apps
+
+-- ---- what is lost
+
+abbrev pub loses : AppDiff → Bool
+loses d = app_loses d.change d.outcome
+
+-- a release of an app, or an array
+abbrev pub is_lossy : OpenedBoth → List AppDiff → Bool
+is_lossy both apps =
+    list_any loses apps
+    || not (length (array_changes both.old.sources.arrays.items
+    both.new.sources.arrays.items) == 0)

@@ -1,0 +1,36 @@
+//! The comparison of two manifests: for each app rows of machines in states that get another
+//! release, or that it is the same, or that it isn't compared; and what the command `diff` prints.
+//!
+//! See docs/PROGRAM.md, "diff".
+#![tactic(auto)]
+
+// How it works. Each manifest is gathered with its files and judged like a server's first one
+// (`opened.rt`). An app with a rule is a side of a comparison by rows (`sides.rt`); a manifest that
+// lacks the app is a side that offers nothing. Two equal sides are the same app without a search,
+// and so are two equal programs (`same.rt`). Everything else with a program isn't compared.
+//
+// What is promised of rows is proved in `rule_diff`. Here the law `diff_is_so` says it of apps: a
+// machine that is in no row of a compared app gets the same from both manifests.
+
+mod app_diff;
+mod apps;
+mod arrays;
+mod comparing;
+mod counters;
+mod diff_fault;
+mod laws;
+mod lines;
+mod objects;
+mod opened;
+mod outcome;
+mod output;
+mod same;
+mod sides;
+
+pub use app_diff::AppDiff;
+pub use apps::ManifestApp;
+pub use diff_fault::DiffFault;
+pub use laws::diff_is_so;
+pub use opened::{OpenedBoth, OpenedManifest, open_both};
+pub use outcome::{AppChange, AppOutcome, WhyNot};
+pub use output::{DiffOptions, DiffOutput, diff_manifests};
