@@ -2,4 +2,5 @@ pub mod Manifests
 pub mod Checks
 pub mod CheckObjects
 pub mod CheckedObjects
+pub mod ClientLines
 pub mod Simulations

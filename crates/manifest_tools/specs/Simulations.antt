@@ -18,6 +18,7 @@ use Rattle.bounded_files.specs.declared.resource_fault.ResourceFault.TheVariants
 use Rattle.load.specs.declared.load_fault.PathFault.{PathFault}
 use Rattle.cells.specs.declared.array.CellArray.{CellArray}
 use Rattle.ruleset.specs.Rules.{Rules, app_in}
+use Rattle.manifest_tools.specs.ClientLines.{client_line}
 use Rattle.manifest_tools.specs.declared.fault.ManifestToolFault.{ManifestToolFault}
 use Rattle.manifest_tools.specs.declared.fault.ManifestToolFault.TheVariants as fault
 use Rattle.manifest_tools.specs.declared.simulation_output.SimulationOutput.{SimulationOutput}
@@ -49,10 +50,10 @@ abbrev pub text_alone : (json : Bool) → Simulation → List ℕ
 text_alone false next = shares_text next
 text_alone true next = json_line (simulation_object next)
 
--- the same, and how many move from which release to which
-abbrev pub text_against : (json : Bool) → (now next : Simulation) → List ℕ
-text_against false now next = shares_text next ++ moves_text now next
-text_against true now next = json_line (comparison_object now next)
+-- the same, and how many move from which release to which, below the line of the clients
+abbrev pub text_against : (json : Bool) → Client → (now next : Simulation) → List ℕ
+text_against false client now next = client_line client ++ shares_text next ++ moves_text now next
+text_against true client now next = json_line (comparison_object now next)
 
 -- the report on a simulation, and the picture of the same simulation
 pub record TellsAlone (json : Bool) (next : Simulation) (file : Option (List ℕ))
@@ -62,9 +63,9 @@ pub record TellsAlone (json : Bool) (next : Simulation) (file : Option (List ℕ
   pub loses_is : output.loses ≡ false
 
 -- compared with another one
-pub record TellsAgainst (json : Bool) (next now : Simulation) (file : Option (List ℕ))
-    (output : SimulationOutput) : Type 0 where
-  pub text_is : string_bytes output.text ≡ text_against json now next
+pub record TellsAgainst (json : Bool) (client : Client) (next now : Simulation)
+    (file : Option (List ℕ)) (output : SimulationOutput) : Type 0 where
+  pub text_is : string_bytes output.text ≡ text_against json client now next
   pub picture_is : option_map string_bytes output.picture ≡ picture_if file next
   pub loses_is : output.loses ≡ is_lossy now next
 
@@ -82,7 +83,7 @@ pub record ShowsAgainst (json : Bool) (client : Client) (rules serving : Rules)
   pub simulated : IsSimulationBy client rules appid next
   pub now : Simulation
   pub served : IsSimulationBy client serving appid now
-  pub tells : TellsAgainst json next now file output
+  pub tells : TellsAgainst json client next now file output
 
 -- ---- manifests
 

@@ -12,6 +12,7 @@ mod check;
 mod check_json;
 mod check_objects;
 mod checks;
+mod client_line;
 mod fault;
 mod progress_lines;
 mod simulating;

@@ -6,6 +6,7 @@ ghost use Rattle.load.specs.Loaded.{RefusesPath};
 ghost use Rattle.manifest_tools.specs.Simulations as specs;
 ghost use Rattle.simulate.specs.Clients.{IsSameButApp};
 
+use crate::client_line::client_line;
 use crate::fault::ManifestToolFault;
 use crate::progress_lines::ProgressLines;
 use crate::simulation_output::{SimulationOutput, tell_against, tell_alone};
@@ -237,9 +238,10 @@ where
         (option_copied appid.entry) (option_copied file.entry)) }
 {
     let mut progress = ProgressLines::new(rt);
+    let clients = client_line(rt.alloc(), client)?;
     let next = simulation_of(rt, rules, appid, client, &mut progress)?;
     let now = simulation_of(rt, serving, appid, client, &mut progress)?;
-    let output = tell_against(rt.alloc(), &now, &next, file, json);
+    let output = tell_against(rt.alloc(), &clients, &now, &next, file, json);
     drop(now);
     drop(next);
     Ok(output?)

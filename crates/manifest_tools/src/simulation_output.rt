@@ -3,7 +3,9 @@
 ghost use Rattle.std.specs.Prelude.{◌≡◌, IfOk, option_copied};
 ghost use Rattle.std.specs.Option.{option_map};
 ghost use Rattle.std.specs.String.{string_bytes};
+ghost use Rattle.manifest_tools.specs.ClientLines.{client_line};
 ghost use Rattle.manifest_tools.specs.Simulations as specs;
+ghost use Rattle.simulate.specs.declared.client.Client as the_client;
 
 use simulate::{Simulated, draw, is_lossy, moves_json, push_moves, push_shares, shares_json};
 use std::alloc::{AllocError, Global};
@@ -49,17 +51,19 @@ fn text_alone(alloc: Global, next: &Simulated, json: bool) -> Result<String, All
     Ok(text)
 }
 
-// The same, followed by the moves from what is served.
+// The same, between the line of these clients and the moves from what is served.
 pub(crate) fn tell_against(
     alloc: Global,
+    clients: &str,
     now: &Simulated,
     next: &Simulated,
     file: Option<&str>,
     json: bool,
 ) -> Result<SimulationOutput, AllocError>
-    ensures { IfOk result (specs.TellsAgainst json next.now now.now (option_copied file.entry)) }
+    ensures { (client : the_client.Client) → clients.now ≡ client_line client
+        → IfOk result (specs.TellsAgainst json client next.now now.now (option_copied file.entry)) }
 {
-    let text = text_against(alloc, now, next, json)?;
+    let text = text_against(alloc, clients, now, next, json)?;
     let loses = is_lossy(alloc, now, next)?;
     let picture = picture_if(alloc, file, next)?;
     Ok(SimulationOutput {
@@ -71,16 +75,18 @@ pub(crate) fn tell_against(
 
 fn text_against(
     alloc: Global,
+    clients: &str,
     now: &Simulated,
     next: &Simulated,
     json: bool,
 ) -> Result<String, AllocError>
-    ensures { IfOk result (λ text. string_bytes text ≡ specs.text_against json now.now next.now) }
+    ensures { (client : the_client.Client) → clients.now ≡ client_line client → IfOk result
+        (λ text. string_bytes text ≡ specs.text_against json client now.now next.now) }
 {
     if json {
         return moves_json(alloc, now, next);
     }
-    let mut text = String::new(alloc);
+    let mut text = String::from_str(alloc, clients)?;
     push_shares(&mut text, next)?;
     push_moves(alloc, &mut text, now, next)?;
     Ok(text)

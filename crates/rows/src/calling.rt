@@ -21,7 +21,7 @@ fn is_tool(words: &[String]) -> bool {
     match words {
         [_, command, ..] => matches!(
             command.as_str(),
-            "check" | "explain" | "trace" | "order" | "simulate" | "ask" | "report"
+            "check" | "diff" | "explain" | "trace" | "order" | "simulate" | "ask" | "report"
         ),
         _ => false,
     }

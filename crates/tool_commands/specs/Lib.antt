@@ -2,5 +2,6 @@ pub mod Texts
 pub mod Clients
 pub mod DryRuns
 pub mod Whys
+pub mod Diffs
 pub mod Outputs
 pub mod Commands

@@ -14,6 +14,7 @@ use Rattle.program_inspection.specs.Orders.{IsOrderedFrom, IsOrderRefusal}
 use Rattle.program_inspection.specs.Traces.{HasTraced}
 use Rattle.program_tools.specs.Programs.{IsRunRefusal}
 use Rattle.tool_commands.specs.Clients.{client_of}
+use Rattle.tool_commands.specs.Diffs.{HasDiffed, IsDiffRefusal}
 use Rattle.tool_commands.specs.DryRuns.{HasDryRun, IsDryRunRefusal}
 use Rattle.tool_commands.specs.Whys.{HasWhy, IsWhyRefusal}
 use Rattle.tool_commands.specs.declared.fault.Fault.{Fault}
@@ -44,6 +45,8 @@ module _ (known : KnownFiles) where
       (args.why ≡ true) × HasWhy known args (string_bytes text)
   IsOutput (command.Check args) (output.Checked checked) =
       IsCheckOutput known args.json args.strict args.allowed.items args.manifests.items checked
+  IsOutput (command.Diff args) (output.Diffed diff passes) =
+      HasDiffed known args diff × (passes ≡ not (args.fail_on_lost && diff.loses))
   IsOutput (command.Explain path shape) explained = IsExplainedOutput path.now shape explained
   IsOutput (command.Order path out) (output.Ordered program) =
       IsOrderedFrom known path.now program.items
@@ -64,6 +67,7 @@ module _ (known : KnownFiles) where
       ⊎ ((args.why ≡ true) × IsWhyRefusal known args why)
   IsRefused (command.Check args) (fault.Manifest why) =
       RefusesChecks known args.json args.manifests.items why
+  IsRefused (command.Diff args) why = IsDiffRefusal known args why
   IsRefused (command.Explain path shape) why = IsExplainedRefusal path.now shape why
   IsRefused (command.Order path out) (fault.Program why) = IsOrderRefusal known path.now why
   -- nothing is known about the logs of a device, nor about its clock

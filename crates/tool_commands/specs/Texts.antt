@@ -5,6 +5,7 @@ use Rattle.std.specs.String.{string_bytes}
 use Rattle.bounded_files.specs.Texts.{resource_text}
 use Rattle.bpf_checks.specs.Texts.{verifier_refusal_text}
 use Rattle.dry_run.specs.Texts.{dry_run_text}
+use Rattle.manifest_diff.specs.Texts.{diff_fault_text}
 use Rattle.manifest_tools.specs.Manifests as manifest
 use Rattle.manifest_tools.specs.declared.fault.ManifestToolFault.TheVariants as tool
 use Rattle.operator.specs.Texts.{ask_text}
@@ -18,6 +19,7 @@ use Rattle.tool_commands.specs.declared.output.ToolOutput.TheVariants as output
 -- the text that is printed for an output
 abbrev pub output_text : ToolOutput → List ℕ
 output_text (output.Checked checked) = string_bytes checked.text
+output_text (output.Diffed diff does) = string_bytes diff.text
 output_text (output.Explained text) = string_bytes text
 output_text (output.Ordered program) = line (decimal (length program.items / 8) ++ codes " slots")
 output_text (output.Reply body) = body.items
@@ -33,9 +35,11 @@ abbrev pub warnings_of : ToolOutput → List ℕ
 warnings_of (output.Checked checked) = string_bytes checked.stderr
 warnings_of other = []
 
--- a check may find warnings that count, and a simulation lost releases; any other output passes
+-- a check may find warnings that count, a comparison or a simulation lost releases; any other
+-- output passes
 abbrev pub passes : ToolOutput → Bool
 passes (output.Checked checked) = checked.passes
+passes (output.Diffed diff does) = does
 passes (output.Simulated simulation does) = does
 passes other = true
 
@@ -50,5 +54,6 @@ fault_text (fault.Program why) = program.fault_text why
 fault_text (fault.Explained text refusal) = verifier_refusal_text refusal
 fault_text (fault.Manifest why) = manifest.fault_text why
 fault_text (fault.DryRun why) = dry_run_text why
+fault_text (fault.Diff why) = diff_fault_text why
 -- also the words of a server, or of another program that listens at its port
 fault_text (fault.Ask why) = ask_text why

@@ -6,6 +6,7 @@ ghost use Rattle.tool_commands.specs.Texts.{fault_text, refusal_reason};
 use bounded_files::ResourceFault;
 use bpf_verify::Refusal;
 use dry_run::DryRunFault;
+use manifest_diff::DiffFault;
 use manifest_tools::ManifestToolFault;
 use operator::RequestFault;
 use program_tools::ProgramToolFault;
@@ -24,6 +25,8 @@ pub(crate) enum Fault {
     Manifest(ManifestToolFault),
     /// B3, B4, B7, M1 to M8, O1 to O5, P5: a request gets no reply.
     DryRun(DryRunFault),
+    /// B3, B4, B7, B8, M1 to M8: two manifests can't be compared.
+    Diff(DiffFault),
     /// B4, B5, or a refusal in the server's words: a server's counters can't be had.
     Ask(RequestFault),
 }
@@ -50,6 +53,7 @@ impl fmt::Display for Fault {
             Fault::Explained { refusal, .. } => write!(f, "{refusal}"),
             Fault::Manifest(fault) => write!(f, "{fault}"),
             Fault::DryRun(fault) => write!(f, "{fault}"),
+            Fault::Diff(fault) => write!(f, "{fault}"),
             Fault::Ask(fault) => write!(f, "{fault}"),
         }
     }

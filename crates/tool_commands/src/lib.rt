@@ -7,8 +7,9 @@
 // How a command runs. Its words are read as a command, or what is wrong with them is printed. The
 // command is done by the crate that has it, on a program, on manifests, on logs, or for `ask` on
 // the files of a dry run and a server's counters. Its output is printed, or its refusal. The status
-// says whether all this was done, and for a check or a simulation whether it passes.
+// says whether all this was done, and for a check, a comparison or a simulation whether it passes.
 
+mod diffs;
 mod dry_runs;
 mod fault;
 mod output;

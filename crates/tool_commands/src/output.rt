@@ -4,6 +4,7 @@ ghost use Rattle.std.specs.Prelude.{◌≡◌, Some};
 ghost use Rattle.tool_commands.specs.Texts.{output_text, passes, warnings_of};
 
 use log_tools::ReportOutput;
+use manifest_diff::DiffOutput;
 use manifest_tools::{CheckOutput, SimulationOutput};
 use std::{fmt, str};
 
@@ -13,6 +14,11 @@ pub(crate) enum ToolOutput {
     /// The messages about checked manifests: for one manifest the lines of its arrays and apps, and
     /// its warnings; or those for several.
     Checked(CheckOutput),
+    /// The comparison of two manifests, and whether it passes.
+    Diffed {
+        output: DiffOutput,
+        passes: bool,
+    },
     /// The program is accepted; its listing, with what is known before each instruction.
     Explained {
         text: String,
@@ -56,12 +62,13 @@ impl ToolOutput {
         }
     }
 
-    /// Whether a check or a simulation passes; any other command does.
+    /// Whether a check, a comparison or a simulation passes; any other command does.
     pub(crate) fn passes(&self) -> bool
         ensures { result ≡ passes self.now }
     {
         match self {
             ToolOutput::Checked(output) => output.passes,
+            ToolOutput::Diffed { passes, .. } => *passes,
             ToolOutput::Simulated { passes, .. } => *passes,
             _ => true,
         }
@@ -74,6 +81,7 @@ impl fmt::Display for ToolOutput {
     fn fmt<W: fmt::Write>(&self, f: &mut fmt::Formatter<W>) -> fmt::Result {
         match self {
             ToolOutput::Checked(output) => f.write_str(output.text.as_str()),
+            ToolOutput::Diffed { output, .. } => f.write_str(output.text.as_str()),
             ToolOutput::Explained { text } => f.write_str(text),
             ToolOutput::Ordered { program } => {
                 let slots = program.len() / 8;

@@ -3,6 +3,7 @@
 ghost use Rattle.std.specs.Prelude.{IfOk, IfErr};
 ghost use Rattle.tool_commands.specs.Outputs.{IsOutput, IsRefused};
 
+use crate::diffs::diffed;
 use crate::dry_runs::dry_run_of;
 use crate::fault::Fault;
 use crate::output::ToolOutput;
@@ -33,6 +34,7 @@ where
     match command {
         ToolCommand::Ask(args) => dry_run_of(rt, disk, args),
         ToolCommand::Check(args) => checked(rt.alloc(), disk, args),
+        ToolCommand::Diff(args) => diffed(rt, disk, args),
         ToolCommand::Explain { path, shape } => explained(rt.alloc(), disk, path, shape),
         ToolCommand::Order { path, out } => Ok(ToolOutput::Ordered {
             program: order_file(rt, disk, path, out).map_err(Fault::Program)?,

@@ -21,8 +21,8 @@ use tool_words::{ToolCommand, read_tool_words};
 /// Does what the words request, the first of which is the program's name, with files of the disk.
 /// Results go to `out`; refusals, usage and the warnings of `check` go to `err`, and nothing else
 /// does. A simulation or a report that takes over a second prints its progress by the runtime
-/// itself. The status is 0 if the command was done; 1 if it was refused, a write failed, or a check
-/// or a simulation doesn't pass; and 2 for usage.
+/// itself. The status is 0 if the command was done; 1 if it was refused, a write failed, or a
+/// check, a comparison or a simulation doesn't pass; and 2 for usage.
 // open: `clap`'s texts; that the status isn't 1, since a read or a write may fail at any time: the
 // tests compare each command's lines and status.
 pub fn command<R, D, S, O, E>(rt: &R, disk: &D, words: &[S], out: &mut O, err: &mut E) -> u8

@@ -4,6 +4,7 @@ use Rattle.clap.specs.Words.{Row}
 use Rattle.command_line.specs.Runs.{LacksRun}
 use Rattle.tool_words.specs.AskWords.{LacksAsk}
 use Rattle.tool_words.specs.CheckWords.{LacksCheck}
+use Rattle.tool_words.specs.DiffWords.{LacksDiff}
 use Rattle.tool_words.specs.ReportWords.{LacksReport}
 use Rattle.tool_words.specs.SimulateWords.{LacksSimulate}
 use Rattle.tool_words.specs.Words.{VerbMakesNone}
@@ -17,6 +18,10 @@ asks_none rows lacks command makes = makes
 pub checks_none : (rows : List Row) → LacksCheck rows → VerbMakesNone verb.Check rows
 checks_none rows lacks (command.Check args) makes = lacks args makes
 checks_none rows lacks command makes = makes
+
+pub diffs_none : (rows : List Row) → LacksDiff rows → VerbMakesNone verb.Diff rows
+diffs_none rows lacks (command.Diff args) makes = lacks args makes
+diffs_none rows lacks command makes = makes
 
 pub reports_none : (rows : List Row) → LacksReport rows → VerbMakesNone verb.Report rows
 reports_none rows lacks (command.Report args) makes = lacks args makes

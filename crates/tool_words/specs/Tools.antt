@@ -18,6 +18,10 @@ verbs =
     ∷ verb_rules (codes "check") verb.Check
     (files (codes "MANIFEST") ∷ flag (codes "strict") ∷ repeated (codes "allow")
     ∷ flag (codes "json") ∷ [])
+    ∷ verb_rules (codes "diff") verb.Diff
+    (file (codes "OLD") ∷ file (codes "NEW") ∷ option (codes "app") ∷ option (codes "from")
+    ∷ repeated (codes "cells") ∷ number (codes "operator") 1 65535
+    ∷ flag (codes "fail-on-lost") ∷ flag (codes "json") ∷ [])
     ∷ verb_rules (codes "explain") verb.Explain (input ∷ releases ∷ arrays ∷ [])
     ∷ verb_rules (codes "order") verb.Order (input ∷ file (codes "OUT") ∷ [])
     ∷ verb_rules (codes "report") verb.Report

@@ -5,6 +5,7 @@ use Rattle.command_line.specs.Runs.{HasRun}
 use Rattle.command_line.specs.Values.{HasShape, HasText}
 use Rattle.tool_words.specs.AskWords.{HasAsk}
 use Rattle.tool_words.specs.CheckWords.{HasCheck}
+use Rattle.tool_words.specs.DiffWords.{HasDiff}
 use Rattle.tool_words.specs.ReportWords.{HasReport}
 use Rattle.tool_words.specs.SimulateWords.{HasSimulate}
 use Rattle.tool_words.specs.declared.args.ToolCommand.{ToolCommand}
@@ -15,6 +16,7 @@ use Rattle.tool_words.specs.declared.rows.ToolVerb.TheVariants as verb
 abbrev pub VerbMakes : ToolVerb → List Row → ToolCommand → Type 0
 VerbMakes verb.Ask rows (command.Ask args) = HasAsk rows args
 VerbMakes verb.Check rows (command.Check args) = HasCheck rows args
+VerbMakes verb.Diff rows (command.Diff args) = HasDiff rows args
 VerbMakes verb.Explain rows (command.Explain path shape) =
     HasText (codes "IN") rows path.now × HasShape rows shape
 VerbMakes verb.Order rows (command.Order path out) =

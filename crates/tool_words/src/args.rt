@@ -32,6 +32,24 @@ pub struct SimulateArgs<'a> {
     pub json: bool,
 }
 
+/// The arguments of `diff`: the manifest that is served at present, and the next one. Machines that
+/// request before the day `from` don't count. The counters are `cells`, or those of the server at
+/// `operator`.
+#[derive(Drop)]
+pub struct DiffArgs<'a> {
+    pub old: &'a str,
+    pub new: &'a str,
+    /// The only app in the output; all apps without it.
+    pub appid: Option<&'a str>,
+    pub from: u32,
+    pub cells: Vec<CellAssignment<'a>>,
+    pub operator: Option<u16>,
+    /// Whether the command fails if somebody may lose a release.
+    pub fail_on_lost: bool,
+    /// Whether the output is JSON.
+    pub json: bool,
+}
+
 /// The arguments of `report`: logs, of which the lines from one moment on and before another count.
 /// The log `-` is standard input.
 #[derive(Drop)]
@@ -65,6 +83,8 @@ pub enum ToolCommand<'a> {
     Ask(AskArgs<'a>),
     /// Print where and why manifests are refused, or what they declare.
     Check(CheckArgs<'a>),
+    /// Print for whom a manifest changes what another one gives.
+    Diff(DiffArgs<'a>),
     /// List a file's program, with what is known before each instruction.
     Explain { path: &'a str, shape: DeclaredShape },
     /// Write a file's program into another file, with its blocks in order.

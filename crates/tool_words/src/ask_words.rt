@@ -49,7 +49,11 @@ fn ask_args<'a>(alloc: Global, found: &ArgMatches<'a>) -> Result<AskArgs<'a>, Ar
 
 // ---- the counters
 
-fn cells_of<'a>(alloc: Global, found: &ArgMatches<'a>) -> Result<Vec<CellAssignment<'a>>, ArgsError>
+/// The cells of `--cells`.
+pub(crate) fn cells_of<'a>(
+    alloc: Global,
+    found: &ArgMatches<'a>,
+) -> Result<Vec<CellAssignment<'a>>, ArgsError>
     ensures given { IfOk result (λ v. specs.HasCells (rows_of (found_of found.now)) v.items) }
     ensures lacking { OnWrong result (specs.LacksCells (rows_of (found_of found.now))) }
 {

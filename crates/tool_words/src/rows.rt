@@ -14,12 +14,32 @@ use command_line::{
 pub(crate) enum ToolVerb {
     Ask,
     Check,
+    Diff,
     Explain,
     Order,
     Report,
     Simulate,
     Trace,
 }
+
+const CELLS: CommandArgument = CommandArgument::Texts(
+    "cells",
+    "NAME[I]=V",
+    "Value of a counter, as early[0]=283, any number of times; 0 by default",
+);
+
+const SERVER: CommandArgument = CommandArgument::OptionalNumber(
+    "operator",
+    "P",
+    PORTS,
+    "Operator's port of a server whose counters are used: 1 to 65535",
+);
+
+const ONE_APP: CommandArgument = CommandArgument::Text(
+    "app",
+    "APPID",
+    "The only app in the output; all apps by default",
+);
 
 const ASK: CommandRow<ToolVerb> = CommandRow {
     verb: ToolVerb::Ask,
@@ -34,17 +54,8 @@ const ASK: CommandRow<ToolVerb> = CommandRow {
             "TIME",
             "Moment, as 2026-12-01T03:00:00Z, or a Unix second; the clock's by default",
         ),
-        CommandArgument::Texts(
-            "cells",
-            "NAME[I]=V",
-            "Value of a counter, as early[0]=283, any number of times; 0 by default",
-        ),
-        CommandArgument::OptionalNumber(
-            "operator",
-            "P",
-            PORTS,
-            "Operator's port of a server whose counters are used: 1 to 65535",
-        ),
+        CELLS,
+        SERVER,
         CommandArgument::Flag(
             "why",
             "Print why each app gets what it gets, instead of the reply",
@@ -66,6 +77,30 @@ const CHECK: CommandRow<ToolVerb> = CommandRow {
             "Name of a warning that doesn't count for --strict, any number of times",
         ),
         CommandArgument::Flag("json", "Print everything as a line of JSON"),
+    ],
+};
+
+const DIFF: CommandRow<ToolVerb> = CommandRow {
+    verb: ToolVerb::Diff,
+    name: "diff",
+    about: "Show what changes from one manifest to another, and for which machines",
+    end: None,
+    arguments: &[
+        CommandArgument::Word("OLD", "File of the manifest that is served now"),
+        CommandArgument::Word("NEW", "File of the manifest that comes next"),
+        ONE_APP,
+        CommandArgument::Text(
+            "from",
+            "DAY",
+            "First day of the requests that are compared, or its date; day 0 by default",
+        ),
+        CELLS,
+        SERVER,
+        CommandArgument::Flag(
+            "fail-on-lost",
+            "End with status 1 if somebody may lose a release",
+        ),
+        CommandArgument::Flag("json", "Print a line of JSON"),
     ],
 };
 
@@ -131,11 +166,7 @@ const SIMULATE: CommandRow<ToolVerb> = CommandRow {
             "File of the manifest that is served now",
         ),
         CommandArgument::Text("svg", "FILE", "Output file for a picture, in SVG"),
-        CommandArgument::Text(
-            "app",
-            "APPID",
-            "The only app in the output; all apps by default",
-        ),
+        ONE_APP,
         CommandArgument::Flag(
             "fail-on-lost",
             "End with status 1 if a bucket loses its release; requires --against",
@@ -161,7 +192,9 @@ const TRACE: CommandRow<ToolVerb> = CommandRow {
     ],
 };
 
-static ROWS: [CommandRow<ToolVerb>; 7] = [ASK, CHECK, EXPLAIN, ORDER, REPORT, SIMULATE, TRACE];
+static ROWS: [CommandRow<ToolVerb>; 8] = [
+    ASK, CHECK, DIFF, EXPLAIN, ORDER, REPORT, SIMULATE, TRACE,
+];
 
 /// The row of each command, in the order of their names.
 pub(crate) fn tool_rows() -> &'static [CommandRow<ToolVerb>]

@@ -12,6 +12,7 @@ ghost use Rattle.tool_words.specs.Words.{VerbMakes, VerbMakesNone};
 use crate::args::ToolCommand;
 use crate::ask_words::read_ask;
 use crate::check_words::read_check;
+use crate::diff_words::read_diff;
 use crate::program_words::{read_explain, read_order, read_trace};
 use crate::report_words::read_report;
 use crate::rows::{ToolVerb, tool_rows};
@@ -67,6 +68,7 @@ fn command_with<'a>(
     match verb {
         ToolVerb::Ask => read_ask(alloc, found),
         ToolVerb::Check => read_check(alloc, found),
+        ToolVerb::Diff => read_diff(alloc, found),
         ToolVerb::Explain => read_explain(alloc, found),
         ToolVerb::Order => read_order(found),
         ToolVerb::Report => read_report(alloc, found),

@@ -1,0 +1,20 @@
+-- Why `diff` is refused, from the opened manifests.
+use Rattle.std.proofs.Common.{inr}
+use Rattle.bounded_files.specs.Files.{KnownFiles}
+use Rattle.manifest_diff.specs.Opened.{AreOpened}
+use Rattle.manifest_diff.specs.declared.opened.OpenedBoth.{OpenedBoth}
+use Rattle.tool_commands.specs.Diffs.{IsDiffRefusal, IsUncompared, PreventsDiff}
+use Rattle.tool_commands.specs.declared.fault.Fault.{Fault}
+use Rattle.tool_commands.specs.declared.fault.Fault.TheVariants.{Diff}
+use Rattle.tool_words.specs.declared.args.DiffArgs.{DiffArgs}
+
+by_words : (known : KnownFiles) (args : DiffArgs) (fault : Fault)
+    → IsUncompared known args fault → IsDiffRefusal known args fault
+by_words known args (Diff fault) why = inr why
+by_words known args fault why = why
+
+pub uncompared : (known : KnownFiles) (args : DiffArgs) (both : OpenedBoth) (fault : Fault)
+    → AreOpened known args.old.now args.new.now both
+    → PreventsDiff both args fault → IsDiffRefusal known args fault
+uncompared known args both fault opened because =
+    by_words known args fault (record { both = both; opened = opened; because = because })
