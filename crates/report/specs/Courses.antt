@@ -1,6 +1,6 @@
--- The counts for a chart of a log over time: update checks, offers and failed installs of each
--- version, by the minute and by the hour. The name of a version begins with its app. The name of a
--- moment is the kind of count, the app, the version, and the minute or hour since 1970.
+-- The counts for a chart of a log over time: update checks, offers, ended installs and failed ones
+-- of each version, by the minute and by the hour. The name of a version begins with its app. The
+-- name of a moment is the kind of count, the app, the version, and the minute or hour since 1970.
 use Rattle.std.specs.Prelude.{◌≡◌, ℕ, ◌/◌, List, [], ◌++◌, codes, Bool, Option, Some, None}
 use Rattle.std.specs.Prelude.{if◌then◌else◌, option_and_then}
 use Rattle.moments.specs.Calendar.{minute_in}
@@ -24,11 +24,12 @@ three_names asks offers failures line =
 abbrev pub version_names : Data → List RowName
 version_names line = three_names of_app.UpdateCheckBy of_app.Offered of_event.FailedTo line
 
--- the same with this moment
+-- the same with this moment, and the ended installs
 abbrev pub names_in_moment : Data → Option ℕ → List RowName
 names_in_moment line (Some moment) =
     three_names (of_app.UpdateCheckAt moment) (of_app.OfferedAt moment)
     (of_event.FailedAt moment) line
+    ++ event_names (of_event.EndedAt moment) line
 names_in_moment line None = []
 
 -- the minute of a line since 1970, or `None` if its time isn't one that a server writes

@@ -11,7 +11,7 @@ use Rattle.report.specs.Names.{two, three, course_name, if_holds, listed, text_o
 use Rattle.report.specs.Objects.{JsonPlace, after_byte, closes_object, json_start}
 use Rattle.report.specs.declared.question.EventQuestion.{EventQuestion}
 use Rattle.report.specs.declared.question.EventQuestion.TheVariants.{Ended, Result, FailedTo}
-use Rattle.report.specs.declared.question.EventQuestion.TheVariants.{FailedAt}
+use Rattle.report.specs.declared.question.EventQuestion.TheVariants.{FailedAt, EndedAt}
 use Rattle.report.specs.declared.tally.Tally.{Tally}
 
 -- ---- an event
@@ -57,6 +57,8 @@ event_name_of Result app appid event = result_name app appid event
 event_name_of FailedTo app appid event = two appid (to_version event)
 event_name_of (FailedAt moment) app appid event =
     course_name (codes "failures") appid (to_version event) moment
+event_name_of (EndedAt moment) app appid event =
+    course_name (codes "installs") appid (to_version event) moment
 
 -- whether the question is about this event
 abbrev pub is_about : EventQuestion → Data → Bool
@@ -64,6 +66,7 @@ is_about Ended event = is_install event
 is_about Result event = is_install event
 is_about FailedTo event = is_failure event
 is_about (FailedAt moment) event = is_failure event
+is_about (EndedAt moment) event = is_install event
 
 abbrev pub event_name : EventQuestion → Data → List ℕ → Data → Option RowName
 event_name question app appid event =

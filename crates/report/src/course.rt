@@ -1,5 +1,5 @@
-//! The counts for a chart of a log over time: update checks, offers and failed installs of each
-//! version, by the minute and by the hour.
+//! The counts for a chart of a log over time: update checks, offers, ended installs and failed ones
+//! of each version, by the minute and by the hour.
 
 ghost use Rattle.std.specs.Prelude.{◌≡◌, [], None, Some, OnOk, Option, true, false};
 ghost use Rattle.serde_json.specs.Data.{Data};
@@ -29,8 +29,8 @@ pub struct Course {
     pub drawn: bool,
     /// The versions of each app, such as `editor` and `2.1` with a tab between them.
     pub versions: Tally,
-    /// Counts by minute. A row's name is `asks`, `offers` or `failures`, then the app, the version,
-    /// and the minute since 1970, with tabs between the four.
+    /// Counts by minute. A row's name is `asks`, `offers`, `installs` or `failures`, then the app,
+    /// the version, and the minute since 1970, with tabs between the four.
     pub by_minute: Tally,
     /// The same by hour.
     pub by_hour: Tally,
@@ -123,16 +123,25 @@ fn note_moment(
         (Notes tally.old tally.new (specs.names_in_moment (view line.now) moment)) }
 {
     match moment {
-        Some(moment) => note_three(
-            alloc,
-            tally,
-            AppQuestion::UpdateCheckAt(moment),
-            AppQuestion::OfferedAt(moment),
-            EventQuestion::FailedAt(moment),
-            line,
-        ),
+        Some(moment) => note_at(alloc, tally, moment, line),
         None => note_nothing(tally),
     }
+}
+
+fn note_at(alloc: Global, tally: &mut Tally, moment: u64, line: &Value) -> Result<(), AllocError>
+    ensures { OnOk result
+        (Notes tally.old tally.new (specs.names_in_moment (view line.now) (Some moment))) }
+{
+    note_three(
+        alloc,
+        tally,
+        AppQuestion::UpdateCheckAt(moment),
+        AppQuestion::OfferedAt(moment),
+        EventQuestion::FailedAt(moment),
+        line,
+    )?;
+    note_ends(alloc, tally, EventQuestion::EndedAt(moment), line)?;
+    Ok(())
 }
 
 fn note_three(

@@ -147,6 +147,10 @@ fn event_name(
             let name = course_name(alloc, "failures", appid, to_version(event), moment)?;
             Ok(Some(name))
         }
+        EventQuestion::EndedAt(moment) => {
+            let name = course_name(alloc, "installs", appid, to_version(event), moment)?;
+            Ok(Some(name))
+        }
     }
 }
 
@@ -155,7 +159,9 @@ fn is_about(question: EventQuestion, event: &Value) -> bool
     ensures { result ≡ specs.is_about question (view event.now) }
 {
     match question {
-        EventQuestion::Ended | EventQuestion::Result => is_install(event),
+        EventQuestion::Ended | EventQuestion::Result | EventQuestion::EndedAt(_) => {
+            is_install(event)
+        }
         EventQuestion::FailedTo | EventQuestion::FailedAt(_) => is_failure(event),
     }
 }

@@ -51,4 +51,6 @@ pub enum EventQuestion {
     FailedTo,
     /// The same with this minute or hour since 1970.
     FailedAt(u64),
+    /// The version to which an install ended, well or not, with this minute or hour since 1970.
+    EndedAt(u64),
 }
