@@ -1,3 +1,3 @@
-pub mod Colours
-pub mod Frames
+pub mod Names
+pub mod WellFormed
 pub mod Xml

@@ -1,11 +1,12 @@
-//! Pieces of charts in SVG 1.1: texts as character data, easily distinguished colours, and the
-//! beginning of the file.
+//! SVG 1.1: pictures that are written element by element and are well-formed XML, and easily
+//! distinguished colours.
 #![tactic(auto)]
 
-mod colours;
-mod frame;
+mod labels;
+mod names;
+mod picture;
+mod pieces;
 mod xml;
 
-pub use colours::push_colour;
-pub use frame::push_frame;
-pub use xml::push_xml;
+pub use names::{SvgAttribute, Tag};
+pub use picture::Picture;

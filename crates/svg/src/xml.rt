@@ -8,7 +8,7 @@ use std::alloc::AllocError;
 
 /// Appends a text with its markup escaped, and a question mark for each character that XML doesn't
 /// allow.
-pub fn push_xml(text: &mut String, more: &str) -> Result<(), AllocError>
+pub(crate) fn push_xml(text: &mut String, more: &str) -> Result<(), AllocError>
     ensures { OnOk result (Puts text.old text.new (xml_text more.now)) }
 {
     for c in more.chars() {
