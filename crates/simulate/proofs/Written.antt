@@ -1,18 +1,16 @@
 -- A text that is written part by part is written as a whole.
-use Rattle.std.proofs.Common.{Bool, None, ap₂, drop, get_or, take}
+use Rattle.std.proofs.Common.{Bool, None, ap₂}
 use Rattle.std.proofs.Common.{◌≡◌, ◌∙◌, refl, sym, ap, ℕ, zero, suc, ◌+◌, ◌-◌, ◌<◌, ◌≤◌}
 use Rattle.std.proofs.Common.{List, [], ◌∷◌, ◌++◌, append_assoc, arith, length, replicate}
-use Rattle.std.proofs.lemmas.List.{append-nil, take_all}
+use Rattle.std.proofs.lemmas.List.{append-nil}
 use Rattle.std.specs.List.{flat_map, range_with_len}
 use Rattle.serde_json.specs.Data.{Data}
 use Rattle.simulate.specs.Moving.{move_if_any}
 use Rattle.simulate.specs.Objects.{move_object_if_any, share_if_any}
-use Rattle.simulate.specs.Pictures.{entry_height, entry_if_any, legend_rows, path_if_any}
-use Rattle.simulate.specs.Pictures.{panel, panel_height, panels}
-use Rattle.simulate.specs.Shares.{choice_label, row_if_any}
+use Rattle.simulate.specs.Shares.{row_if_any}
 use Rattle.simulate.specs.Shown.{no_offer, offer_in, offered}
 use Rattle.simulate.specs.declared.moves.MoveWidths.{MoveWidths}
-use Rattle.simulate.specs.Counts.{buckets_with, choices_or_none}
+use Rattle.simulate.specs.Counts.{choices_or_none}
 use Rattle.ruleset.specs.Rules.{AppRule}
 use native.Mathlib.Numerals.{unary_clauses}
 
@@ -67,12 +65,6 @@ pub row_counted : (width own : ℕ) (label : List ℕ) (count n : ℕ) (old new 
 row_counted width own label count n old new grown is_width is_count =
     grown ∙ ap₂ (λ (w m : ℕ). old ++ row_if_any w label m) is_width is_count
 
-pub path_counted : (choices : List ℕ) (choice count n : ℕ) (old new : List ℕ)
-    → new ≡ old ++ path_if_any choices choice count → count ≡ n
-    → new ≡ old ++ path_if_any choices choice n
-path_counted choices choice count n old new grown is_count =
-    grown ∙ ap (λ (m : ℕ). old ++ path_if_any choices choice m) is_count
-
 pub move_counted : (widths : MoveWidths) (from to : List ℕ) (count n : ℕ) (lost : Bool)
     (old new : List ℕ) → new ≡ old ++ move_if_any widths from to count lost → count ≡ n
     → new ≡ old ++ move_if_any widths from to n lost
@@ -91,52 +83,6 @@ pub move_object_counted : (now next : List (List ℕ)) (from to count n : ℕ) (
 move_object_counted now next from to count n old new grown is_count =
     grown ∙ ap (λ (m : ℕ). old ++ move_object_if_any now next from to m) is_count
 
--- one more row of a legend: the next row is below the last
-pub entry_further : (versions : List (List ℕ)) (choices : List ℕ) (i n count top next : ℕ)
-    (o new whole : List ℕ) → i ≤ n → count ≡ buckets_with choices i
-    → new ≡ o ++ entry_if_any top i (choice_label versions i) count
-    → next ≡ top + entry_height count
-    → o ++ legend_rows versions choices top (range_with_len i (n + 1 - i)) ≡ whole
-    → new ++ legend_rows versions choices next (range_with_len (i + 1) (n + 1 - (i + 1))) ≡ whole
-entry_further versions choices i n count top next o new whole within is_count grown below is =
-    let rest = range_with_len (i + 1) (n + 1 - (i + 1)) in
-    let own = buckets_with choices i in
-    let part = entry_if_any top i (choice_label versions i) own in
-    let opened : o ++ legend_rows versions choices top (i ∷ rest) ≡ whole =
-    ap (λ (l : List ℕ). o ++ legend_rows versions choices top l) (sym (next_number i n within))
-    ∙ is in
-    let put : new ≡ o ++ part =
-    grown ∙ ap (λ (m : ℕ). o ++ entry_if_any top i (choice_label versions i) m) is_count in
-    let lower : next ≡ top + entry_height own =
-    below ∙ ap (λ (m : ℕ). top + entry_height m) is_count in
-    ap (λ (t : ℕ). new ++ legend_rows versions choices t rest) lower
-    ∙ one_further o part (legend_rows versions choices (top + entry_height own) rest) new whole put
-    opened
-
--- one more panel, for lists that have a first element: the next panel is below the last
-pub panel_further : (top next : ℕ) (apps : List AppRule) (chosen : List (List ℕ)) (app : AppRule)
-    (choices o new whole : List ℕ) → 0 < length apps → 0 < length chosen
-    → app ≡ get_or apps 0 app → choices ≡ get_or chosen 0 choices → next ≡ top + panel_height app
-    → new ≡ o ++ panel top app choices → o ++ panels top apps chosen ≡ whole
-    → new ++ panels next (take (length apps - 1) (drop 1 apps))
-    (take (length chosen - 1) (drop 1 chosen)) ≡ whole
-panel_further top next [] chosen app choices o new whole some also first own below grown is =
-    absurd (omega (arith, some))
-panel_further top next (a ∷ apps) [] app choices o new whole some also first own below grown is =
-    absurd (omega (arith, also))
-panel_further top next (a ∷ apps) (c ∷ chosen) app choices o new whole some also first own below
-    grown is =
-    let rest_apps : take (length (a ∷ apps) - 1) apps ≡ apps = take_all _ apps (omega arith) in
-    let rest_chosen : take (length (c ∷ chosen) - 1) chosen ≡ chosen =
-    take_all _ chosen (omega arith) in
-    let put : new ≡ o ++ panel top a c =
-    grown ∙ ap₂ (λ (x : AppRule) (y : List ℕ). o ++ panel top x y) first own in
-    let lower : next ≡ top + panel_height a =
-    below ∙ ap (λ (x : AppRule). top + panel_height x) first in
-    ap₂ (λ (x : List AppRule) (y : List (List ℕ)). new ++ panels next x y) rest_apps rest_chosen
-    ∙ ap (λ (t : ℕ). new ++ panels t apps chosen) lower
-    ∙ one_further o (panel top a c) (panels (top + panel_height a) apps chosen) new whole put is
-
 -- ---- an app that doesn't exist
 
 pub none_offered : (choices : List ℕ) → choices ≡ choices_or_none None
@@ -154,15 +100,3 @@ pub no_choices_left : (apps : List AppRule) (chosen : List (List ℕ)) (appid : 
 no_choices_left [] chosen appid none = refl
 no_choices_left (app ∷ apps) [] appid none = refl
 no_choices_left (app ∷ apps) (choices ∷ chosen) appid none = absurd (omega (arith, none))
-
--- ---- parts
-
-pub three_parts : (o a b c : List ℕ) → o ++ a ++ b ++ c ≡ o ++ (a ++ b ++ c)
-three_parts o a b c = simp append_assoc refl
-
-pub four_parts : (o a b c d : List ℕ) → o ++ a ++ b ++ c ++ d ≡ o ++ (a ++ b ++ c ++ d)
-four_parts o a b c d = simp append_assoc refl
-
-pub five_parts : (o a b c d e : List ℕ)
-    → o ++ a ++ b ++ c ++ d ++ e ≡ o ++ (a ++ b ++ c ++ d ++ e)
-five_parts o a b c d e = simp append_assoc refl

@@ -7,4 +7,3 @@ pub mod Picked
 pub mod Shares
 pub mod Moving
 pub mod Objects
-pub mod Pictures

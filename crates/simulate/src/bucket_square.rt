@@ -1,107 +1,71 @@
 //! The square of an app: 100 by 100 buckets.
 
-ghost use Rattle.std.specs.Prelude.{◌≡◌, ◌≤◌, OnOk};
-ghost use Rattle.printing.specs.Pushed.{Puts};
-ghost use Rattle.simulate.specs.Pictures as specs;
-ghost use Rattle.simulate.specs.Shown.{versions_of};
-
 use crate::choices::Choices;
 use crate::counts::count_buckets;
 use crate::labels::release_count;
 use ruleset::App;
-use std::alloc::AllocError;
+use std::alloc::{AllocError, Global};
 use std::fmt::Write;
-use svg::push_colour;
+use svg::{Picture, SvgAttribute, Tag};
 
-#[tactic(auto, unfolding(crate::specs::Pictures::square_opens))]
-fn square_opens() -> &'static str
-    ensures { result.now ≡ specs.square_opens }
-{
-    "<rect y=\"30\" width=\"400\" height=\"400\" fill=\""
-}
-
-#[tactic(auto, unfolding(crate::specs::Pictures::paths_open))]
-fn paths_open() -> &'static str
-    ensures { result.now ≡ specs.paths_open }
-{
-    "\"/>\n<g transform=\"translate(0,32) scale(4)\" shape-rendering=\"crispEdges\">\n"
-}
-
-/// Appends the square of an app.
-pub fn push_square(text: &mut String, app: &App, choices: &Choices) -> Result<(), AllocError>
-    ensures { OnOk result
-        (Puts text.old text.new (specs.square (versions_of app.now) choices.now)) }
-{
-    text.push_str(square_opens())?;
-    push_colour(text, 0)?;
-    text.push_str(paths_open())?;
-    push_paths(text, app, choices)?;
-    text.push_str("</g>\n")
-}
-
-fn push_paths(text: &mut String, app: &App, choices: &Choices) -> Result<(), AllocError>
-    ensures { OnOk result
-        (Puts text.old text.new (specs.paths (versions_of app.now) choices.now)) }
-{
-    let counts = count_buckets(choices);
-    let count = release_count(Some(app));
-    let mut choice = 0;
-    while choice <= count {
-        push_path_if_any(text, choices, choice, counts[choice])?;
-        choice += 1;
-    }
-    Ok(())
-}
-
-#[tactic(auto, unfolding(crate::specs::Pictures::path_if_any))]
-fn push_path_if_any(
-    text: &mut String,
+/// Draws the square of an app, with a path for each release that some bucket gets. A bucket is 4 by
+/// 4 pixels.
+pub(crate) fn draw_square(
+    alloc: Global,
+    picture: &mut Picture,
+    app: &App,
     choices: &Choices,
-    choice: usize,
-    count: u32,
-) -> Result<(), AllocError>
-    requires { choice ≤ 64 }
-    ensures { OnOk result
-        (Puts text.old text.new (specs.path_if_any choices.now choice count)) }
-{
-    if choice == 0 || count == 0 {
-        return Ok(());
-    }
-    push_path(text, choices, choice)
-}
-
-fn push_path(text: &mut String, choices: &Choices, choice: usize) -> Result<(), AllocError>
-    requires { choice ≤ 64 }
-    ensures { OnOk result (Puts text.old text.new (specs.choice_path choices.now choice)) }
-{
-    text.push_str("<path stroke=\"")?;
-    push_colour(text, choice)?;
-    text.push_str("\" d=\"")?;
-    push_buckets(text, choices.as_slice(), choice)?;
-    text.push_str("\"/>\n")?;
-    Ok(())
-}
-
-// The buckets that make a choice.
-fn push_buckets(text: &mut String, choices: &[u8], choice: usize) -> Result<(), AllocError>
-    ensures { OnOk result (Puts text.old text.new (specs.buckets_path choice 0 choices.now)) }
-{
-    let mut bucket = 0;
-    let mut left = choices;
-    while let [own, rest @ ..] = left {
-        if *own as usize == choice {
-            push_bucket(text, bucket)?;
+) -> Result<(), AllocError> {
+    draw_background(picture);
+    picture.open(Tag::Group);
+    picture.attribute(SvgAttribute::Transform, "translate(0,32) scale(4)");
+    picture.attribute(SvgAttribute::ShapeRendering, "crispEdges");
+    picture.line();
+    let counts = count_buckets(choices);
+    for choice in 1..release_count(Some(app)) + 1 {
+        if counts[choice] > 0 {
+            draw_buckets(alloc, picture, choices.as_slice(), choice)?;
         }
-        bucket += 1;
-        left = rest;
     }
+    picture.close();
+    picture.line();
     Ok(())
 }
 
-fn push_bucket(text: &mut String, bucket: usize) -> Result<(), AllocError>
-    ensures { OnOk result (Puts text.old text.new (specs.bucket_path bucket)) }
-{
+fn draw_background(picture: &mut Picture) {
+    picture.open(Tag::Rect);
+    picture.attribute(SvgAttribute::Y, "30");
+    picture.attribute(SvgAttribute::Width, "400");
+    picture.attribute(SvgAttribute::Height, "400");
+    picture.colour(SvgAttribute::Fill, 0);
+    picture.close();
+    picture.line();
+}
+
+// The buckets that get a release.
+fn draw_buckets(
+    alloc: Global,
+    picture: &mut Picture,
+    choices: &[u8],
+    choice: usize,
+) -> Result<(), AllocError> {
+    let mut path = String::new(alloc);
+    for (bucket, own) in choices.iter().enumerate() {
+        if *own as usize == choice {
+            push_bucket(&mut path, bucket)?;
+        }
+    }
+    picture.open(Tag::Path);
+    picture.colour(SvgAttribute::Stroke, choice);
+    picture.attribute(SvgAttribute::D, path.as_str());
+    picture.close();
+    picture.line();
+    Ok(())
+}
+
+// A line of one unit from the bucket's left to its right.
+fn push_bucket(path: &mut String, bucket: usize) -> Result<(), AllocError> {
     let column = bucket % 100;
     let row = bucket / 100;
-    write!(text, "M{column} {row}h1")
+    write!(path, "M{column} {row}h1")
 }
