@@ -1,4 +1,2 @@
-pub mod Loops
-pub mod Page
 pub mod Raised
 pub mod Written

@@ -1,10 +1,5 @@
-pub mod Axis
 pub mod Bins
-pub mod Clocks
-pub mod Layers
-pub mod Legends
 pub mod Loads
 pub mod Marks
-pub mod Pictures
-pub mod Strips
+pub mod Tables
 pub mod Versions

@@ -23,7 +23,7 @@ behind_any None name = Some (rest name)
 
 -- ---- rows of a series
 
--- a series: the update checks, offers or failures of an app, for one of its versions or for all
+-- a series: the update checks, offers, installs or failures of an app, for one of its versions or for all
 pub record Drawn : Type 0 where
   pub what : List ℕ
   pub app : List ℕ
@@ -35,6 +35,14 @@ drawn_by series = record {
   app = series.app.now;
   version = option_copied series.version;
 }
+
+-- the series of all versions of an app, and that of one version
+abbrev pub of_all : (what app : List ℕ) → Drawn
+of_all what app = record { what = what; app = app; version = None }
+
+abbrev pub of_version : Drawn → (version : List ℕ) → Drawn
+of_version drawn version =
+    record { what = drawn.what; app = drawn.app; version = Some version }
 
 -- the minute or hour of a text: at most the last minute of the year 9999
 abbrev pub moment_in : List ℕ → Option ℕ

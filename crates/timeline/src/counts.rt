@@ -2,7 +2,7 @@
 
 ghost use Rattle.std.specs.Prelude.{◌≡◌, ◌<◌, ◌≤◌, OnOk, IfOk, length};
 ghost use Rattle.timeline.specs.Bins as specs;
-ghost use Rattle.timeline.specs.Marks.{drawn_by};
+ghost use Rattle.timeline.specs.Marks.{drawn_by, of_version};
 
 use crate::bins::{Bins, bin_of};
 use crate::marks::{Series, added};
@@ -36,9 +36,9 @@ pub(crate) fn no_counts(alloc: Global, bins: &Bins) -> Result<Vec<u64>, AllocErr
     Ok(zeros)
 }
 
-/// Adds the series' counts to the numbers of the bins. Also returns `AllocError` if a number
-/// overflows 64 bits.
-pub(crate) fn raise(
+// Adds the series' counts to the numbers of the bins. Also returns `AllocError` if a number
+// overflows 64 bits.
+fn raise(
     numbers: &mut [u64],
     rows: &BTreeMap<String, u64>,
     drawn: Series<'_>,
@@ -55,6 +55,24 @@ pub(crate) fn raise(
         raise_by(numbers, bins, drawn, name.as_str(), *n)?;
     }
     Ok(())
+}
+
+/// Adds the counts of one version of the series to the numbers of the bins. Also returns
+/// `AllocError` if a number overflows 64 bits.
+pub(crate) fn raise_by_version<'a>(
+    numbers: &mut [u64],
+    rows: &BTreeMap<String, u64>,
+    drawn: Series<'a>,
+    version: &'a str,
+    bins: &Bins,
+) -> Result<(), AllocError>
+    requires wide { 0 < bins.now.width }
+    requires all { length numbers.old ≡ bins.now.count }
+    ensures raised { OnOk result (numbers.new ≡ specs.raised bins.now
+        (of_version (drawn_by drawn.entry) version.now) rows.now.entries numbers.old) }
+    ensures all { length numbers.new ≡ length numbers.old }
+{
+    raise(numbers, rows, drawn.of_version(version), bins)
 }
 
 fn raise_by(

@@ -1,5 +1,5 @@
 //! The chart of a server's log over time, in SVG. For each bin of time it shows the share of each
-//! version in an app's update checks, offers and failures. Loads are marked.
+//! version in an app's update checks and offers, and the rate of failed installs. Loads are marked.
 //!
 //! See docs/PROGRAM.md, "report".
 #![tactic(auto)]
@@ -12,7 +12,6 @@
 mod app_panel;
 mod axis;
 mod bins;
-mod clock;
 mod counts;
 mod layers;
 mod legend;

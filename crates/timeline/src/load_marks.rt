@@ -1,7 +1,6 @@
 //! The loads of a log, as lines across an app's strips.
 
-ghost use Rattle.std.specs.Prelude.{◌≡◌, ◌<◌, IfOk, OnOk};
-ghost use Rattle.printing.specs.Pushed.{Puts};
+ghost use Rattle.std.specs.Prelude.{◌≡◌, ◌<◌, IfOk};
 ghost use Rattle.timeline.specs.Loads as specs;
 
 use crate::axis::across;
@@ -10,32 +9,28 @@ use crate::marks::{added, first, rest};
 use moments::minute_in;
 use std::alloc::AllocError;
 use std::collections::BTreeMap;
-use std::fmt::Write;
-use svg::push_xml;
+use svg::{Picture, SvgAttribute, Tag};
 
-/// Appends a line for each load within the bins, with its generation if there is space.
-#[tactic(auto, using(crate::proofs::Written::one_further, crate::proofs::Written::at_end))]
-pub(crate) fn push_loads(
-    text: &mut String,
-    bins: &Bins,
-    loads: &BTreeMap<String, u64>,
-) -> Result<(), AllocError>
+/// Draws a line for each load within the bins, with its generation above it, unless that would
+/// begin before the last label ends. A label takes 70 pixels.
+pub(crate) fn draw_loads(picture: &mut Picture, bins: &Bins, loads: &BTreeMap<String, u64>)
     requires { 0 < bins.now.span }
-    ensures { OnOk result (Puts text.old text.new
-        (specs.loads bins.now 0 loads.now.entries)) }
 {
     let mut free: u128 = 0;
     for (name, _count) in loads.iter() {
-        let at = load_x(bins, name.as_str());
-        push_load(text, free, at, name.as_str())?;
-        free = free_behind(free, at);
+        if let Some(minute) = load_minute(bins, name.as_str()) {
+            let x = across(bins, minute);
+            draw_line(picture, x);
+            if x >= free {
+                draw_label(picture, x, first(rest(name.as_str())));
+                free = x.saturating_add(70);
+            }
+        }
     }
-    Ok(())
 }
 
 /// The number of loads outside the bins. Also returns `AllocError` if it overflows 64 bits.
 pub(crate) fn loads_outside(bins: &Bins, loads: &BTreeMap<String, u64>) -> Result<u64, AllocError>
-    requires { 0 < bins.now.span }
     ensures { IfOk result (λ n. n ≡ specs.loads_outside bins.now loads.now.entries) }
 {
     let mut count = 0;
@@ -46,114 +41,55 @@ pub(crate) fn loads_outside(bins: &Bins, loads: &BTreeMap<String, u64>) -> Resul
 }
 
 fn outside(bins: &Bins, name: &str, n: u64) -> u64
-    requires { 0 < bins.now.span }
     ensures { result ≡ specs.outside bins.now name.now n }
 {
-    if load_x(bins, name).is_none() { n } else { 0 }
+    if load_minute(bins, name).is_none() {
+        n
+    } else {
+        0
+    }
 }
 
-// The x position of a load, if it is within the bins.
-fn load_x(bins: &Bins, name: &str) -> Option<u128>
-    requires { 0 < bins.now.span }
-    ensures { result ≡ specs.load_x bins.now name.now }
+// The minute of a load, if it is within the bins.
+fn load_minute(bins: &Bins, name: &str) -> Option<u64>
+    ensures { result ≡ specs.load_minute bins.now name.now }
 {
     match minute_in(first(name)) {
-        Some(minute) => x_within(bins, minute),
+        Some(minute) => minute_within(bins, minute),
         None => None,
     }
 }
 
-fn x_within(bins: &Bins, minute: u64) -> Option<u128>
-    requires { 0 < bins.now.span }
-    ensures { result ≡ specs.x_within bins.now minute }
+fn minute_within(bins: &Bins, minute: u64) -> Option<u64>
+    ensures { result ≡ specs.minute_within bins.now minute }
 {
     if minute < bins.start || minute - bins.start >= bins.span {
         return None;
     }
-    Some(across(bins, minute))
-}
-
-// The least x position for the next label.
-fn free_behind(free: u128, at: Option<u128>) -> u128
-    ensures { result ≡ specs.free_behind free at }
-{
-    match at {
-        Some(x) if x >= free => x.saturating_add(70),
-        _ => free,
-    }
-}
-
-fn push_load(text: &mut String, free: u128, at: Option<u128>, name: &str) -> Result<(), AllocError>
-    ensures { OnOk result (Puts text.old text.new (specs.load_mark free at name.now)) }
-{
-    let Some(x) = at else {
-        return Ok(());
-    };
-    push_line(text, x)?;
-    if x < free {
-        return Ok(());
-    }
-    push_label(text, x, first(rest(name)))
+    Some(minute)
 }
 
 // A dashed line across the three strips, over a white line.
-fn push_line(text: &mut String, x: u128) -> Result<(), AllocError>
-    ensures { OnOk result (Puts text.old text.new (specs.load_line x)) }
-{
-    push_path(text, white_opens(), x)?;
-    push_path(text, dashed_opens(), x)?;
-    text.push_str("\n")?;
-    Ok(())
+fn draw_line(picture: &mut Picture, x: u128) {
+    picture.open(Tag::Path);
+    picture.attribute(SvgAttribute::Stroke, "rgb(255,255,255)");
+    picture.attribute(SvgAttribute::D, format_args!("M{x} 60v90m0 30v90m0 30v90"));
+    picture.close();
+    picture.open(Tag::Path);
+    picture.attribute(SvgAttribute::Stroke, "rgb(0,0,0)");
+    picture.attribute(SvgAttribute::StrokeDasharray, "4 3");
+    picture.attribute(SvgAttribute::D, format_args!("M{x} 60v90m0 30v90m0 30v90"));
+    picture.close();
+    picture.line();
 }
 
-#[tactic(auto, unfolding(crate::specs::Loads::white_opens))]
-fn white_opens() -> &'static str
-    ensures { result.now ≡ specs.white_opens }
-{
-    "<path stroke=\"rgb(255,255,255)\" d=\"M"
-}
-
-#[tactic(auto, unfolding(crate::specs::Loads::dashed_opens))]
-fn dashed_opens() -> &'static str
-    ensures { result.now ≡ specs.dashed_opens }
-{
-    "<path stroke=\"rgb(0,0,0)\" stroke-dasharray=\"4 3\" d=\"M"
-}
-
-#[tactic(auto, unfolding(crate::specs::Loads::path_closes))]
-fn path_closes() -> &'static str
-    ensures { result.now ≡ specs.path_closes }
-{
-    " 60v90m0 30v90m0 30v90\"/>"
-}
-
-#[tactic(auto, unfolding(crate::specs::Loads::label_opens))]
-fn label_opens() -> &'static str
-    ensures { result.now ≡ specs.label_opens }
-{
-    "<text text-anchor=\"middle\" font-size=\"12\" y=\"36\" x=\""
-}
-
-fn push_path(text: &mut String, opens: &str, x: u128) -> Result<(), AllocError>
-    ensures { OnOk result (Puts text.old text.new (specs.path_at opens.now x)) }
-{
-    text.push_str(opens)?;
-    write!(text, "{x}")?;
-    text.push_str(path_closes())
-}
-
-fn push_label(text: &mut String, x: u128, generation: &str) -> Result<(), AllocError>
-    ensures { OnOk result (Puts text.old text.new (specs.load_label x generation.now)) }
-{
-    push_label_place(text, x)?;
-    push_xml(text, generation)?;
-    text.push_str("</text>\n")?;
-    Ok(())
-}
-
-fn push_label_place(text: &mut String, x: u128) -> Result<(), AllocError>
-    ensures { OnOk result (Puts text.old text.new (specs.label_place x)) }
-{
-    text.push_str(label_opens())?;
-    write!(text, "{x}\">load ")
+fn draw_label(picture: &mut Picture, x: u128, generation: &str) {
+    picture.open(Tag::Text);
+    picture.attribute(SvgAttribute::TextAnchor, "middle");
+    picture.attribute(SvgAttribute::FontSize, "12");
+    picture.attribute(SvgAttribute::Y, "36");
+    picture.attribute(SvgAttribute::X, x);
+    picture.text(format_args!("load {generation}"));
+    picture.close();
+    picture.line();
 }

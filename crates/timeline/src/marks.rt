@@ -13,12 +13,36 @@ use std::collections::BTreeMap;
 /// end.
 pub(crate) const LAST_MINUTE: u64 = 4223371679;
 
-/// A series: the update checks, offers or failures of an app, for one of its versions or for all.
+/// A series: the update checks, offers, ended installs or failed installs of an app, for one of its
+/// versions or for all.
 #[derive(Clone, Copy)]
 pub(crate) struct Series<'a> {
     pub what: &'a str,
     pub app: &'a str,
     pub version: Option<&'a str>,
+}
+
+impl<'a> Series<'a> {
+    /// The series of all versions of an app.
+    pub(crate) fn of_all(what: &'a str, app: &'a str) -> Series<'a>
+        ensures { specs.drawn_by result ≡ specs.of_all what.now app.now }
+    {
+        Series {
+            what,
+            app,
+            version: None,
+        }
+    }
+
+    /// The series of one version.
+    pub(crate) fn of_version(self, version: &'a str) -> Series<'a>
+        ensures { specs.drawn_by result ≡ specs.of_version (specs.drawn_by self.entry) version.now }
+    {
+        Series {
+            version: Some(version),
+            ..self
+        }
+    }
 }
 
 /// The minute or hour of a name, if the series includes it.

@@ -1,218 +1,182 @@
-//! The three strips of an app: update checks, offers and failures.
+//! The three strips of an app: the shares of versions in update checks and in offers, and the rate
+//! of failures.
 
-ghost use Rattle.std.specs.Prelude.{◌≡◌, ◌≤◌, OnOk, map, string_bytes};
-ghost use Rattle.printing.specs.Pushed.{Puts};
 ghost use Rattle.timeline.specs.Bins.{AreBins};
-ghost use Rattle.timeline.specs.Strips as specs;
-ghost use Rattle.timeline.specs.Marks.{drawn_by};
 
+use crate::app_panel::PictureSource;
 use crate::bins::Bins;
 use crate::counts::{counts_by_bin, no_counts};
-use crate::layers::push_layers;
+use crate::layers::{draw_layers, draw_rest};
 use crate::marks::{Series, drawn_count};
 use std::alloc::{AllocError, Global};
-use std::collections::BTreeMap;
-use std::fmt::Write;
+use svg::{Picture, SvgAttribute, Tag};
 
-#[tactic(auto, unfolding(crate::specs::Strips::strip_opens))]
-fn strip_opens() -> &'static str
-    ensures { result.now ≡ specs.strip_opens }
-{
-    "<svg x=\"60\" width=\"780\" height=\"90\" preserveAspectRatio=\"none\" y=\""
-}
+/// The width and the height of a strip, and its distance from the left, in pixels.
+const WIDTH: u64 = 780;
 
-#[tactic(auto, unfolding(crate::specs::Strips::strip_crisp))]
-fn strip_crisp() -> &'static str
-    ensures { result.now ≡ specs.strip_crisp }
-{
-    " 10000\" shape-rendering=\"crispEdges\">\n"
-}
+const HEIGHT: u64 = 90;
 
-#[tactic(auto, unfolding(crate::specs::Strips::border))]
-fn border() -> &'static str
-    ensures { result.now ≡ specs.border }
-{
-    "\" x=\"60\" width=\"780\" height=\"90\" fill=\"none\" stroke=\"rgb(150,150,150)\"/>\n"
-}
+const LEFT: u64 = 60;
 
-/// Appends the strips of an app's update checks, offers and failures.
-pub(crate) fn push_strips<'a>(
+/// Draws the strips of an app: the shares of versions in its update checks and in its offers, and
+/// the rate of failures.
+pub(crate) fn draw_strips<'a>(
     alloc: Global,
-    text: &mut String,
-    rows: &BTreeMap<String, u64>,
+    picture: &mut Picture,
+    source: &PictureSource<'_>,
     app: &'a str,
     versions: &'a [String],
-    bins: &Bins,
 ) -> Result<(), AllocError>
-    requires { AreBins bins.now }
-    ensures { OnOk result (Puts text.old text.new (specs.strips rows.now.entries bins.now
-        (map string_bytes versions.now) app.now)) }
+    requires { AreBins source.now.bins }
 {
-    push_strip_of(alloc, text, rows, "asks", app, versions, bins, 60)?;
-    push_strip_of(alloc, text, rows, "offers", app, versions, bins, 180)?;
-    push_strip_of(alloc, text, rows, "failures", app, versions, bins, 300)?;
+    draw_shares(
+        alloc,
+        picture,
+        source,
+        Series::of_all("asks", app),
+        versions,
+        60,
+    )?;
+    draw_shares(
+        alloc,
+        picture,
+        source,
+        Series::of_all("offers", app),
+        versions,
+        180,
+    )?;
+    draw_rates(alloc, picture, source, app, versions, 300)?;
     Ok(())
 }
 
-fn push_strip_of<'a>(
+// A version's share in each bin is its part of all counts of the series.
+fn draw_shares<'a>(
     alloc: Global,
-    text: &mut String,
-    rows: &BTreeMap<String, u64>,
-    what: &'a str,
-    app: &'a str,
+    picture: &mut Picture,
+    source: &PictureSource<'_>,
+    drawn: Series<'a>,
     versions: &'a [String],
-    bins: &Bins,
     top: u64,
 ) -> Result<(), AllocError>
-    requires bins { AreBins bins.now }
-    requires low { 6 ≤ top }
-    requires high { top ≤ 1000 }
-    ensures { OnOk result (Puts text.old text.new (specs.strip rows.now.entries bins.now
-        (map string_bytes versions.now) (specs.all_versions what.now app.now) top)) }
+    requires { AreBins source.now.bins }
 {
-    push_strip(
+    let what = drawn.what;
+    let count = drawn_count(source.rows, drawn)?;
+    let totals = counts_by_bin(alloc, source.rows, drawn, &source.bins)?;
+    picture.label(LEFT, top.saturating_sub(6), format_args!("{what}: {count}"));
+    picture.line();
+    draw_parts(
         alloc,
-        text,
-        rows,
-        all_versions(what, app),
+        picture,
+        source,
+        drawn,
         versions,
-        bins,
+        totals.as_slice(),
+        totals.as_slice(),
         top,
     )
 }
 
-/// The series of all versions.
-pub(crate) fn all_versions<'a>(what: &'a str, app: &'a str) -> Series<'a>
-    ensures { drawn_by result ≡ specs.all_versions what.now app.now }
-{
-    Series {
-        what,
-        app,
-        version: None,
-    }
-}
-
-fn push_strip<'a>(
+// The rate of failures in each bin: of the installs that ended, those that failed, by version.
+fn draw_rates<'a>(
     alloc: Global,
-    text: &mut String,
-    rows: &BTreeMap<String, u64>,
-    drawn: Series<'a>,
+    picture: &mut Picture,
+    source: &PictureSource<'_>,
+    app: &'a str,
     versions: &'a [String],
-    bins: &Bins,
     top: u64,
 ) -> Result<(), AllocError>
-    requires bins { AreBins bins.now }
-    requires low { 6 ≤ top }
-    requires high { top ≤ 1000 }
-    ensures { OnOk result (Puts text.old text.new (specs.strip rows.now.entries bins.now
-        (map string_bytes versions.now) (drawn_by drawn.entry) top)) }
+    requires { AreBins source.now.bins }
 {
-    let count = drawn_count(rows, drawn)?;
-    push_title(text, drawn.what, count, top)?;
-    push_shares(alloc, text, rows, drawn, versions, bins, top)?;
-    push_border(text, top)?;
-    Ok(())
+    let ended = drawn_count(source.rows, Series::of_all("installs", app))?;
+    let failed = drawn_count(source.rows, Series::of_all("failures", app))?;
+    let totals = counts_by_bin(
+        alloc,
+        source.rows,
+        Series::of_all("installs", app),
+        &source.bins,
+    )?;
+    let failures = counts_by_bin(
+        alloc,
+        source.rows,
+        Series::of_all("failures", app),
+        &source.bins,
+    )?;
+    picture.label(
+        LEFT,
+        top.saturating_sub(6),
+        format_args!("failures: {failed} of {ended} installs"),
+    );
+    picture.line();
+    draw_parts(
+        alloc,
+        picture,
+        source,
+        Series::of_all("failures", app),
+        versions,
+        totals.as_slice(),
+        failures.as_slice(),
+        top,
+    )
 }
 
-// The title of the strip and its total count.
-fn push_title(text: &mut String, what: &str, count: u64, top: u64) -> Result<(), AllocError>
-    requires { 6 ≤ top }
-    ensures { OnOk result (Puts text.old text.new (specs.strip_title what.now count top)) }
-{
-    push_strip_title_place(text, top - 6)?;
-    text.push_str(what)?;
-    push_count(text, count)?;
-    text.push_str("</text>\n")?;
-    Ok(())
-}
-
-fn push_strip_title_place(text: &mut String, y: u64) -> Result<(), AllocError>
-    ensures { OnOk result (Puts text.old text.new (specs.strip_title_place y)) }
-{
-    text.push_str("<text x=\"60\" y=\"")?;
-    write!(text, "{y}")?;
-    text.push_str("\">")?;
-    Ok(())
-}
-
-fn push_count(text: &mut String, count: u64) -> Result<(), AllocError>
-    ensures { OnOk result (Puts text.old text.new (specs.count_behind count)) }
-{
-    text.push_str(": ")?;
-    write!(text, "{count}")
-}
-
-fn push_border(text: &mut String, top: u64) -> Result<(), AllocError>
-    requires { top ≤ 1000 }
-    ensures { OnOk result (Puts text.old text.new (specs.frame_of top)) }
-{
-    push_border_line(text, top)?;
-    push_scale(text, "100 %", top + 11)?;
-    push_scale(text, "0", top + 90)?;
-    Ok(())
-}
-
-fn push_border_line(text: &mut String, top: u64) -> Result<(), AllocError>
-    ensures { OnOk result (Puts text.old text.new (specs.border_line top)) }
-{
-    text.push_str("<rect y=\"")?;
-    write!(text, "{top}")?;
-    text.push_str(border())
-}
-
-// A number next to the strip.
-fn push_scale(text: &mut String, number: &str, y: u64) -> Result<(), AllocError>
-    ensures { OnOk result (Puts text.old text.new (specs.scale number.now y)) }
-{
-    text.push_str(scale_opens())?;
-    write!(text, "{y}")?;
-    text.push_str("\">")?;
-    text.push_str(number)?;
-    text.push_str("</text>\n")?;
-    Ok(())
-}
-
-#[tactic(auto, unfolding(crate::specs::Strips::scale_opens))]
-fn scale_opens() -> &'static str
-    ensures { result.now ≡ specs.scale_opens }
-{
-    "<text text-anchor=\"end\" font-size=\"12\" x=\"54\" y=\""
-}
-
-fn push_shares<'a>(
+// The parts that versions have of the totals in each bin. What is above all parts is white.
+fn draw_parts<'a>(
     alloc: Global,
-    text: &mut String,
-    rows: &BTreeMap<String, u64>,
+    picture: &mut Picture,
+    source: &PictureSource<'_>,
     drawn: Series<'a>,
     versions: &'a [String],
-    bins: &Bins,
+    totals: &[u64],
+    parts: &[u64],
     top: u64,
 ) -> Result<(), AllocError>
-    requires { AreBins bins.now }
-    ensures { OnOk result (Puts text.old text.new (specs.shares rows.now.entries bins.now
-        (map string_bytes versions.now) (drawn_by drawn.entry) top)) }
+    requires { AreBins source.now.bins }
 {
-    let totals = counts_by_bin(alloc, rows, drawn, bins)?;
-    let mut stood = no_counts(alloc, bins)?;
-    push_opening(text, bins, top)?;
-    push_layers(
-        text,
-        rows,
+    let mut below = no_counts(alloc, &source.bins)?;
+    open_strip(picture, &source.bins, top);
+    draw_layers(
+        alloc,
+        picture,
+        source,
         drawn,
         versions,
-        bins,
-        totals.as_slice(),
-        stood.as_mut_slice(),
+        totals,
+        below.as_mut_slice(),
     )?;
-    text.push_str("</svg>\n")?;
+    draw_rest(alloc, picture, totals, parts)?;
+    picture.close();
+    picture.line();
+    draw_border(picture, top);
     Ok(())
 }
 
-fn push_opening(text: &mut String, bins: &Bins, top: u64) -> Result<(), AllocError>
-    ensures { OnOk result (Puts text.old text.new (specs.strip_opening bins.now top)) }
-{
+// A bin is 1 unit wide, and 10000 units high.
+fn open_strip(picture: &mut Picture, bins: &Bins, top: u64) {
     let count = bins.count;
-    text.push_str(strip_opens())?;
-    write!(text, "{top}\" viewBox=\"0 0 {count}")?;
-    text.push_str(strip_crisp())
+    picture.open(Tag::Svg);
+    picture.attribute(SvgAttribute::X, LEFT);
+    picture.attribute(SvgAttribute::Width, WIDTH);
+    picture.attribute(SvgAttribute::Height, HEIGHT);
+    picture.attribute(SvgAttribute::PreserveAspectRatio, "none");
+    picture.attribute(SvgAttribute::Y, top);
+    picture.attribute(SvgAttribute::ViewBox, format_args!("0 0 {count} 10000"));
+    picture.attribute(SvgAttribute::ShapeRendering, "crispEdges");
+    picture.line();
+}
+
+fn draw_border(picture: &mut Picture, top: u64) {
+    picture.open(Tag::Rect);
+    picture.attribute(SvgAttribute::Y, top);
+    picture.attribute(SvgAttribute::X, LEFT);
+    picture.attribute(SvgAttribute::Width, WIDTH);
+    picture.attribute(SvgAttribute::Height, HEIGHT);
+    picture.attribute(SvgAttribute::Fill, "none");
+    picture.attribute(SvgAttribute::Stroke, "rgb(150,150,150)");
+    picture.close();
+    picture.line();
+    picture.small_label("end", 54, top.saturating_add(11), "100 %");
+    picture.line();
+    picture.small_label("end", 54, top.saturating_add(HEIGHT), "0");
+    picture.line();
 }
