@@ -1,11 +1,11 @@
 -- The lines of one more log are counted.
 use Rattle.std.proofs.Common.{◌≡◌, ◌∙◌, refl, sym, subst, ℕ, ◌+◌, List, [], ◌∷◌, ◌++◌}
 use Rattle.std.proofs.Common.{append_assoc, append-nil, length, flat_map, Option, arith}
-use Rattle.std.proofs.Common.{Bool, is_some, option_map, string_bytes}
+use Rattle.std.proofs.Common.{Bool, is_some, string_bytes}
 use Rattle.std.proofs.lemmas.Grind.{flat_map-append}
 use Rattle.std.proofs.lemmas.List.{length-append}
 use Rattle.std.proofs.lemmas.List.Concat.{flat_map-cons}
-use Rattle.log_tools.specs.Reports.{CountsLogs, HasReported, picture_if, text_by}
+use Rattle.log_tools.specs.Reports.{CountsLogs, HasReported, text_by}
 use Rattle.log_tools.specs.declared.reporting.ReportOutput.{ReportOutput}
 use Rattle.moments.specs.declared.moment.NamedTime.{NamedTime}
 use Rattle.report.specs.Counts.{Counts}
@@ -13,6 +13,7 @@ use Rattle.report.specs.Lines.{lines_in}
 use Rattle.report.specs.Reading.{CountsLines, ReadsLog}
 use Rattle.report.specs.declared.counting.Report.{Report}
 use Rattle.report.specs.declared.window.Window.{Window}
+use Rattle.svg.specs.WellFormed.{HasPicture}
 
 module _ (window : Window) where
   counts_none : (r : Report) → CountsLines window [] r r
@@ -61,7 +62,7 @@ pub has_reported : (n : ℕ) (since until : Option NamedTime) (prometheus drawn 
     → is_some window.since ≡ is_some since → is_some window.until ≡ is_some until
     → Counts window [] drawn start → CountsLogs window n start last
     → string_bytes output.text ≡ text_by prometheus last
-    → option_map string_bytes output.picture ≡ picture_if drawn last
+    → HasPicture drawn output.picture
     → HasReported n since until prometheus drawn output
 has_reported n since until prometheus drawn output window start last from to none reads text
     picture =
@@ -73,5 +74,5 @@ has_reported n since until prometheus drawn output window start last from to non
       report = last;
       counted = reads.counted.behind drawn [] none;
       text_is = text;
-      picture_is = picture;
+      picture = picture;
     }

@@ -1,7 +1,7 @@
 -- A report on logs. Nothing is known about the files of a device, so each log has some bytes. Nor
 -- is anything known about its clock, so the window is between some times.
-use Rattle.std.specs.Prelude.{◌≡◌, ℕ, List, Option, Some, None, length, flat_map, is_some}
-use Rattle.std.specs.Prelude.{Bool, if◌then◌else◌, option_map, string_bytes}
+use Rattle.std.specs.Prelude.{◌≡◌, ℕ, List, Option, length, flat_map, is_some, Bool}
+use Rattle.std.specs.Prelude.{if◌then◌else◌, string_bytes}
 use Rattle.moments.specs.declared.moment.NamedTime.{NamedTime}
 use Rattle.report.specs.Counts.{Counts}
 use Rattle.report.specs.Exposition.{exposition}
@@ -10,7 +10,7 @@ use Rattle.report.specs.Reading.{CountsLines}
 use Rattle.report.specs.Screen.{screen}
 use Rattle.report.specs.declared.counting.Report.{Report}
 use Rattle.report.specs.declared.window.Window.{Window}
-use Rattle.timeline.specs.Pictures.{course_picture}
+use Rattle.svg.specs.WellFormed.{HasPicture}
 use Rattle.log_tools.specs.declared.reporting.ReportOutput.{ReportOutput}
 
 -- the window has a first time if one was requested, and a last time if one was
@@ -28,10 +28,6 @@ pub record CountsLogs (window : Window) (n : ℕ) (old new : Report) : Type 0 wh
 abbrev pub text_by : Bool → Report → List ℕ
 text_by prometheus report = if prometheus then exposition report else screen report
 
--- the picture, if one is drawn
-abbrev pub picture_if : Bool → Report → Option (List ℕ)
-picture_if drawn report = if drawn then Some (course_picture report) else None
-
 -- the report that counts the lines of `n` logs, each from its first byte to its last
 pub record HasReported (n : ℕ) (since until : Option NamedTime) (prometheus drawn : Bool)
     (output : ReportOutput) : Type 0 where
@@ -42,4 +38,4 @@ pub record HasReported (n : ℕ) (since until : Option NamedTime) (prometheus dr
   pub report : Report
   pub counted : Counts window (flat_map lines_in logs) drawn report
   pub text_is : string_bytes output.text ≡ text_by prometheus report
-  pub picture_is : option_map string_bytes output.picture ≡ picture_if drawn report
+  pub picture : HasPicture drawn output.picture

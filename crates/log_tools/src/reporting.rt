@@ -1,8 +1,9 @@
 //! `report`: counts the lines of logs.
 
-ghost use Rattle.std.specs.Prelude.{◌≡◌, IfOk, OnOk, is_some, length, option_map};
+ghost use Rattle.std.specs.Prelude.{◌≡◌, IfOk, OnOk, is_some, length};
 ghost use Rattle.std.specs.String.{string_bytes};
-ghost use Rattle.log_tools.specs.Reports.{CountsLogs, HasReported, picture_if, text_by};
+ghost use Rattle.log_tools.specs.Reports.{CountsLogs, HasReported, text_by};
+ghost use Rattle.svg.specs.WellFormed.{HasPicture};
 
 use crate::picture_file::{require_drawable, write_picture};
 use crate::progress_lines::ProgressLines;
@@ -90,8 +91,7 @@ fn output_of(
 ) -> Result<ReportOutput, AllocError>
     ensures text { IfOk result
         (λ output. string_bytes output.text ≡ text_by prometheus report.now) }
-    ensures picture { IfOk result
-        (λ output. option_map string_bytes output.picture ≡ picture_if drawn report.now) }
+    ensures picture { IfOk result (λ output. HasPicture drawn output.picture) }
 {
     let text = text_by(alloc, prometheus, report)?;
     let picture = if drawn {

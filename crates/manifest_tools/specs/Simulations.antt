@@ -1,17 +1,16 @@
 -- Manifests that are simulated: each is loaded over no arrays and evaluated for the clients in all
 -- buckets. Running out of memory is always allowed.
 use Rattle.std.specs.Prelude.{◌≡◌, ◌++◌, ℕ, List, [], Option, Some, None, IsSome, is_none}
-use Rattle.std.specs.Prelude.{Bool, true, false}
-use Rattle.std.specs.Option.{option_map}
+use Rattle.std.specs.Prelude.{Bool, true, false, is_some}
 use Rattle.std.specs.String.{string_bytes}
 use Rattle.simulate.specs.Moving.{is_lossy, moves_text}
 use Rattle.simulate.specs.Objects.{comparison_object, json_line, simulation_object}
 use Rattle.simulate.specs.Picked.{HasPicked}
-use Rattle.simulate.specs.Pictures.{picture}
 use Rattle.simulate.specs.Shares.{shares_text}
 use Rattle.simulate.specs.Shown.{Simulation}
 use Rattle.simulate.specs.Course.{IsSimulated}
 use Rattle.simulate.specs.declared.client.Client.{Client}
+use Rattle.svg.specs.WellFormed.{HasPicture}
 use Rattle.load.specs.Loaded.{IsLoadedFrom, RefusesPath}
 use Rattle.bounded_files.specs.Files.{KnownFiles}
 use Rattle.bounded_files.specs.declared.resource_fault.ResourceFault.TheVariants as resource
@@ -40,11 +39,6 @@ abbrev pub lacks_app : (appid : Option (List ℕ)) → Rules → Bool
 lacks_app None rules = false
 lacks_app (Some appid) rules = is_none (app_in rules.apps appid)
 
--- the picture, if a file is named for it
-abbrev pub picture_if : (file : Option (List ℕ)) → Simulation → Option (List ℕ)
-picture_if None simulation = None
-picture_if (Some file) simulation = Some (picture simulation)
-
 -- how many get which release of each app, as lines or as JSON
 abbrev pub text_alone : (json : Bool) → Simulation → List ℕ
 text_alone false next = shares_text next
@@ -55,18 +49,18 @@ abbrev pub text_against : (json : Bool) → Client → (now next : Simulation) �
 text_against false client now next = client_line client ++ shares_text next ++ moves_text now next
 text_against true client now next = json_line (comparison_object now next)
 
--- the report on a simulation, and the picture of the same simulation
+-- the report on a simulation, and a picture, if a file is named for it
 pub record TellsAlone (json : Bool) (next : Simulation) (file : Option (List ℕ))
     (output : SimulationOutput) : Type 0 where
   pub text_is : string_bytes output.text ≡ text_alone json next
-  pub picture_is : option_map string_bytes output.picture ≡ picture_if file next
+  pub picture : HasPicture (is_some file) output.picture
   pub loses_is : output.loses ≡ false
 
 -- compared with another one
 pub record TellsAgainst (json : Bool) (client : Client) (next now : Simulation)
     (file : Option (List ℕ)) (output : SimulationOutput) : Type 0 where
   pub text_is : string_bytes output.text ≡ text_against json client now next
-  pub picture_is : option_map string_bytes output.picture ≡ picture_if file next
+  pub picture : HasPicture (is_some file) output.picture
   pub loses_is : output.loses ≡ is_lossy now next
 
 -- the report on a single ruleset

@@ -1,11 +1,11 @@
 //! The report on a simulation, as lines or as JSON, and its picture.
 
-ghost use Rattle.std.specs.Prelude.{◌≡◌, IfOk, option_copied};
-ghost use Rattle.std.specs.Option.{option_map};
+ghost use Rattle.std.specs.Prelude.{◌≡◌, IfOk, is_some, option_copied};
 ghost use Rattle.std.specs.String.{string_bytes};
 ghost use Rattle.manifest_tools.specs.ClientLines.{client_line};
 ghost use Rattle.manifest_tools.specs.Simulations as specs;
 ghost use Rattle.simulate.specs.declared.client.Client as the_client;
+ghost use Rattle.svg.specs.WellFormed.{HasPicture};
 
 use simulate::{Simulated, draw, is_lossy, moves_json, push_moves, push_shares, shares_json};
 use std::alloc::{AllocError, Global};
@@ -98,8 +98,7 @@ fn picture_if(
     file: Option<&str>,
     simulated: &Simulated,
 ) -> Result<Option<String>, AllocError>
-    ensures { IfOk result (λ picture. option_map string_bytes picture
-        ≡ specs.picture_if (option_copied file.entry) simulated.now) }
+    ensures { IfOk result (HasPicture (is_some file.entry)) }
 {
     match file {
         Some(_) => Ok(Some(draw(alloc, simulated)?)),
