@@ -98,7 +98,7 @@ fn picture_if(
     file: Option<&str>,
     simulated: &Simulated,
 ) -> Result<Option<String>, AllocError>
-    ensures { IfOk result (HasPicture (is_some file.entry)) }
+    ensures { IfOk result (HasPicture (is_some (option_copied file.entry))) }
 {
     match file {
         Some(_) => Ok(Some(draw(alloc, simulated)?)),
