@@ -1,7 +1,8 @@
 """When each crate is proved, with how many processors, and what is printed meanwhile.
 
 A crate starts once all crates below it are done. Of those ready, the one with the longest chain
-above it is first.
+above it is first. If its chain is nearly the longest, it waits for no processor. The shorter the
+chain, the lower the priority.
 """
 import sys
 import time
@@ -9,10 +10,13 @@ from concurrent.futures import ThreadPoolExecutor
 
 from building.crates import BUILT, say, seconds_recorded
 from building.running import Runs, stored_run
-from building.work import Guard, Work, count_jobs
+from building.work import Guard, Work, count_jobs, count_room
 
 # More jobs for one crate gain nothing.
 MOST_JOBS = 8
+# A crate's priority is lower by a level for each ten seconds by which its chain is shorter than the
+# longest. It is urgent up to the third.
+SECONDS_A_LEVEL, URGENT, LOWEST = 10, 3, 19
 # A crate may take minutes. After this many seconds without a line, a line says what is running.
 MOST_SILENT = 50
 
@@ -30,7 +34,7 @@ class Build:
             above = [self.chain[it] for it in self.chain if crate in it.below]
             self.chain[crate] = self.recorded[crate] + max(above, default=0)
         self.left = sorted(way.lacking(self.crates, kit), key=self.chain.get, reverse=True)
-        self.jobs = count_jobs()
+        self.jobs, self.room = count_jobs(), count_room()
         self.running = {}
         # The sum of the sources and libraries of each running crate.
         self.sums = {}
@@ -67,23 +71,35 @@ class Build:
         return f"{crate.name} at {self.running[crate].seconds():.0f} s of about {whole:.0f}"
 
     def share_processors(self):
-        """Gives each idle processor to a crate that is ready. The first of these also gets those
-        that no other crate can use. The crate of the longest chain has two jobs if possible."""
+        """Starts crates that are ready, as far as memory suffices: urgent ones at once, and others
+        on processors that are idle but for urgent ones."""
         waiting = {*self.left}
         ready = [it for it in self.left if it not in self.running and not it.below & waiting]
-        idle = self.jobs - sum(it.jobs for it in self.running.values())
-        while ready and idle > 0:
-            crate = ready.pop(0)
-            jobs = max(idle - len(ready), 2 if crate is self.left[0] else 1)
-            self.start(crate, min(jobs, self.jobs, MOST_JOBS))
-            idle -= jobs
+        works = self.running.values()
+        room = self.room - sum(it.jobs for it in works)
+        idle = self.jobs - sum(it.jobs for it in works if it.level > URGENT)
+        for count, crate in enumerate(ready):
+            urgent = self.level(crate) <= URGENT
+            share = max(2, self.room - self.jobs) if urgent else max(1, idle - len(ready) + count)
+            jobs = min(share, room if urgent else min(room, idle), self.jobs, MOST_JOBS)
+            if jobs > 0:
+                self.start(crate, jobs)
+                room -= jobs
+                idle -= 0 if urgent else jobs
+
+    def level(self, crate):
+        """How much lower than the longest chain's its priority is."""
+        first = self.left[0]
+        shorter = self.chain[first] - self.worked(first) - self.chain[crate]
+        return min(max(0, int(shorter / SECONDS_A_LEVEL)), LOWEST)
 
     def start(self, crate, jobs):
         self.way.folder.mkdir(parents=True, exist_ok=True)
         self.way.stamp(crate).unlink(missing_ok=True)
         self.sums[crate] = self.way.sum(crate, self.kit)
         commands = self.commands(crate, jobs)
-        self.running[crate] = Work(commands, crate.folder, jobs, self.guard)
+        level = self.level(crate)
+        self.running[crate] = Work(commands, crate.folder, jobs, level, self.guard)
 
     def commands(self, crate, jobs):
         return self.kit.commands(crate, self.way, jobs)

@@ -18,13 +18,18 @@ def number_in(file, pattern):
         return None
 
 
-def count_jobs():
-    """The number of processors for which memory suffices, also in a container."""
+def count_room():
+    """The number of jobs for which memory suffices, also in a container."""
     available = [1024 * number_in("/proc/meminfo", r"^MemAvailable: +(\d+)")]
     if limit := number_in("/sys/fs/cgroup/memory.max", r"^(\d+)"):
         held = number_in("/sys/fs/cgroup/memory.stat", r"^anon (\d+)") or 0
         available.append(limit - held)
-    return max(1, min(len(os.sched_getaffinity(0)), min(available) // MEMORY))
+    return max(1, min(available) // MEMORY)
+
+
+def count_jobs():
+    """The number of processors for which memory suffices."""
+    return min(len(os.sched_getaffinity(0)), count_room())
 
 
 class Guard:
@@ -51,16 +56,21 @@ class Guard:
 
 
 class Work:
-    """The commands of one crate, in order, with `jobs` processors."""
+    """The commands of one crate, in order, with `jobs` processors, at a level of priority."""
 
-    def __init__(self, commands, folder, jobs, guard):
-        self.commands, self.folder, self.jobs, self.guard = commands, folder, jobs, guard
+    def __init__(self, commands, folder, jobs, level, guard):
+        self.commands, self.folder, self.jobs = commands, folder, jobs
+        self.level, self.guard = level, guard
         self.log = tempfile.TemporaryFile("w+", errors="replace")
         self.begun = time.monotonic()
         self.start()
 
+    def prepare(self):
+        self.guard.join()
+        os.nice(self.level)
+
     def start(self):
-        how = {"cwd": self.folder, "stdin": subprocess.DEVNULL, "preexec_fn": self.guard.join}
+        how = {"cwd": self.folder, "stdin": subprocess.DEVNULL, "preexec_fn": self.prepare}
         how |= {"stdout": self.log, "stderr": subprocess.STDOUT}
         self.process = subprocess.Popen(self.commands.pop(0), **how)
 
