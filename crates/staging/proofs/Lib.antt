@@ -1,0 +1,4 @@
+mod Runs
+mod Several
+mod HaltedRule
+mod HaltedProgram

@@ -1,0 +1,11 @@
+use Rattle.std.proofs.Common.{◌≡◌, length}
+use Rattle.staging.specs.Steps as specs
+use Rattle.staging.proofs.halt.lifted_halt.Given as goal
+
+-- what is left decides
+abbrev pub invariant-loop-left : goal.invariant-loop-left
+invariant-loop-left l =
+    specs.lifted_halt l.left l.current l.next ≡ specs.lifted_halt l.steps l.current l.next
+
+abbrev pub decreases-loop-left : goal.decreases-loop-left
+decreases-loop-left l = length l.left

@@ -1,0 +1,70 @@
+-- The steps of staging, as they are recorded: what a step did, and which files it replaced.
+use Rattle.std.specs.Prelude.{ℕ, List, filter_map, find, reverse, Option, Some, None}
+use Rattle.std.specs.Prelude.{Bool, false, not, ◌&&◌, if◌then◌else◌}
+use Rattle.std.specs.List.{list_any}
+use Rattle.std.specs.Str.{bytes_eq}
+use Rattle.load.specs.Kept.{whole_file}
+use Rattle.load.specs.declared.sources.AppSources.{AppSources}
+use Rattle.staging.specs.Halts.{halting_file}
+use Rattle.staging.specs.declared.step.StepAction.{StepAction}
+use Rattle.staging.specs.declared.step.StepAction.TheVariants.{Halt}
+
+-- a file that a step replaces: its name, its bytes before, if there was a file, and its bytes after
+pub record ReplacedFile : Type 0 where
+  pub name : List ℕ
+  pub before : Option (List ℕ)
+  pub after : List ℕ
+
+-- a step, with its number from 1, and its time in seconds since 1970
+pub record StagingStep : Type 0 where
+  pub number : ℕ
+  pub time : ℕ
+  pub action : StepAction
+  pub files : List ReplacedFile
+  pub is_undone : Bool
+
+-- the last step that isn't undone, which is the next to be undone
+abbrev pub last_step : List StagingStep → Option StagingStep
+last_step steps = find (λ step. not step.is_undone) (reverse steps)
+
+-- ---- halts
+
+-- the app of a halt
+abbrev pub app_of_halt : StepAction → Option (List ℕ)
+app_of_halt (Halt appid) = Some appid
+app_of_halt action = None
+
+-- the app that a step halts, unless it is undone
+abbrev pub halted_app : StagingStep → Option (List ℕ)
+halted_app step = if step.is_undone then None else app_of_halt step.action
+
+-- the apps of all halts that aren't undone
+abbrev pub halted_apps : List StagingStep → List (List ℕ)
+halted_apps steps = filter_map halted_app steps
+
+-- the file was read, and has these bytes
+abbrev pub has_bytes : Option (List ℕ) → List ℕ → Bool
+has_bytes None bytes = false
+has_bytes (Some all) bytes = bytes_eq all bytes
+
+-- an app whose file halts it
+abbrev pub is_halted : AppSources → Bool
+is_halted app = has_bytes (whole_file app.kept) (halting_file app.entry.source)
+
+-- a manifest has the app of this appid, with a file that doesn't halt it
+abbrev pub offers : List AppSources → (appid : List ℕ) → Bool
+offers apps appid =
+    list_any (λ app. bytes_eq app.entry.appid appid && not (is_halted app)) apps
+
+-- a halt of this app is in force under a manifest; an app that it lacks isn't offered
+abbrev pub is_in_force : List StagingStep → List AppSources → (appid : List ℕ) → Bool
+is_in_force steps apps appid =
+    list_any (λ halted. bytes_eq halted appid) (halted_apps steps) && not (offers apps appid)
+
+-- the next manifest offers an app that the current one doesn't
+abbrev pub lifts : (current next : List AppSources) → (appid : List ℕ) → Bool
+lifts current next appid = not (offers current appid) && offers next appid
+
+-- the app of the first halt in force that the next manifest lifts
+abbrev pub lifted_halt : List StagingStep → (current next : List AppSources) → Option (List ℕ)
+lifted_halt steps current next = find (lifts current next) (halted_apps steps)

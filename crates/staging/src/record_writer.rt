@@ -1,0 +1,83 @@
+//! Writes a step's record: its text is made without a contract, and then it is read back.
+
+ghost use Rattle.std.specs.Prelude.{◌≡◌, IfOk, IfSome, Some, string_bytes, true};
+ghost use Rattle.staging.specs.Records.{step_in};
+
+use crate::record_reader::read_step;
+use crate::same_step::is_same_step;
+use crate::step::{ReplacedFile, StagingStep, StepAction};
+use serde_json::{Value, json};
+use std::alloc::{AllocError, Global};
+
+fn bytes_value(alloc: Global, bytes: Option<&[u8]>) -> Result<Value, AllocError> {
+    match bytes {
+        Some(bytes) => Ok(Value::String(hex::encode(alloc, bytes)?)),
+        None => Ok(Value::Null),
+    }
+}
+
+fn file_value(alloc: Global, file: &ReplacedFile) -> Result<Value, AllocError> {
+    let after = bytes_value(alloc, Some(file.after.as_slice()))?;
+    let before = bytes_value(alloc, file.before.as_deref())?;
+    json!(in alloc; {"after": after, "before": before, "name": file.name.as_str()})
+}
+
+fn file_values(alloc: Global, files: &[ReplacedFile]) -> Result<Vec<Value>, AllocError> {
+    let mut values = Vec::with_capacity(alloc, files.len())?;
+    for file in files {
+        values.push(file_value(alloc, file)?)?;
+    }
+    Ok(values)
+}
+
+fn action_value(alloc: Global, action: &StepAction) -> Result<Value, AllocError> {
+    match action {
+        StepAction::Halt { appid } => json!(in alloc; {"halt": appid.as_str()}),
+        StepAction::Raise { appid, buckets } => json!(in alloc; {
+            "raise": {"appid": appid.as_str(), "buckets": *buckets}
+        }),
+        StepAction::Put { manifest } => json!(in alloc; {"put": manifest.as_str()}),
+    }
+}
+
+fn step_value(alloc: Global, step: &StagingStep) -> Result<Value, AllocError> {
+    let action = action_value(alloc, &step.action)?;
+    let files = file_values(alloc, &step.files)?;
+    json!(in alloc; {
+        "action": action,
+        "files": files,
+        "number": step.number,
+        "time": step.time,
+        "undone": step.is_undone
+    })
+}
+
+fn text_of(alloc: Global, step: &StagingStep) -> Result<String, AllocError> {
+    let value = step_value(alloc, step)?;
+    let mut text = value.to_string(alloc)?;
+    text.push_str("\n")?;
+    Ok(text)
+}
+
+// Whether a text is the record of this step.
+fn reads_back(alloc: Global, text: &str, step: &StagingStep) -> Result<bool, AllocError>
+    ensures { IfOk result (λ ok. ok ≡ true → step_in text.now ≡ Some step.now) }
+{
+    match read_step(alloc, text.as_bytes())? {
+        Some(other) => Ok(is_same_step(step, &other)),
+        None => Ok(false),
+    }
+}
+
+/// The record of a step: a line of JSON, which `read_step` reads as this step. There is none if it
+/// can't be read back.
+// open: whether an allocation fails, its one error, and whether there is none.
+pub fn step_record(alloc: Global, step: &StagingStep) -> Result<Option<String>, AllocError>
+    ensures { IfOk result (λ o. IfSome o (λ text. step_in (string_bytes text) ≡ Some step.now)) }
+{
+    let text = text_of(alloc, step)?;
+    if reads_back(alloc, text.as_str(), step)? {
+        return Ok(Some(text));
+    }
+    Ok(None)
+}
