@@ -36,8 +36,8 @@ impl Picture {
         self.close();
     }
 
-    /// Gives the last opened element a colour: light grey for 0, and a different one for each number from 1 to
-    /// 64.
+    /// Gives the last opened element a colour: light grey for 0, and a different one for each
+    /// number from 1 to 64.
     // open: what is written.
     pub fn colour(&mut self, attribute: SvgAttribute, number: usize) {
         if number == 0 {
