@@ -5,6 +5,7 @@ ghost use Rattle.std.specs.Prelude.{◌≡◌, ◌+◌, ◌<◌, slice_index};
 
 use access_log::{Counter, LogEvent};
 use cells::{CellArray, CellNo};
+use hot_swap::SwapFault;
 use server_log::{LogQueue, seconds_from_now};
 use shared_cells::Closed;
 use std::sync::Wait;
@@ -13,13 +14,13 @@ use std::time::{Clock, Instant};
 /// How long all these lines wait for places.
 const END_SECONDS: u64 = 4;
 
-/// Logs, if there is a log, that a server has ended, with the refusal if there is one. Then logs
-/// the last values of its counters, array after array, up to the first line that gets no place in
-/// time.
+/// Logs, if there is a log, that a server has ended: with H2 unless `is_known`, which says that
+/// each worker's watcher could be read. Then logs the last values of its counters, array after
+/// array, up to the first line that gets no place in time.
 pub(crate) fn note_end<H>(
     rt: &H,
     log: Option<&LogQueue>,
-    refusal: Option<&str>,
+    is_known: bool,
     arrays: &[CellArray],
     closed: &Closed,
 )
@@ -30,13 +31,21 @@ where
         return;
     };
     let until = seconds_from_now(rt, END_SECONDS);
-    if !queue.note_until(rt, &LogEvent::Stop(refusal), until) {
+    if !queue.note_until(rt, &LogEvent::Stop(refusal_if(!is_known)), until) {
         return;
     }
     for array in arrays {
         if !note_array(rt, queue, until, array, closed) {
             return;
         }
+    }
+}
+
+fn refusal_if(is_refused: bool) -> Option<&'static str> {
+    if is_refused {
+        Some(SwapFault::NoPlace.name())
+    } else {
+        None
     }
 }
 

@@ -180,13 +180,7 @@ impl StaffedServer {
             }
         };
         let (closed, is_known) = close_cells(cells, back, room);
-        note_end(
-            rt,
-            service.log,
-            refusal_if(!is_known),
-            control.arrays(),
-            &closed,
-        );
+        note_end(rt, service.log, is_known, control.arrays(), &closed);
         control.close(rt);
         if is_known {
             Ok(closed)
@@ -206,14 +200,5 @@ impl StaffedServer {
             room: _room,
         } = self;
         control.close(rt);
-    }
-}
-
-// The refusal that is logged if a worker's watcher couldn't be read.
-fn refusal_if(is_refused: bool) -> Option<&'static str> {
-    if is_refused {
-        Some(SwapFault::NoPlace.name())
-    } else {
-        None
     }
 }
