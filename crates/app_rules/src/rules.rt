@@ -13,7 +13,7 @@ use std::alloc::{AllocError, Global};
 use std::str;
 
 /// The rule of each app, in order: that of its file's text, or none if its file is a program.
-// open: whether an allocation fails, its one error.
+// open: whether an allocation fails, its one error; which rules, if some app has no program.
 pub fn read_rules(alloc: Global, apps: &[AppSources]) -> Result<Vec<Option<Rule>>, AllocError>
     ensures { IfOk result (λ rules. AreRulesOf apps.now rules.items) }
 {

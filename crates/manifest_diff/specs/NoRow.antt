@@ -1,6 +1,7 @@
--- The promise of a comparison: a machine that is in no row of a compared app gets the same from
--- both manifests. One that is in a row gets what the row says, and none is in two (`IsDiff`). What
--- a server gives is what some state gives. A comparison may always say that an app isn't compared.
+-- The promise of a comparison: a machine that is in no row of an app compared by rows gets the same
+-- from both manifests. One that is in a row gets what the row says, and none is in two (`IsDiff`).
+-- What a server gives is what some state gives. A comparison may always say that an app isn't
+-- compared.
 use Rattle.std.specs.Prelude.{◌≡◌, ◌⊎◌, ℕ, List, map, Contains, Option, Some, None, true}
 use Rattle.std.specs.String.{string_bytes}
 use Rattle.attrs.specs.Attributes.{Attributes}

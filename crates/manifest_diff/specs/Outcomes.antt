@@ -66,7 +66,7 @@ abbrev pub is_program : Option ManifestApp → Bool
 is_program (Some app) = is_none app.rule
 is_program None = false
 
--- a program decides in one of the manifests; otherwise the rules are too large
+-- a program decides in one of the manifests; otherwise the line says that the rules are too large
 abbrev pub why_not : (old new : Option ManifestApp) → WhyNot
 why_not old new = if is_program old || is_program new then Program else Size
 
@@ -84,8 +84,8 @@ outcome_loses Same = false
 outcome_loses (Rows shown) = some_shown_lost shown.rows.items
 outcome_loses (NotCompared why) = true
 
--- no machine has a release of a new app; a request for one that is gone gets the reply that it is
--- unknown
+-- the old manifest offers nothing of a new app; a request for one that is gone gets the reply that
+-- it is unknown
 abbrev pub app_loses : AppChange → AppOutcome → Bool
 app_loses New outcome = false
 app_loses Gone outcome = true

@@ -10,7 +10,7 @@
 // and so are two equal programs (`same.rt`). Everything else with a program isn't compared.
 //
 // What is promised of rows is proved in `rule_diff`. Here the law `diff_is_so` says it of apps: a
-// machine that is in no row of a compared app gets the same from both manifests.
+// machine that is in no row of an app compared by rows gets the same from both manifests.
 
 mod app_diff;
 mod apps;

@@ -30,7 +30,8 @@ impl AppChange {
 /// Why an app isn't compared.
 #[derive(Clone, Copy)]
 pub enum WhyNot {
-    /// A program decides in one of the manifests, and it isn't the same in both.
+    /// A program decides in one of the manifests, and not the same one on the same arrays and
+    /// contents in both.
     Program,
     /// The search would take too many steps, or a condition is too long for a rule.
     Size,

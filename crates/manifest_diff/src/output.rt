@@ -133,7 +133,8 @@ fn output_of(
 /// - B7 if neither has a given cell.
 ///
 /// Returns B4 if an allocation fails.
-// open: whether an allocation fails; which apps aren't compared.
+// open: whether an allocation fails; which apps aren't compared; the order of rows, and which days
+// are named.
 pub fn diff_manifests(
     alloc: Global,
     both: &OpenedBoth,

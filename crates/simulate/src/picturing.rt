@@ -16,7 +16,7 @@ use svg::{Picture, SvgAttribute, Tag};
 const HEAD: u64 = 20;
 
 /// The picture of a simulation, as the text of an SVG file.
-// open: whether an allocation fails; which numbers the picture shows (rows compare it).
+// open: when it fails; which numbers the picture shows (rows compare it).
 pub fn draw(alloc: Global, simulated: &Simulated) -> Result<String, AllocError>
     ensures { IfOk result (λ text. IsDocument (string_bytes text)) }
 {

@@ -27,8 +27,8 @@ use std::alloc::{AllocError, Global};
 ///
 /// Returns `Memory` if an allocation fails. Other apps may also name this file: `shape` is that of
 /// one of them.
-// open: whether an allocation fails, and whether `NoDigits` is returned of a rule with one
-// threshold.
+// open: whether an allocation fails, whether `NoDigits` is returned of a rule with one threshold,
+// and which fault is returned if several hold.
 pub fn raised_rule(
     alloc: Global,
     text: &str,
@@ -121,7 +121,8 @@ fn raised_at(
     buckets: u32,
 ) -> Result<Option<String>, AllocError>
     ensures { IfOk result (λ o. IfSome o (λ new. IsVerdict shape.now text.now (Ok rule.now)
-        → count_of rule.now ≡ 1 → buckets ≤ 10000 → IsRaised shape.now text.now (string_bytes new) buckets)) }
+        → count_of rule.now ≡ 1 → buckets ≤ 10000
+        → IsRaised shape.now text.now (string_bytes new) buckets)) }
 {
     let Some(cut) = cut_at(text, place) else {
         return Ok(None);

@@ -5,7 +5,7 @@ use Rattle.std.specs.Prelude.{Bool, ◌==◌, ◌||◌, if◌then◌else◌}
 use Rattle.std.specs.List.{flat_map}
 use Rattle.std.specs.Str.{chars}
 
--- control characters below U+0080, and the two scalar values U+FFFE and U+FFFF that aren't characters of XML
+-- control characters below U+0080, and U+FFFE and U+FFFF, which aren't characters of XML
 abbrev pub is_unprintable : ℕ → Bool
 is_unprintable c = nat_lt c 32 || (c == 127) || (c == 65534) || (c == 65535)
 

@@ -108,6 +108,7 @@ impl Picture {
 
     /// The whole file. Returns `AllocError` if an allocation has failed, if a call was out of
     /// place, or if an element is open.
+    // open: when it fails; that the text is what was written.
     pub fn finish(self) -> Result<String, AllocError>
         ensures { IfOk result (λ text. IsDocument (string_bytes text)) }
     {

@@ -64,7 +64,7 @@ bins_over reach by_hour =
     if by_hour then bins_of reach 60 (width_among reach hour_widths)
     else bins_of reach 1 (width_among reach minute_widths)
 
--- there are 1 to 200 bins, and they end within 64 bits
+-- there are at most 200 bins, and they end within 64 bits
 pub record AreBins (bins : Bins) : Type 0 where
   pub wide : 0 < bins.width
   pub few : bins.count ≤ 200

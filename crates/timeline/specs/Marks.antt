@@ -23,7 +23,7 @@ behind_any None name = Some (rest name)
 
 -- ---- rows of a series
 
--- a series: the update checks, offers, installs or failures of an app, for one of its versions or for all
+-- a series: the update checks, offers, installs or failures of an app, of one version or of all
 pub record Drawn : Type 0 where
   pub what : List ℕ
   pub app : List ℕ

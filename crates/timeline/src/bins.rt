@@ -64,6 +64,7 @@ fn wider(reach: Option<Reach>, number: Option<u64>) -> Option<Reach>
 }
 
 /// The bins for this reach, by minutes or by hours. `None` if they end beyond 64 bits.
+// open: when it is `None`.
 pub(crate) fn bins_over(reach: Reach, by_hour: bool) -> Option<Bins>
     ensures bins { IfSome result (λ bins. bins ≡ specs.bins_over reach by_hour) }
     ensures are { IfSome result specs.AreBins }

@@ -33,7 +33,7 @@ pub(crate) struct Undrawn {
 
 /// The chart of a report's counts over time, as the text of an SVG file. Also returns `AllocError`
 /// if a number overflows 64 bits.
-// open: whether an allocation fails; which numbers the chart shows (rows compare it).
+// open: when it fails; which numbers the chart shows (rows compare it).
 pub fn draw_course(alloc: Global, report: &Report) -> Result<String, AllocError>
     ensures { IfOk result (λ text. IsDocument (string_bytes text)) }
 {
