@@ -18,7 +18,7 @@ use Rattle.dry_run.specs.Meanings.{HasMeaning, HaveMeanings, known_rule_of}
 use Rattle.dry_run.specs.Meanings.{no_meaning, next_meaning}
 use Rattle.dry_run.specs.Why.{ExplainsAll, ExplainsApp, ExplainsApps, ExplainsOne}
 use Rattle.dry_run.specs.Why.{ExplainsRequest}
-use Rattle.dry_run.specs.Why.{RunIsTold, not_known, not_asked, was_run}
+use Rattle.dry_run.specs.Why.{RunIsExplained, not_known, not_asked, was_run}
 use Rattle.dry_run.specs.Why.{no_reason, next_reason}
 use Rattle.dry_run.proofs.WholeRuns.{runs_app}
 
@@ -87,7 +87,7 @@ module _ (rules : Rules) (known_rules : List KnownRule) (facts : RequestFacts) (
       → appid ≡ app.appid → told ≡ app
       → a ≡ attributes_of told facts moment → rule ≡ known_rule_of apps known_rules appid
       → told.updatecheck ≡ true → Some known ≡ app_of rules appid → IsApp known
-      → ListsApp rules appid known → RunIsTold known rule told a note old new text
+      → ListsApp rules appid known → RunIsExplained known rule told a note old new text
       → ExplainsOne rules known_rules facts moment app note old new text
   run_told app told appid note old new text known rule a apps listed_as named same made ruled asks
       found kept listed run =

@@ -9,4 +9,4 @@ mod MembersNoted
 mod Written
 mod Explaining
 mod Replying
-mod Telling
+mod Assigning

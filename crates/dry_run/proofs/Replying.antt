@@ -12,8 +12,8 @@ use Rattle.cells.specs.declared.array.CellArray.{CellArray}
 use Rattle.cells.specs.declared.event.CellEvent.{CellEvent}
 use Rattle.omaha_json.specs.Reply.{reply_text}
 use Rattle.ruleset.specs.Rules.{Rules}
-use Rattle.told_cells.specs.Assignments.{Assignment}
-use Rattle.dry_run.specs.Counters.{AreSetAsTold, with_cells, with_known}
+use Rattle.cell_assignments.specs.Assignments.{Assignment}
+use Rattle.dry_run.specs.Counters.{AreAssigned, with_cells, with_known}
 use Rattle.app_rules.specs.Rules.{KnownRule}
 use Rattle.dry_run.specs.Reply.{RepliesToBodyOn}
 use Rattle.dry_run.specs.Why.{ExplainsApp, ExplainsApps, TellsTheReply}
@@ -31,7 +31,7 @@ list_or other (Some xs) = xs
 list_or other None = other
 
 same_counters : (arrays : List CellArray) (served words : List Assignment) (c d : List ℕ)
-    → AreSetAsTold arrays served words c → AreSetAsTold arrays served words d → c ≡ d
+    → AreAssigned arrays served words c → AreAssigned arrays served words d → c ≡ d
 same_counters arrays served words c d x y =
     let W : List ℕ → Option (List ℕ) = λ z. with_cells arrays (with_known arrays z served) words in
     ap (list_or c) (sym x.set ∙ ap W (same_zeros 8192 x.zeros y.zeros x.opens y.opens) ∙ y.set)

@@ -14,7 +14,7 @@ use Rattle.omaha_json.specs.declared.omaha_fault.OmahaFault.{OmahaFault}
 use Rattle.omaha_json.specs.declared.omaha_fault.OmahaFault.TheVariants.{Json, Shape}
 use Rattle.omaha_json.specs.declared.omaha_fault.OmahaFault.TheVariants.{Protocol, TooManyApps}
 use Rattle.dry_run.specs.IgnoredLines.{apps_written, notes_of}
-use Rattle.dry_run.specs.Noted.{IsWritten, ReadMembersAreTold}
+use Rattle.dry_run.specs.Noted.{IsWritten, ReadMembersAreExplained}
 
 abbrev asked_or : Request → Result Request OmahaFault → Request
 asked_or other (Ok asked) = asked
@@ -84,5 +84,5 @@ by_top : (top : Option Data) (asked : Request) → or_fault Json of_value top �
 by_top None asked is = absurd cc
 by_top (Some top) asked is = by_request (get (codes "request") top) asked is
 
-pub read_members_are_told : ReadMembersAreTold
+pub read_members_are_told : ReadMembersAreExplained
 read_members_are_told body asked is = by_top (json_of body) asked is

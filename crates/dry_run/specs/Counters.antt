@@ -4,7 +4,7 @@ use Rattle.std.specs.Prelude.{Option, Some, None, option_and_then, unwrap_or}
 use Rattle.cells.specs.Directory.{array_named}
 use Rattle.cells.specs.Events.{AreZeros, limit}
 use Rattle.cells.specs.declared.array.CellArray.{CellArray}
-use Rattle.told_cells.specs.Assignments.{Assignment}
+use Rattle.cell_assignments.specs.Assignments.{Assignment}
 
 -- the cell with this number, of 8192
 abbrev pub cell_at : ℕ → Option ℕ
@@ -16,8 +16,8 @@ cell_in index (Some a) = if nat_lt index a.length then cell_at (a.base + index) 
 cell_in index None = None
 
 -- the given cell, if the arrays have it
-abbrev pub told_cell : List CellArray → Assignment → Option ℕ
-told_cell arrays told = cell_in told.index (array_named told.array arrays)
+abbrev pub assigned_cell : List CellArray → Assignment → Option ℕ
+assigned_cell arrays told = cell_in told.index (array_named told.array arrays)
 
 -- the counters with a cell set to a value, if the value fits
 abbrev pub with_value : (counters : List ℕ) → (value cell : ℕ) → Option (List ℕ)
@@ -27,7 +27,7 @@ with_value counters value cell =
 -- the counters with one given cell set
 abbrev pub with_cell : List CellArray → (counters : List ℕ) → Assignment → Option (List ℕ)
 with_cell arrays counters told =
-    option_and_then (with_value counters told.value) (told_cell arrays told)
+    option_and_then (with_value counters told.value) (assigned_cell arrays told)
 
 -- the counters with all given cells set; the last value of a cell wins. None if a cell doesn't
 -- exist or its value doesn't fit
@@ -44,7 +44,7 @@ with_known arrays counters (told ∷ more) =
 
 -- counters that are 0, except for those that a server gave, as far as they exist, and then for
 -- those that the command line gave
-pub record AreSetAsTold (arrays : List CellArray) (served words : List Assignment)
+pub record AreAssigned (arrays : List CellArray) (served words : List Assignment)
     (counters : List ℕ)
     : Type 0 where
   pub zeros : List ℕ

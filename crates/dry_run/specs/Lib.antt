@@ -1,7 +1,7 @@
 pub mod Reply
 pub mod Sent
 pub mod Counters
-pub mod Told
+pub mod OnCounters
 pub mod Files
 pub mod Texts
 pub mod AppLines

@@ -123,6 +123,6 @@ pub record IsWritten (request : Option Data) (asked : Request) : Type 0 where
   pub notes_are : app_notes_of request ≡ notes_of apps
 
 -- the lines are those of exactly the members from which a body's request is read
-abbrev pub ReadMembersAreTold : Type 0
-ReadMembersAreTold = (body : List ℕ) (asked : Request) → request_in body ≡ Ok asked
+abbrev pub ReadMembersAreExplained : Type 0
+ReadMembersAreExplained = (body : List ℕ) (asked : Request) → request_in body ≡ Ok asked
     → IsWritten (request_written body) asked

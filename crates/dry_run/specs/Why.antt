@@ -10,18 +10,18 @@ use Rattle.answering.specs.Apps.{RunsApp}
 use Rattle.omaha_json.specs.Reply.{reply_text}
 use Rattle.omaha_json.specs.Request.{Request, request_in}
 use Rattle.ruleset.specs.Rules.{AppRule, Rules, app_of}
-use Rattle.told_cells.specs.Assignments.{Assignment}
+use Rattle.cell_assignments.specs.Assignments.{Assignment}
 use Rattle.dry_run.specs.AppLines.{head_line, offer_line, unasked_line, unknown_line}
-use Rattle.dry_run.specs.Counters.{AreSetAsTold}
+use Rattle.dry_run.specs.Counters.{AreAssigned}
 use Rattle.dry_run.specs.Courses.{TellsCourse}
 use Rattle.dry_run.specs.IgnoredLines.{app_notes_in, request_note_in}
 use Rattle.app_rules.specs.Rules.{KnownRule}
 use Rattle.dry_run.specs.Meanings.{known_rule_of}
-use Rattle.dry_run.specs.Told.{RepliesAsTold}
+use Rattle.dry_run.specs.OnCounters.{RepliesOnCounters}
 use Rattle.dry_run.specs.declared.why_files.OpenedWhy.{OpenedWhy}
 
 -- the lines of an app that the ruleset runs, with some choice
-pub record RunIsTold (known : AppRule) (rule : KnownRule) (app : AppFacts) (a : Attributes)
+pub record RunIsExplained (known : AppRule) (rule : KnownRule) (app : AppFacts) (a : Attributes)
     (note old new text : List ℕ) : Type 0 where
   pub choice : ℕ
   pub course : List ℕ
@@ -89,7 +89,7 @@ module _ (rules : Rules) (known_rules : List KnownRule) (facts : RequestFacts) (
 pub record TellsWhy (o : OpenedWhy) (moment : ℤ) (served words : List Assignment) (text : List ℕ)
     : Type 0 where
   pub counters : List ℕ
-  pub set : AreSetAsTold o.directory served words counters
+  pub set : AreAssigned o.directory served words counters
   pub request : Request
   pub asked : request_in o.body.items ≡ Ok request
   pub choices : List (Option ℕ)
@@ -103,5 +103,5 @@ pub record TellsWhy (o : OpenedWhy) (moment : ℤ) (served words : List Assignme
 abbrev pub TellsTheReply : Type 0
 TellsTheReply = (o : OpenedWhy) (moment : ℤ) (served words : List Assignment) (text reply : List ℕ)
     (told : TellsWhy o moment served words text)
-    → RepliesAsTold o.rules o.directory o.body.items moment served words reply
+    → RepliesOnCounters o.rules o.directory o.body.items moment served words reply
     → reply ≡ reply_text told.request o.rules told.choices moment

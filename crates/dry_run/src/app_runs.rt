@@ -18,7 +18,7 @@ use trace::{TracedRun, trace_on};
 
 /// A program's choice, and the explanation of it.
 #[derive(Drop)]
-pub(crate) struct ToldChoice {
+pub(crate) struct ExplainedChoice {
     pub choice: u8,
     pub text: String,
 }
@@ -30,7 +30,7 @@ pub(crate) fn tell_course(
     rule: Option<&Rule>,
     attrs: Attrs,
     counters: &mut PlainPass,
-) -> Result<ToldChoice, AllocError>
+) -> Result<ExplainedChoice, AllocError>
     requires { HasMeaning (arc_value program.now) (option_copied rule) }
     ensures { IfOk result (λ c. specs.TellsCourse (arc_value program.now)
         (option_copied rule.entry) attrs counters.old c.choice counters.new
@@ -50,7 +50,7 @@ fn tell_meaning(
     rule: &Rule,
     attrs: &Attrs,
     counters: &mut PlainPass,
-) -> Result<ToldChoice, AllocError>
+) -> Result<ExplainedChoice, AllocError>
     requires { HasMeaning program.now (Some rule.now) }
     ensures { IfOk result (λ c. specs.TellsCourse program.now (Some rule.now) attrs.now
         counters.old c.choice counters.new (string_bytes c.text)) }
@@ -59,7 +59,7 @@ fn tell_meaning(
     attrs.keeps();
     let mut text = String::new(alloc);
     let choice = tell_rule(alloc, &mut text, attrs, program.shape(), rule, counters)?;
-    Ok(ToldChoice { choice, text })
+    Ok(ExplainedChoice { choice, text })
 }
 
 // By a run; the lines have the number of its steps and its last jump.
@@ -69,7 +69,7 @@ fn tell_run(
     program: &Verified,
     attrs: Attrs,
     counters: &mut PlainPass,
-) -> Result<ToldChoice, AllocError>
+) -> Result<ExplainedChoice, AllocError>
     ensures { IfOk result (λ c. specs.TellsCourse program.now None attrs counters.old c.choice
         counters.new (string_bytes c.text)) }
 {
@@ -84,5 +84,5 @@ fn tell_run(
     } = trace_on(alloc, program, attrs, counters)?;
     let mut text = String::new(alloc);
     push_program(&mut text, program.len(), count, last_jump)?;
-    Ok(ToldChoice { choice, text })
+    Ok(ExplainedChoice { choice, text })
 }

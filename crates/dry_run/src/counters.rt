@@ -8,7 +8,7 @@ ghost use Rattle.dry_run.specs.Counters as specs;
 use cells::{CellArray, CellNo, CellOp, CellSteps, PlainCells, PlainPass};
 use rule_lang::array_named;
 use std::alloc::{AllocError, Global};
-use told_cells::CellAssignment;
+use cell_assignments::CellAssignment;
 
 /// The first cell of 32 bits.
 const NARROW: u16 = 4096;

@@ -2,7 +2,7 @@
 //! explanation of a request is about that reply. Nothing that runs calls them.
 
 ghost use Rattle.dry_run.specs.Meanings.{OpensTheSame};
-ghost use Rattle.dry_run.specs.Noted.{MembersAreNoted, ReadMembersAreTold};
+ghost use Rattle.dry_run.specs.Noted.{MembersAreNoted, ReadMembersAreExplained};
 ghost use Rattle.dry_run.specs.Sent as specs;
 ghost use Rattle.dry_run.specs.Why.{TellsTheReply};
 
@@ -52,5 +52,5 @@ pub fn opens_the_same()
 pub fn notes_are_so()
     ensures members { MembersAreNoted }
     // The lines are those of the members from which the request is read.
-    ensures read { ReadMembersAreTold }
+    ensures read { ReadMembersAreExplained }
 {}

@@ -25,7 +25,7 @@ mod law;
 mod length_lines;
 mod member_kinds;
 mod reply;
-mod told;
+mod on_counters;
 mod why;
 mod why_files;
 
@@ -35,6 +35,6 @@ pub use law::{
     has_one_reply, notes_are_so, opens_the_same, refuses_alike, sends_replies, sends_what_is_found,
     tells_the_reply,
 };
-pub use told::reply_as_told;
-pub use why::why_as_told;
+pub use on_counters::reply_on_counters;
+pub use why::why_on_counters;
 pub use why_files::{OpenedWhy, open_why};

@@ -5,14 +5,14 @@ ghost use Rattle.std.specs.Prelude.{option_copied};
 ghost use Rattle.attrs.specs.Facts.{attributes_of};
 ghost use Rattle.dry_run.specs.AppLines as lines;
 ghost use Rattle.dry_run.specs.Meanings.{HasMeaning, HaveMeanings, known_rule_of};
-ghost use Rattle.dry_run.specs.Told.{IsUnanswered};
+ghost use Rattle.dry_run.specs.OnCounters.{IsUnanswered};
 ghost use Rattle.dry_run.specs.Why as specs;
 
 use crate::app_lines::{push_head, push_offer, push_unknown};
-use crate::app_runs::{ToldChoice, tell_course};
+use crate::app_runs::{ExplainedChoice, tell_course};
 use crate::fault::DryRunFault;
 use crate::ignored::{Notes, note_at, notes_in};
-use crate::told::counters_as_told;
+use crate::on_counters::assigned_counters;
 use crate::why_files::OpenedWhy;
 use answering::NoObserver;
 use attrs::{AppFacts, Attrs, Context, Moment, RequestFacts, SharedFacts};
@@ -21,10 +21,10 @@ use omaha_json::{OmahaFault, Request, read_request};
 use rule_lang::Rule;
 use ruleset::App;
 use std::alloc::{AllocError, Global};
-use told_cells::CellAssignment;
+use cell_assignments::CellAssignment;
 
 /// Why the apps of a body's request get what they get, at a moment, on the counters of
-/// `reply_as_told`. First come the request's members that count as absent; then for each app: a
+/// `reply_on_counters`. First come the request's members that count as absent; then for each app: a
 /// first line, the tests of its rule, the offer, and the members that count as absent. A version
 /// may count as absent only as an attribute. Returns B7 if the manifest lacks a cell of `words`, or
 /// a value doesn't fit; then O1 to O4. Returns B4 or O5 if an allocation fails.
@@ -32,8 +32,8 @@ use told_cells::CellAssignment;
 /// That an app's lines are those of its rule depends on `known_rules`, which `open_why` gives: an
 /// app that has none in it is explained as a program.
 // open: whether an allocation fails (B4, O5).
-#[tactic(auto, using(crate::proofs::Telling::told_why, crate::proofs::Telling::unread))]
-pub fn why_as_told(
+#[tactic(auto, using(crate::proofs::Assigning::told_why, crate::proofs::Assigning::unread))]
+pub fn why_on_counters(
     alloc: Global,
     why: &OpenedWhy,
     moment: &Moment,
@@ -46,7 +46,7 @@ pub fn why_as_told(
     ensures fault { IfErr result
         (IsUnanswered why.now.directory why.now.body.items served.now words.now) }
 {
-    let mut counters = counters_as_told(alloc, why.directory.arrays(), served, words)?;
+    let mut counters = assigned_counters(alloc, why.directory.arrays(), served, words)?;
     let request = match read_request(alloc, &why.body, &mut NoObserver) {
         Ok(request) => request,
         Err(fault) => return Err(DryRunFault::Omaha(fault)),
@@ -198,12 +198,12 @@ fn run_app(
     counters: &mut PlainPass,
 ) -> Result<String, AllocError>
     requires { HasMeaning known.now.program (option_copied rule) }
-    ensures { IfOk result (λ text. specs.RunIsTold known.now (option_copied rule.entry) app.now
+    ensures { IfOk result (λ text. specs.RunIsExplained known.now (option_copied rule.entry) app.now
         attrs note.now counters.old counters.new (string_bytes text)) }
 {
     let mut text = String::new(alloc);
     push_head(&mut text, app, attrs.context())?;
-    let ToldChoice {
+    let ExplainedChoice {
         choice,
         text: course,
     } = tell_course(alloc, known.program(), rule, attrs, counters)?;

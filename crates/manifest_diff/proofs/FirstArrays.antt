@@ -4,7 +4,7 @@ use Rattle.std.specs.Prelude.{◌++◌}
 use Rattle.std.specs.Option.{option_or}
 use Rattle.std.proofs.lemmas.List.Folds.{find-append}
 use Rattle.cells.specs.Directory.{Declaration}
-use Rattle.told_cells.specs.Assignments.{Assignment}
+use Rattle.cell_assignments.specs.Assignments.{Assignment}
 use Rattle.manifest_diff.specs.Counters.{array_with, declares_cell}
 
 pub in_old : (cell : Assignment) (old new : List Declaration) (d : Declaration)

@@ -5,7 +5,7 @@ use Rattle.std.specs.List.{filter_map, find, list_all}
 use Rattle.std.specs.Str.{bytes_eq}
 use Rattle.cells.specs.Directory.{Declaration}
 use Rattle.rule_space.specs.declared.bounds.CellBound.{CellBound}
-use Rattle.told_cells.specs.Assignments.{Assignment}
+use Rattle.cell_assignments.specs.Assignments.{Assignment}
 use Rattle.manifest_diff.specs.Arrays.{declared_as, is_declared_alike}
 use Rattle.manifest_diff.specs.declared.opened.OpenedBoth.{OpenedBoth}
 

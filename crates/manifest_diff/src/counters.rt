@@ -8,7 +8,7 @@ use cells::ArrayName;
 use declarations::ArrayDeclaration;
 use rule_space::CellBound;
 use std::alloc::{AllocError, Global};
-use told_cells::CellAssignment;
+use cell_assignments::CellAssignment;
 
 // Whether an array has the cell.
 fn declares_cell(array: &ArrayDeclaration, cell: &CellAssignment<'_>) -> bool

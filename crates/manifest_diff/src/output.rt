@@ -17,7 +17,7 @@ use bounded_files::ResourceFault;
 use rule_space::CellBound;
 use simulate::json_line;
 use std::alloc::{AllocError, Global};
-use told_cells::CellAssignment;
+use cell_assignments::CellAssignment;
 
 /// What is compared and how it is printed: machines that request from a day on, and one app or all;
 /// lines, or a line of JSON.

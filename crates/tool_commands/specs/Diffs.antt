@@ -9,7 +9,7 @@ use Rattle.manifest_diff.specs.declared.output.DiffOptions.{DiffOptions}
 use Rattle.manifest_diff.specs.declared.output.DiffOutput.{DiffOutput}
 use Rattle.operator.specs.Done.{IsAskRefusal}
 use Rattle.operator_request.specs.declared.request.OperatorRequest.TheVariants as sent
-use Rattle.told_cells.specs.Assignments.{Assignment}
+use Rattle.cell_assignments.specs.Assignments.{Assignment}
 use Rattle.tool_commands.specs.DryRuns.{AreServed}
 use Rattle.tool_commands.specs.declared.fault.Fault.{Fault}
 use Rattle.tool_commands.specs.declared.fault.Fault.TheVariants.{Ask, Diff, Resource}

@@ -6,11 +6,11 @@ use Rattle.bounded_files.specs.Files.{KnownFiles}
 use Rattle.bounded_files.specs.declared.resource_fault.ResourceFault.TheVariants as resource
 use Rattle.cells.specs.declared.array.CellArray.{CellArray}
 use Rattle.dry_run.specs.Files.{AreOpened, IsOpenFault}
-use Rattle.dry_run.specs.Told.{IsUnanswered, RepliesAsTold}
+use Rattle.dry_run.specs.OnCounters.{IsUnanswered, RepliesOnCounters}
 use Rattle.operator.specs.Done.{IsAskRefusal, IsDoneAs}
 use Rattle.operator_request.specs.declared.request.OperatorRequest.TheVariants as sent
 use Rattle.ruleset.specs.Rules.{Rules}
-use Rattle.told_cells.specs.Assignments.{Assignment, assignments_in}
+use Rattle.cell_assignments.specs.Assignments.{Assignment, assignments_in}
 use Rattle.tool_commands.specs.declared.fault.Fault.{Fault}
 use Rattle.tool_commands.specs.declared.fault.Fault.TheVariants.{Ask, DryRun, Resource}
 use Rattle.tool_words.specs.declared.args.AskArgs.{AskArgs}
@@ -35,7 +35,7 @@ pub record IsReplyBy (rules : Rules) (arrays : List CellArray) (body : List ℕ)
   pub at : IsAt args.at moment
   pub served : List Assignment
   pub counters : AreServed args.operator served
-  pub replies : RepliesAsTold rules arrays body moment served args.cells.items text
+  pub replies : RepliesOnCounters rules arrays body moment served args.cells.items text
 
 -- what prevents a reply: the server at the port, if one is given, or else the counters or the body;
 -- nothing is claimed for out of memory

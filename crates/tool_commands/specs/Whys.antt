@@ -6,7 +6,7 @@ use Rattle.dry_run.specs.Meanings.{AreOpenedWhy}
 use Rattle.dry_run.specs.Why.{TellsWhy}
 use Rattle.dry_run.specs.declared.why_files.OpenedWhy.{OpenedWhy}
 use Rattle.manifest_tools.specs.Checks.{digest_line}
-use Rattle.told_cells.specs.Assignments.{Assignment}
+use Rattle.cell_assignments.specs.Assignments.{Assignment}
 use Rattle.tool_commands.specs.DryRuns.{AreServed, IsAt, IsReplyFault}
 use Rattle.tool_commands.specs.declared.fault.Fault.{Fault}
 use Rattle.tool_commands.specs.declared.fault.Fault.TheVariants.{DryRun}

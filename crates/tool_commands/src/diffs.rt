@@ -11,7 +11,7 @@ use crate::output::ToolOutput;
 use bounded_files::{Disk, ResourceFault};
 use manifest_diff::{DiffOptions, DiffOutput, OpenedBoth, diff_manifests, open_both};
 use std::net::{Net, TcpStream};
-use told_cells::read_assignments;
+use cell_assignments::read_assignments;
 use tool_words::{DiffArgs, ToolCommand};
 
 /// The comparison of two manifests. They are opened first; then a server's counters are requested,

@@ -4,7 +4,7 @@ ghost use Rattle.std.specs.Prelude.{IfOk, IfErr, IsSome};
 ghost use Rattle.std.specs.String.{string_bytes};
 ghost use Rattle.std.specs.Str.Lines.{lines};
 ghost use Rattle.operator.specs.Done.{IsAskRefusal};
-ghost use Rattle.told_cells.specs.Assignments.{assignments_in};
+ghost use Rattle.cell_assignments.specs.Assignments.{assignments_in};
 ghost use Rattle.tool_commands.specs.DryRuns as specs;
 ghost use Rattle.tool_commands.specs.Outputs.{IsOutput, IsRefused};
 
@@ -13,12 +13,12 @@ use crate::output::ToolOutput;
 use crate::whys::why_of;
 use attrs::Moment;
 use bounded_files::{Disk, ResourceFault};
-use dry_run::{Opened, open_files, reply_as_told};
+use dry_run::{Opened, open_files, reply_on_counters};
 use operator::{RequestFault, ask_server};
 use operator_request::OperatorRequest;
 use std::net::{Net, TcpStream};
 use std::time::{Clock, SystemTime, UNIX_EPOCH};
-use told_cells::read_assignments;
+use cell_assignments::read_assignments;
 use tool_words::{AskArgs, ToolCommand};
 
 /// The body of the reply, or why each app gets what it gets. The files are opened first; then a
@@ -81,7 +81,7 @@ where
         return Err(Fault::Resource(ResourceFault::Memory));
     };
     let moment = moment_of(rt, args.at);
-    match reply_as_told(rt.alloc(), opened, &moment, &served, &args.cells) {
+    match reply_on_counters(rt.alloc(), opened, &moment, &served, &args.cells) {
         Ok(body) => Ok(body),
         Err(fault) => Err(Fault::DryRun(fault)),
     }

@@ -4,7 +4,7 @@ use Rattle.std.specs.Prelude.{Option, Some, None, option_and_then, option_map}
 use Rattle.clap.specs.Words.{Row, Text, first_of}
 use Rattle.command_line.specs.Seconds.{second_by}
 use Rattle.command_line.specs.Values.{HasFlag, HasShort, HasText, LacksShort, texts_of}
-use Rattle.told_cells.specs.Assignments.{Assignment, assigned}
+use Rattle.cell_assignments.specs.Assignments.{Assignment, assigned}
 use Rattle.tool_words.specs.declared.args.AskArgs.{AskArgs}
 
 -- ---- the counters

@@ -3,7 +3,7 @@
 use attrs::Moment;
 use command_line::{AppArgs, DeclaredShape, RunArgs};
 use moments::NamedTime;
-use told_cells::CellAssignment;
+use cell_assignments::CellAssignment;
 
 /// The arguments of `check`: manifests. With `strict`, each warning counts unless its name is among
 /// the allowed ones.

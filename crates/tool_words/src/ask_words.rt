@@ -13,7 +13,7 @@ use command_line::{
     ArgsError, ArgumentFault, flag_of, optional_number, second_of, text_of, texts_of,
 };
 use std::alloc::Global;
-use told_cells::CellAssignment;
+use cell_assignments::CellAssignment;
 
 /// The command of `ask`.
 pub(crate) fn read_ask<'a>(

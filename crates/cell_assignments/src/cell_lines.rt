@@ -2,7 +2,7 @@
 
 ghost use Rattle.std.specs.Prelude.{◌≡◌, IfOk, map};
 ghost use Rattle.std.specs.Str.Lines.{lines};
-ghost use Rattle.told_cells.specs.Assignments as specs;
+ghost use Rattle.cell_assignments.specs.Assignments as specs;
 
 use crate::assignment::CellAssignment;
 use std::alloc::{AllocError, Global};

@@ -1,6 +1,6 @@
 use Rattle.std.proofs.Common.{◌≡◌, ◌++◌, map, length}
-use Rattle.told_cells.specs.Assignments as specs
-use Rattle.told_cells.proofs.cell_lines.assignments_in.Given as goal
+use Rattle.cell_assignments.specs.Assignments as specs
+use Rattle.cell_assignments.proofs.cell_lines.assignments_in.Given as goal
 
 -- the cells so far, followed by those of the lines that are left, are all
 abbrev pub invariant-loop-rest : goal.invariant-loop-rest

@@ -1,6 +1,6 @@
 use Rattle.std.proofs.lemmas.Iterator.Consumers.{map_from_collect}
 use Rattle.std.proofs.lemmas.Iterator.Splits.{YieldsList-from_lines}
-use Rattle.told_cells.proofs.cell_lines.lines_of.Goals as goal
+use Rattle.cell_assignments.proofs.cell_lines.lines_of.Goals as goal
 
 pub returns : goal.returns
 returns c =

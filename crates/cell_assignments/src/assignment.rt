@@ -1,7 +1,7 @@
 //! One cell of an array, with its value.
 
 ghost use Rattle.std.specs.Prelude.{◌≡◌, ◌≤◌, IfSome};
-ghost use Rattle.told_cells.specs.Assignments as specs;
+ghost use Rattle.cell_assignments.specs.Assignments as specs;
 
 use lexing::decimal_within;
 use std::marker::Model;
@@ -18,7 +18,7 @@ pub struct CellAssignment<'a> {
 }
 
 impl<'a> Model for CellAssignment<'a> {
-    ghost use Rattle.told_cells.specs.Assignments.{Assignment};
+    ghost use Rattle.cell_assignments.specs.Assignments.{Assignment};
 
     ghost Value = { Assignment };
 

@@ -1,8 +1,8 @@
 //! The reply to a body on counters with given values.
 
 ghost use Rattle.std.specs.Prelude.{IfOk, IfErr};
-ghost use Rattle.dry_run.specs.Counters.{AreSetAsTold};
-ghost use Rattle.dry_run.specs.Told as specs;
+ghost use Rattle.dry_run.specs.Counters.{AreAssigned};
+ghost use Rattle.dry_run.specs.OnCounters as specs;
 
 use crate::counters::{set_cells, set_known, zero_counters};
 use crate::fault::DryRunFault;
@@ -12,26 +12,26 @@ use attrs::Moment;
 use bounded_files::ResourceFault;
 use cells::{CellArray, PlainPass};
 use std::alloc::Global;
-use told_cells::CellAssignment;
+use cell_assignments::CellAssignment;
 
 /// The text of the reply to a body at a moment. Counters are 0, except for those in `served` that
 /// belong to arrays of the manifest, and then for those in `words`. Returns B7 if the manifest
 /// lacks a cell of `words`, or a value doesn't fit; then O1 to O4. Returns B4 or O5 if an
 /// allocation fails.
 // open: whether an allocation fails (B4, O5).
-pub fn reply_as_told(
+pub fn reply_on_counters(
     alloc: Global,
     opened: &Opened,
     moment: &Moment,
     served: &[CellAssignment<'_>],
     words: &[CellAssignment<'_>],
 ) -> Result<Vec<u8>, DryRunFault>
-    ensures replies { IfOk result (λ text. specs.RepliesAsTold opened.now.rules
+    ensures replies { IfOk result (λ text. specs.RepliesOnCounters opened.now.rules
         opened.now.directory opened.now.body.items moment.now served.now words.now text.items) }
     ensures fault { IfErr result (specs.IsUnanswered opened.now.directory opened.now.body.items
         served.now words.now) }
 {
-    let mut counters = counters_as_told(alloc, opened.directory.arrays(), served, words)?;
+    let mut counters = assigned_counters(alloc, opened.directory.arrays(), served, words)?;
     match find_reply(alloc, &opened.rules, moment, &opened.body, &mut counters) {
         Ok(text) => Ok(text),
         Err(fault) => Err(DryRunFault::Omaha(fault)),
@@ -39,14 +39,14 @@ pub fn reply_as_told(
 }
 
 /// The counters, with the values that the server and the command line gave.
-pub(crate) fn counters_as_told(
+pub(crate) fn assigned_counters(
     alloc: Global,
     arrays: &[CellArray],
     served: &[CellAssignment<'_>],
     words: &[CellAssignment<'_>],
 ) -> Result<PlainPass, DryRunFault>
-    ensures told { IfOk result (λ counters. AreSetAsTold arrays.now served.now words.now counters) }
-    ensures fault { IfErr result (specs.IsUntold arrays.now served.now words.now) }
+    ensures told { IfOk result (λ counters. AreAssigned arrays.now served.now words.now counters) }
+    ensures fault { IfErr result (specs.IsUnassignable arrays.now served.now words.now) }
 {
     let Ok(mut counters) = zero_counters(alloc) else {
         return Err(DryRunFault::Resource(ResourceFault::Memory));

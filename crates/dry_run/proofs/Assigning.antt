@@ -6,10 +6,10 @@ use Rattle.omaha_json.specs.Request.{Request, request_in}
 use Rattle.omaha_json.specs.declared.omaha_fault.OmahaFault.{OmahaFault}
 use Rattle.omaha_json.specs.declared.omaha_fault.OmahaFault.TheVariants.{Json, Shape, Protocol}
 use Rattle.omaha_json.specs.declared.omaha_fault.OmahaFault.TheVariants.{TooManyApps, Memory}
-use Rattle.told_cells.specs.Assignments.{Assignment}
-use Rattle.dry_run.specs.Counters.{AreSetAsTold}
+use Rattle.cell_assignments.specs.Assignments.{Assignment}
+use Rattle.dry_run.specs.Counters.{AreAssigned}
 use Rattle.dry_run.specs.IgnoredLines.{app_notes_in, request_note_in}
-use Rattle.dry_run.specs.Told.{IsUnanswered}
+use Rattle.dry_run.specs.OnCounters.{IsUnanswered}
 use Rattle.dry_run.specs.Why.{ExplainsRequest, TellsWhy}
 use Rattle.dry_run.specs.declared.fault.DryRunFault.TheVariants as fault
 use Rattle.dry_run.specs.declared.why_files.OpenedWhy.{OpenedWhy}
@@ -21,7 +21,7 @@ ReadsAs body read = read ≢ Err Memory → read ≡ request_in body
 pub told_why : (o : OpenedWhy) (moment : ℤ) (served words : List Assignment)
     (arrays : List CellArray)
     (counters : List ℕ) (request : Request) (front : List ℕ) (notes : List (List ℕ))
-    (left text : List ℕ) → arrays ≡ o.directory → AreSetAsTold arrays served words counters
+    (left text : List ℕ) → arrays ≡ o.directory → AreAssigned arrays served words counters
     → ReadsAs o.body.items (Ok request) → front ≡ request_note_in o.body.items
     → notes ≡ app_notes_in o.body.items
     → ExplainsRequest o.rules o.known_rules.items request.facts moment front notes counters
@@ -34,7 +34,7 @@ told_why o moment served words arrays counters request front notes left text sam
     let all = subst N noted told in
     record {
       counters = counters;
-      set = subst (λ (a : List CellArray). AreSetAsTold a served words counters) same set;
+      set = subst (λ (a : List CellArray). AreAssigned a served words counters) same set;
       request = request;
       asked = sym (read (λ e. cc));
       choices = all.1.0;
@@ -45,7 +45,7 @@ told_why o moment served words arrays counters request front notes left text sam
     }
 
 module _ (directory : List CellArray) (body : List ℕ) (served words : List Assignment) where
-  because : (counters : List ℕ) (why : OmahaFault) → AreSetAsTold directory served words counters
+  because : (counters : List ℕ) (why : OmahaFault) → AreAssigned directory served words counters
       → ReadsAs body (Err why) → IsUnanswered directory body served words (fault.Omaha why)
   because counters Json set read = ((counters, set), sym (read (λ e. cc)))
   because counters Shape set read = ((counters, set), sym (read (λ e. cc)))
@@ -54,8 +54,8 @@ module _ (directory : List CellArray) (body : List ℕ) (served words : List Ass
   because counters Memory set read = tt
 
   pub unread : (arrays : List CellArray) (counters : List ℕ) (why : OmahaFault)
-      → arrays ≡ directory → AreSetAsTold arrays served words counters
+      → arrays ≡ directory → AreAssigned arrays served words counters
       → ReadsAs body (Err why) → IsUnanswered directory body served words (fault.Omaha why)
   unread arrays counters why same set read =
       because counters why
-      (subst (λ (a : List CellArray). AreSetAsTold a served words counters) same set) read
+      (subst (λ (a : List CellArray). AreAssigned a served words counters) same set) read

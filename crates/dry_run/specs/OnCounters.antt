@@ -6,41 +6,41 @@ use Rattle.cells.specs.declared.array.CellArray.{CellArray}
 use Rattle.omaha_json.specs.Request.{request_in}
 use Rattle.omaha_json.specs.declared.omaha_fault.OmahaFault.TheVariants as omaha
 use Rattle.ruleset.specs.Rules.{Rules}
-use Rattle.told_cells.specs.Assignments.{Assignment}
-use Rattle.dry_run.specs.Counters.{AreSetAsTold, with_cells, with_known}
+use Rattle.cell_assignments.specs.Assignments.{Assignment}
+use Rattle.dry_run.specs.Counters.{AreAssigned, with_cells, with_known}
 use Rattle.dry_run.specs.Reply.{RepliesToBodyOn}
 use Rattle.dry_run.specs.declared.fault.DryRunFault.{DryRunFault}
 use Rattle.dry_run.specs.declared.fault.DryRunFault.TheVariants as fault
 
 -- the reply to a body, at a moment, on the counters that a server and the command line gave
-pub record RepliesAsTold (rules : Rules) (arrays : List CellArray) (body : List ℕ) (moment : ℤ)
+pub record RepliesOnCounters (rules : Rules) (arrays : List CellArray) (body : List ℕ) (moment : ℤ)
     (served words : List Assignment) (text : List ℕ) : Type 0 where
   pub counters : List ℕ
-  pub set : AreSetAsTold arrays served words counters
+  pub set : AreAssigned arrays served words counters
   pub left : List ℕ
   pub replies : RepliesToBodyOn rules moment body counters text left
 
 -- the command line gave a cell that doesn't exist, or a value that doesn't fit
-pub record AreUntold (arrays : List CellArray) (served words : List Assignment) : Type 0 where
+pub record AreUnassignable (arrays : List CellArray) (served words : List Assignment) : Type 0 where
   pub zeros : List ℕ
   pub opens : AreZeros 8192 zeros
   pub unset : with_cells arrays (with_known arrays zeros served) words ≡ None
 
-abbrev pub IsUntold : List CellArray → (served words : List Assignment) → DryRunFault → Type 0
-IsUntold arrays served words fault.Cell = AreUntold arrays served words
-IsUntold arrays served words (fault.Resource resource.Memory) = Unit {0}
-IsUntold arrays served words why = ⊥
+abbrev pub IsUnassignable : List CellArray → (served words : List Assignment) → DryRunFault → Type 0
+IsUnassignable arrays served words fault.Cell = AreUnassignable arrays served words
+IsUnassignable arrays served words (fault.Resource resource.Memory) = Unit {0}
+IsUnassignable arrays served words why = ⊥
 
 -- the given counters exist
 abbrev pub AreSettable : List CellArray → (served words : List Assignment) → Type 0
 AreSettable arrays served words =
-    (counters : List ℕ) × AreSetAsTold arrays served words counters
+    (counters : List ℕ) × AreAssigned arrays served words counters
 
 -- why there is no reply: the given cells, or else the body, which isn't a request. Running out of
 -- memory is always allowed
 abbrev pub IsUnanswered : List CellArray → (body : List ℕ) → (served words : List Assignment)
     → DryRunFault → Type 0
-IsUnanswered arrays body served words fault.Cell = AreUntold arrays served words
+IsUnanswered arrays body served words fault.Cell = AreUnassignable arrays served words
 IsUnanswered arrays body served words (fault.Omaha omaha.Memory) = Unit {0}
 IsUnanswered arrays body served words (fault.Omaha why) =
     AreSettable arrays served words × (request_in body ≡ Err why)
