@@ -4,12 +4,13 @@ use Rattle.std.proofs.Common.{append_assoc, append-nil, codes}
 use Rattle.std.specs.Str.{chars}
 use Rattle.json.specs.Print.{escape_byte, separator, ends}
 use Rattle.json.specs.Token.{Token, begin_object, end_object, key, string, number, boolean}
-use Rattle.access_log.specs.Line.{begun_at, object_at, line_with}
-use Rattle.access_log.specs.Members.{text_member, flag_member}
+use Rattle.access_log.specs.Line.{begun_at, object_with, line_with}
+use Rattle.access_log.specs.Members.{text_member, number_member, flag_member}
 use Rattle.access_log.specs.Plain.{is_plain_text, named}
 use Rattle.access_log.specs.Spelled.{spelled, spelled_from, spelled_quoted, spelled_token}
-use Rattle.access_log.specs.Tokens.{AddsTokens, ends_after}
+use Rattle.access_log.specs.Tokens.{AddsTokens, AddsMembers, ends_after}
 use Rattle.access_log.specs.Utc.{utc_text}
+use Rattle.access_log.specs.declared.log_event.LineHeader.{LineHeader}
 use Rattle.access_log.specs.declared.utc.Utc.{Utc}
 use Rattle.access_log.proofs.Escaped.{plain_spelled, time_stands}
 
@@ -92,33 +93,38 @@ begun_of text plain =
     (sym (append-nil (text ++ 34 ∷ []))
     ∙ ap (λ l. (l ++ 34 ∷ []) ++ []) (sym (plain_spelled text plain)))
 
-pub begun_line : {empty a b c text : List ℕ} (t : Utc) → empty ≡ []
+pub begun_line : {empty a b c d text : List ℕ} (t : Utc) (port : ℕ) → empty ≡ []
     → a ≡ empty ++ codes "{\"time\":\"" → text ≡ utc_text t → b ≡ a ++ text → c ≡ b ++ 34 ∷ []
-    → c ≡ spelled (begun_at t)
-begun_line {empty} {a} {b} {c} {text} t none first is next last =
-    last
+    → AddsMembers c d (number_member (codes "port") port) → d ≡ spelled (begun_at t port)
+begun_line {empty} {a} {b} {c} {d} {text} t port none first is next last adds =
+    let timed : List Token = begin_object ∷ text_member (codes "time") (utc_text t) in
+    adds.text
+    ∙ ap (λ l. l ++ spelled_from true (number_member (codes "port") port))
+    (last
     ∙ ap (λ l. l ++ 34 ∷ [])
     (next ∙ ap (λ l. l ++ text) (first ∙ ap (λ l. l ++ codes "{\"time\":\"") none)
     ∙ ap (λ l. codes "{\"time\":\"" ++ l) is)
-    ∙ begun_of (utc_text t) (time_stands t)
+    ∙ begun_of (utc_text t) (time_stands t))
+    ∙ sym (spelled_from-append false timed (number_member (codes "port") port))
 
-whole : (t : Utc) (members : List Token) → ends_after true members ≡ true
-    → spelled (object_at t members)
-    ≡ (spelled (begun_at t) ++ spelled_from true members) ++ 125 ∷ []
+whole : (h : LineHeader) (members : List Token) → ends_after true members ≡ true
+    → spelled (object_with h members)
+    ≡ (spelled (begun_at h.time h.port) ++ spelled_from true members) ++ 125 ∷ []
 unfolding spelled_from
-whole t members ended =
-    let begun = begun_at t in
+whole h members ended =
+    let begun = begun_at h.time h.port in
     spelled_from-append false (begun ++ members) (end_object ∷ [])
     ∙ ap (λ s. spelled_from false (begun ++ members) ++ spelled_from s (end_object ∷ []))
     (ends_joined false begun members ∙ ended)
     ∙ ap (λ l. l ++ 125 ∷ []) (spelled_from-append false begun members)
 
-pub adds_line : {begun members_of line : List ℕ} (t : Utc) (members : List Token)
-    → begun ≡ spelled (begun_at t) → AddsTokens true true begun members_of members
-    → line ≡ members_of ++ 125 ∷ 10 ∷ [] → line ≡ line_with t members
-adds_line {begun} {members_of} {line} t members first adds last =
-    let before = spelled (begun_at t) ++ spelled_from true members in
+pub adds_line : {begun members_of line : List ℕ} (h : LineHeader) (members : List Token)
+    → begun ≡ spelled (begun_at h.time h.port)
+    → AddsTokens true true begun members_of members
+    → line ≡ members_of ++ 125 ∷ 10 ∷ [] → line ≡ line_with h members
+adds_line {begun} {members_of} {line} h members first adds last =
+    let before = spelled (begun_at h.time h.port) ++ spelled_from true members in
     last
     ∙ ap (λ l. l ++ 125 ∷ 10 ∷ []) (adds.text ∙ ap (λ l. l ++ spelled_from true members) first)
     ∙ sym (append_assoc before (125 ∷ []) (10 ∷ []))
-    ∙ ap (λ l. l ++ 10 ∷ []) (sym (whole t members adds.ended))
+    ∙ ap (λ l. l ++ 10 ∷ []) (sym (whole h members adds.ended))

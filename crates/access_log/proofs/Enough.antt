@@ -36,11 +36,11 @@ brief_outcome NotRequested is = omega arith
 brief_outcome Unknown is = omega arith
 brief_outcome NoUpdate is = omega arith
 
-any_event : (e : Option Excerpt) → event_count_size e ≤ 27
+any_event : (e : Option Excerpt) → event_count_size e ≤ 25
 any_event (Some e) = omega arith
 any_event None = omega arith
 
-brief_app : (app : LoggedApp) → IsBrief app → app_size app ≤ 332
+brief_app : (app : LoggedApp) → IsBrief app → app_size app ≤ 330
 brief_app app is =
     omega (
       arith,
@@ -68,7 +68,7 @@ or_more : (n few all total : ℕ) → all ≡ suc few → (few ≡ total) ⊎ (n
 or_more n few all total is (inl every) = inl (omega (arith, is, every))
 or_more n few all total is (inr some) = inr (omega (arith, is, some))
 
-so_many : (n room : ℕ) (apps : List LoggedApp) → n * 332 ≤ room → AreBrief apps
+so_many : (n room : ℕ) (apps : List LoggedApp) → n * 330 ≤ room → AreBrief apps
     → (count_fitting room apps ≡ length apps) ⊎ (n ≤ count_fitting room apps)
 so_many zero room apps fits are = inr (omega arith)
 so_many (suc n) room [] fits are = inl (none_at_all room)
@@ -79,7 +79,7 @@ so_many (suc n) room (app ∷ apps) fits are =
     (so_many n (room - app_size app) apps (omega (arith, fits, size)) are.1)
 
 pub lists_enough : (apps : List LoggedApp) → ListsEnough apps
-lists_enough apps are = so_many 11 3660 apps (omega arith) are
+lists_enough apps are = so_many 11 3641 apps (omega arith) are
 
 pub lists_apps : (e : LogEvent) → ListsApps e
 lists_apps (log.Start s) = tt

@@ -1,24 +1,24 @@
 -- The members of an event are printed in one line.
-use Rattle.std.proofs.Common.{◌≡◌, ℕ, List, [], ◌∷◌, ◌++◌, codes, Option}
+use Rattle.std.proofs.Common.{◌≡◌, ℕ, List, [], ◌∷◌, ◌++◌, codes, Option, Bool, true, false}
 use Rattle.std.specs.Prelude.{option_copied}
 use Rattle.std.specs.Borrow.{Bor}
 use Rattle.json.specs.Token.{Token, end_object}
 use Rattle.access_log.specs.Apps.{apps_members}
-use Rattle.access_log.specs.Line.{IsOneLine, begun_at, object_at, line_with, members_of}
-use Rattle.access_log.specs.Line.{connection_members, counter_members, load_members}
+use Rattle.access_log.specs.Line.{IsOneLine, begun_at, object_with, line_with, members_of}
+use Rattle.access_log.specs.Line.{connection_members, counter_members, id_member, load_members}
 use Rattle.access_log.specs.Line.{path_members, reply_members, start_members, status_members}
 use Rattle.access_log.specs.Line.{stop_members, too_long_members, totals_members}
 use Rattle.access_log.specs.Members.{text_member, number_member, optional_member, count_member}
 use Rattle.access_log.specs.Spelled.{spelled}
 use Rattle.access_log.specs.declared.log_event.Connection.{Connection}
 use Rattle.access_log.specs.declared.log_event.Counter.{Counter}
+use Rattle.access_log.specs.declared.log_event.LineHeader.{LineHeader}
 use Rattle.access_log.specs.declared.log_event.LogEvent.{LogEvent}
 use Rattle.access_log.specs.declared.log_event.LogEvent.TheVariants as log
 use Rattle.access_log.specs.declared.log_event.Load.{Load}
 use Rattle.access_log.specs.declared.log_event.Start.{Start}
 use Rattle.access_log.specs.declared.log_event.Totals.{Totals}
 use Rattle.access_log.specs.declared.excerpt.Excerpt.{Excerpt}
-use Rattle.access_log.specs.declared.utc.Utc.{Utc}
 use Rattle.access_log.proofs.Harmless.{HaveHarmlessNumbers, all_harmless, decimal_is_harmless}
 use Rattle.access_log.proofs.Harmless.{print_is_harmless}
 use Rattle.access_log.proofs.Listed.{text, count, maybe, counted, excerpt, maybe_excerpt, asked}
@@ -31,17 +31,15 @@ path = excerpt (codes "path") (codes "path_left_out")
 start : (s : Start) → HaveHarmlessNumbers (start_members s)
 start s =
     let kind = text_member (codes "kind") (codes "start") in
-    let port = number_member (codes "port") s.port in
     let operator = number_member (codes "operator") s.operator in
     let digest = optional_member (codes "digest") (option_copied s.digest) in
     let refusal = optional_member (codes "refusal") (option_copied s.refusal) in
-    all_harmless (kind ++ path_members s.manifest ++ port ++ operator ++ digest ++ refusal) _
-    (all_harmless (kind ++ path_members s.manifest ++ port ++ operator ++ digest) refusal
-    (all_harmless (kind ++ path_members s.manifest ++ port ++ operator) digest
-    (all_harmless (kind ++ path_members s.manifest ++ port) operator
-    (all_harmless (kind ++ path_members s.manifest) port
+    all_harmless (kind ++ path_members s.manifest ++ operator ++ digest ++ refusal) _
+    (all_harmless (kind ++ path_members s.manifest ++ operator ++ digest) refusal
+    (all_harmless (kind ++ path_members s.manifest ++ operator) digest
+    (all_harmless (kind ++ path_members s.manifest) operator
     (all_harmless kind (path_members s.manifest) (text (codes "kind") (codes "start"))
-    (path s.manifest)) (count (codes "port") s.port)) (count (codes "operator") s.operator))
+    (path s.manifest)) (count (codes "operator") s.operator))
     (maybe (codes "digest") (option_copied s.digest)))
     (maybe (codes "refusal") (option_copied s.refusal)))
     (maybe_excerpt (codes "cause") (codes "cause_left_out") s.cause)
@@ -81,17 +79,23 @@ reply a =
     (counted (codes "generation") a.generation)) (count (codes "bytes") a.bytes))
     (count (codes "micros") a.micros)) (count (codes "waited") a.waited)
 
+id : (lacks_id : Bool) → HaveHarmlessNumbers (id_member lacks_id)
+id true = (tt, (tt, tt))
+id false = tt
+
 connection : (a : Connection) → HaveHarmlessNumbers (connection_members a)
 connection a =
     let kind = text_member (codes "kind") (codes "connection") in
     let peer = text_member (codes "peer") a.peer.now in
     let forwarded = optional_member (codes "forwarded") (option_copied a.forwarded) in
-    all_harmless (kind ++ peer ++ forwarded ++ reply_members a) (apps_members a.apps.now)
-    (all_harmless (kind ++ peer ++ forwarded) (reply_members a)
+    let before = kind ++ peer ++ forwarded ++ id_member a.lacks_id in
+    all_harmless (before ++ reply_members a) (apps_members a.apps.now)
+    (all_harmless before (reply_members a)
+    (all_harmless (kind ++ peer ++ forwarded) (id_member a.lacks_id)
     (all_harmless (kind ++ peer) forwarded
     (all_harmless kind peer (text (codes "kind") (codes "connection"))
     (text (codes "peer") a.peer.now)) (maybe (codes "forwarded") (option_copied a.forwarded)))
-    (reply a)) (asked a.apps.now)
+    (id a.lacks_id)) (reply a)) (asked a.apps.now)
 
 -- a number after other members
 behind : (ts : List Token) (name : List ℕ) (n : ℕ) → HaveHarmlessNumbers ts
@@ -158,21 +162,21 @@ says (log.Counter a) = counter a
 
 -- ---- lines
 
-is_one : (time : Utc) (members : List Token) (line : List ℕ) → HaveHarmlessNumbers members
-    → line ≡ line_with time members → IsOneLine line
-is_one time members line are is =
-    let begun : HaveHarmlessNumbers (begun_at time) = (tt, (tt, (tt, tt))) in
-    let all = all_harmless (begun_at time ++ members) (end_object ∷ [])
-    (all_harmless (begun_at time) members begun are) (tt, tt) in
-    let shown = print_is_harmless (object_at time members) all in
-    (spelled (object_at time members), is, shown)
+is_one : (h : LineHeader) (members : List Token) (line : List ℕ) → HaveHarmlessNumbers members
+    → line ≡ line_with h members → IsOneLine line
+is_one h members line are is =
+    let begun : HaveHarmlessNumbers (begun_at h.time h.port) =
+    (tt, (tt, (tt, (tt, (decimal_is_harmless h.port, tt))))) in
+    let all = all_harmless (begun_at h.time h.port ++ members) (end_object ∷ [])
+    (all_harmless (begun_at h.time h.port) members begun are) (tt, tt) in
+    let shown = print_is_harmless (object_with h members) all in
+    (spelled (object_with h members), is, shown)
 
-pub event_is_one : (time : Utc) (e : LogEvent) (line : List ℕ) → line
-    ≡ line_with time (members_of e)
-    → IsOneLine line
-event_is_one time e line = is_one time (members_of e) line (says e)
+pub event_is_one : (h : LineHeader) (e : LogEvent) (line : List ℕ)
+    → line ≡ line_with h (members_of e) → IsOneLine line
+event_is_one h e line = is_one h (members_of e) line (says e)
 
-pub length_is_one : (time : Utc) (n : ℕ) (line : List ℕ)
-    → line ≡ line_with time (too_long_members n) → IsOneLine line
-length_is_one time n line =
-    is_one time (too_long_members n) line (tt, (tt, (tt, (decimal_is_harmless n, tt))))
+pub length_is_one : (h : LineHeader) (n : ℕ) (line : List ℕ)
+    → line ≡ line_with h (too_long_members n) → IsOneLine line
+length_is_one h n line =
+    is_one h (too_long_members n) line (tt, (tt, (tt, (decimal_is_harmless n, tt))))

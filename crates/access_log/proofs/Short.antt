@@ -5,12 +5,12 @@ use Rattle.std.specs.Prelude.{◌&&◌, decimal}
 use Rattle.std.proofs.lemmas.Fmt.{length-decimal-le}
 use Rattle.json.specs.Print.{separator, begins, ends}
 use Rattle.json.specs.Token.{Token}
-use Rattle.access_log.specs.Line.{line_with, object_at, too_long_members}
+use Rattle.access_log.specs.Line.{line_with, object_with, too_long_members}
 use Rattle.access_log.specs.Plain.{is_plain_text}
 use Rattle.access_log.specs.Spelled.{spelled, spelled_from, spelled_quoted, spelled_text}
 use Rattle.access_log.specs.Spelled.{spelled_token}
 use Rattle.access_log.specs.Utc.{utc_text}
-use Rattle.access_log.specs.declared.utc.Utc.{Utc}
+use Rattle.access_log.specs.declared.log_event.LineHeader.{LineHeader}
 use Rattle.access_log.proofs.Escaped.{plain_spelled, time_stands}
 
 -- an upper bound of the bytes of these tokens, each with a comma
@@ -52,27 +52,31 @@ named_length : (text : List ℕ) → is_plain_text text ≡ true
 named_length text is =
     omega (arith, quoted_length text is, length-append (spelled_quoted text) (58 ∷ []))
 
-room_of : (t : Utc) (n : ℕ) → n < 2 ^ 64 → room (object_at t (too_long_members n)) ≤ 300
-room_of t n small =
-    let digits : length (decimal n) ≤ 20 =
-    length-decimal-le 20 n (omega arith) (omega (arith, small)) small in
+digits_of : (n : ℕ) → n < 2 ^ 64 → length (decimal n) ≤ 20
+digits_of n small = length-decimal-le 20 n (omega arith) (omega (arith, small)) small
+
+room_of : (h : LineHeader) (n : ℕ) → h.port < 65536 → n < 2 ^ 64
+    → room (object_with h (too_long_members n)) ≤ 300
+room_of h n low small =
     omega (
       arith,
-      digits,
+      digits_of h.port (omega (arith, low)),
+      digits_of n small,
       named_length (codes "time") refl,
-      quoted_length (utc_text t) (time_stands t),
+      quoted_length (utc_text h.time) (time_stands h.time),
+      named_length (codes "port") refl,
       named_length (codes "kind") refl,
       quoted_length (codes "too-long") refl,
       named_length (codes "bytes") refl,
     )
 
-pub too_long_is_short : (t : Utc) (n : ℕ) → n < 2 ^ 64
-    → length (line_with t (too_long_members n)) ≤ 4096
-too_long_is_short t n small =
-    let ts = object_at t (too_long_members n) in
+pub too_long_is_short : (h : LineHeader) (n : ℕ) → h.port < 65536 → n < 2 ^ 64
+    → length (line_with h (too_long_members n)) ≤ 4096
+too_long_is_short h n low small =
+    let ts = object_with h (too_long_members n) in
     omega (
       arith,
       length-append (spelled ts) (10 ∷ []),
       spelled_is_short false ts,
-      room_of t n small,
+      room_of h n low small,
     )

@@ -1,19 +1,20 @@
 -- What a line of the log says of an event, and its text: a JSON object, and a line feed.
 use Rattle.std.specs.Prelude.{◌≡◌, ℕ, List, [], ◌∷◌, ◌++◌, codes, length}
-use Rattle.std.specs.Prelude.{nat_lt, if◌then◌else◌}
+use Rattle.std.specs.Prelude.{nat_lt, if◌then◌else◌, Bool, false}
 use Rattle.std.specs.Prelude.{Option, option_copied, ⊤}
 use Rattle.std.specs.Borrow.{Bor}
 use Rattle.std.specs.Str.{NoCharPasses}
 use Rattle.json.specs.Token.{Token, begin_object, end_object}
 use Rattle.printing.specs.Printed.{is_control}
 use Rattle.access_log.specs.Apps.{apps_members}
-use Rattle.access_log.specs.Members.{text_member, number_member, optional_member}
+use Rattle.access_log.specs.Members.{text_member, number_member, flag_member, optional_member}
 use Rattle.access_log.specs.Members.{count_member, excerpt_members, optional_excerpt}
 use Rattle.access_log.specs.Sizes.{ListsEnough}
 use Rattle.access_log.specs.Spelled.{spelled}
 use Rattle.access_log.specs.Utc.{utc_text}
 use Rattle.access_log.specs.declared.log_event.Connection.{Connection}
 use Rattle.access_log.specs.declared.log_event.Counter.{Counter}
+use Rattle.access_log.specs.declared.log_event.LineHeader.{LineHeader}
 use Rattle.access_log.specs.declared.log_event.LogEvent.{LogEvent}
 use Rattle.access_log.specs.declared.log_event.LogEvent.TheVariants as log
 use Rattle.access_log.specs.declared.log_event.Load.{Load}
@@ -33,7 +34,6 @@ path_members path = excerpt_members (codes "path") (codes "path_left_out") path
 abbrev pub start_members : Start → List Token
 start_members start =
     kind_member (codes "start") ++ path_members start.manifest
-    ++ number_member (codes "port") start.port
     ++ number_member (codes "operator") start.operator
     ++ optional_member (codes "digest") (option_copied start.digest)
     ++ optional_member (codes "refusal") (option_copied start.refusal)
@@ -52,6 +52,10 @@ load_members load =
     ++ optional_member (codes "refusal") (option_copied load.refusal)
     ++ optional_excerpt (codes "cause") (codes "cause_left_out") load.cause
 
+-- only a request that has no id has the member
+abbrev pub id_member : Bool → List Token
+id_member lacks_id = if lacks_id then flag_member (codes "id") false else []
+
 -- the reply, if there was one
 abbrev pub reply_members : Connection → List Token
 reply_members connection =
@@ -68,6 +72,7 @@ connection_members connection =
     kind_member (codes "connection")
     ++ text_member (codes "peer") connection.peer.now
     ++ optional_member (codes "forwarded") (option_copied connection.forwarded)
+    ++ id_member connection.lacks_id
     ++ reply_members connection
     ++ apps_members connection.apps.now
 
@@ -122,33 +127,36 @@ members_of (log.Counter counter) = counter_members counter
 
 -- ---- the line
 
--- an object begins with the time
-abbrev pub begun_at : Utc → List Token
-begun_at time = (begin_object ∷ []) ++ text_member (codes "time") (utc_text time)
+-- an object begins with the time and the port
+abbrev pub begun_at : Utc → ℕ → List Token
+begun_at time port =
+    (begin_object ∷ []) ++ text_member (codes "time") (utc_text time)
+    ++ number_member (codes "port") port
 
-abbrev pub object_at : Utc → List Token → List Token
-object_at time members = begun_at time ++ members ++ (end_object ∷ [])
+abbrev pub object_with : LineHeader → List Token → List Token
+object_with header members =
+    begun_at header.time header.port ++ members ++ (end_object ∷ [])
 
 abbrev pub with_line_feed : List Token → List ℕ
 with_line_feed tokens = spelled tokens ++ 10 ∷ []
 
-abbrev pub line_with : Utc → List Token → List ℕ
-line_with time members = with_line_feed (object_at time members)
+abbrev pub line_with : LineHeader → List Token → List ℕ
+line_with header members = with_line_feed (object_with header members)
 
 -- What replaces a line of more than 4096 bytes. A server's connections never have such a line:
--- their apps have at most 3660 bytes, and the rest at most 431. No clause says so; a row of
+-- their apps have at most 3641 bytes, and the rest at most 455. No clause says so; a row of
 -- test_access_log has the longest.
 abbrev pub too_long_members : ℕ → List Token
 too_long_members bytes = kind_member (codes "too-long") ++ number_member (codes "bytes") bytes
 
 -- a line of more than 4096 bytes is replaced by its length
-abbrev pub line_or_length : Utc → List ℕ → List ℕ
-line_or_length time whole =
-    if nat_lt 4096 (length whole) then line_with time (too_long_members (length whole)) else whole
+abbrev pub line_or_length : LineHeader → List ℕ → List ℕ
+line_or_length header whole =
+    if nat_lt 4096 (length whole) then line_with header (too_long_members (length whole)) else whole
 
 -- the line of an event
-abbrev pub event_line : Utc → LogEvent → List ℕ
-event_line time e = line_or_length time (line_with time (members_of e))
+abbrev pub event_line : LineHeader → LogEvent → List ℕ
+event_line header e = line_or_length header (line_with header (members_of e))
 
 -- all apps of a connection are logged, or at least eleven, if they are as brief as a server makes
 -- them

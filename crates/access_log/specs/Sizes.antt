@@ -43,7 +43,7 @@ outcome_size outcome = 15
 
 -- each line can hold the number of bytes that are left out of an event
 abbrev pub event_count_size : Option Excerpt → ℕ
-event_count_size (Some e) = 27
+event_count_size (Some e) = 25
 event_count_size None = 0
 
 -- an app without the text of its event: its texts, and 41 bytes for the rest
@@ -63,15 +63,15 @@ left_after_apps room [] = room
 left_after_apps room (app ∷ apps) =
     if nat_lt room (app_size app) then room else left_after_apps (room - app_size app) apps
 
--- all apps of a line together have 3660 bytes, and the rest of the line has the others
+-- all apps of a line together have 3641 bytes, and the rest of the line has the others
 abbrev pub listed_apps : List LoggedApp → ℕ
-listed_apps apps = count_fitting 3660 apps
+listed_apps apps = count_fitting 3641 apps
 
 -- ---- events
 
 -- the texts of the events get the bytes that the apps leave
 abbrev pub left_for_events : List LoggedApp → ℕ
-left_for_events apps = left_after_apps 3660 apps
+left_for_events apps = left_after_apps 3641 apps
 
 abbrev pub event_size : Excerpt → ℕ
 event_size e = 11 + text_size e.text.now

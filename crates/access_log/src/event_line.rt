@@ -1,30 +1,34 @@
 //! The line of an event.
 
-ghost use Rattle.std.specs.Prelude.{◌≡◌, ◌≤◌, length, IfOk, OnOk};
+ghost use Rattle.std.specs.Prelude.{◌≡◌, ◌<◌, ◌≤◌, length, IfOk, OnOk};
 ghost use Rattle.access_log.specs.Line as specs;
 ghost use Rattle.access_log.specs.Spelled.{spelled};
 ghost use Rattle.access_log.specs.Tokens.{AddsMembers};
 
 use crate::events::{write_kind, write_members};
 use crate::line_buffer::LineBuffer;
-use crate::log_event::LogEvent;
+use crate::log_event::{LineHeader, LogEvent};
 use crate::member::write_number;
 use crate::sizes::LINE_LIMIT;
 use crate::utc::Utc;
 use std::alloc::{AllocError, Global};
 
-/// The line of what happened at a time, with its line feed. Returns no line if an allocation fails.
+/// The line of an event, with its line feed. Returns no line if an allocation fails.
 // open: whether an allocation fails; that a connection's line is never too long, and that a line,
 // as defined, is JSON: tests.
 #[tactic(auto, using(crate::proofs::Enough::lists_apps))]
-pub fn log_line(alloc: Global, time: &Utc, event: &LogEvent<'_>) -> Result<Vec<u8>, AllocError>
-    ensures text { IfOk result (λ line. line.items ≡ specs.event_line time.now event.now) }
+pub fn log_line(
+    alloc: Global,
+    header: &LineHeader,
+    event: &LogEvent<'_>,
+) -> Result<Vec<u8>, AllocError>
+    ensures text { IfOk result (λ line. line.items ≡ specs.event_line header.now event.now) }
     ensures limit { IfOk result (λ line. length line.items ≤ 4096) }
     ensures whole { IfOk result (λ line. specs.IsOneLine line.items) }
     ensures apps { specs.ListsApps event.now }
 {
     let mut room = LineBuffer::new(alloc);
-    log_line_in(&mut room, time, event)?;
+    log_line_in(&mut room, header, event)?;
     Vec::from_slice(alloc, room.bytes())
 }
 
@@ -34,53 +38,58 @@ pub fn log_line(alloc: Global, time: &Utc, event: &LogEvent<'_>) -> Result<Vec<u
 #[tactic(auto, using(crate::proofs::Enough::lists_apps))]
 pub fn log_line_in(
     room: &mut LineBuffer,
-    time: &Utc,
+    header: &LineHeader,
     event: &LogEvent<'_>,
 ) -> Result<(), AllocError>
-    ensures text { OnOk result (room.new ≡ specs.event_line time.now event.now) }
+    ensures text { OnOk result (room.new ≡ specs.event_line header.now event.now) }
     ensures limit { OnOk result (length room.new ≤ 4096) }
     ensures whole { OnOk result (specs.IsOneLine room.new) }
     ensures apps { specs.ListsApps event.now }
 {
-    whole_line(room, time, event)?;
+    whole_line(room, header, event)?;
     let bytes = room.bytes().len();
     if bytes > LINE_LIMIT {
-        return too_long_line(room, time, bytes);
+        return too_long_line(room, header, bytes);
     }
     Ok(())
 }
 
 // The line of an event, of any length.
-fn whole_line(room: &mut LineBuffer, time: &Utc, event: &LogEvent<'_>) -> Result<(), AllocError>
-    ensures { OnOk result (room.new ≡ specs.line_with time.now (specs.members_of event.now)) }
+fn whole_line(
+    room: &mut LineBuffer,
+    header: &LineHeader,
+    event: &LogEvent<'_>,
+) -> Result<(), AllocError>
+    ensures { OnOk result (room.new ≡ specs.line_with header.now (specs.members_of event.now)) }
 {
-    begin_line(room, time)?;
+    begin_line(room, &header.time, header.port)?;
     write_members(room, event)?;
     room.put(b"}\n")?;
     Ok(())
 }
 
 // What replaces a line of `bytes` bytes, which is too long.
-
-fn too_long_line(room: &mut LineBuffer, time: &Utc, bytes: usize) -> Result<(), AllocError>
+fn too_long_line(room: &mut LineBuffer, header: &LineHeader, bytes: usize) -> Result<(), AllocError>
     ensures text { OnOk result
-        (room.new ≡ specs.line_with time.now (specs.too_long_members bytes)) }
+        (room.new ≡ specs.line_with header.now (specs.too_long_members bytes)) }
     ensures limit { OnOk result (length room.new ≤ 4096) }
 {
-    begin_line(room, time)?;
+    begin_line(room, &header.time, header.port)?;
     write_too_long(room, bytes as u64)?;
     room.put(b"}\n")?;
     Ok(())
 }
 
-// Replaces the contents by the brace that opens the object, and the time.
-fn begin_line(room: &mut LineBuffer, time: &Utc) -> Result<(), AllocError>
-    ensures { OnOk result (room.new ≡ spelled (specs.begun_at time.now)) }
+// Replaces the contents by the brace that opens the object, the time and the port.
+fn begin_line(room: &mut LineBuffer, time: &Utc, port: u16) -> Result<(), AllocError>
+    ensures text { OnOk result (room.new ≡ spelled (specs.begun_at time.now port)) }
+    ensures port { port < 65536 }
 {
     room.clear();
     room.put(b"{\"time\":\"")?;
     room.put(&time.text())?;
     room.put(b"\"")?;
+    write_number(room, "port", port as u64)?;
     Ok(())
 }
 

@@ -10,8 +10,8 @@ use crate::excerpt::Excerpt;
 use crate::line_buffer::LineBuffer;
 use crate::log_event::{Connection, Counter, Load, LogEvent, Start, Totals};
 use crate::member::{
-    write_count, write_excerpt, write_number, write_optional, write_optional_excerpt, write_text,
-    write_word,
+    write_count, write_excerpt, write_flag, write_number, write_optional, write_optional_excerpt,
+    write_text, write_word,
 };
 use std::alloc::AllocError;
 
@@ -37,7 +37,6 @@ fn write_start(line: &mut LineBuffer, start: &Start<'_>) -> Result<(), AllocErro
 {
     write_kind(line, "start")?;
     write_path(line, &start.manifest)?;
-    write_number(line, "port", start.port as u64)?;
     write_number(line, "operator", start.operator as u64)?;
     write_optional(line, "digest", start.digest)?;
     write_optional(line, "refusal", start.refusal)?;
@@ -72,8 +71,20 @@ fn write_connection(line: &mut LineBuffer, connection: &Connection<'_>) -> Resul
     write_kind(line, "connection")?;
     write_text(line, "peer", connection.peer)?;
     write_optional(line, "forwarded", connection.forwarded)?;
+    write_id(line, connection.lacks_id)?;
     write_reply(line, connection)?;
     write_apps(line, connection.apps)?;
+    Ok(())
+}
+
+// The member `id`, if the request has no id.
+#[tactic(auto, using(crate::proofs::Added::adds_nothing))]
+fn write_id(line: &mut LineBuffer, lacks_id: bool) -> Result<(), AllocError>
+    ensures { OnOk result (AddsMembers line.old line.new (specs.id_member lacks_id)) }
+{
+    if lacks_id {
+        return write_flag(line, "id", false);
+    }
     Ok(())
 }
 

@@ -1,5 +1,5 @@
-//! The lines of a server's log: each is a JSON object (RFC 8259), which says what happened and
-//! when.
+//! The lines of a server's log: each is a JSON object (RFC 8259), which says what happened, when,
+//! and at which server.
 //!
 //! An event is defined as tokens of JSON, in a fixed order. Its line is these tokens as the kit's
 //! writer prints them, followed by a line feed. Only texts differ: all characters that could
@@ -29,6 +29,6 @@ pub use event_line::{log_line, log_line_in};
 pub use excerpt::Excerpt;
 pub use further_members::FurtherMembers;
 pub use line_buffer::LineBuffer;
-pub use log_event::{Connection, Counter, Load, LogEvent, Start, Totals};
+pub use log_event::{Connection, Counter, LineHeader, Load, LogEvent, Start, Totals};
 pub use logged_app::{LoggedApp, Outcome};
 pub use utc::Utc;

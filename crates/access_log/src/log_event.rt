@@ -2,14 +2,23 @@
 
 use crate::excerpt::Excerpt;
 use crate::logged_app::LoggedApp;
+use crate::utc::Utc;
+
+/// What each line begins with.
+#[derive(Clone, Copy)]
+pub struct LineHeader {
+    /// When the line was made.
+    pub time: Utc,
+    /// The clients' port of the server.
+    pub port: u16,
+}
 
 /// A server's start, or why it doesn't start.
 #[derive(Clone, Copy)]
 pub struct Start<'a> {
     /// The path of its manifest.
     pub manifest: Excerpt<'a>,
-    /// The clients' port, and the operator's.
-    pub port: u16,
+    /// The operator's port.
     pub operator: u16,
     /// The digest of its manifest and of the files that this names, in hexadecimal digits.
     pub digest: Option<&'a str>,
@@ -39,6 +48,8 @@ pub struct Connection<'a> {
     pub peer: &'a str,
     /// The address that a proxy names.
     pub forwarded: Option<&'a str>,
+    /// Whether a request was read, and has neither a request id nor a session id.
+    pub lacks_id: bool,
     /// The status of the reply; 0 if there was none, or it was sent only in part.
     pub status: u16,
     /// The error that the client got, or why it got no reply.

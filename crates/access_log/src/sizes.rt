@@ -15,13 +15,15 @@ use printing::is_control;
 pub const LINE_LIMIT: usize = 4096;
 
 /// The most bytes of all apps of a line.
-const APPS_LIMIT: usize = 3660;
+const APPS_LIMIT: usize = 3641;
 
 /// The bytes of an app without its texts, its version, its outcome and its event.
 const APP_SIZE: usize = 41;
 
-/// The bytes of a member that says how much of a text is left out.
+/// The bytes of a member that says how much of a text is left out, and of that of an event.
 const COUNT_SIZE: usize = 27;
+
+const EVENT_COUNT_SIZE: usize = 25;
 
 /// How many apps a line logs, counted from the first, and how many bytes they leave.
 #[derive(Clone, Copy)]
@@ -83,10 +85,10 @@ fn outcome_size(outcome: &Outcome<'_>) -> usize
 
 fn event_count_size(event: &Option<Excerpt<'_>>) -> usize
     ensures value { result ≡ specs.event_count_size event.now }
-    ensures bound { result ≤ 27 }
+    ensures bound { result ≤ 25 }
 {
     match event {
-        Some(_) => COUNT_SIZE,
+        Some(_) => EVENT_COUNT_SIZE,
         None => 0,
     }
 }

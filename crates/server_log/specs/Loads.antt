@@ -3,10 +3,10 @@ use Rattle.std.specs.Prelude.{◌≡◌, ℕ, List, Option, Some, None, IfSome}
 use Rattle.std.specs.Prelude.{option_copied, option_map}
 use Rattle.access_log.specs.Excerpt.{IsExcerpt}
 use Rattle.access_log.specs.Line.{event_line}
+use Rattle.access_log.specs.declared.log_event.LineHeader.{LineHeader}
 use Rattle.access_log.specs.declared.log_event.Load.{Load}
 use Rattle.access_log.specs.declared.log_event.LogEvent.TheVariants as log
 use Rattle.access_log.specs.declared.excerpt.Excerpt.{Excerpt}
-use Rattle.access_log.specs.declared.utc.Utc.{Utc}
 use Rattle.hex.specs.Hex.{encode_lower}
 use Rattle.operator.specs.Texts.{refusal_text}
 use Rattle.operator.specs.declared.reply.OperatorRefusal.{OperatorRefusal}
@@ -44,11 +44,11 @@ pub record TellsRefusedLoad (path text : List ℕ) (cause : Option (List ℕ)) (
   pub refusal_is : option_copied load.refusal ≡ Some text
   pub cause_is : IsExcerptOf cause load.cause
 
--- the line, at a time, of a load with this property
-pub record IsLoadLine (time : Utc) (Tells : Load → Type 0) (line : List ℕ) : Type 0 where
+-- the line, with a header, of a load with this property
+pub record IsLoadLine (header : LineHeader) (Tells : Load → Type 0) (line : List ℕ) : Type 0 where
   pub load : Load
   pub tells : Tells load
-  pub line_is : line ≡ event_line time (log.Load load)
+  pub line_is : line ≡ event_line header (log.Load load)
 
 -- given the relation of a loader's faults to their causes, and their texts
 module _ {F : Type 0} (has_cause : F → Option (List ℕ) → Type 0)
@@ -64,13 +64,13 @@ module _ {F : Type 0} (has_cause : F → Option (List ℕ) → Type 0)
 
   -- the line of an operator's request for a load, by the reply: its generation and digest if it is
   -- installed, or why it is refused; other replies have no line
-  abbrev pub IsLineOfReply : Utc → List ℕ → Option (List ℕ) → OperatorReply F
+  abbrev pub IsLineOfReply : LineHeader → List ℕ → Option (List ℕ) → OperatorReply F
       → Option (List ℕ) → Type 0
-  IsLineOfReply time path digest (reply.Loaded generation) (Some line) =
-      IsLoadLine time
+  IsLineOfReply header path digest (reply.Loaded generation) (Some line) =
+      IsLoadLine header
       (TellsInstalledLoad path generation (option_map encode_lower digest)) line
-  IsLineOfReply time path digest (reply.Refused refused) (Some line) =
-      IsLoadLine time (TellsReplyRefusal path refused) line
-  IsLineOfReply time path digest (reply.Lines lines) None = Unit {0}
-  IsLineOfReply time path digest reply.Stopping None = Unit {0}
-  IsLineOfReply time path digest other line = ⊥
+  IsLineOfReply header path digest (reply.Refused refused) (Some line) =
+      IsLoadLine header (TellsReplyRefusal path refused) line
+  IsLineOfReply header path digest (reply.Lines lines) None = Unit {0}
+  IsLineOfReply header path digest reply.Stopping None = Unit {0}
+  IsLineOfReply header path digest other line = ⊥

@@ -13,28 +13,30 @@ use Rattle.server_log.specs.declared.start_line.Starting.{Starting}
 abbrev pub digest_in : Option LoadedRuleset → Option (List ℕ)
 digest_in = option_map (λ loaded. loaded.digest)
 
--- the event of a server that starts: its manifest, its ports, and the digest of what it serves
+-- the event of a server that starts: its manifest, the operator's port, and the digest of what it
+-- serves
 pub record TellsStart (server : Starting) (digest : Option (List ℕ)) (start : Start)
     : Type 0 where
   pub manifest_is : IsExcerpt server.manifest.now start.manifest
-  pub port_is : start.port ≡ server.port
   pub operator_is : start.operator ≡ server.operator
   pub digest_is : option_copied start.digest ≡ digest
   pub refusal_is : start.refusal ≡ None
   pub cause_is : start.cause ≡ None
 
--- the event of a refused start: the manifest, the ports, the text of the refusal, and the cause
+-- the event of a refused start: the manifest, the operator's port, the text of the refusal, and the
+-- cause
 pub record TellsRefusedStart (server : Starting) (text : List ℕ) (cause : Option (List ℕ))
     (start : Start) : Type 0 where
   pub manifest_is : IsExcerpt server.manifest.now start.manifest
-  pub port_is : start.port ≡ server.port
   pub operator_is : start.operator ≡ server.operator
   pub digest_is : start.digest ≡ None
   pub refusal_is : option_copied start.refusal ≡ Some text
   pub cause_is : IsExcerptOf cause start.cause
 
--- the line, at a time, of a start with this property
-pub record IsStartLine (time : Utc) (Tells : Start → Type 0) (line : List ℕ) : Type 0 where
+-- the line, at a time, of a server's start with this property
+pub record IsStartLine (time : Utc) (server : Starting) (Tells : Start → Type 0) (line : List ℕ)
+    : Type 0 where
   pub start : Start
   pub tells : Tells start
-  pub line_is : line ≡ event_line time (log.Start start)
+  pub line_is :
+      line ≡ event_line (record { time = time; port = server.port }) (log.Start start)

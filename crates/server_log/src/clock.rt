@@ -1,7 +1,9 @@
 //! The times of a log line: when it was made, how long a connection took, and until when the line
 //! waits for a place. Nothing is proved about clocks.
 
-use access_log::Utc;
+ghost use Rattle.std.specs.Prelude.{◌≡◌};
+
+use access_log::{LineHeader, Utc};
 use std::time::{Clock, Duration, Instant, SystemTime, UNIX_EPOCH};
 
 /// The start of 1970.
@@ -38,6 +40,16 @@ pub(crate) fn micros_since<H: Clock>(rt: &H, begun: Option<Instant>) -> u64 {
     match begun.elapsed(rt) {
         Ok(elapsed) => u64::try_from(elapsed.as_micros()).unwrap_or(u64::MAX),
         Err(_) => 0,
+    }
+}
+
+/// The header of a log line of the server with this clients' port.
+pub(crate) fn header_now<H: Clock>(rt: &H, port: u16) -> LineHeader
+    ensures { result.port ≡ port }
+{
+    LineHeader {
+        time: utc_now(rt),
+        port,
     }
 }
 

@@ -68,6 +68,7 @@ where
 {
     let addresses = recorded.keep_addresses(peer)?;
     let connection = Connection {
+        lacks_id: recorded.lacks_id,
         status: status_of(outcome),
         generation: recorded.generation,
         bytes: recorded.bytes,
@@ -92,6 +93,7 @@ fn without_texts<'x>(refusal: Option<&'x str>, cause: Option<&'x str>) -> Connec
     Connection {
         peer: "",
         forwarded: None,
+        lacks_id: false,
         status: 0,
         refusal,
         cause,

@@ -11,7 +11,7 @@ use crate::kept_texts::{KeptTexts, TextPlace};
 use crate::recorder::Recorder;
 use access_log::{Excerpt, LoggedApp};
 use answering::RequestObserver;
-use attrs::{Bucket, hashed_bucket};
+use attrs::{Bucket, RequestFacts, Text, hashed_bucket};
 use hot_swap::Generation;
 use net_io::Timed;
 use omaha_json::{AppObserver, FoundApp, Request, WrittenApp};
@@ -29,6 +29,8 @@ pub struct ConnectionRecord {
     pub(crate) generation: Generation,
     /// The address in `X-Forwarded-For`.
     forwarded: Option<IpAddr>,
+    /// Whether the request has neither a request id nor a session id.
+    pub(crate) lacks_id: bool,
     /// How the connection failed, if it did.
     pub(crate) cause: Option<&'static str>,
     /// The number of bytes written.
@@ -61,6 +63,7 @@ impl ConnectionRecord {
             is_kept,
             generation: 0,
             forwarded: None,
+            lacks_id: false,
             cause: None,
             bytes: 0,
             room: Vec::new(alloc),
@@ -78,6 +81,7 @@ impl ConnectionRecord {
     {
         self.generation = 0;
         self.forwarded = None;
+        self.lacks_id = false;
         self.cause = None;
         self.bytes = 0;
         self.texts.clear();
@@ -174,12 +178,13 @@ impl ConnectionRecord {
         Ok(logged)
     }
 
-    // Keeps the apps, with what was found for them.
+    // Keeps whether the request lacks an id, and the apps, with what was found for them.
     fn keep(
         &mut self,
         request: &Request,
         found: &[Option<FoundApp<'_>>],
     ) -> Result<(), AllocError> {
+        self.lacks_id = lacks_id(request.facts());
         let hashed = bucket_of_unknown(request, found);
         let platform = match &request.facts().platform {
             Some(text) => Some(KeptExcerpt::of(&mut self.texts, Excerpt::short(text.as_str()))?),
@@ -239,6 +244,18 @@ impl RequestObserver for ConnectionRecord {
             let is_kept = self.keep(request, found).is_ok();
             self.is_cut = self.is_cut || !is_kept;
         }
+    }
+}
+
+// Whether a request has no id: it is absent or empty, and so is that of its session.
+fn lacks_id(request: &RequestFacts) -> bool {
+    is_empty(&request.requestid) && is_empty(&request.sessionid)
+}
+
+fn is_empty(text: &Option<Text>) -> bool {
+    match text {
+        Some(text) => text.as_str().is_empty(),
+        None => true,
     }
 }
 

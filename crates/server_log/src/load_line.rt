@@ -5,10 +5,10 @@ ghost use Rattle.hex.specs.Hex.{encode_lower};
 ghost use Rattle.server_log.specs.Loads.{IsCauseOf, IsExcerptOf, IsLineOfReply, IsLoadLine};
 ghost use Rattle.server_log.specs.Loads.{TellsInstalledLoad, TellsReplyRefusal, TellsRefusedLoad};
 
-use crate::clock::{seconds_from_now, utc_now};
+use crate::clock::seconds_from_now;
 use crate::log_queue::{LogPiece, LogQueue};
 use crate::recorder::Recorder;
-use access_log::{Excerpt, Load, LogEvent, Utc, log_line};
+use access_log::{Excerpt, LineHeader, Load, LogEvent, log_line};
 use hex::encode;
 use hot_swap::Generation;
 use operator::{Control, Loader, OperatorRefusal, OperatorReply};
@@ -58,7 +58,7 @@ where
         }
         return;
     };
-    match load_line(rt.alloc(), &utc_now(rt), path, loader, control, reply) {
+    match load_line(rt.alloc(), &queue.header(rt), path, loader, control, reply) {
         Ok(Some(piece)) => {
             let until = seconds_from_now(rt, LOAD_SECONDS);
             let _put = queue.put_until(rt, piece, until);
@@ -73,23 +73,23 @@ where
 // open: whether an allocation fails.
 fn load_line<L: Loader>(
     alloc: Global,
-    time: &Utc,
+    header: &LineHeader,
     path: &str,
     loader: &L,
     control: &Control,
     reply: &OperatorReply<L::Fault>,
 ) -> Result<Option<LogPiece>, AllocError>
-    ensures line { IfOk result (λ piece. IsLineOfReply L.has_cause L.Fault.output time.now path.now
-        control.now.digest reply.now (option_map (λ p. p.text.items) piece)) }
+    ensures line { IfOk result (λ piece. IsLineOfReply L.has_cause L.Fault.output header.now
+        path.now control.now.digest reply.now (option_map (λ p. p.text.items) piece)) }
     ensures one { IfOk result (λ piece. IfSome piece (λ p. p.lines ≡ 1)) }
 {
     match reply {
         OperatorReply::Loaded(generation) => {
-            let text = installed_line(alloc, time, path, *generation, control.digest())?;
+            let text = installed_line(alloc, header, path, *generation, control.digest())?;
             Ok(Some(LogPiece { text, lines: 1 }))
         }
         OperatorReply::Refused(refusal) => {
-            let text = refused_line(alloc, time, path, loader, refusal)?;
+            let text = refused_line(alloc, header, path, loader, refusal)?;
             Ok(Some(LogPiece { text, lines: 1 }))
         }
         _ => Ok(None),
@@ -98,32 +98,32 @@ fn load_line<L: Loader>(
 
 fn installed_line(
     alloc: Global,
-    time: &Utc,
+    header: &LineHeader,
     path: &str,
     generation: Generation,
     digest: Option<[u8; 32]>,
 ) -> Result<Vec<u8>, AllocError>
-    ensures { IfOk result (λ line. IsLoadLine time.now (TellsInstalledLoad path.now generation
+    ensures { IfOk result (λ line. IsLoadLine header.now (TellsInstalledLoad path.now generation
         (option_map encode_lower digest)) line.items) }
 {
     let digest = digest_text(alloc, digest)?;
     let load = installed(path, generation, digest.as_deref());
-    log_line(alloc, time, &LogEvent::Load(load))
+    log_line(alloc, header, &LogEvent::Load(load))
 }
 
 fn refused_line<L: Loader>(
     alloc: Global,
-    time: &Utc,
+    header: &LineHeader,
     path: &str,
     loader: &L,
     refusal: &OperatorRefusal<L::Fault>,
 ) -> Result<Vec<u8>, AllocError>
-    ensures { IfOk result (λ line. IsLoadLine time.now
+    ensures { IfOk result (λ line. IsLoadLine header.now
         (TellsReplyRefusal L.has_cause L.Fault.output path.now refusal.now) line.items) }
 {
     let text = refusal.to_string(alloc)?;
     let load = refused(path, &text, cause_of(loader, refusal));
-    log_line(alloc, time, &LogEvent::Load(load))
+    log_line(alloc, header, &LogEvent::Load(load))
 }
 
 // The loader's cause of a refused load.

@@ -3,7 +3,6 @@
 
 ghost use Rattle.std.specs.Prelude.{◌≡◌, ◌==◌, [], IfSome, is_none, is_some};
 
-use crate::clock::utc_now;
 use crate::log_queue::{LogPiece, LogQueue};
 use access_log::{LineBuffer, LogEvent, log_line_in};
 use std::alloc::Global;
@@ -58,13 +57,16 @@ impl<'a> Log<'a> {
         self.queue.is_some()
     }
 
-    /// Appends the line of an event. The line is lost if an allocation fails.
+    /// Appends the line of an event, if lines are kept. The line is lost if an allocation fails.
     pub(crate) fn note<H>(&mut self, rt: &H, event: &LogEvent<'_>)
     where
         H: Wait + AllocGlobal + Clock,
         ensures { self.new.queue ≡ self.old.queue }
     {
-        match log_line_in(&mut self.line, &utc_now(rt), event) {
+        let Some(queue) = self.queue else {
+            return;
+        };
+        match log_line_in(&mut self.line, &queue.header(rt), event) {
             Ok(()) => self.add(),
             Err(_) => self.count_lost(),
         }

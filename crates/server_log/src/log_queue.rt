@@ -3,9 +3,11 @@
 //! line with their number precedes the next line that is written. No contract knows the contents of
 //! a queue that threads share.
 
-use crate::clock::utc_now;
+ghost use Rattle.std.specs.Prelude.{◌≡◌, IfOk};
+
+use crate::clock::header_now;
 use crate::tally::RunningTotals;
-use access_log::{LogEvent, Totals, log_line};
+use access_log::{LineHeader, LogEvent, Totals, log_line};
 use crossbeam_channel::{Receiver, Sender, bounded};
 use std::alloc::{AllocError, Global};
 use std::sync::atomic::{AtomicU64, Ordering};
@@ -27,14 +29,18 @@ pub struct LogPiece {
 /// The queue into which a server's threads put lines, and the totals of their connections.
 #[derive(Drop)]
 pub struct LogQueue {
+    /// The clients' port of the server.
+    port: u16,
     pieces: Sender<LogPiece>,
     lost: AtomicU64,
     tally: Arc<RunningTotals>,
 }
 
 impl LogQueue {
-    /// A queue, and its receiving end.
-    pub fn new(alloc: Global) -> Result<(LogQueue, Receiver<LogPiece>), AllocError> {
+    /// A queue for the log of the server with this clients' port, and its receiving end.
+    pub fn new(alloc: Global, port: u16) -> Result<(LogQueue, Receiver<LogPiece>), AllocError>
+        ensures { IfOk result (λ ends. ends.0.port ≡ port) }
+    {
         let Ok((pieces, from)) = bounded::<LogPiece, _>(alloc, PLACES) else {
             return Err(AllocError);
         };
@@ -42,6 +48,7 @@ impl LogQueue {
             return Err(AllocError);
         };
         let queue = LogQueue {
+            port,
             pieces,
             lost: AtomicU64::new(0),
             tally,
@@ -64,6 +71,13 @@ impl LogQueue {
     /// The totals, shared with the thread that logs them.
     pub(crate) fn shared_tally(&self) -> Option<Arc<RunningTotals>> {
         Arc::try_clone(&self.tally).ok()
+    }
+
+    /// The header of a line that is made now.
+    pub(crate) fn header<H: Clock>(&self, rt: &H) -> LineHeader
+        ensures { result.port ≡ self.now.port }
+    {
+        header_now(rt, self.port)
     }
 
     /// Puts lines into the queue. If it is full they are lost.
@@ -91,7 +105,7 @@ impl LogQueue {
     where
         H: Wait + AllocGlobal + Clock,
     {
-        match log_line(rt.alloc(), &utc_now(rt), event) {
+        match log_line(rt.alloc(), &self.header(rt), event) {
             Ok(text) => self.put_until(rt, LogPiece { text, lines: 1 }, until),
             Err(_) => {
                 self.count_lost(1);
@@ -124,7 +138,7 @@ impl LogQueue {
     where
         H: Wait + AllocGlobal + Clock,
     {
-        match log_line(rt.alloc(), &utc_now(rt), &LogEvent::Lost(lost)) {
+        match log_line(rt.alloc(), &self.header(rt), &LogEvent::Lost(lost)) {
             Ok(text) => self.send(rt, LogPiece { text, lines: lost }, until),
             Err(_) => {
                 self.count_lost(lost);

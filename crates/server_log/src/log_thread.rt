@@ -3,7 +3,9 @@
 //! the latest. Each minute, and at its end, it logs the totals of the connections. Nothing is
 //! proved about threads and standard error.
 
-use crate::clock::{is_past, seconds_from_now, utc_now};
+ghost use Rattle.std.specs.Prelude.{◌≡◌, IfOk};
+
+use crate::clock::{header_now, is_past, seconds_from_now};
 use crate::log_output::LogOutput;
 use crate::log_queue::{LogPiece, LogQueue};
 use crate::tally::RunningTotals;
@@ -27,13 +29,14 @@ pub struct LogEnd {
 }
 
 /// Starts the thread that writes the lines of a queue to standard error, until the queue is dropped
-/// and empty. Returns B4 if an allocation or the thread's start fails.
-// open: all but the line of an event, which is that of `log_line`: tests.
-pub fn start_log<H>(rt: &H) -> Result<(LogQueue, LogEnd), ResourceFault>
+/// and empty. Each line has the port. Returns B4 if an allocation or the thread's start fails.
+// open: all but the port and the line of an event, which is that of `log_line`: tests.
+pub fn start_log<H>(rt: &H, port: u16) -> Result<(LogQueue, LogEnd), ResourceFault>
 where
     H: Threads + Wait + AllocGlobal + Clock + LogOutput + Copy + Drop + Send + 'static,
+    ensures { IfOk result (λ log. log.0.port ≡ port) }
 {
-    let Ok((queue, from)) = LogQueue::new(rt.alloc()) else {
+    let Ok((queue, from)) = LogQueue::new(rt.alloc(), port) else {
         return Err(ResourceFault::Memory);
     };
     let Ok((ending, ended)) = bounded::<(), _>(rt.alloc(), 1) else {
@@ -43,7 +46,7 @@ where
         return Err(ResourceFault::Memory);
     };
     let own = *rt;
-    match thread::spawn(rt, move || write_pieces(own, from, tally, ending)) {
+    match thread::spawn(rt, move || write_pieces(own, port, from, tally, ending)) {
         Ok(_) => Ok((queue, LogEnd { ended })),
         Err(_) => Err(ResourceFault::Memory),
     }
@@ -51,7 +54,13 @@ where
 
 // Writes each piece, and the totals each minute and at the end; last, how many lines couldn't be
 // written.
-fn write_pieces<H>(rt: H, pieces: Receiver<LogPiece>, tally: Arc<RunningTotals>, ending: Sender<()>)
+fn write_pieces<H>(
+    rt: H,
+    port: u16,
+    pieces: Receiver<LogPiece>,
+    tally: Arc<RunningTotals>,
+    ending: Sender<()>,
+)
 where
     H: Wait + AllocGlobal + Clock + LogOutput + Drop,
 {
@@ -59,17 +68,17 @@ where
     let mut minute = seconds_from_now(&rt, TOTALS_SECONDS);
     for _ in rt.forever() {
         match next_piece(&rt, &pieces, minute) {
-            Ok(piece) => unwritten = write_piece(&rt, &piece, unwritten),
+            Ok(piece) => unwritten = write_piece(&rt, port, &piece, unwritten),
             Err(RecvTimeoutError::Timeout) => {
                 minute = seconds_from_now(&rt, TOTALS_SECONDS);
-                unwritten = write_totals(&rt, &tally, unwritten);
+                unwritten = write_totals(&rt, port, &tally, unwritten);
             }
             Err(RecvTimeoutError::Disconnected) => break,
         }
     }
-    unwritten = write_totals(&rt, &tally, unwritten);
+    unwritten = write_totals(&rt, port, &tally, unwritten);
     if unwritten != 0 {
-        let _told = tell_unwritten(&rt, unwritten);
+        let _told = tell_unwritten(&rt, port, unwritten);
     }
     drop(ending);
 }
@@ -94,23 +103,24 @@ where
 }
 
 // Writes the line of the totals, as a piece, and returns how many lines are then unwritten.
-fn write_totals<H>(rt: &H, tally: &RunningTotals, unwritten: u64) -> u64
+fn write_totals<H>(rt: &H, port: u16, tally: &RunningTotals, unwritten: u64) -> u64
 where
     H: AllocGlobal + Clock + LogOutput,
 {
-    match log_line(rt.alloc(), &utc_now(rt), &LogEvent::Totals(tally.take())) {
-        Ok(text) => write_piece(rt, &LogPiece { text, lines: 1 }, unwritten),
+    let event = LogEvent::Totals(tally.take());
+    match log_line(rt.alloc(), &header_now(rt, port), &event) {
+        Ok(text) => write_piece(rt, port, &LogPiece { text, lines: 1 }, unwritten),
         Err(_) => unwritten.saturating_add(1),
     }
 }
 
 // Writes a piece, after a line with the number of unwritten lines, if any (such as on a full disk).
 // Returns how many are then unwritten; a piece that was written in part counts as a whole.
-fn write_piece<H>(rt: &H, piece: &LogPiece, unwritten: u64) -> u64
+fn write_piece<H>(rt: &H, port: u16, piece: &LogPiece, unwritten: u64) -> u64
 where
     H: AllocGlobal + Clock + LogOutput,
 {
-    if unwritten != 0 && !tell_unwritten(rt, unwritten) {
+    if unwritten != 0 && !tell_unwritten(rt, port, unwritten) {
         return unwritten.saturating_add(piece.lines);
     }
     match rt.write_lines(&piece.text) {
@@ -121,11 +131,12 @@ where
 
 // Logs how many lines couldn't be written, of which the last may be cut. Returns whether that was
 // written.
-fn tell_unwritten<H>(rt: &H, lines: u64) -> bool
+fn tell_unwritten<H>(rt: &H, port: u16, lines: u64) -> bool
 where
     H: AllocGlobal + Clock + LogOutput,
 {
-    let Ok(line) = log_line(rt.alloc(), &utc_now(rt), &LogEvent::Lost(lines)) else {
+    let header = header_now(rt, port);
+    let Ok(line) = log_line(rt.alloc(), &header, &LogEvent::Lost(lines)) else {
         return false;
     };
     rt.write_lines(b"\n").is_ok() && rt.write_lines(&line).is_ok()

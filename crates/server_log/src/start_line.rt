@@ -9,7 +9,7 @@ use crate::clock::utc_now;
 use crate::load_line::{digest_text, excerpt_of};
 use crate::log_output::LogOutput;
 use crate::log_queue::{LogPiece, LogQueue};
-use access_log::{Excerpt, LogEvent, Start, Utc, log_line};
+use access_log::{Excerpt, LineHeader, LogEvent, Start, Utc, log_line};
 use ruleset::LoadedRuleset;
 use std::alloc::{AllocError, Global};
 use std::fmt::Display;
@@ -88,13 +88,17 @@ fn start_line(
     server: Starting<'_>,
     serves: Option<&LoadedRuleset>,
 ) -> Result<LogPiece, AllocError>
-    ensures line { IfOk result (λ piece. IsStartLine time.now (TellsStart server.entry
+    ensures line { IfOk result (λ piece. IsStartLine time.now server.entry (TellsStart server.entry
         (option_map encode_lower (digest_in (option_copied serves.entry)))) piece.text.items) }
     ensures one { IfOk result (λ piece. piece.lines ≡ 1) }
 {
     let digest = digest_text(alloc, digest_of(serves))?;
     let event = LogEvent::Start(started(server, digest.as_deref()));
-    let text = log_line(alloc, time, &event)?;
+    let header = LineHeader {
+        time: *time,
+        port: server.port,
+    };
+    let text = log_line(alloc, &header, &event)?;
     Ok(LogPiece { text, lines: 1 })
 }
 
@@ -119,11 +123,17 @@ fn refused_start_line<F: Display>(
     fault: &F,
     cause: Option<&str>,
 ) -> Result<Vec<u8>, AllocError>
-    ensures { IfOk result (λ line. IfSome (F.output fault.now) (λ text. IsStartLine time.now
+    ensures { IfOk result (λ line. IfSome (F.output fault.now)
+        (λ text. IsStartLine time.now server.entry
         (TellsRefusedStart server.entry text (option_copied cause.entry)) line.items)) }
 {
     let text = fault.to_string(alloc)?;
-    log_line(alloc, time, &LogEvent::Start(refused(server, &text, cause)))
+    let event = LogEvent::Start(refused(server, &text, cause));
+    let header = LineHeader {
+        time: *time,
+        port: server.port,
+    };
+    log_line(alloc, &header, &event)
 }
 
 fn started<'x>(server: Starting<'x>, digest: Option<&'x str>) -> Start<'x>
@@ -131,7 +141,6 @@ fn started<'x>(server: Starting<'x>, digest: Option<&'x str>) -> Start<'x>
 {
     Start {
         manifest: Excerpt::of(server.manifest),
-        port: server.port,
         operator: server.operator,
         digest,
         refusal: None,
@@ -144,7 +153,6 @@ fn refused<'x>(server: Starting<'x>, refusal: &'x str, cause: Option<&'x str>) -
 {
     Start {
         manifest: Excerpt::of(server.manifest),
-        port: server.port,
         operator: server.operator,
         digest: None,
         refusal: Some(refusal),

@@ -1,6 +1,6 @@
 //! Requests of many apps: how many apps are in a line, what is left out, and which events fit.
 
-use crate::given::{AT, NO_MORE, NOTES, answered, line_at, repeated};
+use crate::given::{HEADER, NO_MORE, NOTES, answered, line_with, repeated};
 use access_log::{Excerpt, FurtherMembers, LoggedApp, Outcome};
 use std::alloc::{AllocError, Global};
 use std::io;
@@ -36,7 +36,7 @@ const PLAIN: Row = Row {
 };
 
 /// Each app takes 72 bytes and its appid's, at most 91 by a brief excerpt. All apps together have
-/// 3660. At least eleven apps are in a line, whatever a client wrote of them and a manifest has:
+/// 3641. At least eleven apps are in a line, whatever a client wrote of them and a manifest has:
 /// all texts are cut, and no event fits. Thirty apps fit, and after them one event of 512 bytes.
 /// Further members take no bytes from apps or events: thirty apps leave enough for six of them, and
 /// eight apps with five events for none.
@@ -208,7 +208,7 @@ fn line_of(alloc: Global, row: &Row) -> io::Result<String> {
     let text = repeated(alloc, 100000, "")?;
     let mut apps = Vec::new(alloc);
     push_apps(&mut apps, row.count, app_of(row, text.as_str()))?;
-    line_at(alloc, &AT, &answered(&apps))
+    line_with(alloc, &HEADER, &answered(&apps))
 }
 
 // How often a text occurs in a line.

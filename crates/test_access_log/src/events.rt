@@ -1,23 +1,27 @@
 //! Each kind of event, and its line.
 
-use crate::given::{AT, NO_MORE, NOTES, answered, line_at};
-use access_log::{Connection, Counter, Excerpt, Load, LogEvent, LoggedApp, Outcome, Start, Totals};
+use crate::given::{HEADER, NOTES, answered, line_with};
+use crate::samples::{
+    DIGEST, REDEFINED, TOTALS, app, cut, load, refused_load, refused_start, start, unanswered,
+    whole,
+};
+use access_log::{Counter, LogEvent, LoggedApp, Outcome};
 use std::alloc::Global;
 use std::test::Fail;
 
-/// The lines at 2026-11-24T12:19:16.042Z, each after its time and up to its line feed. Line feeds
-/// and empty lines here don't count.
+/// The lines with the header of these tests, each after it and up to its line feed. Line feeds and
+/// empty lines here don't count.
 const LINES: &str = r##"
-"kind":"start","path":"m.toml","port":8080,"operator":8081}
+"kind":"start","path":"m.toml","operator":8081}
 
-"kind":"start","path":"m.toml","port":8080,"operator":8081,
+"kind":"start","path":"m.toml","operator":8081,
 "digest":"e3b0c44298fc1c149afbf4c8996fb92427ae41e4649b934ca495991b7852b855"}
 
-"kind":"start","path":"a\tb","path_left_out":9,"port":80,"operator":8081}
+"kind":"start","path":"a\tb","path_left_out":9,"operator":8081}
 
-"kind":"start","path":"m.toml","port":80,"operator":8081,"refusal":"B6 Bind"}
+"kind":"start","path":"m.toml","operator":8081,"refusal":"B6 Bind"}
 
-"kind":"start","path":"m.toml","port":80,"operator":8081,"refusal":"M2 Field",
+"kind":"start","path":"m.toml","operator":8081,"refusal":"M2 Field",
 "cause":"a\tb","cause_left_out":9}
 
 "kind":"serving","generation":1}
@@ -54,8 +58,8 @@ const LINES: &str = r##"
 "kind":"connection","peer":"[fe80::1%2]:80","refusal":"P8 Device","cause":"time-out","bytes":0,
 "micros":0,"waited":0}
 
-"kind":"connection","peer":"[fe80::1%2]:80","refusal":"P8 Device","cause":"device","bytes":7,
-"micros":0,"waited":0}
+"kind":"connection","peer":"[fe80::1%2]:80","id":false,"refusal":"P8 Device","cause":"device",
+"bytes":7,"micros":0,"waited":0}
 
 "kind":"connection","peer":"127.0.0.1:41248","forwarded":"203.0.113.7","status":200,
 "generation":5,"bytes":566,"micros":68,"waited":7,
@@ -77,127 +81,12 @@ const LINES: &str = r##"
 "release":"2.0"}]}
 "##;
 
-/// An array that exists with other values.
-const REDEFINED: &str = "M7 Cells N2 Redefined in array 1";
-
-/// A digest: SHA-256 of no bytes.
-const DIGEST: &str = "e3b0c44298fc1c149afbf4c8996fb92427ae41e4649b934ca495991b7852b855";
-
-/// Each has another number.
-const TOTALS: Totals = Totals {
-    success: 1,
-    bad_request: 2,
-    not_found: 3,
-    method_not_allowed: 4,
-    length_required: 5,
-    content_too_large: 6,
-    header_fields_too_large: 7,
-    internal_server_error: 8,
-    dropped: 9,
-    longest_wait: 18446744073709551615,
-    busy: 64,
-};
-
-fn whole(text: &str) -> Excerpt<'_> {
-    cut(text, 0)
-}
-
-// A text, after which `left_out` bytes are left out.
-fn cut(text: &str, left_out: u64) -> Excerpt<'_> {
-    let length = left_out.saturating_add(text.len() as u64);
-    Excerpt { text, length }
-}
-
-fn start(manifest: Excerpt<'static>, port: u16, digest: Option<&'static str>) -> LogEvent<'static> {
-    LogEvent::Start(Start {
-        manifest,
-        port,
-        operator: 8081,
-        digest,
-        refusal: None,
-        cause: None,
-    })
-}
-
-fn refused_start(refusal: &'static str, cause: Option<Excerpt<'static>>) -> LogEvent<'static> {
-    LogEvent::Start(Start {
-        manifest: whole("m.toml"),
-        port: 80,
-        operator: 8081,
-        digest: None,
-        refusal: Some(refusal),
-        cause,
-    })
-}
-
-fn load(path: &'static str, generation: u64, digest: Option<&'static str>) -> LogEvent<'static> {
-    LogEvent::Load(Load {
-        path: whole(path),
-        generation,
-        digest,
-        refusal: None,
-        cause: None,
-    })
-}
-
-fn refused_load(
-    path: Excerpt<'static>,
-    refusal: &'static str,
-    cause: Option<Excerpt<'static>>,
-) -> LogEvent<'static> {
-    LogEvent::Load(Load {
-        path,
-        generation: 0,
-        digest: None,
-        refusal: Some(refusal),
-        cause,
-    })
-}
-
-fn unanswered(
-    peer: &'static str,
-    status: u16,
-    refusal: &'static str,
-    cause: Option<&'static str>,
-    bytes: u64,
-) -> LogEvent<'static> {
-    LogEvent::Connection(Connection {
-        peer,
-        forwarded: None,
-        status,
-        refusal: Some(refusal),
-        cause,
-        generation: 0,
-        bytes,
-        micros: if status == 0 { 0 } else { 9 },
-        waited: 0,
-        apps: &[],
-    })
-}
-
-fn app(
-    appid: &'static str,
-    version: Option<&'static str>,
-    bucket: u16,
-    outcome: Outcome<'static>,
-    event: Option<Excerpt<'static>>,
-) -> LoggedApp<'static> {
-    LoggedApp {
-        appid: whole(appid),
-        version: version.map(whole),
-        bucket,
-        named: false,
-        outcome,
-        event,
-        more: NO_MORE,
-    }
-}
-
-// Appends the line of an event, without its time and its line feed.
+// Appends the line of an event, without its header and its line feed.
 fn push(alloc: Global, lines: &mut String, event: &LogEvent<'_>) -> Result<(), Fail> {
-    let line = line_at(alloc, &AT, event)?;
-    let Some(rest) = line.strip_prefix("{\"time\":\"2026-11-24T12:19:16.042Z\",") else {
-        return Err(Fail::from("a line that begins with the time"));
+    let line = line_with(alloc, &HEADER, event)?;
+    let header = "{\"time\":\"2026-11-24T12:19:16.042Z\",\"port\":65535,";
+    let Some(rest) = line.strip_prefix(header) else {
+        return Err(Fail::from("a line that begins with its header"));
     };
     let Some(rest) = rest.strip_suffix('\n') else {
         return Err(Fail::from("a line that ends"));
@@ -208,9 +97,9 @@ fn push(alloc: Global, lines: &mut String, event: &LogEvent<'_>) -> Result<(), F
 // Appends the lines of the server's own events.
 fn push_events(alloc: Global, lines: &mut String) -> Result<(), Fail> {
     let cut = cut("a\tb", 9);
-    push(alloc, lines, &start(whole("m.toml"), 8080, None))?;
-    push(alloc, lines, &start(whole("m.toml"), 8080, Some(DIGEST)))?;
-    push(alloc, lines, &start(cut, 80, None))?;
+    push(alloc, lines, &start(whole("m.toml"), None))?;
+    push(alloc, lines, &start(whole("m.toml"), Some(DIGEST)))?;
+    push(alloc, lines, &start(cut, None))?;
     push(alloc, lines, &refused_start("B6 Bind", None))?;
     push(alloc, lines, &refused_start("M2 Field", Some(cut)))?;
     push(alloc, lines, &LogEvent::Serving(1))?;

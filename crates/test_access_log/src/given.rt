@@ -1,20 +1,23 @@
-//! What the tests use: a time, an app, a connection, and the line of an event.
+//! What the tests use: the header of their lines, an app, a connection, and the line of an event.
 
 use access_log::{
-    Connection, Excerpt, FurtherMembers, LogEvent, LoggedApp, Outcome, Utc, log_line,
+    Connection, Excerpt, FurtherMembers, LineHeader, LogEvent, LoggedApp, Outcome, Utc, log_line,
 };
 use std::alloc::{AllocError, Global};
 use std::io::{self, ErrorKind};
 
-/// 2026-11-24T12:19:16.042Z
-pub(crate) const AT: Utc = Utc {
-    year: 2026,
-    month: 11,
-    day: 24,
-    hour: 12,
-    minute: 19,
-    second: 16,
-    millis: 42,
+/// 2026-11-24T12:19:16.042Z, and the highest port.
+pub(crate) const HEADER: LineHeader = LineHeader {
+    time: Utc {
+        year: 2026,
+        month: 11,
+        day: 24,
+        hour: 12,
+        minute: 19,
+        second: 16,
+        millis: 42,
+    },
+    port: 65535,
 };
 
 /// No members except an id and a version.
@@ -49,6 +52,7 @@ pub(crate) fn answered<'a>(apps: &'a [LoggedApp<'a>]) -> LogEvent<'a> {
     LogEvent::Connection(Connection {
         peer: "127.0.0.1:41248",
         forwarded: Some("203.0.113.7"),
+        lacks_id: false,
         status: 200,
         refusal: None,
         cause: None,
@@ -61,8 +65,12 @@ pub(crate) fn answered<'a>(apps: &'a [LoggedApp<'a>]) -> LogEvent<'a> {
 }
 
 /// The line of an event.
-pub(crate) fn line_at(alloc: Global, at: &Utc, event: &LogEvent<'_>) -> io::Result<String> {
-    let line = log_line(alloc, at, event)?;
+pub(crate) fn line_with(
+    alloc: Global,
+    header: &LineHeader,
+    event: &LogEvent<'_>,
+) -> io::Result<String> {
+    let line = log_line(alloc, header, event)?;
     match String::from_utf8(line) {
         Ok(line) => Ok(line),
         Err(_) => Err(io::Error::from(ErrorKind::InvalidData)),

@@ -16,6 +16,8 @@ mod limits;
 #[cfg(test)]
 mod reports;
 #[cfg(test)]
+mod samples;
+#[cfg(test)]
 mod texts;
 #[cfg(test)]
 mod times;

@@ -1,6 +1,6 @@
 //! How much of a text is in a line, and how long a line is.
 
-use crate::given::{AT, line_at, repeated};
+use crate::given::{HEADER, line_with, repeated};
 use access_log::{Excerpt, LogEvent};
 use std::alloc::Global;
 use std::io;
@@ -70,21 +70,23 @@ fn excerpts_have_whole_characters(rt: HostRuntime) -> Result<(), Fail> {
 
 /// How many `a` a reason has, and the line; empty for a line with the reason and 4096 bytes.
 const REASONS: &[(usize, &str)] = &[
-    (4028, ""),
+    (4015, ""),
     (
-        4029,
-        "{\"time\":\"2026-11-24T12:19:16.042Z\",\"kind\":\"too-long\",\"bytes\":4097}\n",
+        4016,
+        "{\"time\":\"2026-11-24T12:19:16.042Z\",\"port\":65535,\"kind\":\"too-long\",\
+        \"bytes\":4097}\n",
     ),
     (
         9000,
-        "{\"time\":\"2026-11-24T12:19:16.042Z\",\"kind\":\"too-long\",\"bytes\":9068}\n",
+        "{\"time\":\"2026-11-24T12:19:16.042Z\",\"port\":65535,\"kind\":\"too-long\",\
+        \"bytes\":9081}\n",
     ),
 ];
 
 // Whether a reason has this line.
 fn is_reason(alloc: Global, length: usize, wanted: &str) -> io::Result<bool> {
     let reason = repeated(alloc, length, "")?;
-    let line = line_at(alloc, &AT, &LogEvent::Unaccepted(&reason))?;
+    let line = line_with(alloc, &HEADER, &LogEvent::Unaccepted(&reason))?;
     Ok(if wanted.is_empty() {
         line.len() == 4096 && line.contains(reason.as_str())
     } else {

@@ -1,6 +1,6 @@
 //! Texts in a line: no character of a client that could control a terminal reaches it.
 
-use crate::given::{AT, line_at};
+use crate::given::{HEADER, line_with};
 use access_log::LogEvent;
 use printing::{has_control, is_control};
 use std::alloc::Global;
@@ -77,10 +77,10 @@ fn controls_are_those_of_what_is_printed(rt: HostRuntime) {
 // Whether a text is spelled like this.
 fn is_spelled(alloc: Global, text: &str, spelled: &str) -> io::Result<bool> {
     let wanted = format!(in alloc;
-        "{{\"time\":\"2026-11-24T12:19:16.042Z\",\"kind\":\"unaccepted\",\
-        \"reason\":\"{spelled}\"}}\n"
+        "{{\"time\":\"2026-11-24T12:19:16.042Z\",\"port\":65535,\
+        \"kind\":\"unaccepted\",\"reason\":\"{spelled}\"}}\n"
     )?;
-    Ok(line_at(alloc, &AT, &LogEvent::Unaccepted(text))? == wanted)
+    Ok(line_with(alloc, &HEADER, &LogEvent::Unaccepted(text))? == wanted)
 }
 
 #[test]

@@ -1,7 +1,7 @@
 //! Moments by the second after 1970 began, in the form of RFC 3339.
 
-use crate::given::line_at;
-use access_log::{LogEvent, Utc};
+use crate::given::{HEADER, line_with};
+use access_log::{LineHeader, LogEvent, Utc};
 use std::test::Fail;
 
 const ROWS: &[(u64, u16, &str)] = &[
@@ -22,9 +22,12 @@ const ROWS: &[(u64, u16, &str)] = &[
 #[test]
 fn times_are_those_of_the_calendar(rt: HostRuntime) -> Result<(), Fail> {
     for (seconds, millis, text) in ROWS {
-        let at = Utc::of_unix(*seconds, *millis).ok_or("a year up to 9999")?;
-        let line = line_at(rt.alloc(), &at, &LogEvent::Stop(None))?;
-        let wanted = format!(in rt.alloc(); "{{\"time\":\"{text}\",\"kind\":\"stop\"}}\n")?;
+        let time = Utc::of_unix(*seconds, *millis).ok_or("a year up to 9999")?;
+        let header = LineHeader { time, ..HEADER };
+        let line = line_with(rt.alloc(), &header, &LogEvent::Stop(None))?;
+        let wanted = format!(in rt.alloc();
+            "{{\"time\":\"{text}\",\"port\":65535,\"kind\":\"stop\"}}\n"
+        )?;
         assert!(rt; line == wanted, "{seconds}: {line}");
     }
     assert!(rt; Utc::of_unix(253402300800, 0).is_none());

@@ -38,7 +38,7 @@ fn row(alloc: Global, apps: &str, size: usize, reported: &str) -> Result<String,
     let length = body.len();
     format!(in alloc;
         "Content-Length: {length};X-Forwarded-For: ::1\n{body}\n\
-        \"forwarded\":\"::1\",\"status\":200,\"generation\":1,\n,\"apps\":[{reported}\n\n"
+        \"forwarded\":\"::1\",\"id\":false,\"status\":200,\"generation\":1,\n,\"apps\":[{reported}\n\n"
     )
 }
 

@@ -15,6 +15,8 @@ mod ends;
 #[cfg(test)]
 mod exchange;
 #[cfg(test)]
+mod log_rows;
+#[cfg(test)]
 mod logged;
 #[cfg(test)]
 mod loopback;
@@ -32,6 +34,8 @@ mod session;
 mod shelf;
 #[cfg(test)]
 mod staffed;
+#[cfg(test)]
+mod still;
 #[cfg(test)]
 mod stops;
 #[cfg(test)]

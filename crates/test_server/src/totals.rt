@@ -46,7 +46,7 @@ fn numbers_of(totals: &Totals) -> [u64; 11] {
 
 #[test]
 fn connections_are_counted_by_status(rt: HostRuntime) -> Result<(), Fail> {
-    let (queue, _pieces) = LogQueue::new(rt.alloc())?;
+    let (queue, _pieces) = LogQueue::new(rt.alloc(), 8080)?;
     count_each(&queue);
     assert!(rt; numbers_of(&queue.take_totals()) == [1, 2, 3, 4, 5, 6, 7, 8, 9, 500, 1]);
     assert!(rt; numbers_of(&queue.take_totals()) == [0; 11]);

@@ -1,6 +1,7 @@
 //! The log of a whole server that nobody reads.
 
-use crate::logged::{logging_to, take};
+use crate::log_rows::take;
+use crate::logged::logging_to;
 use crate::whole_server::{PortTask, wrong_by};
 use access_log::LogEvent;
 use crossbeam_channel::Receiver;
@@ -11,16 +12,16 @@ use std::test::Fail;
 use std::thread::Threads;
 use std::time::Clock;
 
-/// The part of a line after its time: its kind, and what follows.
-fn untimed(line: &str) -> &str {
+/// The part of a line after its header: its kind, and what follows.
+fn without_header(line: &str) -> &str {
     match line.split_once("\"kind\":\"") {
         Some((_, rest)) => rest,
         None => line,
     }
 }
 
-/// The lines in a queue without their times.
-fn untimed_lines<H>(rt: &H, pieces: &Receiver<LogPiece>) -> Result<String, Fail>
+/// The lines in a queue without their headers.
+fn lines_in<H>(rt: &H, pieces: &Receiver<LogPiece>) -> Result<String, Fail>
 where
     H: Wait + AllocGlobal,
 {
@@ -28,7 +29,7 @@ where
     take(rt, pieces, &mut lines)?;
     let mut all = String::new(rt.alloc());
     for line in lines.lines() {
-        all.push_str(untimed(line))?;
+        all.push_str(without_header(line))?;
         all.push('\n')?;
     }
     Ok(all)
@@ -55,18 +56,18 @@ where
     if wrong.is_some() {
         return Ok(wrong);
     }
-    if untimed_lines(rt, pieces)?.lines().count() != 256 {
+    if lines_in(rt, pieces)?.lines().count() != 256 {
         return Ok(Some("the full log"));
     }
     queue.note(rt, &LogEvent::Unaccepted("read"));
-    let is_right = untimed_lines(rt, pieces)?.as_str() == UNREAD;
+    let is_right = lines_in(rt, pieces)?.as_str() == UNREAD;
     Ok(if is_right { None } else { Some("the log") })
 }
 
 /// A server whose log nobody reads replies as usual, and ends.
 #[test]
 fn lines_that_nobody_reads_are_lost(rt: HostRuntime) -> Result<(), Fail> {
-    let (queue, pieces) = LogQueue::new(rt.alloc())?;
+    let (queue, pieces) = LogQueue::new(rt.alloc(), 8080)?;
     assert_eq!(rt; wrong_unread(&rt, &queue, &pieces)?, None);
     Ok(())
 }

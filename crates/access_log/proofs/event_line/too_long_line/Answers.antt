@@ -6,12 +6,13 @@ use Rattle.access_log.proofs.event_line.too_long_line.Goals as goal
 
 pub returns-clause-text : goal.returns-clause-text
 returns-clause-text c =
-    adds_line c.args.time.now (too_long_members c.args.bytes) c.in_ok-begin_line.ensures
+    adds_line c.args.header.now (too_long_members c.args.bytes) c.in_ok-begin_line.ensures.text
     c.in_ok-write_too_long.ensures c.in_ok-put.ensures
 
 pub returns-clause-limit : goal.returns-clause-limit
 returns-clause-limit c =
-    let is = adds_line c.args.time.now (too_long_members c.args.bytes)
-    c.in_ok-begin_line.ensures c.in_ok-write_too_long.ensures c.in_ok-put.ensures in
-    let few = too_long_is_short c.args.time.now c.args.bytes c.ranges.bytes.fits in
+    let is = adds_line c.args.header.now (too_long_members c.args.bytes)
+    c.in_ok-begin_line.ensures.text c.in_ok-write_too_long.ensures c.in_ok-put.ensures in
+    let few = too_long_is_short c.args.header.now c.args.bytes
+    c.in_ok-begin_line.ensures.port c.ranges.bytes.fits in
     subst (λ (l : List ℕ). length l ≤ 4096) (sym is) few

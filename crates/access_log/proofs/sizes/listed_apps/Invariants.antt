@@ -6,5 +6,5 @@ use Rattle.access_log.proofs.sizes.listed_apps.Given as goal
 abbrev pub invariant-loop-app : goal.invariant-loop-app
 invariant-loop-app l =
     (l.count ≡ l.app-index)
-    × (l.count + count_fitting l.room (drop l.app-index l.apps) ≡ count_fitting 3660 l.apps)
-    × (left_after_apps l.room (drop l.app-index l.apps) ≡ left_after_apps 3660 l.apps)
+    × (l.count + count_fitting l.room (drop l.app-index l.apps) ≡ count_fitting 3641 l.apps)
+    × (left_after_apps l.room (drop l.app-index l.apps) ≡ left_after_apps 3641 l.apps)
