@@ -26,7 +26,7 @@ use Rattle.load.specs.Kept.{IsKeptFrom, most_of, whole_file}
 use Rattle.load.specs.Source.{file_of}
 use Rattle.load.specs.declared.sources.Sources.{Sources}
 use Rattle.load.specs.declared.sources.AppSources.{AppSources}
-use Rattle.diagnosis.specs.Unused.{unused_from}
+use Rattle.diagnosis.specs.ArrayWarnings.{array_warnings}
 use Rattle.diagnosis.specs.Warned.{WarnsOfSource, WarnsOfRule, WarnsOf, WarnsOfApp, WarnsOfApps}
 use Rattle.diagnosis.specs.Warned.{app_rule, app_warnings}
 use Rattle.diagnosis.specs.Warned.WarnsOfApps.{no_app as none_reported, next as next_reported}
@@ -203,11 +203,11 @@ module _ (verdict : (s : AppShape) (text : Text) → RuleHasOneVerdict s text)
       (subst (λ (m : Manifest).
       AreAllSources (Some files) g.directory p.numbers m.apps g.apps.items) read of_g) in
       v.warnings_are
-      ∙ ap (λ t. unused_from 0 g.directory (apps_of g.apps.items programs) ++ t)
+      ∙ ap (λ t. array_warnings 0 g.directory (apps_of g.apps.items programs) ++ t)
       (reported_once h.directory p.numbers q.numbers 1 whole_budget q.manifest.apps g.apps.items
       h.apps.items programs also v.reported w.reported there of_h judged_g judged_h same v.of_apps
       w.of_apps)
       ∙ ap (λ (d : List CellArray).
-      unused_from 0 d (apps_of g.apps.items programs) ++ w.reported) directories
-      ∙ ap (λ (a : List AppRule). unused_from 0 h.directory a ++ w.reported) same
+      array_warnings 0 d (apps_of g.apps.items programs) ++ w.reported) directories
+      ∙ ap (λ (a : List AppRule). array_warnings 0 h.directory a ++ w.reported) same
       ∙ sym w.warnings_are

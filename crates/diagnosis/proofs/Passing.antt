@@ -4,7 +4,7 @@ use Rattle.std.proofs.Common.{refl, sym, Result, Ok, Err, IfOk, IfErr, Some, inl
 use Rattle.diagnosis.specs.Check.{FailsApps, FailsCheck, PassesApps, PassesCheck, files, no_file}
 use Rattle.diagnosis.specs.Texts.{accepted_text}
 use Rattle.diagnosis.specs.Reported.{TellsRefused}
-use Rattle.diagnosis.specs.Unused.{unused_from}
+use Rattle.diagnosis.specs.ArrayWarnings.{array_warnings}
 use Rattle.diagnosis.specs.Warned.{WarnsOfApps}
 use Rattle.diagnosis.specs.declared.accepted.CheckedManifest.{CheckedManifest}
 use Rattle.diagnosis.specs.declared.refused.Refused.{Refused}
@@ -47,7 +47,7 @@ pub passes_apps : (bytes : List ℕ) (g : Sources) (programs : List ShapedProgra
     → reported.apps.items ≡ apps_of g.apps.items programs
     → string_bytes reported.text ≡ accepted_text shown supplied
     → WarnsOfApps 1 whole_budget gone by_rule → lent ≡ by_rule
-    → reported.warnings.items ≡ unused_from 0 directory other ++ lent
+    → reported.warnings.items ≡ array_warnings 0 directory other ++ lent
     → digest_of bytes g.apps.items ≡ Some reported.digest → PassesApps bytes g reported
 passes_apps bytes g programs gone reported by_rule lent directory shown supplied other judged
     gone_are
@@ -64,9 +64,10 @@ passes_apps bytes g programs gone reported by_rule lent directory shown supplied
         of_apps = subst (λ (l : List AppSources). WarnsOfApps 1 whole_budget l by_rule) gone_are
             of_apps;
         warnings_are = warnings_are
-            ∙ ap (λ (l : List CellArray). unused_from 0 l other ++ lent) directory_is
-            ∙ ap (λ (l : List AppRule). unused_from 0 g.directory l ++ lent) (other_are ∙ apps_are)
-            ∙ ap (λ t. unused_from 0 g.directory (apps_of g.apps.items programs) ++ t) same;
+            ∙ ap (λ (l : List CellArray). array_warnings 0 l other ++ lent) directory_is
+            ∙ ap (λ (l : List AppRule). array_warnings 0 g.directory l ++ lent)
+            (other_are ∙ apps_are)
+            ∙ ap (λ t. array_warnings 0 g.directory (apps_of g.apps.items programs) ++ t) same;
       };
       digest_is = digest_is;
     }

@@ -2,7 +2,7 @@ pub mod Texts
 pub mod Advice
 pub mod Inside
 pub mod Shown
-pub mod Unused
+pub mod ArrayWarnings
 pub mod Warned
 pub mod Added
 pub mod Reason

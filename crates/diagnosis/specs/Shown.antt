@@ -1,6 +1,7 @@
 -- The excerpt of an app's file: the place of its fault.
 use Rattle.std.specs.Prelude.{◌≡◌, ◌⊎◌, ℕ, List, [], ◌++◌, codes, decimal, Bool, true, IsUtf8}
-use Rattle.std.specs.Prelude.{if◌then◌else◌, not, ◌&&◌, Option, Some, None}
+use Rattle.std.specs.Prelude.{if◌then◌else◌, false, not, ◌&&◌, Option, Some, None, nat_eq, ◌∷◌}
+use Rattle.std.specs.List.{starts_with}
 use Rattle.bpf_insn.specs.Spelling.{Spells}
 use Rattle.bpf_insn.specs.declared.insn.Insn.{Insn}
 use Rattle.bpf_text.specs.Listing.{line_of}
@@ -35,6 +36,19 @@ IsInsnShown slot bytes text =
     (i : Insn) × Spells bytes slot i
     × (text ≡ codes "slot " ++ decimal slot ++ codes ": " ++ line_of i)
 
+-- the file begins as an object of the format ELF, of which a program is only the part `.text`
+abbrev pub is_elf : List ℕ → Bool
+is_elf bytes = starts_with nat_eq bytes (127 ∷ 69 ∷ 76 ∷ 70 ∷ [])
+
+unfoldable pub elf_line : List ℕ
+elf_line =
+    codes "an ELF object; llvm-objcopy -O binary -j .text IN OUT makes a program of it\n"
+
+-- what makes a program of an ELF object; or else the instruction
+abbrev pub IsSlotShown : (is_elf : Bool) → ℕ → List ℕ → List ℕ → Type 0
+IsSlotShown true slot bytes text = text ≡ elf_line
+IsSlotShown false slot bytes text = IsInsnShown slot bytes text
+
 -- that instruction, followed by a line with why the program is refused there
 pub record IsRefusedInsnShown (s : AppShape) (slot : ℕ) (bytes text : List ℕ) : Type 0 where
   pub code : Program
@@ -55,10 +69,11 @@ IsTextShown s number kind bytes text =
 abbrev pub no_text_line : List ℕ
 no_text_line = line (codes "a rule is a text in UTF-8")
 
--- an instruction, with its sentence if the verifier refuses it; or the fault of a rule
+-- an instruction, with its sentence if the verifier refuses it, or that the file is an ELF object;
+-- or the fault of a rule
 abbrev pub IsShown : AppShape → Place → List ℕ → List ℕ → Type 0
 IsShown s Whole bytes text = ⊥
-IsShown s (Slot slot) bytes text = IsInsnShown slot bytes text
+IsShown s (Slot slot) bytes text = IsSlotShown (is_elf bytes) slot bytes text
 IsShown s (Refused slot) bytes text =
     IsRefusedInsnShown s slot bytes text ⊎ IsInsnShown slot bytes text
 IsShown s (InRule number kind) bytes text =
@@ -68,7 +83,8 @@ IsShown s (InRule number kind) bytes text =
 -- for a file that is too long: the instruction that its beginning spells, or that a rule is too
 -- long, unless it isn't text
 abbrev pub IsLongShown : Place → (beginning : List ℕ) → (is_text : Bool) → List ℕ → Type 0
-IsLongShown (Slot slot) beginning is_text text = IsInsnShown slot beginning text
+IsLongShown (Slot slot) beginning is_text text =
+    IsSlotShown (is_elf beginning) slot beginning text
 IsLongShown (InRule number kind) beginning is_text text =
     text ≡ (if is_text then rule_too_long else no_text_line)
 IsLongShown place beginning is_text text = ⊥

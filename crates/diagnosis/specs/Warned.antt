@@ -11,7 +11,7 @@ use Rattle.load.specs.Judged.{apps_of}
 use Rattle.load.specs.Kept.{whole_file}
 use Rattle.load.specs.declared.sources.Sources.{Sources}
 use Rattle.load.specs.declared.sources.AppSources.{AppSources}
-use Rattle.diagnosis.specs.Unused.{unused_from}
+use Rattle.diagnosis.specs.ArrayWarnings.{array_warnings}
 use Rattle.warnings.specs.RuleWarnings.{whole_budget, budget_left, rule_warnings}
 use Rattle.warnings.specs.Evaluation.{RuleOfApp}
 use Rattle.warnings.specs.Releases.{appid_warning, releases_from}
@@ -73,4 +73,4 @@ pub record WarnsOf (g : Sources) (programs : List ShapedProgram) (warnings : Lis
     pub reported : List Warning
     pub of_apps : WarnsOfApps 1 whole_budget g.apps.items reported
     pub warnings_are : warnings
-        ≡ unused_from 0 g.directory (apps_of g.apps.items programs) ++ reported
+        ≡ array_warnings 0 g.directory (apps_of g.apps.items programs) ++ reported

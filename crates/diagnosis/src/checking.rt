@@ -23,10 +23,11 @@ use std::alloc::Global;
 /// (a quota comes last, if there is one). Then it has a line for each app: `app APPID releases R
 /// slots S`. Lines are ended by a line feed.
 ///
-/// There is a warning for each array that no program uses. Then, for each app, there is one if its
-/// appid has an unprintable character. There is one for each release whose version (as four
-/// numbers) a later release also has, or whose codebase doesn't end in `/`, or begins with neither
-/// `https://` nor `http://`. The warnings on the app's rule come last (`tell_rule` of `warnings`).
+/// There is a warning for each array that no program uses, and for each that several apps use.
+/// Then, for each app, there is one if its appid has an unprintable character. There is one for
+/// each release whose version (as four numbers) a later release also has, or whose codebase doesn't
+/// end in `/`, or begins with neither `https://` nor `http://`. The warnings on the app's rule come
+/// last (`tell_rule` of `warnings`).
 ///
 /// For a refused manifest the reason begins with the path of a member and what is expected there;
 /// in the path, the tables of a list are numbered from 1:
@@ -42,9 +43,9 @@ use std::alloc::Global;
 ///   available, only the line follows, such as `line 2: count q[0];`, or the message that the file
 ///   isn't UTF-8 text. If M5 has a slot at which an instruction begins, the instruction follows as
 ///   it is listed: `slot 1: exit`; if the verifier refuses it, also the sentence of
-///   `refused_place`. These lines are left out if the file is outside the manifest's folder: its
-///   name is absolute or has a part `..`, or the disk reports that it, or a folder of its path, is
-///   a symbolic link.
+///   `refused_place`. For an object of ELF there is the command that makes a program of it instead.
+///   These lines are left out if the file is outside the manifest's folder: its name is absolute or
+///   has a part `..`, or the disk reports that it, or a folder of its path, is a symbolic link.
 /// - M7: `array[2].length: r passes the 4096 cells that all arrays of a width have`.
 ///
 /// After the reason of M4 to M6 the apps after the first refused one are judged, each by itself.

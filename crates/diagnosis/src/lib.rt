@@ -19,6 +19,7 @@
 
 mod accepted;
 mod advice;
+mod array_warnings;
 mod checking;
 mod file;
 mod inside;
@@ -31,7 +32,6 @@ mod refusal_report;
 mod refused;
 mod shown;
 mod undeclared;
-mod unused;
 mod warned;
 mod warned_app;
 

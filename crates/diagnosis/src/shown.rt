@@ -2,7 +2,7 @@
 
 ghost use Rattle.std.specs.Prelude.{◌≡◌, IfSome, string_bytes, if◌then◌else◌};
 ghost use Rattle.diagnosis.specs.Shown.{IsInsnShown, IsKeptShown, IsLongShown};
-ghost use Rattle.diagnosis.specs.Shown.{IsRefusedInsnShown, IsShown, IsTextShown};
+ghost use Rattle.diagnosis.specs.Shown.{IsRefusedInsnShown, IsShown, IsSlotShown, IsTextShown};
 ghost use Rattle.diagnosis.specs.Shown as specs;
 ghost use Rattle.rule_diagnosis.specs.Message as reported;
 
@@ -23,7 +23,7 @@ use std::str;
 pub(crate) enum Place {
     /// The whole file.
     Whole,
-    /// The instruction that begins at a slot.
+    /// The instruction that begins at a slot; of an ELF object, the whole file.
     Slot(usize),
     /// The instruction that begins at a slot, which the verifier refuses.
     Refused(usize),
@@ -61,7 +61,7 @@ fn show_longer(alloc: Global, place: Place, beginning: &[u8], is_text: bool) -> 
 {
     match place {
         Place::Whole => None,
-        Place::Slot(slot) => show_insn(alloc, slot, beginning),
+        Place::Slot(slot) => show_slot(alloc, is_elf(beginning), slot, beginning),
         Place::Refused(_) => None,
         Place::Rule(_, _) => show_long_rule(alloc, is_text),
     }
@@ -86,9 +86,36 @@ fn show_whole(alloc: Global, place: Place, shape: &Shape, bytes: &[u8]) -> Optio
 {
     match place {
         Place::Whole => None,
-        Place::Slot(slot) => show_insn(alloc, slot, bytes),
+        Place::Slot(slot) => show_slot(alloc, is_elf(bytes), slot, bytes),
         Place::Refused(slot) => show_refused(alloc, shape, slot, bytes),
         Place::Rule(line, kind) => show_rule(alloc, shape, line, kind, bytes),
+    }
+}
+
+fn is_elf(bytes: &[u8]) -> bool
+    ensures { result ≡ specs.is_elf bytes.now }
+{
+    bytes.starts_with(b"\x7fELF")
+}
+
+#[tactic(auto, unfolding(crate::specs::Shown::elf_line))]
+fn elf_line() -> &'static str
+    ensures { result.now ≡ specs.elf_line }
+{
+    "an ELF object; llvm-objcopy -O binary -j .text IN OUT makes a program of it\n"
+}
+
+// That the file is an object of a compiler; or else the instruction.
+fn show_slot(alloc: Global, is_elf: bool, slot: usize, bytes: &[u8]) -> Option<String>
+    ensures { IfSome result (λ text. IsSlotShown is_elf slot bytes.now (string_bytes text)) }
+{
+    if is_elf {
+        match String::from_str(alloc, elf_line()) {
+            Ok(text) => Some(text),
+            Err(_) => None,
+        }
+    } else {
+        show_insn(alloc, slot, bytes)
     }
 }
 

@@ -1,11 +1,11 @@
 //! The warnings on an accepted manifest.
 
 ghost use Rattle.std.specs.Prelude.{◌≡◌, ◌++◌, IfOk};
-ghost use Rattle.diagnosis.specs.Unused.{unused_from};
+ghost use Rattle.diagnosis.specs.ArrayWarnings.{array_warnings};
 ghost use Rattle.diagnosis.specs.Warned.{WarnsOfApps};
 ghost use Rattle.warnings.specs.RuleWarnings.{whole_budget};
 
-use crate::unused::tell_unused;
+use crate::array_warnings::tell_arrays;
 use crate::warned_app::tell_app;
 use cells::CellArray;
 use load::AppSources;
@@ -25,10 +25,10 @@ pub(crate) fn tell_warnings(
     reported: &[Warning],
 ) -> Result<Vec<Warning>, AllocError>
     ensures { IfOk result (λ warnings.
-        warnings.items ≡ unused_from 0 arrays.now apps.now ++ reported.now) }
+        warnings.items ≡ array_warnings 0 arrays.now apps.now ++ reported.now) }
 {
     let mut warnings = Vec::new(alloc);
-    tell_unused(&mut warnings, arrays, apps)?;
+    tell_arrays(&mut warnings, arrays, apps)?;
     warnings.extend_from_slice(reported)?;
     Ok(warnings)
 }

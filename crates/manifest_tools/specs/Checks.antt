@@ -1,5 +1,6 @@
 -- Manifests that are checked, one or several, and which of them pass.
 use Rattle.std.specs.Prelude.{◌≡◌, ℕ, List, [], ◌∷◌, ◌++◌, Bool, true, false, not, ◌&&◌, codes}
+use Rattle.std.specs.Prelude.{if◌then◌else◌}
 use Rattle.std.specs.Borrow.{Bor}
 use Rattle.std.specs.String.{string_bytes}
 use Rattle.bounded_files.specs.Files.{KnownFiles}
@@ -26,11 +27,16 @@ passes strict allowed warnings = not (strict && some_counts allowed warnings)
 abbrev pub digest_line : List ℕ → List ℕ
 digest_line digest = line (codes "digest " ++ encode_lower digest)
 
--- the report on an accepted manifest: its lines with the digest, those of its warnings, and whether
--- it passes
+-- that nothing is wrong: no warning, or only allowed ones
+abbrev pub ok_line : (allowed : List (Bor (List ℕ))) → List Warning → List ℕ
+ok_line allowed warnings = if some_counts allowed warnings then [] else codes "ok\n"
+
+-- the report on an accepted manifest: its lines, the last of which are `ok` and the digest; those
+-- of its warnings; and whether it passes
 pub record TellsChecked (strict : Bool) (allowed : List (Bor (List ℕ))) (one : CheckedManifest)
     (output : CheckOutput) : Type 0 where
-  pub text_is : string_bytes output.text ≡ string_bytes one.text ++ digest_line one.digest
+  pub text_is : string_bytes output.text ≡ string_bytes one.text
+      ++ ok_line allowed one.warnings.items ++ digest_line one.digest
   pub stderr_is : string_bytes output.stderr ≡ warnings_text one.warnings.items
   pub passes_is : output.passes ≡ passes strict allowed one.warnings.items
 

@@ -1,19 +1,19 @@
 //! `check` of one manifest, or of several: what is printed, and whether they pass.
 
-ghost use Rattle.std.specs.Prelude.{◌≡◌, IfOk, IfErr, OnOk, string_bytes};
-ghost use Rattle.printing.specs.Pushed.{Puts};
+ghost use Rattle.std.specs.Prelude.{◌≡◌, IfOk, IfErr, string_bytes};
 ghost use Rattle.manifest_tools.specs.CheckObjects.{IsCheckOutput, RefusesChecks};
 ghost use Rattle.manifest_tools.specs.Checks as specs;
 ghost use Rattle.manifest_tools.specs.Manifests.{IsCheckRefusal};
 
 use crate::check::check_file;
 use crate::check_json::check_as_json;
+use crate::check_lines::{
+    push_digest, push_if_any, push_ok, push_refusal, push_title, push_titled,
+};
 use crate::fault::ManifestToolFault;
 use bounded_files::{Disk, ResourceFault};
 use diagnosis::CheckedManifest;
-use printing::Printed;
 use std::alloc::{AllocError, Global};
-use std::fmt::Write;
 use warnings::{Warning, push_warnings, some_counts};
 
 /// The report on the checked manifests.
@@ -31,11 +31,11 @@ pub struct CheckOutput {
 /// Checks manifests, each by itself. In a strict check, warnings count unless their name is
 /// allowed.
 ///
-/// For one manifest, the text has its lines, then the digest of it and of its files in 64
-/// hexadecimal digits; a refusal is returned as a fault. For several, each is reported under a line
-/// `manifest PATH`, in either text that has lines about it. A refused manifest is reported in
-/// `stderr`, by the line of its refusal and its reason. With `json` the text is one line of JSON,
-/// also for refused manifests, and `stderr` is empty.
+/// For one manifest, the text has its lines, then `ok` if each warning is allowed, and then the
+/// digest of it and of its files in 64 hexadecimal digits; a refusal is returned as a fault. For
+/// several, each is reported under a line `manifest PATH`, in each text that has lines about it.
+/// A refused manifest is reported in `stderr`, by the line of its refusal and its reason. With
+/// `json` the text is one line of JSON, also for refused manifests, and `stderr` is empty.
 // open: what `check_file` leaves open.
 pub fn check_files<D: Disk>(
     alloc: Global,
@@ -109,6 +109,7 @@ fn tell_alone(
     let mut stderr = String::new(alloc);
     push_warnings(&mut stderr, checked.warnings.as_slice())?;
     let mut text = checked.text;
+    push_ok(&mut text, allowed, checked.warnings.as_slice())?;
     push_digest(&mut text, checked.digest)?;
     Ok(CheckOutput {
         text,
@@ -201,56 +202,4 @@ fn add_refused(
     push_refusal(&mut output.stderr, fault)?;
     output.passes = false;
     Ok(output)
-}
-
-// ---- lines
-
-/// Adds the line `digest ..` of a manifest and of its files, with the 64 lower-case hexadecimal
-/// digits of `digest_of` of `load`.
-// open: whether an allocation fails, its only error.
-pub fn push_digest(text: &mut String, digest: [u8; 32]) -> Result<(), AllocError>
-    ensures { OnOk result (Puts text.old text.new (specs.digest_line digest)) }
-{
-    let digest = hex::encode(*text.allocator(), digest)?;
-    writeln!(text, "digest {digest}")
-}
-
-fn push_title(text: &mut String, path: &str) -> Result<(), AllocError>
-    ensures { OnOk result (Puts text.old text.new (specs.title path.now)) }
-{
-    let path = Printed(path);
-    writeln!(text, "manifest {path}")
-}
-
-fn push_titled(text: &mut String, path: &str, lines: &str) -> Result<(), AllocError>
-    ensures { OnOk result (Puts text.old text.new (specs.titled path.now lines.now)) }
-{
-    push_title(text, path)?;
-    text.push_str(lines)
-}
-
-fn push_if_any(text: &mut String, path: &str, lines: &str) -> Result<(), AllocError>
-    ensures { OnOk result (Puts text.old text.new (specs.titled_if_any path.now lines.now)) }
-{
-    if lines.is_empty() {
-        return Ok(());
-    }
-    push_titled(text, path, lines)
-}
-
-// The line of a refusal, followed by where and why.
-fn push_refusal(text: &mut String, fault: &ManifestToolFault) -> Result<(), AllocError>
-    ensures { OnOk result (Puts text.old text.new (specs.refusal_text fault.now)) }
-{
-    writeln!(text, "refused {fault}")?;
-    text.push_str(reason_behind(fault))
-}
-
-fn reason_behind(fault: &ManifestToolFault) -> &str
-    ensures { result.now ≡ specs.reason_behind fault.now }
-{
-    match fault {
-        ManifestToolFault::Diagnosed(refused) => refused.reason.as_str(),
-        _ => "",
-    }
 }

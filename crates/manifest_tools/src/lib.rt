@@ -10,6 +10,7 @@
 
 mod check;
 mod check_json;
+mod check_lines;
 mod check_objects;
 mod checks;
 mod client_line;
@@ -18,7 +19,8 @@ mod progress_lines;
 mod simulating;
 mod simulation_output;
 
-pub use checks::{CheckOutput, check_files, push_digest};
+pub use check_lines::push_digest;
+pub use checks::{CheckOutput, check_files};
 pub use fault::ManifestToolFault;
 pub use simulating::simulate_files;
 pub use simulation_output::SimulationOutput;

@@ -12,6 +12,6 @@ mod explanation;
 mod order;
 mod tracing;
 
-pub use explanation::explain_file;
+pub use explanation::{ExplainedProgram, RefusedProgram, explain_file};
 pub use order::order_file;
 pub use tracing::trace_file;

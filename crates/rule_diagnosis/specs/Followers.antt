@@ -127,15 +127,6 @@ abbrev pub listed : List Follower → Text
 listed [] = []
 listed (f ∷ fs) = shown f ++ separator fs ++ listed fs
 
-abbrev pub is_semicolon : Follower → Bool
-is_semicolon follower.Semicolon = true
-is_semicolon f = false
-
--- only a semicolon is expected
-abbrev pub is_missing_semicolon : List Follower → Bool
-is_missing_semicolon (f ∷ []) = is_semicolon f
-is_missing_semicolon fs = false
-
 -- a test is expected if the word `flag` is
 abbrev pub is_flag_word : Follower → Bool
 is_flag_word follower.Flag = true

@@ -1,17 +1,16 @@
 -- The message about a refused rule: line and column, what is there and what is expected, and the
 -- line itself with a caret.
 use Rattle.std.specs.Prelude.{◌≡◌, ◌⊎◌, ◌<◌, ◌≤◌, ℕ, ◌+◌, ◌-◌, List, [], ◌++◌, codes, decimal}
-use Rattle.std.specs.Prelude.{length, take, Err, if◌then◌else◌}
+use Rattle.std.specs.Prelude.{length, take, Err, Bool, if◌then◌else◌}
 use Rattle.std.specs.List.{list_any}
 use Rattle.cells.specs.Arrays.{AppShape}
 use Rattle.printing.specs.Printed.{printed_lines}
 use Rattle.rule_diagnosis.specs.declared.follower.Follower.{Follower}
-use Rattle.rule_diagnosis.specs.Followers.{AreFollowers, is_flag_word, is_missing_semicolon}
-use Rattle.rule_diagnosis.specs.Followers.{listed}
+use Rattle.rule_diagnosis.specs.Followers.{AreFollowers, is_flag_word, listed}
 use Rattle.rule_diagnosis.specs.Lexemes.{spread, lexeme_start}
 use Rattle.rule_diagnosis.specs.Places.{line_text, line_at, pad_at}
 use Rattle.rule_diagnosis.specs.Sentences.{lexeme_text, token_sentence, name_sentence}
-use Rattle.rule_diagnosis.specs.Sentences.{range_sentence, test_hint}
+use Rattle.rule_diagnosis.specs.Sentences.{misplaced_hint, parts_digits, range_sentence, test_hint}
 use Rattle.rule_lang.specs.declared.rule_fault.RuleFault.TheVariants.{At}
 use Rattle.rule_lang.specs.declared.rule_fault.RuleFaultKind.{RuleFaultKind}
 use Rattle.rule_lang.specs.declared.rule_fault.RuleFaultKind.TheVariants as kind
@@ -32,12 +31,9 @@ pub record LiesAt (s : AppShape) (text : Text) (line : ℕ) (k : RuleFaultKind) 
 abbrev pub lexeme : Text → ℕ → Text
 lexeme text row = line_text row (spread text)
 
--- how many bytes come before the lexeme in a row, and before the end of the previous one
+-- how many bytes come before the lexeme in a row
 abbrev pub row_start : Text → ℕ → ℕ
 row_start text row = lexeme_start (row - 2) text
-
-abbrev pub row_end_before : Text → ℕ → ℕ
-row_end_before text row = lexeme_start (row - 3) text + length (lexeme text (row - 1))
 
 -- ---- the lines
 
@@ -59,19 +55,19 @@ lines_at text place sentence =
     lines_of (line_at before) (length (pad_at before) + 1)
     (printed_lines (line_text (line_at before) text)) (pad_at (printed_lines before)) sentence
 
--- the sentence about a misplaced token; if a semicolon is missing, the place is after the previous
--- lexeme
-abbrev pub shape_hint : (found : Text) → List Follower → Text
-shape_hint found fs = if list_any is_flag_word fs then test_hint found else []
+-- the sentence about a misplaced token, which may be a comma between digits
+abbrev pub shape_hint : (parted : Bool) → (found : Text) → List Follower → Text
+shape_hint parted found fs =
+    if list_any is_flag_word fs then test_hint found else misplaced_hint parted found
 
-unfoldable pub shape_sentence : (found : Text) → List Follower → Text
-shape_sentence found fs =
+unfoldable pub shape_sentence : (parted : Bool) → (found : Text) → List Follower → Text
+shape_sentence parted found fs =
     lexeme_text found ++ codes " stands where " ++ listed fs ++ codes " is expected"
-    ++ shape_hint found fs
+    ++ shape_hint parted found fs
 
-abbrev pub shape_place : Text → ℕ → List Follower → ℕ
-shape_place text row fs =
-    if is_missing_semicolon fs then row_end_before text row else row_start text row
+abbrev pub misplaced : Text → ℕ → List Follower → Text
+misplaced text row fs =
+    shape_sentence (parts_digits text (row_start text row)) (lexeme text row) fs
 
 -- the sentences about the other kinds, by rows with one lexeme each
 abbrev pub sentence_in : AppShape → (rows : Text) → RuleFaultKind → ℕ → Text
@@ -89,7 +85,7 @@ sentence s text k row = sentence_in s (spread text) k row
 abbrev pub AreLines : AppShape → Text → RuleFaultKind → ℕ → Text → Type 0
 AreLines s text kind.Shape row message =
     (fs : List Follower) × AreFollowers s (take (row_start text row) text) fs
-    × (message ≡ lines_at text (shape_place text row fs) (shape_sentence (lexeme text row) fs))
+    × (message ≡ lines_at text (row_start text row) (misplaced text row fs))
 AreLines s text k row message = message ≡ lines_at text (row_start text row) (sentence s text k row)
 
 -- ---- the message about a text whose fault has this line and kind

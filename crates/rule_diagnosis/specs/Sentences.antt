@@ -1,6 +1,6 @@
 -- The sentence about the lexeme at a rule's fault, for each kind of fault. If the place in the
 -- grammar matters, it follows from the two previous lexemes.
-use Rattle.std.specs.Prelude.{ℕ, ◌+◌, ◌*◌, ◌%◌, List, [], ◌∷◌, ◌++◌, codes, decimal}
+use Rattle.std.specs.Prelude.{ℕ, ◌+◌, ◌-◌, ◌*◌, ◌%◌, List, [], ◌∷◌, ◌++◌, codes, decimal}
 use Rattle.std.specs.Prelude.{Bool, true, ◌==◌, ◌&&◌, ◌||◌, nat_le, nat_lt, if◌then◌else◌}
 use Rattle.std.specs.Prelude.{Option, Some, None, is_some, flat_map, length}
 use Rattle.std.specs.Fmt.{digits}
@@ -74,8 +74,14 @@ unfoldable pub day_hint : Text
 day_hint =
     codes ": a number has no sign, and a day is one, counted from 2007-01-01: 2026-12-01 is 7274"
 
+unfoldable pub quote_hint : Text
+quote_hint = codes ": a text stands in \"\""
+
+-- U+2018 to U+201F are typographic quotation marks
 abbrev pub character_hint : ℕ → Text
-character_hint n = if n == 65279 then codes ": a byte order mark" else []
+character_hint n =
+    if n == 65279 then codes ": a byte order mark"
+    else if nat_le 8216 n && nat_le n 8223 then quote_hint else []
 
 abbrev pub mark_hint : ℕ → Text
 mark_hint c =
@@ -83,7 +89,7 @@ mark_hint c =
     else if (c == 38) || (c == 124) then joint_hint
     else if c == 45 then day_hint
     else if c == 47 then codes ": a remark begins with #"
-    else if c == 39 then codes ": a text stands in \"\"" else []
+    else if c == 39 then quote_hint else []
 
 abbrev pub hint_by : ℕ → Text → Text
 hint_by c text =
@@ -101,7 +107,8 @@ no_word = codes " is no word of a rule"
 abbrev pub token_sentence : Text → Text
 token_sentence found = lexeme_text found ++ no_word ++ hint found
 
--- ---- L2: only the name of a flag or an attribute, although a test is expected
+-- ---- L2: a lexeme that is misplaced; only the name of a flag or an attribute, although a test is
+-- expected
 
 abbrev pub names_flag : Text → Bool
 names_flag word = is_some (flag_named word)
@@ -114,6 +121,20 @@ test_hint found =
     if names_flag found then codes ": a flag is tested by flag " ++ found
     else if names_attribute found then
     codes ": an attribute is tested by attr " ++ found ++ codes " is \"..\"" else []
+
+abbrev pub is_digit : ℕ → Bool
+is_digit c = nat_le 48 c && nat_le c 57
+
+-- a comma between two digits, as in 2,500
+abbrev pub parts_digits : Text → (place : ℕ) → Bool
+parts_digits text place =
+    (byte_at text place == 44) && is_digit (byte_at text (place - 1))
+    && is_digit (byte_at text (place + 1))
+
+abbrev pub misplaced_hint : (parted : Bool) → (found : Text) → Text
+misplaced_hint parted found =
+    if parted then codes ": a number has no comma"
+    else if bytes_eq found (codes "else") then codes ": a rule ends with otherwise none;" else []
 
 -- ---- L3: an unknown name, or the name of an array of the other kind
 

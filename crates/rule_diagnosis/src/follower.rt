@@ -175,16 +175,6 @@ fn tell_one(text: &mut String, first: Follower, rest: &[Follower]) -> Result<(),
     text.push_str(separator(rest))
 }
 
-/// Whether only a semicolon is expected.
-pub fn is_missing_semicolon(listed: &[Follower]) -> bool
-    ensures { result ≡ followers.is_missing_semicolon listed.now }
-{
-    match listed {
-        [Follower::Semicolon] => true,
-        _ => false,
-    }
-}
-
 fn is_flag_word(follower: Follower) -> bool
     ensures { result ≡ followers.is_flag_word follower }
 {

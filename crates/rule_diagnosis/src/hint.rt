@@ -1,6 +1,6 @@
 //! Hints on what to write instead of an unknown or misplaced lexeme, if that is obvious.
 
-ghost use Rattle.std.specs.Prelude.{◌≡◌, OnOk};
+ghost use Rattle.std.specs.Prelude.{◌≡◌, ◌≤◌, length, OnOk};
 ghost use Rattle.printing.specs.Pushed.{Puts};
 ghost use Rattle.rule_diagnosis.specs.Sentences as sentences;
 
@@ -45,11 +45,20 @@ fn day_hint() -> &'static str
     ": a number has no sign, and a day is one, counted from 2007-01-01: 2026-12-01 is 7274"
 }
 
+#[tactic(auto, unfolding(crate::specs::Sentences::quote_hint))]
+fn quote_hint() -> &'static str
+    ensures { result.now ≡ sentences.quote_hint }
+{
+    ": a text stands in \"\""
+}
+
 fn character_hint(n: u32) -> &'static str
     ensures { result.now ≡ sentences.character_hint n }
 {
     if n == 0xfeff {
         ": a byte order mark"
+    } else if 0x2018 <= n && n <= 0x201f {
+        quote_hint()
     } else {
         ""
     }
@@ -67,7 +76,7 @@ fn mark_hint(c: u8) -> &'static str
     } else if c == b'/' {
         ": a remark begins with #"
     } else if c == b'\'' {
-        ": a text stands in \"\""
+        quote_hint()
     } else {
         ""
     }
@@ -90,6 +99,36 @@ pub fn hint(lexeme: &str) -> &'static str
         word_hint()
     } else {
         mark_hint(c)
+    }
+}
+
+fn is_digit(c: u8) -> bool
+    ensures { result ≡ sentences.is_digit c }
+{
+    b'0' <= c && c <= b'9'
+}
+
+/// Whether there is a comma between two digits at this place.
+pub fn parts_digits(text: &[u8], place: usize) -> bool
+    requires { place ≤ length text.now }
+    ensures { result ≡ sentences.parts_digits text.now place }
+{
+    byte_at(text, place) == b','
+        && is_digit(byte_at(text, place.saturating_sub(1)))
+        && is_digit(byte_at(text, place + 1))
+}
+
+/// What to write instead of a misplaced lexeme; empty if that isn't obvious. `parted`: it is a
+/// comma between two digits.
+pub fn misplaced_hint(parted: bool, found: &str) -> &'static str
+    ensures { result.now ≡ sentences.misplaced_hint parted found.now }
+{
+    if parted {
+        ": a number has no comma"
+    } else if found == "else" {
+        ": a rule ends with otherwise none;"
+    } else {
+        ""
     }
 }
 

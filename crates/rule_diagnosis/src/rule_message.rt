@@ -8,8 +8,8 @@ ghost use Rattle.rule_diagnosis.specs.Message as specs;
 ghost use Rattle.rule_lang.specs.Verdicts.{IsVerdict};
 
 use crate::caret::tell_at;
-use crate::follower::{Follower, expects_test, is_missing_semicolon, tell_listed};
-use crate::hint::tell_test_hint;
+use crate::follower::{Follower, expects_test, tell_listed};
+use crate::hint::{misplaced_hint, parts_digits, tell_test_hint};
 use crate::place::{front, line_at, line_text};
 use crate::quoting::tell_lexeme;
 use crate::range::tell_range;
@@ -25,15 +25,14 @@ use std::str;
 /// some lines, each ended by a line feed, such as
 ///
 /// ```text
-/// line 1, column 31: "when" stands where ";" is expected
-///   when version < 2.0.4 offer 1
-///                               ^
+/// line 2, column 1: "when" stands where ";" is expected
+///   when version < 3 offer 2;
+///   ^
 /// ```
 ///
 /// Columns are counted in characters from 1. A control character in the line is shown as `\u{1b}`,
-/// except for a tab. If only a semicolon is expected, the place is right after the previous word.
-/// Returns `None` if an allocation fails, if this isn't the text's fault, or if the text's words,
-/// one to a line, are more than 65536 bytes.
+/// except for a tab. Returns `None` if an allocation fails, if this isn't the text's fault, or if
+/// the text's words, one to a line, are more than 65536 bytes.
 // open: that there is a result: it is None if an allocation fails, if the fault isn't this text's,
 // and if its words, a line each, are over 65536 bytes.
 pub fn tell_rule_fault(
@@ -118,19 +117,28 @@ fn tell_shape(alloc: Global, text: &str, shape: &Shape, rows: &str, row: usize) 
     let Some(found) = followers_of(alloc, shape, front(text.as_bytes(), at)) else {
         return None;
     };
+    let parted = parts_digits(text.as_bytes(), at);
     let mut sentence = String::new(alloc);
-    match tell_misplaced(&mut sentence, line_text(row, rows), found.as_slice()) {
-        Ok(()) => {
-            let place = place_of(text, rows, row, found.as_slice());
-            tell_at(alloc, text, place, sentence.as_str())
-        }
+    match tell_misplaced(
+        &mut sentence,
+        parted,
+        line_text(row, rows),
+        found.as_slice(),
+    ) {
+        Ok(()) => tell_at(alloc, text, at, sentence.as_str()),
         Err(_) => None,
     }
 }
 
 #[tactic(auto, unfolding(crate::specs::Message::shape_sentence))]
-fn tell_misplaced(text: &mut String, lexeme: &str, found: &[Follower]) -> Result<(), AllocError>
-    ensures { OnOk result (Puts text.old text.new (specs.shape_sentence lexeme.now found.now)) }
+fn tell_misplaced(
+    text: &mut String,
+    parted: bool,
+    lexeme: &str,
+    found: &[Follower],
+) -> Result<(), AllocError>
+    ensures { OnOk result
+        (Puts text.old text.new (specs.shape_sentence parted lexeme.now found.now)) }
 {
     tell_lexeme(text, lexeme)?;
     text.push_str(" stands where ")?;
@@ -139,20 +147,7 @@ fn tell_misplaced(text: &mut String, lexeme: &str, found: &[Follower]) -> Result
     if expects_test(found) {
         tell_test_hint(text, lexeme)
     } else {
-        Ok(())
-    }
-}
-
-// The end of the previous lexeme if a semicolon is missing; otherwise the lexeme's start.
-fn place_of(text: &str, rows: &str, row: usize, found: &[Follower]) -> usize
-    requires { rows.now ≡ lexemes.spread text.now }
-    ensures { result ≡ specs.shape_place text.now row found.now }
-{
-    if is_missing_semicolon(found) {
-        let before = line_text(row.saturating_sub(1), rows);
-        lexeme_start(row.saturating_sub(3), text.as_bytes()) + before.len()
-    } else {
-        lexeme_start(row.saturating_sub(2), text.as_bytes())
+        text.push_str(misplaced_hint(parted, lexeme))
     }
 }
 

@@ -7,6 +7,7 @@ pub all_named : AllAreNamed
 unfolding is_warning_name
 all_named kind.UnprintedAppid = refl
 all_named kind.UnusedArray = refl
+all_named (kind.SharedArray first second) = refl
 all_named kind.SameVersion = refl
 all_named kind.CodebaseSlash = refl
 all_named kind.CodebaseScheme = refl
@@ -19,3 +20,7 @@ all_named kind.NoBucket = refl
 all_named kind.OfferedAgain = refl
 all_named kind.OfferedLower = refl
 all_named kind.NotEvaluated = refl
+all_named kind.EmptyFile = refl
+all_named kind.PackageName = refl
+all_named kind.NoCohort = refl
+all_named kind.EarlyDay = refl

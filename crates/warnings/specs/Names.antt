@@ -11,9 +11,10 @@ use Rattle.warnings.specs.Warnings.{name_of}
 -- one of each kind, in the order of docs/PROGRAM.md, "check"
 abbrev pub all_kinds : List WarningKind
 all_kinds =
-    kind.UnusedArray ∷ kind.UnprintedAppid ∷ kind.SameVersion ∷ kind.CodebaseSlash
-    ∷ kind.CodebaseScheme ∷ kind.FewBuckets false 0 0 ∷ kind.AllBuckets false 0
-    ∷ kind.TakeBeforeVersion ∷ kind.NeverReached ∷ kind.NeverHolds ∷ kind.NoBucket
+    kind.UnusedArray ∷ kind.SharedArray 0 0 ∷ kind.UnprintedAppid ∷ kind.SameVersion
+    ∷ kind.CodebaseSlash ∷ kind.CodebaseScheme ∷ kind.EmptyFile ∷ kind.PackageName
+    ∷ kind.FewBuckets false 0 0 ∷ kind.AllBuckets false 0 ∷ kind.TakeBeforeVersion ∷ kind.NoCohort
+    ∷ kind.EarlyDay ∷ kind.NeverReached ∷ kind.NeverHolds ∷ kind.NoBucket
     ∷ kind.OfferedAgain ∷ kind.OfferedLower ∷ kind.NotEvaluated ∷ []
 
 unfoldable pub is_warning_name : List ℕ → Bool

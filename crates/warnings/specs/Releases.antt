@@ -1,11 +1,11 @@
 -- Warnings on accepted appids and releases.
 use Rattle.std.specs.Prelude.{ℕ, ◌+◌, List, [], ◌∷◌, ◌++◌, codes, nat_eq}
 use Rattle.std.specs.Prelude.{Bool, not, ◌==◌, ◌&&◌, ◌||◌, Option, Some, None, false}
-use Rattle.std.specs.Prelude.{slice_index}
+use Rattle.std.specs.Prelude.{slice_index, length}
 use Rattle.std.specs.List.{ends_with, list_any, starts_with}
 use Rattle.attrs.specs.Version.{version_of}
 use Rattle.printing.specs.Printed.{has_control}
-use Rattle.releases.specs.Release.{Release}
+use Rattle.releases.specs.Release.{Package, Release}
 use Rattle.warnings.specs.declared.warning.WarningPlace.TheVariants as place
 use Rattle.warnings.specs.declared.warning.Warning.{Warning}
 use Rattle.warnings.specs.declared.warning.WarningKind.TheVariants as kind
@@ -58,11 +58,33 @@ scheme_warning app number release =
     warned_if (not (has_scheme release.codebase)) (place.Release app number)
     kind.CodebaseScheme
 
+-- a package of no bytes
+abbrev pub is_empty_file : Package → Bool
+is_empty_file p = p.size == 0
+
+abbrev pub file_warning : (app number : ℕ) → Release → List Warning
+file_warning app number release =
+    warned_if (list_any is_empty_file release.packages) (place.Release app number) kind.EmptyFile
+
+-- a name that can't follow the codebase in an address
+abbrev pub is_odd_name : List ℕ → Bool
+is_odd_name name =
+    (length name == 0) || starts_with nat_eq name (codes "..") || list_any (λ c. nat_eq c 32) name
+
+abbrev pub has_odd_name : Package → Bool
+has_odd_name p = is_odd_name p.name
+
+abbrev pub name_warning : (app number : ℕ) → Release → List Warning
+name_warning app number release =
+    warned_if (list_any has_odd_name release.packages) (place.Release app number)
+    kind.PackageName
+
 abbrev pub release_warnings : (app number : ℕ) → Release → (later : List Release)
     → List Warning
 release_warnings app number release later =
     version_warning app number release later ++ slash_warning app number release
-    ++ scheme_warning app number release
+    ++ scheme_warning app number release ++ file_warning app number release
+    ++ name_warning app number release
 
 -- ---- the releases of an app, in their order
 

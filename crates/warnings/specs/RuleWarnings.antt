@@ -2,8 +2,10 @@
 -- which it is evaluated.
 use Rattle.std.specs.Prelude.{ℕ, ◌+◌, ◌-◌, ◌*◌, List, [], ◌∷◌, ◌++◌, not}
 use Rattle.std.specs.Prelude.{length, Bool, true, false, ◌&&◌, nat_le, nat_lt, if◌then◌else◌}
-use Rattle.std.specs.Prelude.{Option, Some, None, unwrap_or}
-use Rattle.std.specs.List.{list_any, sum_by}
+use Rattle.std.specs.Prelude.{Option, Some, None, is_some, unwrap_or, codes, nat_eq}
+use Rattle.std.specs.List.{list_any, starts_with, sum_by}
+use Rattle.attrs.specs.Bucket.{cohort_bucket}
+use Rattle.attrs.specs.declared.vocabulary.Attribute.TheVariants.{Cohort}
 use Rattle.releases.specs.Release.{Release}
 use Rattle.rule_lang.specs.declared.condition.Step.{Step}
 use Rattle.rule_lang.specs.declared.condition.Step.TheVariants as step
@@ -49,9 +51,28 @@ test_warning app line (test.Bucket salt None Le n) =
     part_warning (place.Line app line) true n (n + 1)
 test_warning app line t = []
 
+-- ---- a day or a cohort that is probably wrong
+
+-- a day before 2026, but not day 0
+abbrev pub is_early : (day : ℕ) → Bool
+is_early day = nat_lt 0 day && nat_lt day 6940
+
+-- begins like the cohort of a reply, which is `b:` and four digits
+abbrev pub is_no_cohort : List ℕ → Bool
+is_no_cohort text = starts_with nat_eq text (codes "b:") && not (is_some (cohort_bucket text))
+
+abbrev pub value_warning : (app line : ℕ) → Test → List Warning
+value_warning app line (test.Today r day) =
+    warned_if (is_early day) (place.Line app line) kind.EarlyDay
+value_warning app line (test.Attr Cohort text) =
+    warned_if (is_no_cohort text) (place.Line app line) kind.NoCohort
+value_warning app line t = []
+
+-- ---- the tests of a condition
+
 -- whatever surrounds it, such as `not` or a condition that never holds
 abbrev pub parts_of_step : (app : ℕ) → Step → List Warning
-parts_of_step app (step.Test line t) = test_warning app line t
+parts_of_step app (step.Test line t) = test_warning app line t ++ value_warning app line t
 parts_of_step app s = []
 
 abbrev pub parts_of_steps : (app : ℕ) → List Step → List Warning

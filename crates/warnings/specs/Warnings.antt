@@ -21,12 +21,17 @@ warned_if false place kind = []
 abbrev pub name_of : WarningKind → List ℕ
 name_of kind.UnprintedAppid = codes "unprinted-appid"
 name_of kind.UnusedArray = codes "unused-array"
+name_of (kind.SharedArray first second) = codes "shared-array"
 name_of kind.SameVersion = codes "same-version"
 name_of kind.CodebaseSlash = codes "codebase-slash"
 name_of kind.CodebaseScheme = codes "codebase-scheme"
+name_of kind.EmptyFile = codes "empty-file"
+name_of kind.PackageName = codes "package-name"
 name_of (kind.FewBuckets up_to number buckets) = codes "few-buckets"
 name_of (kind.AllBuckets up_to number) = codes "all-buckets"
 name_of kind.TakeBeforeVersion = codes "take-before-version"
+name_of kind.NoCohort = codes "no-cohort"
+name_of kind.EarlyDay = codes "early-day"
 name_of kind.NeverReached = codes "never-reached"
 name_of kind.NeverHolds = codes "never-holds"
 name_of kind.NoBucket = codes "no-bucket"
@@ -55,29 +60,38 @@ abbrev pub few_percent : (buckets : ℕ) → List ℕ
 few_percent buckets =
     codes "0." ++ decimal (buckets / 10) ++ decimal (buckets % 10) ++ codes " percent"
 
--- a test, and the part of the buckets for which it holds
+-- a test, and the part of the buckets for which it holds; or the apps that share an array
 abbrev pub part_text : WarningKind → List ℕ
 part_text (kind.FewBuckets up_to number buckets) =
     codes ": bucket " ++ sign_of up_to ++ codes " " ++ decimal number ++ codes " is "
     ++ few_percent buckets
 part_text (kind.AllBuckets up_to number) =
     codes ": bucket " ++ sign_of up_to ++ codes " " ++ decimal number ++ codes " is all"
+part_text (kind.SharedArray first second) =
+    codes ": app[" ++ decimal first ++ codes "] and app[" ++ decimal second ++ codes "]"
 part_text k = []
 
--- what comes after the place, and after a test's part
+-- what comes after the place, and after a test's part or the apps
 unfoldable pub said_of : WarningKind → List ℕ
 said_of kind.UnprintedAppid = codes ".appid: it has a character that isn't printed"
 said_of kind.UnusedArray = codes ": no program uses it, and no rule"
+said_of (kind.SharedArray first second) =
+    codes " use it, so a mistake in one changes the counts and quotas of both"
 said_of kind.SameVersion = codes ".version: a later release has it, too"
 said_of kind.CodebaseSlash =
     codes ".codebase: no / ends it, and a client joins it with a package's name"
 said_of kind.CodebaseScheme = codes ".codebase: it begins with neither https:// nor http://"
+said_of kind.EmptyFile = codes ".package: one has the size 0"
+said_of kind.PackageName =
+    codes ".package: one has a name that is empty, begins with .. or has a blank"
 said_of (kind.FewBuckets up_to number buckets) =
     codes " of the bucket numbers: one percent is 100 of them"
 said_of (kind.AllBuckets up_to number) =
     codes " of the bucket numbers: one percent is 100 of them"
 said_of kind.TakeBeforeVersion =
     codes ": this take stands before the version, so it is done whatever the version is"
+said_of kind.NoCohort = codes ": a reply's cohort is b: and four digits"
+said_of kind.EarlyDay = codes ": this day is before 2026, as days are counted from 2007-01-01"
 said_of kind.NeverReached = codes ": this when is never reached"
 said_of kind.NeverHolds = codes ": this when never holds"
 said_of kind.NoBucket = codes ": no bucket gets it"

@@ -21,13 +21,15 @@
 // test is decided.
 //
 // A bucket test whose number is probably too small or too large is found by reading the rule,
-// without evaluating it (`parts.rt`). So is a take before the test of the version (`takes.rt`).
+// without evaluating it (`parts.rt`). So are an early day, a cohort that no reply has, and a take
+// before the test of the version (`takes.rt`).
 //
 // A warning is a place and a kind (`warning.rt`), so that a pipeline can allow some by name and
 // count the others. Its line is made of both (`warning_lines.rt`).
 //
 // Law (`laws.rt`): warnings on a rule are true for all clients. No run does what a warning denies,
-// and some run does what a warning says may happen. No law covers the warning on a take.
+// and some run does what a warning says may happen. No law covers the warnings on a take, a day or
+// a cohort.
 
 mod appid;
 mod budget;

@@ -1,12 +1,13 @@
 //! Warnings on single tests of a rule: bucket tests that hold for few of the 10,000 buckets or
-//! whose number is above that, and takes. These come from reading the rule, not from evaluating it.
+//! whose number is above that, early days, cohorts that no reply has, and takes. These come from
+//! reading the rule, not from evaluating it.
 
 ghost use Rattle.std.specs.Prelude.{◌≡◌, ◌++◌, OnOk};
 ghost use Rattle.warnings.specs.RuleWarnings as specs;
 
 use crate::takes::tell_takes;
 use crate::warning::{Warning, WarningKind, WarningPlace, warn_if};
-use attrs::Bucket;
+use attrs::{Attribute, Bucket, cohort_bucket};
 use rule_lang::{Comparison, Statement, Step, Test};
 use std::alloc::AllocError;
 
@@ -74,12 +75,53 @@ fn tell_test(
     }
 }
 
+fn is_early(day: u32) -> bool
+    ensures { result ≡ specs.is_early day }
+{
+    0 < day && day < 6940
+}
+
+fn is_no_cohort(text: &str) -> bool
+    ensures { result ≡ specs.is_no_cohort text.now }
+{
+    text.as_bytes().starts_with(b"b:") && !cohort_bucket(text).is_some()
+}
+
+// Warns of a day or a cohort that is probably wrong.
+fn tell_value(
+    warnings: &mut Vec<Warning>,
+    app: usize,
+    line: usize,
+    test: &Test,
+) -> Result<(), AllocError>
+    ensures { OnOk result
+        (warnings.new.items ≡ warnings.old.items ++ specs.value_warning app line test.now) }
+{
+    let place = WarningPlace::Line { app, line };
+    match test {
+        Test::Today { number, .. } => {
+            warn_if(warnings, is_early(*number), place, WarningKind::EarlyDay)
+        }
+        Test::Attr {
+            attribute: Attribute::Cohort,
+            text,
+        } => {
+            let wrong = is_no_cohort(text.as_str());
+            warn_if(warnings, wrong, place, WarningKind::NoCohort)
+        }
+        _ => Ok(()),
+    }
+}
+
 fn tell_step(warnings: &mut Vec<Warning>, app: usize, step: &Step) -> Result<(), AllocError>
     ensures { OnOk result
         (warnings.new.items ≡ warnings.old.items ++ specs.parts_of_step app step.now) }
 {
     match step {
-        Step::Test { line, test } => tell_test(warnings, app, *line, test),
+        Step::Test { line, test } => {
+            tell_test(warnings, app, *line, test)?;
+            tell_value(warnings, app, *line, test)
+        }
         _ => Ok(()),
     }
 }
@@ -97,7 +139,8 @@ fn tell_steps(warnings: &mut Vec<Warning>, app: usize, steps: &[Step]) -> Result
 }
 
 /// Warnings on the tests of a rule, `when` by `when`: on tests that hold for few buckets or whose
-/// number is above 10,000, and on takes before a test of the version.
+/// number is above 10,000, on days before 2026, on cohorts that begin with `b:` and aren't a
+/// reply's, and on takes before a test of the version.
 pub(crate) fn tell_parts_of_rule(
     warnings: &mut Vec<Warning>,
     app: usize,

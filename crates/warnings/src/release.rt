@@ -1,4 +1,4 @@
-//! Warnings on releases: on their versions and their codebases.
+//! Warnings on releases: on their versions, their codebases and their packages.
 
 ghost use Rattle.std.specs.Prelude.{◌≡◌, ◌++◌, OnOk};
 ghost use Rattle.std.specs.List.{list_any};
@@ -6,7 +6,7 @@ ghost use Rattle.warnings.specs.Releases as specs;
 
 use crate::warning::{Warning, WarningKind, WarningPlace, warn_if};
 use attrs::read_version;
-use releases::Release;
+use releases::{Package, Release};
 use std::alloc::AllocError;
 
 fn same_numbers(v: [u32; 4], w: [u32; 4]) -> bool
@@ -49,6 +49,45 @@ fn has_scheme(url: &[u8]) -> bool
     url.starts_with(b"https://") || url.starts_with(b"http://")
 }
 
+fn is_empty_file(file: &Package) -> bool
+    ensures { result ≡ specs.is_empty_file file.now }
+{
+    file.size() == 0
+}
+
+fn have_empty_file(packages: &[Package]) -> bool
+    ensures { result ≡ list_any specs.is_empty_file packages.now }
+{
+    let mut left = packages;
+    while let [package, rest @ ..] = left {
+        if is_empty_file(package) {
+            return true;
+        }
+        left = rest;
+    }
+    false
+}
+
+fn is_odd_name(name: &str) -> bool
+    ensures { result ≡ specs.is_odd_name name.now }
+{
+    let bytes = name.as_bytes();
+    bytes.is_empty() || bytes.starts_with(b"..") || bytes.contains(&b' ')
+}
+
+fn have_odd_name(packages: &[Package]) -> bool
+    ensures { result ≡ list_any specs.has_odd_name packages.now }
+{
+    let mut left = packages;
+    while let [package, rest @ ..] = left {
+        if is_odd_name(package.name()) {
+            return true;
+        }
+        left = rest;
+    }
+    false
+}
+
 // Warnings on a release; `later` are the releases after it.
 fn tell_release(
     warnings: &mut Vec<Warning>,
@@ -78,12 +117,17 @@ fn tell_release(
         !has_scheme(url),
         place,
         WarningKind::CodebaseScheme,
-    )
+    )?;
+    let empty = have_empty_file(release.packages());
+    warn_if(warnings, empty, place, WarningKind::EmptyFile)?;
+    let odd = have_odd_name(release.packages());
+    warn_if(warnings, odd, place, WarningKind::PackageName)
 }
 
-/// Warnings on the releases of an app: on a version that a later release also has, and on a
-/// codebase that doesn't end in `/`, or begins with neither `https://` nor `http://`. Apps and
-/// releases are numbered from 1.
+/// Warnings on the releases of an app: on a version that a later release also has, on a codebase
+/// that doesn't end in `/`, or begins with neither `https://` nor `http://`, and on packages of
+/// size 0, or with a name that is empty, begins with `..` or has a blank. Apps and releases are
+/// numbered from 1.
 // open: whether an allocation fails.
 pub fn tell_releases(
     warnings: &mut Vec<Warning>,

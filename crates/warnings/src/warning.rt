@@ -22,12 +22,21 @@ pub enum WarningKind {
     UnprintedAppid,
     /// No program or rule uses an array.
     UnusedArray,
+    /// Several apps use an array: the numbers of the first two.
+    SharedArray {
+        first: usize,
+        second: usize,
+    },
     /// A later release has the same version.
     SameVersion,
     /// A codebase doesn't end in `/`.
     CodebaseSlash,
     /// A codebase begins with neither `https://` nor `http://`.
     CodebaseScheme,
+    /// A package of a release has no bytes.
+    EmptyFile,
+    /// A package's name is empty, begins with `..` or has a blank.
+    PackageName,
     /// A test `bucket < number`, or `<=` it, holds for 1 to 99 of the 10,000 buckets.
     FewBuckets {
         up_to: bool,
@@ -41,6 +50,10 @@ pub enum WarningKind {
     },
     /// A take comes before the first test of the version in a `when`.
     TakeBeforeVersion,
+    /// A test compares the cohort with a text that begins with `b:` and isn't a reply's.
+    NoCohort,
+    /// A test compares the day of the request with a day before 2026.
+    EarlyDay,
     /// A `when` is never reached.
     NeverReached,
     /// A `when` never holds.

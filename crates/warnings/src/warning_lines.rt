@@ -17,12 +17,17 @@ impl WarningKind {
         match self {
             WarningKind::UnprintedAppid => "unprinted-appid",
             WarningKind::UnusedArray => "unused-array",
+            WarningKind::SharedArray { .. } => "shared-array",
             WarningKind::SameVersion => "same-version",
             WarningKind::CodebaseSlash => "codebase-slash",
             WarningKind::CodebaseScheme => "codebase-scheme",
+            WarningKind::EmptyFile => "empty-file",
+            WarningKind::PackageName => "package-name",
             WarningKind::FewBuckets { .. } => "few-buckets",
             WarningKind::AllBuckets { .. } => "all-buckets",
             WarningKind::TakeBeforeVersion => "take-before-version",
+            WarningKind::NoCohort => "no-cohort",
+            WarningKind::EarlyDay => "early-day",
             WarningKind::NeverReached => "never-reached",
             WarningKind::NeverHolds => "never-holds",
             WarningKind::NoBucket => "no-bucket",
@@ -39,6 +44,9 @@ impl WarningKind {
         match self {
             WarningKind::UnprintedAppid => ".appid: it has a character that isn't printed",
             WarningKind::UnusedArray => ": no program uses it, and no rule",
+            WarningKind::SharedArray { .. } => {
+                " use it, so a mistake in one changes the counts and quotas of both"
+            }
             WarningKind::SameVersion => ".version: a later release has it, too",
             WarningKind::CodebaseSlash => {
                 ".codebase: no / ends it, and a client joins it with a package's name"
@@ -46,11 +54,19 @@ impl WarningKind {
             WarningKind::CodebaseScheme => {
                 ".codebase: it begins with neither https:// nor http://"
             }
+            WarningKind::EmptyFile => ".package: one has the size 0",
+            WarningKind::PackageName => {
+                ".package: one has a name that is empty, begins with .. or has a blank"
+            }
             WarningKind::FewBuckets { .. } | WarningKind::AllBuckets { .. } => {
                 " of the bucket numbers: one percent is 100 of them"
             }
             WarningKind::TakeBeforeVersion => {
                 ": this take stands before the version, so it is done whatever the version is"
+            }
+            WarningKind::NoCohort => ": a reply's cohort is b: and four digits",
+            WarningKind::EarlyDay => {
+                ": this day is before 2026, as days are counted from 2007-01-01"
             }
             WarningKind::NeverReached => ": this when is never reached",
             WarningKind::NeverHolds => ": this when never holds",
@@ -93,7 +109,8 @@ fn sign_of(up_to: bool) -> &'static str
     if up_to { "<=" } else { "<" }
 }
 
-// A test of the bucket, and the part of the buckets for which it holds.
+// A test of the bucket, and the part of the buckets for which it holds; or the apps that share an
+// array.
 fn push_part(text: &mut String, kind: WarningKind) -> Result<(), AllocError>
     ensures { OnOk result (Puts text.old text.new (specs.part_text kind)) }
 {
@@ -114,6 +131,9 @@ fn push_part(text: &mut String, kind: WarningKind) -> Result<(), AllocError>
         WarningKind::AllBuckets { up_to, number } => {
             let sign = sign_of(up_to);
             write!(text, ": bucket {sign} {number} is all")
+        }
+        WarningKind::SharedArray { first, second } => {
+            write!(text, ": app[{first}] and app[{second}]")
         }
         _ => Ok(()),
     }

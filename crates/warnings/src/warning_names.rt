@@ -12,13 +12,18 @@ pub fn is_warning_name(text: &str) -> bool
 {
     match text {
         "unused-array" => true,
+        "shared-array" => true,
         "unprinted-appid" => true,
         "same-version" => true,
         "codebase-slash" => true,
         "codebase-scheme" => true,
+        "empty-file" => true,
+        "package-name" => true,
         "few-buckets" => true,
         "all-buckets" => true,
         "take-before-version" => true,
+        "no-cohort" => true,
+        "early-day" => true,
         "never-reached" => true,
         "never-holds" => true,
         "no-bucket" => true,

@@ -1,7 +1,7 @@
 use Rattle.std.proofs.Common.{arith}
-use Rattle.diagnosis.specs.Unused.{place_names}
+use Rattle.diagnosis.specs.ArrayWarnings.{place_names}
 use Rattle.diagnosis.proofs.Slots.{named, passed}
-use Rattle.diagnosis.proofs.unused.program_names.Goals as goal
+use Rattle.diagnosis.proofs.array_warnings.program_names.Goals as goal
 
 pub returns-then-place_names : goal.returns-then-place_names
 returns-then-place_names c =

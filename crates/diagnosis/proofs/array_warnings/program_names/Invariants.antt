@@ -1,7 +1,7 @@
 use Rattle.std.proofs.Common.{◌≡◌, ◌≤◌, ◌-◌, length, drop}
 use Rattle.std.specs.List.{list_any}
-use Rattle.diagnosis.specs.Unused.{place_names}
-use Rattle.diagnosis.proofs.unused.program_names.Given as goal
+use Rattle.diagnosis.specs.ArrayWarnings.{place_names}
+use Rattle.diagnosis.proofs.array_warnings.program_names.Given as goal
 
 -- the places that are left decide
 abbrev pub invariant-loop-slot : goal.invariant-loop-slot
