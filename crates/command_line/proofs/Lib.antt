@@ -1,3 +1,4 @@
+mod Aliased
 mod Built
 mod Found
 pub mod Reading

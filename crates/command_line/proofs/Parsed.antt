@@ -11,8 +11,9 @@ use Rattle.clap.specs.Words.{Text, App, HasMatchesOf, fault_of, is_simple, is_si
 use Rattle.clap.specs.Words.{kind_of, subcommand_of, subcommand_rows_of}
 use Rattle.command_line.specs.Faults.{AreFaulty, AskForHelp, IsFaultOf, IsHelp, IsWordsFault}
 use Rattle.command_line.specs.Faults.{IsWrong}
-use Rattle.command_line.specs.declared.fault.WordsFault.{WordsFault}
-use Rattle.command_line.specs.declared.fault.WordsFault.TheVariants.{Argument, Help, Memory, Usage}
+use Rattle.command_line.specs.declared.words_fault.WordsFault.{WordsFault}
+use Rattle.command_line.specs.declared.words_fault.WordsFault.TheVariants.{Argument, Help}
+use Rattle.command_line.specs.declared.words_fault.WordsFault.TheVariants.{Memory, Usage}
 
 pub rows_are : (a app : App) (words : List Text) (m : ArgMatches) → a ≡ app
     → is_simple_and_free app ≡ true → HasMatchesOf a words m

@@ -53,6 +53,12 @@ ranged name least most required defaults = record (option name) {
 abbrev pub limited : Text → NumberLimits → (required : Bool) → (defaults : List Text) → Rule
 limited name limits required defaults = ranged name limits.0 limits.1 required defaults
 
+-- `--operator P` or `--operator-port P`, the operator's port
+abbrev pub operator_port : (required : Bool) → Rule
+operator_port required = record (ranged (codes "operator") (pos 1) (pos 65535) required []) {
+  aliases = codes "operator-port" ∷ [];
+}
+
 -- an argument in clap's form
 abbrev pub rule_of_argument : CommandArgument → Rule
 rule_of_argument (argument.Word id help) = file id.now
@@ -64,6 +70,8 @@ rule_of_argument (argument.Number name value limits help) = limited name.now lim
 rule_of_argument (argument.OptionalNumber name value limits help) = limited name.now limits false []
 rule_of_argument (argument.NumberByDefault name value limits default help) =
     limited name.now limits false (default.now ∷ [])
+rule_of_argument (argument.Operator help) = operator_port true
+rule_of_argument (argument.OptionalOperator help) = operator_port false
 
 abbrev pub command : Text → List Rule → Shape
 command name arguments = record (new_shape name) { rules = arguments }
@@ -97,9 +105,13 @@ releases = required_number (codes "releases") 0 64
 abbrev pub arrays : Rule
 arrays = option (codes "arrays")
 
--- `--operator P`, the operator's port
+-- the operator's port, required
 abbrev pub operator : Rule
-operator = required_number (codes "operator") 1 65535
+operator = operator_port true
+
+-- `--verbose`
+abbrev pub verbose : Rule
+verbose = flag (codes "verbose")
 
 -- the options that describe an app
 abbrev pub app_options : List Rule

@@ -8,3 +8,4 @@ pub mod Runs
 pub mod Faults
 pub mod Requests
 pub mod Printed
+pub mod Verbose

@@ -1,12 +1,13 @@
 //! An argument or option of a command, and its form for clap.
 
-ghost use Rattle.std.specs.Prelude.{◌≡◌, ◌∷◌, [], false};
+ghost use Rattle.std.specs.Prelude.{◌≡◌, ◌∷◌, [], IfOk, false};
 ghost use Rattle.clap.specs.Words.{rule_of};
 ghost use Rattle.command_line.specs.Grammar as grammar;
 
+use crate::shared_arguments::PORTS;
 use clap::builder::ValueParser;
 use clap::{Arg, ArgAction};
-use std::alloc::Global;
+use std::alloc::{AllocError, Global};
 
 /// A positional argument or an option. The fields are its name; the name of its value, if an option
 /// takes one; a number's limits, and its default; and its text in `--help`.
@@ -27,6 +28,10 @@ pub enum CommandArgument {
     OptionalNumber(&'static str, &'static str, NumberLimits, &'static str),
     /// `--NAME N`, with a default.
     NumberByDefault(&'static str, &'static str, NumberLimits, &'static str, &'static str),
+    /// `--operator P` or `--operator-port P`, required: the operator's port.
+    Operator(&'static str),
+    /// `--operator P` or `--operator-port P`, optional.
+    OptionalOperator(&'static str),
 }
 
 /// The least and the greatest value of a number.
@@ -34,37 +39,31 @@ pub enum CommandArgument {
 pub struct NumberLimits(pub i64, pub i64);
 
 /// The argument in clap's form.
-pub fn arg_of<'a>(alloc: Global, argument: &CommandArgument) -> Arg<'a>
-    ensures rule { rule_of result ≡ grammar.rule_of_argument argument.now }
-    ensures local { result.global ≡ false }
+pub fn arg_of<'a>(alloc: Global, argument: &CommandArgument) -> Result<Arg<'a>, AllocError>
+    ensures rule { IfOk result (λ arg. rule_of arg ≡ grammar.rule_of_argument argument.now) }
+    ensures local { IfOk result (λ arg. arg.global ≡ false) }
 {
     match *argument {
-        CommandArgument::Word(id, help) => word(alloc, id, ArgAction::Set, help),
-        CommandArgument::Words(id, help) => word(alloc, id, ArgAction::Append, help),
-        CommandArgument::Flag(name, help) => flag(alloc, name, help),
-        CommandArgument::Text(name, value, help) => option(
-            alloc,
-            name,
-            value,
-            ArgAction::Set,
-            help,
-        ),
-        CommandArgument::Texts(name, value, help) => option(
-            alloc,
-            name,
-            value,
-            ArgAction::Append,
-            help,
-        ),
+        CommandArgument::Word(id, help) => Ok(word(alloc, id, ArgAction::Set, help)),
+        CommandArgument::Words(id, help) => Ok(word(alloc, id, ArgAction::Append, help)),
+        CommandArgument::Flag(name, help) => Ok(flag(alloc, name, help)),
+        CommandArgument::Text(name, value, help) => {
+            Ok(option(alloc, name, value, ArgAction::Set, help))
+        }
+        CommandArgument::Texts(name, value, help) => {
+            Ok(option(alloc, name, value, ArgAction::Append, help))
+        }
         CommandArgument::Number(name, value, limits, help) => {
-            number(alloc, name, value, limits, true, help)
+            Ok(number(alloc, name, value, limits, true, help))
         }
         CommandArgument::OptionalNumber(name, value, limits, help) => {
-            number(alloc, name, value, limits, false, help)
+            Ok(number(alloc, name, value, limits, false, help))
         }
         CommandArgument::NumberByDefault(name, value, limits, default, help) => {
-            number_by_default(alloc, name, value, limits, default, help)
+            Ok(number_by_default(alloc, name, value, limits, default, help))
         }
+        CommandArgument::Operator(help) => operator(alloc, true, help),
+        CommandArgument::OptionalOperator(help) => operator(alloc, false, help),
     }
 }
 
@@ -140,4 +139,12 @@ fn number_by_default<'a>(
         .default_value(default)
         .value_parser(ValueParser::Signed(limits.0, limits.1))
         .help(help)
+}
+
+// The operator's port of a server, by two names.
+fn operator<'a>(alloc: Global, required: bool, help: &'a str) -> Result<Arg<'a>, AllocError>
+    ensures rule { IfOk result (λ arg. rule_of arg ≡ grammar.operator_port required) }
+    ensures local { IfOk result (λ arg. arg.global ≡ false) }
+{
+    number(alloc, "operator", "P", PORTS, required, help).alias("operator-port")
 }

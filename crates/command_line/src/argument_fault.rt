@@ -23,61 +23,96 @@ pub enum ArgumentFault {
     Allow,
     Since,
     Until,
+    /// `--state` is given with a moment or a picture.
+    State,
     Cells,
+    /// A port among several.
+    Operator,
     Bucket,
     /// `--trace` of `run`, which is a command of its own now.
     Trace,
+    /// The words after `stage` aren't an action.
+    Stage,
+    Shell,
     Missing,
 }
+
+const ARRAYS: &str =
+    "'--arrays' wants name:width:length, or name:64:length:quota, joined by commas";
+
+const TODAY: &str =
+    "'--today' wants a day from 0 to 2919382, or a date from 2007-01-01 to 9999-12-31";
+
+const AT: &str = "'--at' wants a time by RFC 3339, as 2026-12-01T03:00:00Z, or a Unix second";
+
+const AT_AND_TODAY: &str = "'--at' and '--today' can't be given together";
+
+const INSTALLED: &str =
+    "'--installed' wants a day from 0 to 4294967294, or a date from 2007-01-01 on";
+
+const FROM: &str =
+    "'--from' wants a day from 0 to 2919382, or a date from 2007-01-01 to 9999-12-31";
+
+const ATTRIBUTES: &str =
+    "'--attr' wants NAME=TEXT: appid, brand, ap, lang, cohort or platform, each once";
+
+const ONE_CLIENT: &str = "'--attr' of a simulation takes no appid and no cohort: each app is \
+    simulated in each bucket";
+
+const OVERWRITTEN: &str =
+    "'--svg' names a manifest of the simulation, which the picture would overwrite";
+
+const AGAINST: &str = "'--fail-on-lost' wants '--against'";
+
+const ALLOW: &str =
+    "'--allow' wants the name of a warning, as 'check' prints it: codebase-slash, say";
+
+const SINCE: &str = "'--since' wants a time by RFC 3339, or how long ago, as 90s, 10m, 2h or 3d";
+
+const UNTIL: &str = "'--until' wants a time by RFC 3339, or how long ago, as 90s, 10m, 2h or 3d";
+
+const STATE: &str = "'--state' can't be given with '--since', '--until' or '--svg'";
+
+const CELLS: &str = "'--cells' wants NAME[INDEX]=VALUE, as early[0]=283";
+
+const OPERATOR: &str = "'--operator' wants a port from 1 to 65535";
+
+const BUCKET: &str = "'--bucket' can't be given with a cohort that names a bucket";
+
+const TRACE: &str = "'--trace' is a command of its own now: rollout trace IN ..";
+
+const STAGE: &str = "'stage' wants halt APPID, raise APPID BUCKETS (0 to 10000), back, \
+    put MANIFEST or status";
+
+const SHELL: &str = "'completion' wants bash, zsh, fish or man";
+
+const MISSING: &str = "a value that the command requires is missing, or out of its range";
 
 impl ArgumentFault {
     // What the argument requires, as it is printed.
     fn text(self) -> &'static str {
         match self {
-            ArgumentFault::Arrays => {
-                "'--arrays' wants name:width:length, or name:64:length:quota, joined by commas"
-            }
-            ArgumentFault::Today => {
-                "'--today' wants a day from 0 to 2919382, or a date from 2007-01-01 to 9999-12-31"
-            }
-            ArgumentFault::At => {
-                "'--at' wants a time by RFC 3339, as 2026-12-01T03:00:00Z, or a Unix second"
-            }
-            ArgumentFault::AtAndToday => "'--at' and '--today' can't be given together",
-            ArgumentFault::Installed => {
-                "'--installed' wants a day from 0 to 4294967294, or a date from 2007-01-01 on"
-            }
-            ArgumentFault::From => {
-                "'--from' wants a day from 0 to 2919382, or a date from 2007-01-01 to 9999-12-31"
-            }
-            ArgumentFault::Attributes => {
-                "'--attr' wants NAME=TEXT: appid, brand, ap, lang, cohort or platform, each once"
-            }
-            ArgumentFault::OneClient => {
-                "'--attr' of a simulation takes no appid and no cohort: each app is simulated in \
-                 each bucket"
-            }
-            ArgumentFault::Overwritten => {
-                "'--svg' names a manifest of the simulation, which the picture would overwrite"
-            }
-            ArgumentFault::Against => "'--fail-on-lost' wants '--against'",
-            ArgumentFault::Allow => {
-                "'--allow' wants the name of a warning, as 'check' prints it: codebase-slash, say"
-            }
-            ArgumentFault::Since => {
-                "'--since' wants a time by RFC 3339, or how long ago, as 90s, 10m, 2h or 3d"
-            }
-            ArgumentFault::Until => {
-                "'--until' wants a time by RFC 3339, or how long ago, as 90s, 10m, 2h or 3d"
-            }
-            ArgumentFault::Cells => "'--cells' wants NAME[INDEX]=VALUE, as early[0]=283",
-            ArgumentFault::Bucket => {
-                "'--bucket' can't be given with a cohort that names a bucket"
-            }
-            ArgumentFault::Trace => "'--trace' is a command of its own now: rollout trace IN ..",
-            ArgumentFault::Missing => {
-                "a value that the command requires is missing, or out of its range"
-            }
+            ArgumentFault::Arrays => ARRAYS,
+            ArgumentFault::Today => TODAY,
+            ArgumentFault::At => AT,
+            ArgumentFault::AtAndToday => AT_AND_TODAY,
+            ArgumentFault::Installed => INSTALLED,
+            ArgumentFault::From => FROM,
+            ArgumentFault::Attributes => ATTRIBUTES,
+            ArgumentFault::OneClient => ONE_CLIENT,
+            ArgumentFault::Overwritten => OVERWRITTEN,
+            ArgumentFault::Against => AGAINST,
+            ArgumentFault::Allow => ALLOW,
+            ArgumentFault::Since => SINCE,
+            ArgumentFault::Until => UNTIL,
+            ArgumentFault::State => STATE,
+            ArgumentFault::Cells => CELLS,
+            ArgumentFault::Operator => OPERATOR,
+            ArgumentFault::Bucket => BUCKET,
+            ArgumentFault::Trace => TRACE,
+            ArgumentFault::Stage => STAGE,
+            ArgumentFault::Shell => SHELL,
+            ArgumentFault::Missing => MISSING,
         }
     }
 }

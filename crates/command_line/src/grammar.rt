@@ -20,7 +20,8 @@ fn args_of<'a>(alloc: Global, arguments: &[CommandArgument]) -> Result<Vec<Arg<'
 {
     let mut args = Vec::new(alloc);
     for argument in arguments {
-        args.push(arg_of(alloc, argument))?;
+        let arg = arg_of(alloc, argument)?;
+        args.push(arg)?;
     }
     Ok(args)
 }

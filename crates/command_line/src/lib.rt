@@ -16,7 +16,6 @@ mod argument_fault;
 mod date;
 mod day;
 mod declared_shape;
-mod fault;
 mod grammar;
 mod help;
 mod matches;
@@ -26,22 +25,25 @@ mod second;
 mod shared_arguments;
 mod status;
 mod values;
+mod verbose;
+mod words_fault;
 
 pub use app_args::AppArgs;
 pub use app_options::read_app;
 pub use argument::{CommandArgument, NumberLimits};
 pub use argument_fault::{ArgsError, ArgumentFault};
 pub use declared_shape::DeclaredShape;
-pub use fault::WordsFault;
 pub use matches::read_matches;
 pub use row::{CommandRow, command_found};
 pub use run_args::{RunArgs, read_run};
 pub use second::{from_of, second_of};
 pub use shared_arguments::{
     ARRAYS, AT, ATTR, BUCKET, BYTES, EVENT, INSTALLED, MANIFEST, OPERATOR, PING, PORTS, PROGRAM,
-    RELEASES, TODAY, VERSION,
+    RELEASES, TODAY, VERBOSE, VERSION,
 };
 pub use status::{print_lines, print_output, print_refusal, refused, unreadable_words, usage};
 pub use values::{
     flag_of, is_text, number_of, optional_number, optional_text, shape_of, text_of, texts_of,
 };
+pub use verbose::is_verbose;
+pub use words_fault::WordsFault;

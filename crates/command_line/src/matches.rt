@@ -8,9 +8,9 @@ ghost use Rattle.clap.specs.Words.{subcommand_rows_of};
 ghost use Rattle.command_line.specs.Faults.{FitGrammar, IsWordsFault};
 ghost use Rattle.command_line.specs.Grammar.{app_of_rows};
 
-use crate::fault::WordsFault;
 use crate::grammar::grammar_of;
 use crate::row::CommandRow;
+use crate::words_fault::WordsFault;
 use clap::error::ErrorKind;
 use clap::{ArgMatches, Error};
 use printing::Printed;

@@ -32,16 +32,20 @@ pub const RELEASES: CommandArgument = CommandArgument::Number(
 pub const ARRAYS: CommandArgument = CommandArgument::Text(
     "arrays",
     "SPEC",
-    "Arrays that the program may use, numbered from 0 and joined by commas: \
+    "Arrays that the program may use, joined by commas: each is\n\
      name:width:length, or name:64:length:quota; none by default",
 );
 
 /// The operator's port.
-pub const OPERATOR: CommandArgument = CommandArgument::Number(
-    "operator",
-    "P",
-    PORTS,
+pub const OPERATOR: CommandArgument = CommandArgument::Operator(
     "Operator's port, on loopback, without a password: 1 to 65535",
+);
+
+/// Whether a refusal has a second line.
+pub const VERBOSE: CommandArgument = CommandArgument::Flag(
+    "verbose",
+    "On a refusal, print a second line: the path or port,\n\
+     and the system's reason",
 );
 
 /// The bucket of the app.
@@ -49,21 +53,24 @@ pub const BUCKET: CommandArgument = CommandArgument::OptionalNumber(
     "bucket",
     "N",
     NumberLimits(0, 9999),
-    "Bucket of the app, 0 to 9999; the one that its cohort names, or else 0 by default",
+    "Bucket of the app, 0 to 9999; by default that of its cohort,\n\
+     or else 0",
 );
 
 /// The version of the app.
 pub const VERSION: CommandArgument = CommandArgument::Text(
     "version",
     "T",
-    "Version of the app: one to four numbers joined by dots; absent by default",
+    "Version of the app: one to four numbers joined by dots;\n\
+     absent by default",
 );
 
 /// Its other attributes that are texts.
 pub const ATTR: CommandArgument = CommandArgument::Texts(
     "attr",
     "NAME=TEXT",
-    "Attribute of the app: appid, brand, ap, lang, cohort or platform, each once at most",
+    "Attribute of the app: appid, brand, ap, lang, cohort or platform,\n\
+     each once at most",
 );
 
 /// Whether its request has a ping.
@@ -76,19 +83,22 @@ pub const EVENT: CommandArgument = CommandArgument::Flag("event", "The app sends
 pub const TODAY: CommandArgument = CommandArgument::Text(
     "today",
     "DAY",
-    "Day from 2007-01-01 on, 0 to 2919382, or its date, as 2026-12-01; 0 by default",
+    "Day from 2007-01-01 on, 0 to 2919382, or its date,\n\
+     as 2026-12-01; 0 by default",
 );
 
 /// The moment of its request.
 pub const AT: CommandArgument = CommandArgument::Text(
     "at",
     "TIME",
-    "Moment instead of --today, as 2026-12-01T03:00:00Z, or a Unix second",
+    "Moment instead of --today, as 2026-12-01T03:00:00Z,\n\
+     or a Unix second",
 );
 
 /// The day of its installation.
 pub const INSTALLED: CommandArgument = CommandArgument::Text(
     "installed",
     "DAY",
-    "Day of the installation, 0 to 4294967294, or its date; unknown by default",
+    "Day of the installation, 0 to 4294967294, or its date;\n\
+     unknown by default",
 );

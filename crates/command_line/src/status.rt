@@ -6,7 +6,7 @@ ghost use Rattle.std.specs.Io.KnownBytes.{Appends};
 ghost use Rattle.command_line.specs.Faults.{IsHelp, IsWrong};
 ghost use Rattle.command_line.specs.Printed.{refused_line};
 
-use crate::fault::WordsFault;
+use crate::words_fault::WordsFault;
 use bounded_files::ResourceFault;
 use std::fmt::Display;
 use std::io::{self, ErrorKind, Write};

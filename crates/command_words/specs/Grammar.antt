@@ -1,9 +1,9 @@
 -- The commands of the program, with their arguments.
-use Rattle.std.specs.Prelude.{pos, List, [], ◌∷◌, false, codes}
+use Rattle.std.specs.Prelude.{pos, List, [], ◌∷◌, ◌++◌, false, codes}
 use Rattle.clap.specs.Words.{App, Rule, Text}
 use Rattle.command_line.specs.Grammar.{VerbRules, app_of_rules, app_options, arrays, bucket, file}
 use Rattle.command_line.specs.Grammar.{flag, input, manifest, names_of_rules, operator, ranged}
-use Rattle.command_line.specs.Grammar.{releases, required_number}
+use Rattle.command_line.specs.Grammar.{releases, required_number, verbose}
 use Rattle.command_words.specs.declared.verb.Verb.{Verb}
 use Rattle.command_words.specs.declared.verb.Verb.TheVariants as verb
 
@@ -11,8 +11,10 @@ use Rattle.command_words.specs.declared.verb.Verb.TheVariants as verb
 abbrev pub timeout : Rule
 timeout = ranged (codes "timeout") (pos 1) (pos 3600) false (codes "30" ∷ [])
 
+-- a command with these arguments and `--verbose`
 abbrev pub verb_rules : Text → Verb → List Rule → VerbRules Verb
-verb_rules name verb arguments = record { name = name; verb = verb; rules = arguments }
+verb_rules name verb arguments =
+    record { name = name; verb = verb; rules = arguments ++ verbose ∷ [] }
 
 -- all commands, in the order of their names
 abbrev pub verbs : List (VerbRules Verb)

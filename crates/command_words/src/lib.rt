@@ -16,4 +16,5 @@ mod verb;
 mod words;
 
 pub use request::{Command, Plan};
+pub use rows::command_rows;
 pub use words::read_words;

@@ -3,7 +3,7 @@
 use crate::verb::Verb;
 use command_line::{
     ARRAYS, AT, ATTR, BUCKET, BYTES, CommandArgument, CommandRow, EVENT, INSTALLED, PING, PROGRAM,
-    RELEASES, TODAY, VERSION,
+    RELEASES, TODAY, VERBOSE, VERSION,
 };
 
 /// The command `asm`.
@@ -11,8 +11,15 @@ pub const ASSEMBLE: CommandRow<Verb> = CommandRow {
     verb: Verb::Assemble,
     name: "asm",
     about: "Assemble a text into a program's bytes; prints `N slots`",
-    end: None,
-    arguments: &[CommandArgument::Word("IN", "File of assembly text"), BYTES],
+    end: Some(
+        "Example: rollout asm agent.bpf agent.bin\n\
+         See docs/PROGRAM.md, \"Assembly text\"",
+    ),
+    arguments: &[
+        CommandArgument::Word("IN", "File of assembly text"),
+        BYTES,
+        VERBOSE,
+    ],
 };
 
 /// The command `compile`.
@@ -20,12 +27,16 @@ pub const COMPILE: CommandRow<Verb> = CommandRow {
     verb: Verb::Compile,
     name: "compile",
     about: "Compile a rule into an accepted program's bytes; prints `N slots`",
-    end: None,
+    end: Some(
+        "Example: rollout compile agent.rule agent.bin --releases 2\n\
+         See docs/RULES.md",
+    ),
     arguments: &[
         CommandArgument::Word("IN", "File of the rule's text"),
         BYTES,
         RELEASES,
         ARRAYS,
+        VERBOSE,
     ],
 };
 
@@ -34,8 +45,11 @@ pub const LIST: CommandRow<Verb> = CommandRow {
     verb: Verb::List,
     name: "list",
     about: "List a program's instructions, one a line",
-    end: None,
-    arguments: &[PROGRAM],
+    end: Some(
+        "Example: rollout list agent.bin\n\
+         See docs/PROGRAM.md, \"Assembly text\"",
+    ),
+    arguments: &[PROGRAM, VERBOSE],
 };
 
 /// The command `run`.
@@ -43,7 +57,10 @@ pub const RUN: CommandRow<Verb> = CommandRow {
     verb: Verb::Run,
     name: "run",
     about: "Verify a program and run it for one app; prints `choice K after N instructions`",
-    end: None,
+    end: Some(
+        "Example: rollout run agent.bin --releases 2 --version 1.1.0 --bucket 42\n\
+         See docs/PROGRAM.md, \"Files and options\"",
+    ),
     arguments: &[
         PROGRAM,
         RELEASES,
@@ -57,6 +74,7 @@ pub const RUN: CommandRow<Verb> = CommandRow {
         TODAY,
         AT,
         INSTALLED,
+        VERBOSE,
     ],
 };
 
@@ -65,6 +83,9 @@ pub const VERIFY: CommandRow<Verb> = CommandRow {
     verb: Verb::Verify,
     name: "verify",
     about: "Verify a program; prints `accepted N slots`, or its refusal",
-    end: None,
-    arguments: &[PROGRAM, RELEASES, ARRAYS],
+    end: Some(
+        "Example: rollout verify agent.bin --releases 2\n\
+         See docs/C.md, \"What is refused\"",
+    ),
+    arguments: &[PROGRAM, RELEASES, ARRAYS, VERBOSE],
 };

@@ -14,7 +14,7 @@ static ROWS: [CommandRow<Verb>; 11] = [
     ASSEMBLE, CELLS, COMPILE, LIST, LOAD, REPLAY, RUN, SERVE, SHOW, STOP, VERIFY,
 ];
 
-/// The row of each command.
+/// The row of each command, in the order of their names.
 pub fn command_rows() -> &'static [CommandRow<Verb>]
     ensures grammar { app_of_rows result.now ≡ commands }
     ensures names { names_of result.now ≡ names }

@@ -1,15 +1,18 @@
 //! The commands that start a server or are sent to one, and `replay`.
 
 use crate::verb::Verb;
-use command_line::{CommandArgument, CommandRow, MANIFEST, NumberLimits, OPERATOR, PORTS};
+use command_line::{CommandArgument, CommandRow, MANIFEST, NumberLimits, OPERATOR, PORTS, VERBOSE};
 
 /// The command `cells`.
 pub const CELLS: CommandRow<Verb> = CommandRow {
     verb: Verb::Cells,
     name: "cells",
     about: "Show a server's counters that aren't 0; prints `NAME[I] V` for each",
-    end: None,
-    arguments: &[OPERATOR],
+    end: Some(
+        "Example: rollout cells --operator 8081\n\
+         See docs/OPERATING.md, \"Counters\"",
+    ),
+    arguments: &[OPERATOR, VERBOSE],
 };
 
 /// The command `load`.
@@ -17,13 +20,17 @@ pub const LOAD: CommandRow<Verb> = CommandRow {
     verb: Verb::Load,
     name: "load",
     about: "Let a server load a manifest; prints `generation G`, or its refusal",
-    end: None,
+    end: Some(
+        "Example: rollout load /etc/rollout/current.toml --operator 8081\n\
+         See docs/OPERATING.md, \"Putting a manifest in place\"",
+    ),
     arguments: &[
         CommandArgument::Word(
             "PATH",
             "Absolute path of the manifest, as the server sees it",
         ),
         OPERATOR,
+        VERBOSE,
     ],
 };
 
@@ -36,6 +43,7 @@ pub const REPLAY: CommandRow<Verb> = CommandRow {
     arguments: &[
         CommandArgument::Word("MANIFEST", "File of the first manifest"),
         CommandArgument::Word("SCRIPT", "File of the script"),
+        VERBOSE,
     ],
 };
 
@@ -44,7 +52,10 @@ pub const SERVE: CommandRow<Verb> = CommandRow {
     verb: Verb::Serve,
     name: "serve",
     about: "Serve a manifest's ruleset until the operator stops it; prints `serving generation 1`",
-    end: None,
+    end: Some(
+        "Example: rollout serve m.toml --port 8080 --operator 8081 --workers 4 --log\n\
+         See docs/OPERATING.md, \"Starting\"",
+    ),
     arguments: &[
         MANIFEST,
         CommandArgument::Number(
@@ -69,9 +80,10 @@ pub const SERVE: CommandRow<Verb> = CommandRow {
         ),
         CommandArgument::Flag(
             "log",
-            "Write the log to standard error: a line of JSON for each connection, start, load, \
-             stop and counter",
+            "Write the log to standard error: a line of JSON for each\n\
+             connection, start, load, stop and counter",
         ),
+        VERBOSE,
     ],
 };
 
@@ -80,8 +92,11 @@ pub const SHOW: CommandRow<Verb> = CommandRow {
     verb: Verb::Show,
     name: "show",
     about: "Show a server's generation and its apps",
-    end: None,
-    arguments: &[OPERATOR],
+    end: Some(
+        "Example: rollout show --operator 8081\n\
+         See docs/OPERATING.md, \"What is being served\"",
+    ),
+    arguments: &[OPERATOR, VERBOSE],
 };
 
 /// The command `stop`.
@@ -89,10 +104,14 @@ pub const STOP: CommandRow<Verb> = CommandRow {
     verb: Verb::Stop,
     name: "stop",
     about: "End a server; prints `stopping`",
-    end: None,
+    end: Some(
+        "Example: rollout stop --operator 8081 --wait\n\
+         See docs/OPERATING.md, \"Stopping\"",
+    ),
     arguments: &[
         OPERATOR,
         CommandArgument::Flag("wait", "Wait until the server has ended"),
+        VERBOSE,
     ],
 };
 

@@ -4,12 +4,14 @@ use Rattle.clap.specs.Words.{Row}
 use Rattle.command_line.specs.Runs.{LacksRun}
 use Rattle.tool_words.specs.AskWords.{LacksAsk}
 use Rattle.tool_words.specs.CheckWords.{LacksCheck}
+use Rattle.tool_words.specs.CompletionWords.{LacksShell}
 use Rattle.tool_words.specs.DiffWords.{LacksDiff}
 use Rattle.tool_words.specs.ReportWords.{LacksReport}
 use Rattle.tool_words.specs.SimulateWords.{LacksSimulate}
+use Rattle.tool_words.specs.StageWords.{LacksStage}
 use Rattle.tool_words.specs.Words.{VerbMakesNone}
 use Rattle.tool_words.specs.declared.args.ToolCommand.TheVariants as command
-use Rattle.tool_words.specs.declared.rows.ToolVerb.TheVariants as verb
+use Rattle.tool_words.specs.declared.verb.ToolVerb.TheVariants as verb
 
 pub asks_none : (rows : List Row) → LacksAsk rows → VerbMakesNone verb.Ask rows
 asks_none rows lacks (command.Ask args) makes = lacks args makes
@@ -18,6 +20,10 @@ asks_none rows lacks command makes = makes
 pub checks_none : (rows : List Row) → LacksCheck rows → VerbMakesNone verb.Check rows
 checks_none rows lacks (command.Check args) makes = lacks args makes
 checks_none rows lacks command makes = makes
+
+pub completes_none : (rows : List Row) → LacksShell rows → VerbMakesNone verb.Completion rows
+completes_none rows lacks (command.Completion shell) makes = lacks shell makes
+completes_none rows lacks command makes = makes
 
 pub diffs_none : (rows : List Row) → LacksDiff rows → VerbMakesNone verb.Diff rows
 diffs_none rows lacks (command.Diff args) makes = lacks args makes
@@ -30,6 +36,10 @@ reports_none rows lacks command makes = makes
 pub simulates_none : (rows : List Row) → LacksSimulate rows → VerbMakesNone verb.Simulate rows
 simulates_none rows lacks (command.Simulate args) makes = lacks args makes
 simulates_none rows lacks command makes = makes
+
+pub stages_none : (rows : List Row) → LacksStage rows → VerbMakesNone verb.Stage rows
+stages_none rows lacks (command.Stage args) makes = lacks args makes
+stages_none rows lacks command makes = makes
 
 pub traces_none : (rows : List Row) → LacksRun rows → VerbMakesNone verb.Trace rows
 traces_none rows lacks (command.Trace run) makes = lacks run makes

@@ -9,7 +9,7 @@ use Rattle.tool_words.specs.declared.args.AskArgs.{AskArgs}
 
 -- ---- the counters
 
-abbrev pub joined : Option Assignment → Option (List Assignment) → Option (List Assignment)
+abbrev pub joined : {A : Type 0} → Option A → Option (List A) → Option (List A)
 joined first rest = option_and_then (λ c. option_map (λ cs. c ∷ cs) rest) first
 
 -- the cells that all texts give, each NAME[INDEX]=VALUE

@@ -1,8 +1,10 @@
 pub mod Tools
 pub mod AskWords
 pub mod CheckWords
+pub mod CompletionWords
 pub mod DiffWords
 pub mod ReportWords
 pub mod SimulateWords
+pub mod StageWords
 pub mod Words
 pub mod Requests

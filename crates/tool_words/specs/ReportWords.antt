@@ -1,5 +1,6 @@
 -- The arguments of `report`.
-use Rattle.std.specs.Prelude.{◌≡◌, List, Option, Some, None, codes, map, option_copied}
+use Rattle.std.specs.Prelude.{◌≡◌, ◌⊎◌, List, Option, Some, None, codes, map, option_copied}
+use Rattle.std.specs.Prelude.{IsSome}
 use Rattle.clap.specs.Words.{Row, Text, first_of}
 use Rattle.command_line.specs.Values.{HasFlag, texts_of}
 use Rattle.moments.specs.Moments.{Names, NamesNone}
@@ -16,13 +17,22 @@ abbrev pub LacksNamedTime : Option Text → Type 0
 LacksNamedTime None = ⊥
 LacksNamedTime (Some text) = NamesNone text
 
--- a report on logs, from one moment on and before another
+-- `--state` with a moment or a picture
+abbrev pub MixesState : List Row → Type 0
+MixesState rows = IsSome (first_of (codes "state") rows)
+    × (IsSome (first_of (codes "since") rows) ⊎ IsSome (first_of (codes "until") rows)
+    ⊎ IsSome (first_of (codes "svg") rows))
+
+-- a report on logs, from one moment on and before another, or from the counts so far
 pub record HasReport (rows : List Row) (args : ReportArgs) : Type 0 where
   pub logs : map (λ log. log.now) args.logs.items ≡ texts_of (codes "LOG") rows
   pub since : IsNamedTime (first_of (codes "since") rows) args.since
   pub until : IsNamedTime (first_of (codes "until") rows) args.until
   pub prometheus : HasFlag (codes "prometheus") rows args.prometheus
   pub picture : option_copied args.picture ≡ first_of (codes "svg") rows
+  pub state : option_copied args.state ≡ first_of (codes "state") rows
+  pub heads : HasFlag (codes "heads") rows args.heads
+  pub unmixed : ¬ MixesState rows
 
 abbrev pub LacksReport : List Row → Type 0
 LacksReport rows = (args : ReportArgs) → ¬ HasReport rows args

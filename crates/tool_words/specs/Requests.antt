@@ -3,7 +3,7 @@ use Rattle.std.specs.Prelude.{List}
 use Rattle.clap.specs.Words.{Text}
 use Rattle.command_line.specs.Faults as line
 use Rattle.command_line.specs.Requests as request
-use Rattle.command_line.specs.declared.fault.WordsFault.{WordsFault}
+use Rattle.command_line.specs.declared.words_fault.WordsFault.{WordsFault}
 use Rattle.tool_words.specs.Tools.{names, tools}
 use Rattle.tool_words.specs.Words.{VerbMakes}
 use Rattle.tool_words.specs.declared.args.ToolCommand.{ToolCommand}

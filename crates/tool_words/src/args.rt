@@ -1,9 +1,9 @@
 //! The commands of `rollout-tools`, with their arguments.
 
 use attrs::Moment;
+use cell_assignments::CellAssignment;
 use command_line::{AppArgs, DeclaredShape, RunArgs};
 use moments::NamedTime;
-use cell_assignments::CellAssignment;
 
 /// The arguments of `check`: manifests. With `strict`, each warning counts unless its name is among
 /// the allowed ones.
@@ -61,6 +61,51 @@ pub struct ReportArgs<'a> {
     pub prometheus: bool,
     /// The file for a chart of the logs over time.
     pub picture: Option<&'a str>,
+    /// The file of the counts so far, which the report continues. Not with a moment or a chart.
+    pub state: Option<&'a str>,
+    /// Whether each group of lines has a head line.
+    pub heads: bool,
+}
+
+/// What `stage` does with the folder of a server's files. `buckets` is at most 10000.
+#[derive(Drop)]
+pub enum StageAction<'a> {
+    /// Replace the app's rule or program by one that offers no release.
+    Halt { appid: &'a str },
+    /// Raise the number of buckets that the app's rule lets in.
+    Raise { appid: &'a str, buckets: u32 },
+    /// Undo the last step.
+    Back,
+    /// Put a manifest, and the files that it names, in place.
+    Put { manifest: &'a str },
+    /// Print the steps, and what is in force.
+    Status,
+}
+
+/// The arguments of `stage`: what to do, the operator's ports of the servers that load the result,
+/// and the folder of their files. The ports are in the order of the words, and may be none.
+#[derive(Drop)]
+pub struct StageArgs<'a> {
+    pub action: StageAction<'a>,
+    pub operators: Vec<u16>,
+    pub folder: &'a str,
+    /// The log of a server, for `status`.
+    pub log: Option<&'a str>,
+    /// Whether no server loads the result.
+    pub no_load: bool,
+    /// Whether the command only prints what it would do.
+    pub dry_run: bool,
+    /// Whether it also does what it would refuse for its consequences.
+    pub anyway: bool,
+}
+
+/// What `completion` prints: a shell's completions, or the page of the manual.
+#[derive(Clone, Copy)]
+pub enum Shell {
+    Bash,
+    Zsh,
+    Fish,
+    Man,
 }
 
 /// The arguments of `ask`: a manifest and the file of a request's body, at a given moment or the
@@ -83,6 +128,8 @@ pub enum ToolCommand<'a> {
     Ask(AskArgs<'a>),
     /// Print where and why manifests are refused, or what they declare.
     Check(CheckArgs<'a>),
+    /// Print a shell's completions, or the page of the manual.
+    Completion { shell: Shell },
     /// Print for whom a manifest changes what another one gives.
     Diff(DiffArgs<'a>),
     /// List a file's program, with what is known before each instruction.
@@ -93,6 +140,8 @@ pub enum ToolCommand<'a> {
     Report(ReportArgs<'a>),
     /// Print what the clients in all buckets get from a manifest.
     Simulate(SimulateArgs<'a>),
+    /// Change what a folder's servers serve, or print the steps so far.
+    Stage(StageArgs<'a>),
     /// Verify a file's program, run it, and print each step of the run.
     Trace(RunArgs<'a>),
 }

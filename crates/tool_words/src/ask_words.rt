@@ -7,13 +7,13 @@ ghost use Rattle.tool_words.specs.AskWords as specs;
 ghost use Rattle.tool_words.specs.Words.{VerbMakes, VerbMakesNone};
 
 use crate::args::{AskArgs, ToolCommand};
-use crate::rows::ToolVerb;
+use crate::verb::ToolVerb;
+use cell_assignments::CellAssignment;
 use clap::ArgMatches;
 use command_line::{
     ArgsError, ArgumentFault, flag_of, optional_number, second_of, text_of, texts_of,
 };
 use std::alloc::Global;
-use cell_assignments::CellAssignment;
 
 /// The command of `ask`.
 pub(crate) fn read_ask<'a>(

@@ -9,7 +9,7 @@ ghost use Rattle.tool_words.specs.Words.{VerbMakes, VerbMakesNone};
 ghost use Rattle.warnings.specs.Names.{is_warning_name};
 
 use crate::args::{CheckArgs, ToolCommand};
-use crate::rows::ToolVerb;
+use crate::verb::ToolVerb;
 use clap::ArgMatches;
 use command_line::{ArgsError, ArgumentFault, flag_of, texts_of};
 use std::alloc::Global;

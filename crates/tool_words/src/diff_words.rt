@@ -8,7 +8,7 @@ ghost use Rattle.tool_words.specs.Words.{VerbMakes, VerbMakesNone};
 
 use crate::args::{DiffArgs, ToolCommand};
 use crate::ask_words::cells_of;
-use crate::rows::ToolVerb;
+use crate::verb::ToolVerb;
 use clap::ArgMatches;
 use command_line::{ArgsError, flag_of, from_of, optional_number, optional_text, text_of};
 use std::alloc::Global;

@@ -3,21 +3,29 @@
 //! See docs/PROGRAM.md, "Status".
 #![tactic(auto)]
 
-// How words are read. `tool_rows` is the table of the eight commands, by which `command_line` has
+// How words are read. `tool_rows` is the table of the ten commands, by which `command_line` has
 // `clap` parse the words, or find their first fault. Of the texts that it finds, `words` makes a
-// command. It reads the texts of `--allow`, `--cells`, `--since` and `--until`, which the grammar
-// doesn't check, and has `command_line` read those of moments and days, and those that `rollout`
-// also has.
+// command. It reads the texts of `--allow`, `--cells`, `--since` and `--until`, those of `stage`, and
+// a shell's name, which the grammar doesn't check. It has `command_line` read those of moments and
+// days, and those that `rollout` also has.
 
 mod args;
 mod ask_words;
 mod check_words;
+mod completion_words;
 mod diff_words;
+mod manifest_rows;
 mod program_words;
 mod report_words;
 mod rows;
 mod simulate_words;
+mod stage_words;
+mod verb;
 mod words;
 
-pub use args::{AskArgs, CheckArgs, DiffArgs, ReportArgs, SimulateArgs, ToolCommand};
+pub use args::{
+    AskArgs, CheckArgs, DiffArgs, ReportArgs, Shell, SimulateArgs, StageAction, StageArgs,
+    ToolCommand,
+};
+pub use rows::tool_rows;
 pub use words::read_tool_words;

@@ -6,7 +6,7 @@ ghost use Rattle.command_line.specs.Values.{OnWrong};
 ghost use Rattle.tool_words.specs.Words.{VerbMakes, VerbMakesNone};
 
 use crate::args::ToolCommand;
-use crate::rows::ToolVerb;
+use crate::verb::ToolVerb;
 use clap::ArgMatches;
 use command_line::{ArgsError, read_run, shape_of, text_of};
 use std::alloc::Global;

@@ -1,14 +1,15 @@
 //! The arguments of `report`.
 
-ghost use Rattle.std.specs.Prelude.{IfOk, OnErr};
+ghost use Rattle.std.specs.Prelude.{◌↔◌, IfOk, IsSome, IsTrue, OnErr};
 ghost use Rattle.std.specs.Option.{option_copied};
 ghost use Rattle.clap.specs.Words.{first_of, found_of, rows_of};
 ghost use Rattle.command_line.specs.Values.{OnWrong};
-ghost use Rattle.tool_words.specs.ReportWords.{HasReport, IsNamedTime, LacksNamedTime, LacksReport};
+ghost use Rattle.tool_words.specs.ReportWords.{HasReport, IsNamedTime, LacksNamedTime};
+ghost use Rattle.tool_words.specs.ReportWords.{LacksReport, MixesState};
 ghost use Rattle.tool_words.specs.Words.{VerbMakes, VerbMakesNone};
 
 use crate::args::{ReportArgs, ToolCommand};
-use crate::rows::ToolVerb;
+use crate::verb::ToolVerb;
 use clap::ArgMatches;
 use command_line::{ArgsError, ArgumentFault, flag_of, optional_text, texts_of};
 use moments::{NamedTime, moment_in};
@@ -34,6 +35,9 @@ fn report_args<'a>(alloc: Global, found: &ArgMatches<'a>) -> Result<ReportArgs<'
 {
     let since = moment_of(found, "since", ArgumentFault::Since)?;
     let until = moment_of(found, "until", ArgumentFault::Until)?;
+    if mixes_state(found) {
+        return Err(ArgsError::Wrong(ArgumentFault::State));
+    }
     let Ok(logs) = texts_of(alloc, found, "LOG") else {
         return Err(ArgsError::Memory);
     };
@@ -43,7 +47,23 @@ fn report_args<'a>(alloc: Global, found: &ArgMatches<'a>) -> Result<ReportArgs<'
         until,
         prometheus: flag_of(found, "prometheus"),
         picture: optional_text(found, "svg"),
+        state: optional_text(found, "state"),
+        heads: flag_of(found, "heads"),
     })
+}
+
+// Whether `--state` is given with a moment or a picture.
+fn mixes_state(found: &ArgMatches<'_>) -> bool
+    ensures { IsTrue result ↔ MixesState (rows_of (found_of found.now)) }
+{
+    has_value(found, "state")
+        && (has_value(found, "since") || has_value(found, "until") || has_value(found, "svg"))
+}
+
+fn has_value(found: &ArgMatches<'_>, id: &str) -> bool
+    ensures { IsTrue result ↔ IsSome (first_of id.now (rows_of (found_of found.now))) }
+{
+    optional_text(found, id).is_some()
 }
 
 // The moment of an option, if given; or this fault.

@@ -8,7 +8,7 @@ ghost use Rattle.tool_words.specs.SimulateWords as specs;
 ghost use Rattle.tool_words.specs.Words.{VerbMakes, VerbMakesNone};
 
 use crate::args::{SimulateArgs, ToolCommand};
-use crate::rows::ToolVerb;
+use crate::verb::ToolVerb;
 use clap::ArgMatches;
 use command_line::{
     AppArgs, ArgsError, ArgumentFault, flag_of, is_text, optional_text, read_app, text_of,

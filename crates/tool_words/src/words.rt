@@ -12,11 +12,14 @@ ghost use Rattle.tool_words.specs.Words.{VerbMakes, VerbMakesNone};
 use crate::args::ToolCommand;
 use crate::ask_words::read_ask;
 use crate::check_words::read_check;
+use crate::completion_words::read_completion;
 use crate::diff_words::read_diff;
 use crate::program_words::{read_explain, read_order, read_trace};
 use crate::report_words::read_report;
-use crate::rows::{ToolVerb, tool_rows};
+use crate::rows::tool_rows;
 use crate::simulate_words::read_simulate;
+use crate::stage_words::read_stage;
+use crate::verb::ToolVerb;
 use clap::ArgMatches;
 use command_line::{ArgsError, ArgumentFault, WordsFault, command_found, read_matches};
 use std::alloc::Global;
@@ -68,11 +71,13 @@ fn command_with<'a>(
     match verb {
         ToolVerb::Ask => read_ask(alloc, found),
         ToolVerb::Check => read_check(alloc, found),
+        ToolVerb::Completion => read_completion(found),
         ToolVerb::Diff => read_diff(alloc, found),
         ToolVerb::Explain => read_explain(alloc, found),
         ToolVerb::Order => read_order(found),
         ToolVerb::Report => read_report(alloc, found),
         ToolVerb::Simulate => read_simulate(found),
+        ToolVerb::Stage => read_stage(alloc, found),
         ToolVerb::Trace => read_trace(alloc, found),
     }
 }

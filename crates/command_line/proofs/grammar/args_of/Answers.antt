@@ -7,10 +7,10 @@ use Rattle.command_line.proofs.grammar.args_of.Goals as goal
 pub loop-argument-preserved : goal.loop-argument-preserved
 loop-argument-preserved c = record {
   rules = one_more_alike rule_of rule_of_argument c.loop-argument.args.items _
-      c.arg_of.result c.args.arguments.now c.loop-argument.argument-index _
+      c.in_ok-arg.arg c.args.arguments.now c.loop-argument.argument-index _
       c.loop-argument-test.true c.loop-argument.invariant.rules
-      c.arg_of.ensures.rule c.in_ok-push.ensures.items;
+      c.in_ok-arg.ensures.rule c.in_ok-push.ensures.items;
   local = one_more_holds (λ a. a.global ≡ false) c.loop-argument.args.items
-      _ c.arg_of.result c.loop-argument.invariant.local
-      c.arg_of.ensures.local c.in_ok-push.ensures.items;
+      _ c.in_ok-arg.arg c.loop-argument.invariant.local
+      c.in_ok-arg.ensures.local c.in_ok-push.ensures.items;
 }

@@ -5,7 +5,7 @@ use Rattle.command_line.specs.Grammar.{verb_of}
 use Rattle.command_line.specs.Requests.{FoundMakes, FoundMakesNone}
 use Rattle.tool_words.specs.Tools.{names}
 use Rattle.tool_words.specs.Words.{VerbMakes}
-use Rattle.tool_words.specs.declared.rows.ToolVerb.{ToolVerb}
+use Rattle.tool_words.specs.declared.verb.ToolVerb.{ToolVerb}
 use Rattle.tool_words.proofs.words.command_of.Goals as goal
 
 pub returns-in-Some-clause-made : goal.returns-in-Some-clause-made

@@ -1,0 +1,165 @@
+//! The arguments of `stage`.
+
+ghost use Rattle.std.specs.Prelude.{◌≡◌, ◌∷◌, [], IfNone, IfOk, IfSome, None, Some, codes, map};
+ghost use Rattle.std.specs.Prelude.{unwrap_or};
+ghost use Rattle.clap.specs.Words.{first_of, found_of, rows_of};
+ghost use Rattle.command_line.specs.Values.{OnWrong, texts_of as all_texts};
+ghost use Rattle.tool_words.specs.StageWords as specs;
+ghost use Rattle.tool_words.specs.Words.{VerbMakes, VerbMakesNone};
+
+use crate::args::{StageAction, StageArgs, ToolCommand};
+use crate::verb::ToolVerb;
+use clap::ArgMatches;
+use command_line::{ArgsError, ArgumentFault, flag_of, optional_text, texts_of};
+use lexing::decimal_within;
+use std::alloc::Global;
+
+/// The command of `stage`.
+pub(crate) fn read_stage<'a>(
+    alloc: Global,
+    found: &ArgMatches<'a>,
+) -> Result<ToolCommand<'a>, ArgsError>
+    ensures made { IfOk result (VerbMakes ToolVerb.Stage (rows_of (found_of found.now))) }
+    ensures none { OnWrong result (VerbMakesNone ToolVerb.Stage (rows_of (found_of found.now))) }
+{
+    match stage_args(alloc, found) {
+        Ok(args) => Ok(ToolCommand::Stage(args)),
+        Err(error) => Err(error),
+    }
+}
+
+fn stage_args<'a>(alloc: Global, found: &ArgMatches<'a>) -> Result<StageArgs<'a>, ArgsError>
+    ensures given { IfOk result (specs.HasStage (rows_of (found_of found.now))) }
+    ensures lacking { OnWrong result (specs.LacksStage (rows_of (found_of found.now))) }
+{
+    let action = action_of(alloc, found)?;
+    let operators = ports_of(alloc, found)?;
+    Ok(StageArgs {
+        action,
+        operators,
+        folder: folder_of(found),
+        log: optional_text(found, "log"),
+        no_load: flag_of(found, "no-load"),
+        dry_run: flag_of(found, "dry-run"),
+        anyway: flag_of(found, "anyway"),
+    })
+}
+
+fn folder_of<'a>(found: &ArgMatches<'a>) -> &'a str
+    ensures { result.now ≡ unwrap_or
+        (first_of (codes "folder") (rows_of (found_of found.now))) (codes "/etc/rollout") }
+{
+    match optional_text(found, "folder") {
+        Some(folder) => folder,
+        None => "/etc/rollout",
+    }
+}
+
+// ---- the action
+
+fn action_of<'a>(alloc: Global, found: &ArgMatches<'a>) -> Result<StageAction<'a>, ArgsError>
+    ensures given { IfOk result
+        (specs.Spell (all_texts (codes "ACTION") (rows_of (found_of found.now)))) }
+    ensures lacking { OnWrong result
+        (specs.SpellNone (all_texts (codes "ACTION") (rows_of (found_of found.now)))) }
+{
+    let Ok(words) = texts_of(alloc, found, "ACTION") else {
+        return Err(ArgsError::Memory);
+    };
+    match action_in(words.as_slice()) {
+        Some(action) => Ok(action),
+        None => Err(ArgsError::Wrong(ArgumentFault::Stage)),
+    }
+}
+
+fn action_in<'a>(words: &[&'a str]) -> Option<StageAction<'a>>
+    ensures given { IfSome result (specs.Spell (map (λ word. word.now) words.now)) }
+    ensures lacking { IfNone result (specs.SpellNone (map (λ word. word.now) words.now)) }
+{
+    match words {
+        [word] => bare_action(word),
+        [word, object] => action_on(word, object),
+        [word, appid, number] => raise(word, appid, number),
+        _ => None,
+    }
+}
+
+fn bare_action<'a>(word: &str) -> Option<StageAction<'a>>
+    ensures given { IfSome result (specs.Spell (word.now ∷ [])) }
+    ensures lacking { IfNone result (specs.SpellNone (word.now ∷ [])) }
+{
+    match word {
+        "back" => Some(StageAction::Back),
+        "status" => Some(StageAction::Status),
+        _ => None,
+    }
+}
+
+fn action_on<'a>(word: &str, object: &'a str) -> Option<StageAction<'a>>
+    ensures given { IfSome result (specs.Spell (word.now ∷ object.now ∷ [])) }
+    ensures lacking { IfNone result (specs.SpellNone (word.now ∷ object.now ∷ [])) }
+{
+    match word {
+        "halt" => Some(StageAction::Halt { appid: object }),
+        "put" => Some(StageAction::Put { manifest: object }),
+        _ => None,
+    }
+}
+
+fn raise<'a>(word: &str, appid: &'a str, number: &str) -> Option<StageAction<'a>>
+    ensures given { IfSome result (specs.Spell (word.now ∷ appid.now ∷ number.now ∷ [])) }
+    ensures lacking { IfNone result
+        (specs.SpellNone (word.now ∷ appid.now ∷ number.now ∷ [])) }
+{
+    if word != "raise" {
+        return None;
+    }
+    match decimal_within(number, 0, 10000) {
+        Some(buckets) => Some(StageAction::Raise {
+            appid,
+            buckets: buckets as u32,
+        }),
+        None => None,
+    }
+}
+
+// ---- the servers
+
+fn ports_of(alloc: Global, found: &ArgMatches<'_>) -> Result<Vec<u16>, ArgsError>
+    ensures given { IfOk result (λ ports.
+        specs.ports_in (all_texts (codes "operator") (rows_of (found_of found.now)))
+        ≡ Some ports.items) }
+    ensures lacking { OnWrong result
+        (specs.ports_in (all_texts (codes "operator") (rows_of (found_of found.now))) ≡ None) }
+{
+    let Ok(texts) = texts_of(alloc, found, "operator") else {
+        return Err(ArgsError::Memory);
+    };
+    ports_in(alloc, texts.as_slice())
+}
+
+fn ports_in(alloc: Global, given: &[&str]) -> Result<Vec<u16>, ArgsError>
+    ensures given { IfOk result (λ ports.
+        specs.ports_in (map (λ text. text.now) given.now) ≡ Some ports.items) }
+    ensures lacking { OnWrong result (specs.ports_in (map (λ text. text.now) given.now) ≡ None) }
+{
+    let mut ports = Vec::new(alloc);
+    let mut rest = given;
+    while let [text, more @ ..] = rest {
+        let Some(port) = port_in(text) else {
+            return Err(ArgsError::Wrong(ArgumentFault::Operator));
+        };
+        match ports.push(port) {
+            Ok(()) => rest = more,
+            Err(_) => return Err(ArgsError::Memory),
+        }
+    }
+    Ok(ports)
+}
+
+fn port_in(text: &str) -> Option<u16>
+    ensures { result ≡ specs.port_in text.now }
+{
+    let port = decimal_within(text, 1, 65535)?;
+    Some(port as u16)
+}
