@@ -1,11 +1,12 @@
 -- The lines of one more log are counted.
 use Rattle.std.proofs.Common.{◌≡◌, ◌∙◌, refl, sym, subst, ℕ, ◌+◌, List, [], ◌∷◌, ◌++◌}
-use Rattle.std.proofs.Common.{append_assoc, append-nil, length, flat_map, Option, arith}
+use Rattle.std.proofs.Common.{append_assoc, append-nil, flat_map, Option, arith}
 use Rattle.std.proofs.Common.{Bool, is_some, string_bytes}
 use Rattle.std.proofs.lemmas.Grind.{flat_map-append}
 use Rattle.std.proofs.lemmas.List.{length-append}
 use Rattle.std.proofs.lemmas.List.Concat.{flat_map-cons}
-use Rattle.log_tools.specs.Reports.{CountsLogs, HasReported, text_by}
+use Rattle.log_tools.specs.Reports.{CountsLogs, HasReported, kind_of, text_by}
+use Rattle.log_tools.specs.declared.report_form.ReportForm.{ReportForm}
 use Rattle.log_tools.specs.declared.reporting.ReportOutput.{ReportOutput}
 use Rattle.moments.specs.declared.moment.NamedTime.{NamedTime}
 use Rattle.report.specs.Counts.{Counts}
@@ -57,15 +58,14 @@ module _ (window : Window) where
         first.counted last.counted);
   }
 
-pub has_reported : (n : ℕ) (since until : Option NamedTime) (prometheus drawn : Bool)
+pub has_reported : (n : ℕ) (since until : Option NamedTime) (form : ReportForm) (drawn : Bool)
     (output : ReportOutput) (window : Window) (start last : Report)
     → is_some window.since ≡ is_some since → is_some window.until ≡ is_some until
     → Counts window [] drawn start → CountsLogs window n start last
-    → string_bytes output.text ≡ text_by prometheus last
+    → string_bytes output.text ≡ text_by form (kind_of since until) last
     → HasPicture drawn output.picture
-    → HasReported n since until prometheus drawn output
-has_reported n since until prometheus drawn output window start last from to none reads text
-    picture =
+    → HasReported n since until form drawn output
+has_reported n since until form drawn output window start last from to none reads text picture =
     record {
       window = window;
       window_is = record { since_is = from; until_is = to };

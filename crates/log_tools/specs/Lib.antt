@@ -1,1 +1,3 @@
 pub mod Reports
+pub mod Faults
+pub mod Continued

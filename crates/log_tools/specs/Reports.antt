@@ -1,6 +1,6 @@
 -- A report on logs. Nothing is known about the files of a device, so each log has some bytes. Nor
 -- is anything known about its clock, so the window is between some times.
-use Rattle.std.specs.Prelude.{◌≡◌, ℕ, List, Option, length, flat_map, is_some, Bool}
+use Rattle.std.specs.Prelude.{◌≡◌, ℕ, List, Option, None, length, flat_map, is_some, Bool}
 use Rattle.std.specs.Prelude.{if◌then◌else◌, string_bytes}
 use Rattle.moments.specs.declared.moment.NamedTime.{NamedTime}
 use Rattle.report.specs.Counts.{Counts}
@@ -9,8 +9,11 @@ use Rattle.report.specs.Lines.{lines_in}
 use Rattle.report.specs.Reading.{CountsLines}
 use Rattle.report.specs.Screen.{screen}
 use Rattle.report.specs.declared.counting.Report.{Report}
+use Rattle.report.specs.declared.metrics.MetricKind.{MetricKind}
+use Rattle.report.specs.declared.metrics.MetricKind.TheVariants.{Counter, Gauge}
 use Rattle.report.specs.declared.window.Window.{Window}
 use Rattle.svg.specs.WellFormed.{HasPicture}
+use Rattle.log_tools.specs.declared.report_form.ReportForm.{ReportForm}
 use Rattle.log_tools.specs.declared.reporting.ReportOutput.{ReportOutput}
 
 -- the window has a first time if one was requested, and a last time if one was
@@ -25,17 +28,23 @@ pub record CountsLogs (window : Window) (n : ℕ) (old new : Report) : Type 0 wh
   pub counted : CountsLines window (flat_map lines_in logs) old new
 
 -- the text: as a screen, or in Prometheus's format
-abbrev pub text_by : Bool → Report → List ℕ
-text_by prometheus report = if prometheus then exposition report else screen report
+abbrev pub text_by : ReportForm → MetricKind → Report → List ℕ
+text_by form kind report =
+    if form.prometheus then exposition kind report else screen form.heads report
+
+-- in a window of time the counts go up and down
+abbrev pub kind_of : (since until : Option NamedTime) → MetricKind
+kind_of None None = Counter
+kind_of since until = Gauge
 
 -- the report that counts the lines of `n` logs, each from its first byte to its last
-pub record HasReported (n : ℕ) (since until : Option NamedTime) (prometheus drawn : Bool)
-    (output : ReportOutput) : Type 0 where
+pub record HasReported (n : ℕ) (since until : Option NamedTime) (form : ReportForm)
+    (drawn : Bool) (output : ReportOutput) : Type 0 where
   pub window : Window
   pub window_is : IsWindowOf since until window
   pub logs : List (List ℕ)
   pub each : length logs ≡ n
   pub report : Report
   pub counted : Counts window (flat_map lines_in logs) drawn report
-  pub text_is : string_bytes output.text ≡ text_by prometheus report
+  pub text_is : string_bytes output.text ≡ text_by form (kind_of since until) report
   pub picture : HasPicture drawn output.picture

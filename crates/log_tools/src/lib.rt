@@ -1,8 +1,16 @@
 //! The command on logs: `report`, over the files of a runtime.
 #![tactic(auto)]
 
+mod continuing;
+mod log_part;
 mod picture_file;
 mod progress_lines;
+mod report_fault;
+mod report_form;
 mod reporting;
+mod state_file;
 
+pub use continuing::report_on_state;
+pub use report_fault::ReportFault;
+pub use report_form::ReportForm;
 pub use reporting::{ReportOutput, report_logs};

@@ -2,18 +2,19 @@
 
 ghost use Rattle.std.specs.Prelude.{◌≡◌, IfOk, OnOk, is_some, length};
 ghost use Rattle.std.specs.String.{string_bytes};
-ghost use Rattle.log_tools.specs.Reports.{CountsLogs, HasReported, text_by};
+ghost use Rattle.log_tools.specs.Reports.{CountsLogs, HasReported, kind_of, text_by};
 ghost use Rattle.svg.specs.WellFormed.{HasPicture};
 
 use crate::picture_file::{require_drawable, write_picture};
 use crate::progress_lines::ProgressLines;
+use crate::report_form::{ReportForm, text_by};
 use bounded_files::ResourceFault;
 use jiff_core::Timestamp;
 use moments::{NamedTime, time_text};
-use report::{Report, Window, count_log, exposition_text, report_text};
+use report::{MetricKind, Report, Window, count_log};
 use std::alloc::{AllocError, Global};
 use std::fs;
-use std::io::{self, ErrorKind};
+use std::io::{self, Error, ErrorKind};
 use std::rt::Files;
 use std::time::{Clock, SystemTime, UNIX_EPOCH};
 use timeline::draw_course;
@@ -28,30 +29,30 @@ pub struct ReportOutput {
     pub picture: Option<String>,
 }
 
-/// The report on the logs' lines from `since` on and before `until`, as a screen or in Prometheus's
-/// format. A log named `-` is standard input. If `file` names a file, a picture of the lines'
-/// course is written into it once all logs are read.
+/// The report on the logs' lines from `since` on and before `until`, in this form. A log named `-`
+/// is standard input. If `file` names a file, a picture of the lines' course is written into it once
+/// all logs are read.
 ///
 /// Returns B3 if the picture would overwrite a log, or a file that isn't empty and isn't a picture;
 /// if a log can't be read; if a moment is given and the clock can't be read; or if the picture
 /// can't be written. Returns B4 if an allocation fails. A read that takes over a second prints its
-/// progress by the runtime.
+/// progress, if standard error is a terminal.
 // open: whether an allocation fails; which progress is printed; that the file gets the picture.
 pub fn report_logs<R>(
     rt: &R,
     logs: &[&str],
     since: Option<NamedTime>,
     until: Option<NamedTime>,
-    prometheus: bool,
+    form: ReportForm,
     file: Option<&str>,
 ) -> Result<ReportOutput, ResourceFault>
 where
     R: Files + AllocGlobal + Clock + Eprint,
     ensures { IfOk result
-        (HasReported (length logs.now) since until prometheus (is_some file.entry)) }
+        (HasReported (length logs.now) since until form (is_some file.entry)) }
 {
     require_drawable(rt, logs, file)?;
-    let output = output_of_logs(rt, logs, since, until, prometheus, file.is_some())?;
+    let output = output_of_logs(rt, logs, since, until, form, file.is_some())?;
     write_picture(rt, file, &output.picture)?;
     Ok(output)
 }
@@ -62,13 +63,14 @@ fn output_of_logs<R>(
     logs: &[&str],
     since: Option<NamedTime>,
     until: Option<NamedTime>,
-    prometheus: bool,
+    form: ReportForm,
     drawn: bool,
 ) -> Result<ReportOutput, ResourceFault>
 where
     R: Files + AllocGlobal + Clock + Eprint,
-    ensures { IfOk result (HasReported (length logs.now) since until prometheus drawn) }
+    ensures { IfOk result (HasReported (length logs.now) since until form drawn) }
 {
+    let kind = kind_of(since, until);
     let since = time_of(rt, since)?;
     let until = time_of(rt, until)?;
     let window = Window {
@@ -77,7 +79,7 @@ where
     };
     let mut report = Report::new(rt.alloc(), drawn);
     count_logs(rt, logs, &window, &mut report)?;
-    match output_of(rt.alloc(), prometheus, drawn, &report) {
+    match output_of(rt.alloc(), form, kind, drawn, &report) {
         Ok(output) => Ok(output),
         Err(_) => Err(ResourceFault::Memory),
     }
@@ -85,15 +87,16 @@ where
 
 fn output_of(
     alloc: Global,
-    prometheus: bool,
+    form: ReportForm,
+    kind: MetricKind,
     drawn: bool,
     report: &Report,
 ) -> Result<ReportOutput, AllocError>
     ensures text { IfOk result
-        (λ output. string_bytes output.text ≡ text_by prometheus report.now) }
+        (λ output. string_bytes output.text ≡ text_by form kind report.now) }
     ensures picture { IfOk result (λ output. HasPicture drawn output.picture) }
 {
-    let text = text_by(alloc, prometheus, report)?;
+    let text = text_by(alloc, form, kind, report)?;
     let picture = if drawn {
         Some(draw_course(alloc, report)?)
     } else {
@@ -102,13 +105,13 @@ fn output_of(
     Ok(ReportOutput { text, picture })
 }
 
-fn text_by(alloc: Global, prometheus: bool, report: &Report) -> Result<String, AllocError>
-    ensures { IfOk result (λ text. string_bytes text ≡ text_by prometheus report.now) }
+// In a window of time the counts go up and down.
+fn kind_of(since: Option<NamedTime>, until: Option<NamedTime>) -> MetricKind
+    ensures { result ≡ kind_of since until }
 {
-    if prometheus {
-        exposition_text(alloc, report)
-    } else {
-        report_text(alloc, report)
+    match (since, until) {
+        (None, None) => MetricKind::Counter,
+        _ => MetricKind::Gauge,
     }
 }
 
@@ -179,8 +182,15 @@ where
 {
     match read_file(rt, path, window, report) {
         Ok(()) => Ok(()),
-        Err(error) if error.kind() == ErrorKind::OutOfMemory => Err(ResourceFault::Memory),
-        Err(_) => Err(ResourceFault::File),
+        Err(error) => Err(fault_of(&error)),
+    }
+}
+
+/// Why a log can't be read.
+pub(crate) fn fault_of(error: &Error) -> ResourceFault {
+    match error.kind() {
+        ErrorKind::OutOfMemory => ResourceFault::Memory,
+        _ => ResourceFault::File,
     }
 }
 

@@ -8,6 +8,8 @@ use Rattle.report.specs.Screen.{Rows, is_tab}
 use Rattle.report.specs.declared.counting.Report.{Report}
 use Rattle.report.specs.declared.labels.SampleLabels.{SampleLabels}
 use Rattle.report.specs.declared.labels.SampleLabels.TheVariants.{App, Release, Install, Rule, Kind}
+use Rattle.report.specs.declared.metrics.MetricKind.{MetricKind}
+use Rattle.report.specs.declared.metrics.MetricKind.TheVariants.{Counter, Gauge}
 use Rattle.report.specs.declared.tally.Tally.{Tally}
 
 -- a value's quotes and backslashes are escaped; a name has no line feed
@@ -48,60 +50,82 @@ labels_text Kind name = label (codes "kind") name
 
 -- ---- metrics
 
-abbrev pub head : List ℕ → List ℕ → List ℕ
-head metric help =
-    codes "# HELP " ++ metric ++ codes " " ++ help ++ codes "\n# TYPE " ++ metric
-    ++ codes " gauge\n"
+-- the name of a counter ends in `_total`
+abbrev pub suffix_of : MetricKind → List ℕ
+suffix_of Counter = codes "_total"
+suffix_of Gauge = []
 
-unfoldable pub number_metric : List ℕ → List ℕ → ℕ → List ℕ
-number_metric metric help n =
-    head metric help ++ metric ++ codes " " ++ decimal n ++ codes "\n"
+abbrev pub type_of : MetricKind → List ℕ
+type_of Counter = codes "counter"
+type_of Gauge = codes "gauge"
 
-abbrev pub sample : List ℕ → List ℕ → ℕ → List ℕ
-sample metric labels n = metric ++ codes "{" ++ labels ++ codes "} " ++ decimal n ++ codes "\n"
+module _ (kind : MetricKind) where
+  unfoldable pub metric_name : List ℕ → List ℕ
+  metric_name metric = metric ++ suffix_of kind
 
-abbrev pub samples : List ℕ → SampleLabels → Rows → List ℕ
-samples metric labels [] = []
-samples metric labels (entry ∷ rows) =
-    sample metric (labels_text labels (string_bytes entry.0)) entry.1
-    ++ samples metric labels rows
+  abbrev pub help_line : List ℕ → List ℕ → List ℕ
+  help_line metric help =
+      codes "# HELP " ++ metric_name metric ++ codes " " ++ help ++ codes "\n"
 
--- the names without a row, by a label that no name has
-abbrev pub other_sample : List ℕ → ℕ → List ℕ
-other_sample metric n =
-    if n == 0 then [] else sample metric (label (codes "others") (codes "true")) n
+  abbrev pub head : List ℕ → List ℕ → List ℕ
+  head metric help =
+      help_line metric help ++ codes "# TYPE " ++ metric_name metric ++ codes " " ++ type_of kind
+      ++ codes "\n"
 
-unfoldable pub metric : List ℕ → List ℕ → SampleLabels → Tally → List ℕ
-metric name help labels t =
-    head name help ++ samples name labels t.rows.entries ++ other_sample name t.others
+  unfoldable pub number_metric : List ℕ → List ℕ → ℕ → List ℕ
+  number_metric metric help n =
+      head metric help ++ metric_name metric ++ codes " " ++ decimal n ++ codes "\n"
 
--- ---- the report
+  abbrev pub sample : List ℕ → List ℕ → ℕ → List ℕ
+  sample metric labels n =
+      metric_name metric ++ codes "{" ++ labels ++ codes "} " ++ decimal n ++ codes "\n"
 
-abbrev pub numbers : Report → List ℕ
-numbers r =
-    metric (codes "rollout_log_lines") (codes "Lines by kind.") Kind r.kinds
-    ++ number_metric (codes "rollout_log_foreign_lines") (codes "Lines not the server's.") r.foreign
-    ++ number_metric (codes "rollout_log_lost_lines") (codes "Lines that the log lost.") r.lost
-    ++ number_metric (codes "rollout_apps_left_out") (codes "Apps that lines leave out.") r.left_out
-    ++ number_metric (codes "rollout_offers_left_out") (codes "Offers among these.")
-    r.offers_left_out
+  abbrev pub samples : List ℕ → SampleLabels → Rows → List ℕ
+  samples metric labels [] = []
+  samples metric labels (entry ∷ rows) =
+      sample metric (labels_text labels (string_bytes entry.0)) entry.1
+      ++ samples metric labels rows
 
-abbrev pub asks : Report → List ℕ
-asks r =
-    metric (codes "rollout_asks") (codes "Asks for an update.") App r.update_checks
-    ++ metric (codes "rollout_offers") (codes "Asks that were offered a release.") Release r.offered
-    ++ metric (codes "rollout_no_updates") (codes "Asks that got none.") App r.unoffered
-    ++ metric (codes "rollout_installs") (codes "Installs that ended, by result.") Install r.results
+  -- the names without a row, by a label that no name has
+  abbrev pub other_sample : List ℕ → ℕ → List ℕ
+  other_sample metric n =
+      if n == 0 then [] else sample metric (label (codes "others") (codes "true")) n
 
-abbrev pub faults : Report → List ℕ
-faults r =
-    metric (codes "rollout_refusals") (codes "Requests that were refused.") Rule r.refusals
-    ++ metric (codes "rollout_unknown_apps") (codes "Asks for unknown apps.") App r.unknown
-    ++ metric (codes "rollout_without_cohort") (codes "Clients without a cohort.") App
-    r.without_cohort
-    ++ metric (codes "rollout_without_request_id") (codes "Clients without a request id.") App
-    r.without_id
-    ++ metric (codes "rollout_cut_events") (codes "Apps whose events are cut.") App r.cut_events
+  unfoldable pub metric : List ℕ → List ℕ → SampleLabels → Tally → List ℕ
+  metric name help labels t =
+      head name help ++ samples name labels t.rows.entries ++ other_sample name t.others
 
-abbrev pub exposition : Report → List ℕ
-exposition r = numbers r ++ asks r ++ faults r
+  -- ---- the report
+
+  abbrev pub numbers : Report → List ℕ
+  numbers r =
+      metric (codes "rollout_log_lines") (codes "Lines by kind.") Kind r.kinds
+      ++ number_metric (codes "rollout_log_foreign_lines") (codes "Lines not the server's.")
+      r.foreign
+      ++ number_metric (codes "rollout_log_lost_lines") (codes "Lines that the log lost.") r.lost
+      ++ number_metric (codes "rollout_apps_left_out") (codes "Apps that lines leave out.")
+      r.left_out
+      ++ number_metric (codes "rollout_offers_left_out") (codes "Offers among these.")
+      r.offers_left_out
+
+  abbrev pub asks : Report → List ℕ
+  asks r =
+      metric (codes "rollout_asks") (codes "Asks for an update.") App r.update_checks
+      ++ metric (codes "rollout_offers") (codes "Asks that were offered a release.") Release
+      r.offered
+      ++ metric (codes "rollout_no_updates") (codes "Asks that got none.") App r.unoffered
+      ++ metric (codes "rollout_installs") (codes "Installs that ended, by result.") Install
+      r.results
+
+  abbrev pub faults : Report → List ℕ
+  faults r =
+      metric (codes "rollout_refusals") (codes "Requests that were refused.") Rule r.refusals
+      ++ metric (codes "rollout_unknown_apps") (codes "Asks for unknown apps.") App r.unknown
+      ++ metric (codes "rollout_without_cohort") (codes "Clients without a cohort.") App
+      r.without_cohort
+      ++ metric (codes "rollout_without_request_id") (codes "Clients without a request id.") App
+      r.without_id
+      ++ metric (codes "rollout_cut_events") (codes "Apps whose events are cut.") App r.cut_events
+
+  abbrev pub exposition : Report → List ℕ
+  exposition r = numbers r ++ asks r ++ faults r

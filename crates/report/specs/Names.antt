@@ -67,9 +67,13 @@ is_unknown app = is_flag true (flag_in (codes "unknown") app)
 abbrev pub is_unnamed : Data → Bool
 is_unnamed app = is_flag false (flag_in (codes "named") app)
 
--- and the bucket is that of an empty request id
-abbrev pub has_no_id : Data → Bool
-has_no_id app = is_unnamed app && is_number 6037 (number_in (codes "bucket") app)
+-- the request has neither a request id nor a session id
+abbrev pub is_without_id : Data → Bool
+is_without_id line = is_flag false (flag_in (codes "id") line)
+
+-- and so its bucket isn't by chance
+abbrev pub has_no_id : Data → Data → Bool
+has_no_id line app = is_unnamed app && is_without_id line
 
 -- a part of its event is left out
 abbrev pub has_cut_event : Data → Bool
@@ -128,7 +132,7 @@ named Hour line app appid = hour_name line app appid
 named Bucket line app appid = bucket_name line app appid
 named Unknown line app appid = if_holds (is_unknown app) (one appid)
 named WithoutCohort line app appid = if_holds (is_unnamed app) (one appid)
-named WithoutId line app appid = if_holds (has_no_id app) (one appid)
+named WithoutId line app appid = if_holds (has_no_id line app) (one appid)
 named CutEvent line app appid = if_holds (has_cut_event app) (one appid)
 named UpdateCheckBy line app appid = update_check_by line app appid
 named (UpdateCheckAt moment) line app appid = update_check_at moment line app appid

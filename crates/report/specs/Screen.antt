@@ -26,11 +26,15 @@ rows_text (entry ∷ rows) = row entry.1 (string_bytes entry.0) ++ rows_text row
 abbrev pub others_text : ℕ → List ℕ
 others_text n = if n == 0 then [] else row n (codes "\tothers")
 
+-- the title of a group of rows, and the heads of its columns if they are requested
+abbrev pub title_text : Bool → (title columns : List ℕ) → List ℕ
+title_text heads title columns = title ++ (if heads then columns else [])
+
 -- a table with its title, unless it is empty
-abbrev pub table_text : List ℕ → Tally → List ℕ
-table_text title t =
+abbrev pub table_text : Bool → (title columns : List ℕ) → Tally → List ℕ
+table_text heads title columns t =
     if length t.rows.entries == 0 then []
-    else title ++ rows_text t.rows.entries ++ others_text t.others
+    else title_text heads title columns ++ rows_text t.rows.entries ++ others_text t.others
 
 -- ---- buckets
 
@@ -57,10 +61,10 @@ bucket_rows buckets (entry ∷ rows) =
     bucket_row buckets (string_bytes entry.0) ++ bucket_rows buckets rows
 
 -- for each app, the number of buckets with update checks
-abbrev pub buckets_text : Report → List ℕ
-buckets_text r =
+abbrev pub buckets_text : Bool → Report → List ℕ
+buckets_text heads r =
     if length r.buckets.rows.entries == 0 then []
-    else codes "buckets\n"
+    else title_text heads (codes "buckets\n") (codes "number\tapp\n")
     ++ bucket_rows r.buckets.rows.entries r.update_checks.rows.entries
     ++ others_text r.buckets.others
 
@@ -93,40 +97,54 @@ result_rows ended [] = []
 result_rows ended (entry ∷ rows) =
     result_row ended entry.1 (string_bytes entry.0) ++ result_rows ended rows
 
-abbrev pub results_text : Report → List ℕ
-results_text r =
+abbrev pub install_columns : List ℕ
+install_columns = codes "number\tshare\tresult\tapp\tfrom\tto\n"
+
+abbrev pub results_text : Bool → Report → List ℕ
+results_text heads r =
     if length r.results.rows.entries == 0 then []
-    else codes "installs\n"
+    else title_text heads (codes "installs\n") install_columns
     ++ result_rows r.ended r.results.rows.entries ++ others_text r.results.others
 
 -- ---- the screen
-
-abbrev pub lines_text : Report → List ℕ
-lines_text r =
-    codes "lines\n" ++ row r.lines (codes "counted")
-    ++ row r.foreign (codes "not the server's") ++ row r.lost (codes "lost")
 
 abbrev pub left_out_text : Report → List ℕ
 left_out_text r =
     row r.left_out (codes "apps left out") ++ row r.offers_left_out (codes "offers left out")
 
-unfoldable pub numbers_text : Report → List ℕ
-numbers_text r =
-    lines_text r ++ left_out_text r ++ table_text (codes "kinds of lines\n") r.kinds
-    ++ table_text (codes "loads\n") r.loads
+-- with the heads of columns or without
+module _ (heads : Bool) where
+  abbrev pub lines_text : Report → List ℕ
+  lines_text r =
+      title_text heads (codes "lines\n") (codes "number\twhat\n")
+      ++ row r.lines (codes "counted")
+      ++ row r.foreign (codes "not the server's") ++ row r.lost (codes "lost")
 
-abbrev pub asks_text : Report → List ℕ
-asks_text r =
-    table_text (codes "asks\n") r.update_checks ++ table_text (codes "offers\n") r.offered
-    ++ table_text (codes "no update\n") r.unoffered ++ buckets_text r
-    ++ table_text (codes "asks by hour and version\n") r.hours
+  unfoldable pub numbers_text : Report → List ℕ
+  numbers_text r =
+      lines_text r ++ left_out_text r
+      ++ table_text heads (codes "kinds of lines\n") (codes "number\tkind\n") r.kinds
+      ++ table_text heads (codes "loads\n") (codes "number\ttime\tgeneration\tpath\n") r.loads
 
-abbrev pub faults_text : Report → List ℕ
-faults_text r =
-    table_text (codes "refusals\n") r.refusals ++ table_text (codes "unknown apps\n") r.unknown
-    ++ table_text (codes "without a cohort\n") r.without_cohort
-    ++ table_text (codes "without a request id\n") r.without_id
-    ++ table_text (codes "events that are cut\n") r.cut_events
+  -- a table whose names are apps
+  abbrev pub apps_text : List ℕ → Tally → List ℕ
+  apps_text title t = table_text heads title (codes "number\tapp\n") t
 
-abbrev pub screen : Report → List ℕ
-screen r = numbers_text r ++ asks_text r ++ results_text r ++ faults_text r
+  abbrev pub asks_text : Report → List ℕ
+  asks_text r =
+      apps_text (codes "asks\n") r.update_checks
+      ++ table_text heads (codes "offers\n") (codes "number\tapp\trelease\n") r.offered
+      ++ apps_text (codes "no update\n") r.unoffered ++ buckets_text heads r
+      ++ table_text heads (codes "asks by hour and version\n")
+      (codes "number\tapp\thour\tversion\n") r.hours
+
+  abbrev pub faults_text : Report → List ℕ
+  faults_text r =
+      table_text heads (codes "refusals\n") (codes "number\tstatus\trule\n") r.refusals
+      ++ apps_text (codes "unknown apps\n") r.unknown
+      ++ apps_text (codes "without a cohort\n") r.without_cohort
+      ++ apps_text (codes "without a request id\n") r.without_id
+      ++ apps_text (codes "events that are cut\n") r.cut_events
+
+  abbrev pub screen : Report → List ℕ
+  screen r = numbers_text r ++ asks_text r ++ results_text heads r ++ faults_text r

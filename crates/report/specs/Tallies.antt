@@ -44,3 +44,7 @@ pub record Sets (old new : Tally) (name : RowName) (n : ℕ) : Type 0 where
       ≡ btree_map_len old.rows + (if has_no_row old name then 1 else 0)
   pub others : new.others ≡ old.others
   pub limit : new.limit ≡ old.limit
+
+-- the table with this number of names without a row
+abbrev pub with_others : ℕ → Tally → Tally
+with_others n t = record { rows = t.rows; others = n; limit = t.limit }

@@ -11,9 +11,6 @@ use crate::question::AppQuestion;
 use serde_json::Value;
 use std::alloc::{AllocError, Global};
 
-/// The bucket of an empty request id.
-const NO_ID: u64 = 6037;
-
 /// The name that an app counts under, if the question has one for it.
 pub(crate) fn app_name(
     alloc: Global,
@@ -48,7 +45,7 @@ fn named(
         AppQuestion::Bucket => bucket_name(alloc, line, app, appid),
         AppQuestion::Unknown => if_holds(alloc, is_unknown(app), appid),
         AppQuestion::WithoutCohort => if_holds(alloc, is_unnamed(app), appid),
-        AppQuestion::WithoutId => if_holds(alloc, has_no_id(app), appid),
+        AppQuestion::WithoutId => if_holds(alloc, has_no_id(line, app), appid),
         AppQuestion::CutEvent => if_holds(alloc, has_cut_event(app), appid),
         AppQuestion::UpdateCheckBy => update_check_by(alloc, line, app, appid),
         AppQuestion::UpdateCheckAt(moment) => update_check_at(alloc, line, app, appid, moment),
@@ -95,10 +92,19 @@ fn is_unnamed(app: &Value) -> bool
     }
 }
 
-fn has_no_id(app: &Value) -> bool
-    ensures { result ≡ specs.has_no_id (view app.now) }
+fn has_no_id(line: &Value, app: &Value) -> bool
+    ensures { result ≡ specs.has_no_id (view line.now) (view app.now) }
 {
-    is_unnamed(app) && is_number(NO_ID, number_in(app, "bucket"))
+    is_unnamed(app) && is_without_id(line)
+}
+
+fn is_without_id(line: &Value) -> bool
+    ensures { result ≡ specs.is_without_id (view line.now) }
+{
+    match flag_in(line, "id") {
+        Some(id) => !id,
+        None => false,
+    }
 }
 
 fn has_cut_event(app: &Value) -> bool

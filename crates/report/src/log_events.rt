@@ -14,7 +14,7 @@ use std::alloc::{AllocError, Global};
 pub(crate) const LINE_LIMIT: usize = 65536;
 
 /// The member of this name, if it is a text.
-pub(crate) fn text_in<'a>(value: &'a Value, name: &str) -> Option<&'a str>
+pub fn text_in<'a>(value: &'a Value, name: &str) -> Option<&'a str>
     ensures { option_copied result ≡ specs.text_in name.now (view value.now) }
 {
     match value.get(name) {
@@ -24,7 +24,7 @@ pub(crate) fn text_in<'a>(value: &'a Value, name: &str) -> Option<&'a str>
 }
 
 /// The member of this name, if it is a number of at least 0.
-pub(crate) fn number_in(value: &Value, name: &str) -> Option<u64>
+pub fn number_in(value: &Value, name: &str) -> Option<u64>
     ensures { result ≡ specs.number_in name.now (view value.now) }
 {
     match value.get(name) {
@@ -34,7 +34,7 @@ pub(crate) fn number_in(value: &Value, name: &str) -> Option<u64>
 }
 
 /// The member of this name, if it is `true` or `false`.
-pub(crate) fn flag_in(value: &Value, name: &str) -> Option<bool>
+pub fn flag_in(value: &Value, name: &str) -> Option<bool>
     ensures { result ≡ specs.flag_in name.now (view value.now) }
 {
     match value.get(name) {
@@ -43,8 +43,8 @@ pub(crate) fn flag_in(value: &Value, name: &str) -> Option<bool>
     }
 }
 
-// The member of this name, if it is a list.
-fn list_in<'a>(value: &'a Value, name: &str) -> Option<&'a [Value]>
+/// The member of this name, if it is a list.
+pub fn list_in<'a>(value: &'a Value, name: &str) -> Option<&'a [Value]>
     ensures { option_map (λ list. items_view list.now) result
         ≡ specs.list_in name.now (view value.now) }
 {

@@ -16,14 +16,38 @@ pub(crate) fn push_row(text: &mut String, n: u64, name: &str) -> Result<(), Allo
     write!(text, "{n}\t{name}\n")
 }
 
+/// Appends the title of a group of rows, and the heads of its columns if they are requested.
+pub(crate) fn push_title(
+    text: &mut String,
+    heads: bool,
+    title: &str,
+    columns: &str,
+) -> Result<(), AllocError>
+    ensures { OnOk result (Puts text.old text.new
+        (specs.title_text heads title.now columns.now)) }
+{
+    text.push_str(title)?;
+    if heads {
+        text.push_str(columns)?;
+    }
+    Ok(())
+}
+
 /// Appends a table with its title, unless it is empty.
-pub(crate) fn push_table(text: &mut String, title: &str, tally: &Tally) -> Result<(), AllocError>
-    ensures { OnOk result (Puts text.old text.new (specs.table_text title.now tally.now)) }
+pub(crate) fn push_table(
+    text: &mut String,
+    heads: bool,
+    title: &str,
+    columns: &str,
+    tally: &Tally,
+) -> Result<(), AllocError>
+    ensures { OnOk result (Puts text.old text.new
+        (specs.table_text heads title.now columns.now tally.now)) }
 {
     if tally.rows.is_empty() {
         return Ok(());
     }
-    text.push_str(title)?;
+    push_title(text, heads, title, columns)?;
     push_rows(text, &tally.rows)?;
     push_others(text, tally.others)
 }

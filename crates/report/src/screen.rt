@@ -6,47 +6,62 @@ ghost use Rattle.printing.specs.Pushed.{Puts};
 ghost use Rattle.report.specs.Screen as specs;
 
 use crate::counting::Report;
-use crate::rows::{push_others, push_row, push_table};
+use crate::rows::{push_others, push_row, push_table, push_title};
 use crate::tally::Tally;
 use std::alloc::{AllocError, Global};
 use std::collections::BTreeMap;
 use std::fmt::Write;
 
-/// The text of a report, with a line for each number. Control characters in a client's texts are
-/// escaped.
-pub fn report_text(alloc: Global, report: &Report) -> Result<String, AllocError>
-    ensures { IfOk result (λ s. string_bytes s ≡ specs.screen report.now) }
+/// The heads of the columns of installs.
+const INSTALL_COLUMNS: &str = "number\tshare\tresult\tapp\tfrom\tto\n";
+
+/// The text of a report, with a line for each number, and with the heads of the columns or without.
+/// Control characters in a client's texts are escaped.
+pub fn report_text(alloc: Global, heads: bool, report: &Report) -> Result<String, AllocError>
+    ensures { IfOk result (λ s. string_bytes s ≡ specs.screen heads report.now) }
 {
     let mut text = String::new(alloc);
-    push_screen(&mut text, report)?;
+    push_screen(&mut text, heads, report)?;
     Ok(text)
 }
 
-fn push_screen(text: &mut String, report: &Report) -> Result<(), AllocError>
-    ensures { OnOk result (Puts text.old text.new (specs.screen report.now)) }
+fn push_screen(text: &mut String, heads: bool, report: &Report) -> Result<(), AllocError>
+    ensures { OnOk result (Puts text.old text.new (specs.screen heads report.now)) }
 {
-    push_numbers(text, report)?;
-    push_asks(text, report)?;
-    push_results(text, report)?;
-    push_faults(text, report)?;
+    push_numbers(text, heads, report)?;
+    push_asks(text, heads, report)?;
+    push_results(text, heads, report)?;
+    push_faults(text, heads, report)?;
     Ok(())
 }
 
 #[tactic(auto, unfolding(crate::specs::Screen::numbers_text))]
-fn push_numbers(text: &mut String, report: &Report) -> Result<(), AllocError>
-    ensures { OnOk result (Puts text.old text.new (specs.numbers_text report.now)) }
+fn push_numbers(text: &mut String, heads: bool, report: &Report) -> Result<(), AllocError>
+    ensures { OnOk result (Puts text.old text.new (specs.numbers_text heads report.now)) }
 {
-    push_lines(text, report)?;
+    push_lines(text, heads, report)?;
     push_left_out(text, report)?;
-    push_table(text, "kinds of lines\n", &report.kinds)?;
-    push_table(text, "loads\n", &report.loads)?;
+    push_table(
+        text,
+        heads,
+        "kinds of lines\n",
+        "number\tkind\n",
+        &report.kinds,
+    )?;
+    push_table(
+        text,
+        heads,
+        "loads\n",
+        "number\ttime\tgeneration\tpath\n",
+        &report.loads,
+    )?;
     Ok(())
 }
 
-fn push_lines(text: &mut String, report: &Report) -> Result<(), AllocError>
-    ensures { OnOk result (Puts text.old text.new (specs.lines_text report.now)) }
+fn push_lines(text: &mut String, heads: bool, report: &Report) -> Result<(), AllocError>
+    ensures { OnOk result (Puts text.old text.new (specs.lines_text heads report.now)) }
 {
-    text.push_str("lines\n")?;
+    push_title(text, heads, "lines\n", "number\twhat\n")?;
     push_row(text, report.lines, "counted")?;
     push_row(text, report.foreign, "not the server's")?;
     push_row(text, report.lost, "lost")?;
@@ -61,37 +76,63 @@ fn push_left_out(text: &mut String, report: &Report) -> Result<(), AllocError>
     Ok(())
 }
 
-fn push_asks(text: &mut String, report: &Report) -> Result<(), AllocError>
-    ensures { OnOk result (Puts text.old text.new (specs.asks_text report.now)) }
+fn push_asks(text: &mut String, heads: bool, report: &Report) -> Result<(), AllocError>
+    ensures { OnOk result (Puts text.old text.new (specs.asks_text heads report.now)) }
 {
-    push_table(text, "asks\n", &report.update_checks)?;
-    push_table(text, "offers\n", &report.offered)?;
-    push_table(text, "no update\n", &report.unoffered)?;
-    push_buckets(text, report)?;
-    push_table(text, "asks by hour and version\n", &report.hours)?;
+    push_apps(text, heads, "asks\n", &report.update_checks)?;
+    push_table(
+        text,
+        heads,
+        "offers\n",
+        "number\tapp\trelease\n",
+        &report.offered,
+    )?;
+    push_apps(text, heads, "no update\n", &report.unoffered)?;
+    push_buckets(text, heads, report)?;
+    push_table(
+        text,
+        heads,
+        "asks by hour and version\n",
+        "number\tapp\thour\tversion\n",
+        &report.hours,
+    )?;
     Ok(())
 }
 
-fn push_faults(text: &mut String, report: &Report) -> Result<(), AllocError>
-    ensures { OnOk result (Puts text.old text.new (specs.faults_text report.now)) }
+fn push_faults(text: &mut String, heads: bool, report: &Report) -> Result<(), AllocError>
+    ensures { OnOk result (Puts text.old text.new (specs.faults_text heads report.now)) }
 {
-    push_table(text, "refusals\n", &report.refusals)?;
-    push_table(text, "unknown apps\n", &report.unknown)?;
-    push_table(text, "without a cohort\n", &report.without_cohort)?;
-    push_table(text, "without a request id\n", &report.without_id)?;
-    push_table(text, "events that are cut\n", &report.cut_events)?;
+    push_table(
+        text,
+        heads,
+        "refusals\n",
+        "number\tstatus\trule\n",
+        &report.refusals,
+    )?;
+    push_apps(text, heads, "unknown apps\n", &report.unknown)?;
+    push_apps(text, heads, "without a cohort\n", &report.without_cohort)?;
+    push_apps(text, heads, "without a request id\n", &report.without_id)?;
+    push_apps(text, heads, "events that are cut\n", &report.cut_events)?;
     Ok(())
+}
+
+// A table whose names are apps.
+fn push_apps(text: &mut String, heads: bool, title: &str, tally: &Tally) -> Result<(), AllocError>
+    ensures { OnOk result (Puts text.old text.new
+        (specs.apps_text heads title.now tally.now)) }
+{
+    push_table(text, heads, title, "number\tapp\n", tally)
 }
 
 // ---- buckets
 
-fn push_buckets(text: &mut String, report: &Report) -> Result<(), AllocError>
-    ensures { OnOk result (Puts text.old text.new (specs.buckets_text report.now)) }
+fn push_buckets(text: &mut String, heads: bool, report: &Report) -> Result<(), AllocError>
+    ensures { OnOk result (Puts text.old text.new (specs.buckets_text heads report.now)) }
 {
     if report.buckets.rows.is_empty() {
         return Ok(());
     }
-    text.push_str("buckets\n")?;
+    push_title(text, heads, "buckets\n", "number\tapp\n")?;
     push_bucket_rows(text, &report.buckets.rows, &report.update_checks.rows)?;
     push_others(text, report.buckets.others)?;
     Ok(())
@@ -149,13 +190,13 @@ fn is_of(first: &str, name: &str) -> bool
 
 // ---- results of installs
 
-fn push_results(text: &mut String, report: &Report) -> Result<(), AllocError>
-    ensures { OnOk result (Puts text.old text.new (specs.results_text report.now)) }
+fn push_results(text: &mut String, heads: bool, report: &Report) -> Result<(), AllocError>
+    ensures { OnOk result (Puts text.old text.new (specs.results_text heads report.now)) }
 {
     if report.results.rows.is_empty() {
         return Ok(());
     }
-    text.push_str("installs\n")?;
+    push_title(text, heads, "installs\n", INSTALL_COLUMNS)?;
     push_result_rows(text, &report.ended, &report.results.rows)?;
     push_others(text, report.results.others)?;
     Ok(())

@@ -5,7 +5,7 @@ ghost use Rattle.std.specs.Prelude.{◌≡◌, ◌<◌, ◌≤◌, [], ◌∷◌
 ghost use Rattle.std.specs.String.{string_bytes};
 ghost use Rattle.std.specs.BTreeMap.{btree_map_len, get_by_text};
 ghost use Rattle.report.specs.Names.{listed};
-ghost use Rattle.report.specs.Tallies.{IsTally, Notes, Sets};
+ghost use Rattle.report.specs.Tallies.{IsTally, Notes, Sets, with_others};
 
 use std::alloc::{AllocError, Global};
 use std::collections::BTreeMap;
@@ -51,7 +51,22 @@ impl Tally {
         self.others
     }
 
-    fn set(&mut self, name: String, count: u64) -> Result<(), AllocError>
+    /// The maximum number of rows.
+    pub fn limit(&self) -> usize
+        ensures { result ≡ self.now.limit }
+    {
+        self.limit
+    }
+
+    /// Sets the number of the names without a row.
+    pub fn set_others(&mut self, others: u64)
+        ensures { self.new ≡ with_others others self.old }
+    {
+        self.others = others;
+    }
+
+    /// Sets the row of a name, also above the maximum number of rows.
+    pub fn set(&mut self, name: String, count: u64) -> Result<(), AllocError>
         ensures { OnOk result (Sets self.old self.new (string_bytes name) count) }
     {
         self.rows.insert(name, count)?;

@@ -1,6 +1,8 @@
-use Rattle.std.proofs.Common.{◌∙◌}
+use Rattle.std.proofs.Common.{◌∙◌, ap}
+use Rattle.report.specs.declared.metrics.MetricKind.{MetricKind}
 use Rattle.report.specs.declared.window.Window.{Window}
 use Rattle.log_tools.proofs.Logs.{has_reported}
+use Rattle.log_tools.specs.Reports.{text_by}
 use Rattle.log_tools.proofs.reporting.output_of_logs.Goals as goal
 
 pub returns-in-Ok : goal.returns-in-Ok
@@ -9,7 +11,11 @@ returns-in-Ok g c =
       since = c.text_of.result;
       until = c.text_of-2.result;
     } in
-    has_reported _ c.args.since c.args.until c.args.prometheus c.args.drawn c.in-Ok.output window
+    has_reported _ c.args.since c.args.until c.args.form c.args.drawn c.in-Ok.output window
     c.new-report.result c.count_logs.new.report (c.text_of.ensures ∙ c.in_ok-since.ensures)
     (c.text_of-2.ensures ∙ c.in_ok-until.ensures) (c.new-report.ensures window)
-    c.in_ok-count_logs.ensures c.in-Ok.ensures.text c.in-Ok.ensures.picture
+    c.in_ok-count_logs.ensures
+    (c.in-Ok.ensures.text
+    ∙ ap (λ (k : MetricKind). text_by c.args.form k c.count_logs.new.report)
+    c.kind_of-kind.ensures)
+    c.in-Ok.ensures.picture

@@ -5,7 +5,7 @@ pub returns : goal.returns
 returns c =
     and_then _ _ _ _ _ (and_then _ _ _ _ _ (and_then _ _ _ _ _
     (and_then _ _ _ _ _ c.in_ok-push_table.ensures
-    c.in_ok-push_table-2.ensures)
-    c.in_ok-push_table-3.ensures)
-    c.in_ok-push_table-4.ensures)
-    c.in_ok-push_table-5.ensures
+    c.in_ok-push_apps.ensures)
+    c.in_ok-push_apps-2.ensures)
+    c.in_ok-push_apps-3.ensures)
+    c.in_ok-push_apps-4.ensures

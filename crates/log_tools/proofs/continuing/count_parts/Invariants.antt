@@ -1,0 +1,6 @@
+use Rattle.log_tools.specs.Reports.{CountsLogs}
+use Rattle.log_tools.proofs.continuing.count_parts.Given as goal
+
+-- the parts of the logs so far are counted
+abbrev pub invariant-loop-path : goal.invariant-loop-path
+invariant-loop-path g l = CountsLogs l.window l.path-index l.fn.report l.report

@@ -1,0 +1,37 @@
+-- A report that continues from a state. Nothing is known about the files of a device, so the state and
+-- each log have some bytes.
+use Rattle.std.specs.Prelude.{◌≡◌, ℕ, List, [], Option, Some, None, length, flat_map, false}
+use Rattle.report.specs.Counts.{Counts}
+use Rattle.report.specs.Lines.{lines_in}
+use Rattle.report.specs.Reading.{CountsLines}
+use Rattle.report.specs.declared.counting.Report.{Report}
+use Rattle.report.specs.declared.metrics.MetricKind.TheVariants.{Counter}
+use Rattle.report.specs.declared.window.Window.{Window}
+use Rattle.report_state.specs.States.{SpellsCounts}
+use Rattle.log_tools.specs.Reports.{IsWindowOf, text_by}
+use Rattle.log_tools.specs.declared.report_form.ReportForm.{ReportForm}
+
+-- the counts that the state's bytes spell; without a state, no line is counted
+abbrev pub BeginsFrom : Option (List ℕ) → Report → Type 0
+BeginsFrom None r = (window : Window) → Counts window [] false r
+BeginsFrom (Some bytes) r = SpellsCounts bytes r
+
+-- The report that counts what `begun` counted, and then the lines of a part of each of `n` logs. The
+-- new state spells it.
+pub record Continues (n : ℕ) (form : ReportForm) (begun report : Report) (text : List ℕ) : Type 0 where
+  pub window : Window
+  pub window_is : IsWindowOf None None window
+  pub parts : List (List ℕ)
+  pub each : length parts ≡ n
+  pub counted : CountsLines window (flat_map lines_in parts) begun report
+  pub text_is : text ≡ text_by form Counter report
+  pub new_state : List ℕ
+  pub spelled : SpellsCounts new_state report
+
+-- it begins from a state
+pub record HasContinued (n : ℕ) (form : ReportForm) (text : List ℕ) : Type 0 where
+  pub state : Option (List ℕ)
+  pub begun : Report
+  pub begins : BeginsFrom state begun
+  pub report : Report
+  pub continues : Continues n form begun report text

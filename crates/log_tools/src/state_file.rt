@@ -1,0 +1,72 @@
+//! The file of a state.
+
+ghost use Rattle.std.specs.Prelude.{IfOk};
+ghost use Rattle.log_tools.specs.Continued.{BeginsFrom};
+ghost use Rattle.std.specs.Prelude.{option_map};
+
+use crate::report_fault::ReportFault;
+use bounded_files::{Device, Disk, ResourceFault};
+use report::Report;
+use report_state::{ReportState, read_state};
+use std::alloc::Global;
+use std::fs::{self, File, OpenFile, OpenOptions, TryLockError};
+use std::os::unix::fs::MetadataExt;
+use std::rt::Files;
+
+/// The most bytes of a state: 256 MiB.
+const MOST_STATE: u32 = 0x1000_0000;
+
+/// Locks the file of a state until the result is dropped. A file that doesn't exist is made, empty.
+/// Returns B10 if another report has the lock, or has just replaced the file.
+pub(crate) fn lock_state<R: Files<File = File>>(rt: &R, path: &str) -> Result<File, ReportFault> {
+    let mut options = OpenOptions::new();
+    options.read(true).write(true).create(true);
+    let Ok(file) = options.open(rt, path) else {
+        return Err(ReportFault::Resource(ResourceFault::File));
+    };
+    match file.try_lock() {
+        Ok(()) if is_at(rt, &file, path) => Ok(file),
+        Ok(()) => Err(ReportFault::Locked),
+        Err(TryLockError::WouldBlock) => Err(ReportFault::Locked),
+        Err(_) => Err(ReportFault::Resource(ResourceFault::File)),
+    }
+}
+
+// Whether the path still leads to this file.
+fn is_at<R: Files<File = File>>(rt: &R, file: &File, path: &str) -> bool {
+    match (file.metadata(), fs::metadata(rt, path)) {
+        (Ok(own), Ok(found)) => own.dev() == found.dev() && own.ino() == found.ino(),
+        _ => false,
+    }
+}
+
+/// The bytes of a state's file; none if it is empty.
+pub(crate) fn found_state<R: Files + AllocGlobal>(
+    rt: &R,
+    path: &str,
+) -> Result<Option<Vec<u8>>, ReportFault> {
+    match Device::new(rt).read_regular(path, MOST_STATE) {
+        Ok(Some(bytes)) if bytes.is_empty() => Ok(None),
+        Ok(Some(bytes)) => Ok(Some(bytes)),
+        Ok(None) => Err(ReportFault::State),
+        Err(fault) => Err(ReportFault::Resource(fault)),
+    }
+}
+
+/// The state with which a report begins. Returns B9 if the bytes spell none.
+pub(crate) fn begun_state(alloc: Global, found: Option<Vec<u8>>) -> Result<ReportState, ReportFault>
+    ensures { IfOk result
+        (λ state. BeginsFrom (option_map (λ bytes. bytes.items) found) state.report) }
+{
+    let Some(bytes) = found else {
+        return Ok(ReportState {
+            report: Report::new(alloc, false),
+            places: Vec::new(alloc),
+        });
+    };
+    match read_state(alloc, bytes.as_slice()) {
+        Ok(Some(state)) => Ok(state),
+        Ok(None) => Err(ReportFault::State),
+        Err(_) => Err(ReportFault::Resource(ResourceFault::Memory)),
+    }
+}

@@ -1,0 +1,167 @@
+//! A metric in the text format of Prometheus: its help, its type and its samples.
+
+ghost use Rattle.std.specs.Prelude.{◌≡◌, OnOk};
+ghost use Rattle.report.specs.Exposition as specs;
+ghost use Rattle.printing.specs.Pushed.{Puts};
+
+use crate::labels::{SampleLabels, push_label, push_labels};
+use crate::tally::Tally;
+use std::alloc::AllocError;
+use std::collections::BTreeMap;
+use std::fmt::Write;
+
+/// What the counts of a report are to Prometheus.
+#[derive(Clone, Copy)]
+pub enum MetricKind {
+    /// They only go up, since no line is left out. The name ends in `_total`.
+    Counter,
+    /// They go up and down, as those of a window of time.
+    Gauge,
+}
+
+/// Appends a metric with a sample for each row of a table.
+#[tactic(auto, unfolding(crate::specs::Exposition::metric))]
+pub(crate) fn push_metric(
+    text: &mut String,
+    kind: MetricKind,
+    metric: &str,
+    help: &str,
+    labels: SampleLabels,
+    tally: &Tally,
+) -> Result<(), AllocError>
+    ensures { OnOk result (Puts text.old text.new
+        (specs.metric kind metric.now help.now labels tally.now)) }
+{
+    push_head(text, kind, metric, help)?;
+    push_samples(text, kind, metric, labels, &tally.rows)?;
+    push_other_sample(text, kind, metric, tally.others)?;
+    Ok(())
+}
+
+/// Appends a metric with one number.
+#[tactic(auto, unfolding(crate::specs::Exposition::number_metric))]
+pub(crate) fn push_number(
+    text: &mut String,
+    kind: MetricKind,
+    metric: &str,
+    help: &str,
+    n: u64,
+) -> Result<(), AllocError>
+    ensures { OnOk result (Puts text.old text.new
+        (specs.number_metric kind metric.now help.now n)) }
+{
+    push_head(text, kind, metric, help)?;
+    push_name(text, kind, metric)?;
+    write!(text, " {n}\n")
+}
+
+// The name of a metric.
+#[tactic(auto, unfolding(crate::specs::Exposition::metric_name))]
+fn push_name(text: &mut String, kind: MetricKind, metric: &str) -> Result<(), AllocError>
+    ensures { OnOk result (Puts text.old text.new (specs.metric_name kind metric.now)) }
+{
+    text.push_str(metric)?;
+    text.push_str(suffix_of(kind))
+}
+
+fn suffix_of(kind: MetricKind) -> &'static str
+    ensures { result.now ≡ specs.suffix_of kind }
+{
+    match kind {
+        MetricKind::Counter => "_total",
+        MetricKind::Gauge => "",
+    }
+}
+
+fn type_of(kind: MetricKind) -> &'static str
+    ensures { result.now ≡ specs.type_of kind }
+{
+    match kind {
+        MetricKind::Counter => "counter",
+        MetricKind::Gauge => "gauge",
+    }
+}
+
+// The help and the type of a metric.
+fn push_head(
+    text: &mut String,
+    kind: MetricKind,
+    metric: &str,
+    help: &str,
+) -> Result<(), AllocError>
+    ensures { OnOk result (Puts text.old text.new (specs.head kind metric.now help.now)) }
+{
+    push_help(text, kind, metric, help)?;
+    text.push_str("# TYPE ")?;
+    push_name(text, kind, metric)?;
+    text.push_str(" ")?;
+    text.push_str(type_of(kind))?;
+    text.push_str("\n")
+}
+
+fn push_help(
+    text: &mut String,
+    kind: MetricKind,
+    metric: &str,
+    help: &str,
+) -> Result<(), AllocError>
+    ensures { OnOk result (Puts text.old text.new (specs.help_line kind metric.now help.now)) }
+{
+    text.push_str("# HELP ")?;
+    push_name(text, kind, metric)?;
+    text.push_str(" ")?;
+    text.push_str(help)?;
+    text.push_str("\n")
+}
+
+#[tactic(auto, using(crate::proofs::Written::one_further, crate::proofs::Written::at_end))]
+fn push_samples(
+    text: &mut String,
+    kind: MetricKind,
+    metric: &str,
+    labels: SampleLabels,
+    rows: &BTreeMap<String, u64>,
+) -> Result<(), AllocError>
+    ensures { OnOk result (Puts text.old text.new
+        (specs.samples kind metric.now labels rows.now.entries)) }
+{
+    for (name, n) in rows.iter() {
+        push_sample(text, kind, metric, labels, name.as_str(), *n)?;
+    }
+    Ok(())
+}
+
+fn push_sample(
+    text: &mut String,
+    kind: MetricKind,
+    metric: &str,
+    labels: SampleLabels,
+    name: &str,
+    n: u64,
+) -> Result<(), AllocError>
+    ensures { OnOk result (Puts text.old text.new
+        (specs.sample kind metric.now (specs.labels_text labels name.now) n)) }
+{
+    push_name(text, kind, metric)?;
+    text.push_str("{")?;
+    push_labels(text, labels, name)?;
+    write!(text, "}} {n}\n")
+}
+
+// The sample of the names without a row, if there are any.
+fn push_other_sample(
+    text: &mut String,
+    kind: MetricKind,
+    metric: &str,
+    others: u64,
+) -> Result<(), AllocError>
+    ensures { OnOk result (Puts text.old text.new (specs.other_sample kind metric.now others)) }
+{
+    if others == 0 {
+        return Ok(());
+    }
+    push_name(text, kind, metric)?;
+    text.push_str("{")?;
+    push_label(text, "others", "true")?;
+    write!(text, "}} {others}\n")
+}
