@@ -9,8 +9,8 @@ use crate::halting::is_halting_file;
 use crate::step::{StagingStep, StepAction};
 use load::{AppSources, whole_file};
 
-/// The app that a step halts, unless the step is undone.
-pub fn halted_app(step: &StagingStep) -> Option<&str>
+// The app that a step halts, unless the step is undone.
+fn halted_app(step: &StagingStep) -> Option<&str>
     ensures { option_copied result ≡ specs.halted_app step.now }
 {
     if step.is_undone {
@@ -22,8 +22,8 @@ pub fn halted_app(step: &StagingStep) -> Option<&str>
     }
 }
 
-/// Whether an app's file has the bytes that halt it.
-pub fn is_halted(app: &AppSources) -> bool
+// Whether an app's file has the bytes that halt it.
+fn is_halted(app: &AppSources) -> bool
     ensures { result ≡ specs.is_halted app.now }
 {
     match whole_file(&app.kept) {

@@ -40,7 +40,7 @@ pub fn halting_file(source: &ProgramSource) -> &'static [u8]
 }
 
 /// Whether an app's file has the bytes that halt it.
-pub fn is_halting_file(source: &ProgramSource, bytes: &[u8]) -> bool
+pub(crate) fn is_halting_file(source: &ProgramSource, bytes: &[u8]) -> bool
     ensures { result ≡ bytes_eq bytes.now (specs.halting_file source.now) }
 {
     bytes == halting_file(source)

@@ -25,8 +25,8 @@ mod step;
 mod threshold;
 
 pub use file_state::FileState;
-pub use halt::{halted_app, is_halted, is_in_force, lifted_halt};
-pub use halting::{halting_file, is_halting_file};
+pub use halt::{is_in_force, lifted_halt};
+pub use halting::halting_file;
 pub use raise_fault::RaiseFault;
 pub use raising::raised_rule;
 pub use record_reader::read_step;

@@ -1,0 +1,5 @@
+mod Parts
+mod Restored
+mod Edits
+mod Reading
+mod Undoable

@@ -1,0 +1,96 @@
+-- The records that are read, one after the other.
+use Rattle.std.proofs.Common.{◌≡◌, ◌++◌, ◌∷◌, ◌∙◌, ℕ, List, [], cond}
+use Rattle.std.proofs.Common.{ap, subst, sym, refl, append_assoc, append-nil}
+use Rattle.std.specs.Prelude.{filter, filter_map, Some, None, IfSome, is_none}
+use Rattle.std.specs.Prelude.{Result, Ok, Err, IfOk}
+use Rattle.std.specs.List.{cons_option}
+use Rattle.std.specs.Prelude.{IsPermutation, IsSorted}
+use Rattle.std.specs.Ordering.{nat_cmp}
+use Rattle.std.proofs.lemmas.List.Sorted.{Contains-permutation, IsPermutation-sym}
+use Rattle.staging.specs.Steps.{StagingStep}
+use Rattle.stage_folder.specs.Folders.{GivesNumbers, KnownRecords}
+use Rattle.stage_folder.specs.Recorded.{AreRead, AreRecorded, IsStepAt, step_at}
+use Rattle.stage_folder.specs.declared.folder_fault.FolderFault.{FolderFault}
+use Rattle.stage_folder.specs.declared.records.RecordedSteps.{RecordedSteps}
+
+-- what was read, with what the numbers that are left give, is what all numbers give
+abbrev pub ReadsOn : KnownRecords → (numbers : List ℕ) → List StagingStep → (unread : List ℕ)
+    → (left : List ℕ) → Type 0
+ReadsOn known numbers steps unread left = IfSome known (λ records.
+    (steps ++ filter_map (step_at records) left ≡ filter_map (step_at records) numbers)
+    × (unread ++ filter (λ n. is_none (step_at records n)) left
+    ≡ filter (λ n. is_none (step_at records n)) numbers))
+
+pub reads_first : (known : KnownRecords) (numbers : List ℕ) → ReadsOn known numbers [] [] numbers
+reads_first None numbers = tt
+reads_first (Some records) numbers = (refl, refl)
+
+-- one more element before those that are left
+moves : {A : Type 0} (so_far now rest all : List A) (x : A) → now ≡ so_far ++ x ∷ []
+    → so_far ++ (x ∷ rest) ≡ all → now ++ rest ≡ all
+moves so_far now rest all x is h =
+    ap (λ l. l ++ rest) is ∙ append_assoc so_far (x ∷ []) rest ∙ h
+
+pub reads_step : (known : KnownRecords) (numbers : List ℕ) (steps now : List StagingStep)
+    (unread left : List ℕ) (number : ℕ) (step : StagingStep)
+    → IsStepAt known number (Some step) → now ≡ steps ++ step ∷ []
+    → ReadsOn known numbers steps unread (number ∷ left)
+    → ReadsOn known numbers now unread left
+reads_step None numbers steps now unread left number step is pushed h = tt
+reads_step (Some records) numbers steps now unread left number step is pushed h =
+    let at = step_at records in
+    let rest : List StagingStep = filter_map at left in
+    let none : List ℕ = filter (λ n. is_none (at n)) left in (
+      moves steps now rest (filter_map at numbers) step pushed
+          (ap (λ o. steps ++ cons_option o rest) is ∙ h.0),
+      ap (λ o. unread ++ cond (is_none o) (number ∷ none) none) is ∙ h.1,
+    )
+
+pub reads_none : (known : KnownRecords) (numbers : List ℕ) (steps : List StagingStep)
+    (unread now left : List ℕ) (number : ℕ) → IsStepAt known number None
+    → now ≡ unread ++ number ∷ [] → ReadsOn known numbers steps unread (number ∷ left)
+    → ReadsOn known numbers steps now left
+reads_none None numbers steps unread now left number is pushed h = tt
+reads_none (Some records) numbers steps unread now left number is pushed h =
+    let at = step_at records in
+    let rest : List StagingStep = filter_map at left in
+    let none : List ℕ = filter (λ n. is_none (at n)) left in (
+      ap (λ o. steps ++ cons_option o rest) is ∙ h.0,
+      moves unread now none (filter (λ n. is_none (at n)) numbers) number pushed
+          (ap (λ o. unread ++ cond (is_none o) (number ∷ none) none) is ∙ h.1),
+    )
+
+pub reads_all : (known : KnownRecords) (numbers left : List ℕ) (read : RecordedSteps)
+    → left ≡ [] → ReadsOn known numbers read.steps.items read.unread.items left
+    → AreRead known numbers read
+reads_all None numbers left read empty h = tt
+reads_all (Some records) numbers left read empty h =
+    let at = step_at records in (
+      sym (append-nil read.steps.items)
+          ∙ ap (λ l. read.steps.items ++ filter_map at l) (sym empty) ∙ h.0,
+      sym (append-nil read.unread.items)
+          ∙ ap (λ l. read.unread.items ++ filter (λ n. is_none (at n)) l) (sym empty) ∙ h.1,
+    )
+
+-- ---- numbers in order
+
+sorted_all : (known : KnownRecords) (numbers sorted : List ℕ) → IsPermutation numbers sorted
+    → GivesNumbers known numbers → GivesNumbers known sorted
+sorted_all None numbers sorted moved given = tt
+sorted_all (Some records) numbers sorted moved given = λ n. (
+  λ is. (given n).0 (Contains-permutation sorted numbers n
+      (IsPermutation-sym numbers sorted moved) is),
+  λ some. Contains-permutation numbers sorted n moved ((given n).1 some),
+)
+
+pub all_recorded : (known : KnownRecords) (numbers sorted slice : List ℕ)
+    (result : Result RecordedSteps FolderFault) → GivesNumbers known numbers
+    → IsPermutation numbers sorted → IsSorted nat_cmp sorted → slice ≡ sorted
+    → IfOk result (AreRead known slice) → IfOk result (AreRecorded known)
+all_recorded known numbers sorted slice (Err fault) given moved order same read = tt
+all_recorded known numbers sorted slice (Ok recorded) given moved order same read = record {
+  numbers = sorted;
+  all = sorted_all known numbers sorted moved given;
+  sorted = order;
+  read = subst (λ ns. AreRead known ns recorded) same read;
+}

@@ -1,0 +1,41 @@
+-- The steps that the records of a folder spell.
+use Rattle.std.specs.Prelude.{◌≡◌, ℕ, ◌==◌, List, filter, filter_map, if◌then◌else◌}
+use Rattle.std.specs.Prelude.{Option, Some, None, IfSome, is_none, option_and_then}
+use Rattle.std.specs.Prelude.{IsSorted}
+use Rattle.std.specs.Ordering.{nat_cmp}
+use Rattle.staging.specs.Records.{step_in}
+use Rattle.staging.specs.Steps.{StagingStep}
+use Rattle.stage_folder.specs.Folders.{GivesNumbers, KnownRecords, Records, record_known}
+use Rattle.stage_folder.specs.declared.records.RecordedSteps.{RecordedSteps}
+
+-- a step, if it has this number
+abbrev pub if_numbered : ℕ → StagingStep → Option StagingStep
+if_numbered number step = if step.number == number then Some step else None
+
+-- the step of this number, if its record spells it
+abbrev pub step_at : Records → (number : ℕ) → Option StagingStep
+step_at records number =
+    option_and_then (if_numbered number) (option_and_then step_in (records number))
+
+-- so it is in a known folder
+abbrev pub IsStepAt : KnownRecords → (number : ℕ) → Option StagingStep → Type 0
+IsStepAt known number step = IfSome known (λ records. step ≡ step_at records number)
+
+-- of the records with these numbers, the steps that they spell, and the numbers of the others
+abbrev pub AreRead : KnownRecords → (numbers : List ℕ) → RecordedSteps → Type 0
+AreRead known numbers read = IfSome known (λ records.
+    (read.steps.items ≡ filter_map (step_at records) numbers)
+    × (read.unread.items ≡ filter (λ n. is_none (step_at records n)) numbers))
+
+-- all records of a folder are read, in the order of their numbers
+pub record AreRecorded (known : KnownRecords) (recorded : RecordedSteps) : Type 0 where
+  pub numbers : List ℕ
+  pub all : GivesNumbers known numbers
+  pub sorted : IsSorted nat_cmp numbers
+  pub read : AreRead known numbers recorded
+
+-- a step's record was made or replaced, and spells the step
+pub record IsRecorded (step : StagingStep) (old new : KnownRecords) : Type 0 where
+  pub bytes : List ℕ
+  pub spelt : step_in bytes ≡ Some step
+  pub put : new ≡ record_known step.number bytes old

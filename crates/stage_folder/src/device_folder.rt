@@ -1,0 +1,111 @@
+//! A folder of a device.
+
+use crate::device_path::path_in;
+use crate::file_reader::read_file;
+use crate::folder::StageFolder;
+use crate::folder_fault::FolderFault;
+use crate::new_file::{remove_file, replace_file};
+use crate::record_folder::{RECORDS, has_records, make_records, numbers_in};
+use std::fs::{self, File, TryLockError};
+use std::path::{Path, PathBuf};
+use std::rt::Files;
+
+/// The most bytes of a file: 16 MiB.
+const MOST_BYTES: u32 = 0x100_0000;
+
+/// The most bytes of a record: 256 MiB.
+const MOST_RECORD: u32 = 0x1000_0000;
+
+/// A folder of a device, about whose files and records nothing is known. A new file
+/// is written next to the old one, synced and renamed; none is written through a symbolic link.
+#[derive(Drop)]
+pub struct DeviceFolder<'a, R> {
+    rt: &'a R,
+    path: PathBuf,
+    opened: File,
+}
+
+impl<'a, R: Files<File = File> + AllocGlobal> DeviceFolder<'a, R> {
+    /// The folder at a path. Returns `NoFolder` if there is none.
+    // open: what a device contains: `bench/outside`.
+    pub fn open(rt: &'a R, path: &str) -> Result<DeviceFolder<'a, R>, FolderFault> {
+        let Ok(whole) = Path::new(path).canonicalize(rt) else {
+            return Err(FolderFault::NoFolder);
+        };
+        let opened = fs::open(rt, whole.as_str())?;
+        let found = opened.metadata()?;
+        if !found.is_dir() {
+            return Err(FolderFault::NoFolder);
+        }
+        Ok(DeviceFolder {
+            rt,
+            path: whole,
+            opened,
+        })
+    }
+
+    fn path_of_records(&self) -> Result<String, FolderFault> {
+        Ok(format!(in self.rt.alloc(); "{}/{RECORDS}", self.path.as_str())?)
+    }
+
+    fn path_of_record(&self, number: u32) -> Result<String, FolderFault> {
+        Ok(format!(in self.rt.alloc(); "{}/{RECORDS}/{number}.json", self.path.as_str())?)
+    }
+}
+
+impl<'a, R: Files<File = File> + AllocGlobal> StageFolder for DeviceFolder<'a, R> {
+    ghost use Rattle.std.specs.Prelude.{None};
+
+    ghost files = { λ _. None };
+
+    ghost records = { λ _. None };
+
+    fn path(&self) -> &str {
+        self.path.as_str()
+    }
+
+    // The system gives the lock back when the process ends.
+    fn lock(&mut self) -> Result<(), FolderFault> {
+        match self.opened.try_lock() {
+            Ok(()) => Ok(()),
+            Err(TryLockError::WouldBlock) => Err(FolderFault::Locked),
+            Err(TryLockError::Error(error)) => Err(FolderFault::from(error)),
+        }
+    }
+
+    fn read(&self, name: &str) -> Result<Option<Vec<u8>>, FolderFault> {
+        let path = path_in(self.rt, self.path.as_str(), name)?;
+        read_file(self.rt, path.as_str(), MOST_BYTES)
+    }
+
+    fn put(&mut self, name: &str, bytes: Option<&[u8]>) -> Result<(), FolderFault> {
+        let path = path_in(self.rt, self.path.as_str(), name)?;
+        match bytes {
+            Some(bytes) => replace_file(self.rt, path.as_str(), bytes, 0o644),
+            None => remove_file(self.rt, path.as_str()),
+        }
+    }
+
+    fn record_numbers(&self) -> Result<Vec<u32>, FolderFault> {
+        let path = self.path_of_records()?;
+        if has_records(self.rt, path.as_str())? {
+            return numbers_in(self.rt, path.as_str());
+        }
+        Ok(Vec::new(self.rt.alloc()))
+    }
+
+    fn read_record(&self, number: u32) -> Result<Option<Vec<u8>>, FolderFault> {
+        let path = self.path_of_record(number)?;
+        read_file(self.rt, path.as_str(), MOST_RECORD)
+    }
+
+    fn put_record(&mut self, number: u32, bytes: &[u8]) -> Result<(), FolderFault> {
+        if bytes.len() > MOST_RECORD as usize {
+            return Err(FolderFault::TooLong);
+        }
+        let folder = self.path_of_records()?;
+        make_records(self.rt, folder.as_str())?;
+        let path = self.path_of_record(number)?;
+        replace_file(self.rt, path.as_str(), bytes, 0o600)
+    }
+}

@@ -1,0 +1,103 @@
+//! Why a folder's files or records can't be read or replaced.
+
+ghost use Rattle.std.specs.Prelude.{◌≡◌};
+ghost use Rattle.stage_folder.specs.declared.folder_fault.FolderFault.TheVariants.{Memory};
+
+use std::alloc::{AllocError, AllocFailed};
+use std::fmt;
+use std::io::{Error, ErrorKind};
+
+/// What is wrong with a folder, a file or a record. Its text is a sentence without the name of the
+/// file, which says what to do.
+#[derive(Clone, Copy, PartialEq, Eq)]
+pub enum FolderFault {
+    /// The folder is missing.
+    NoFolder,
+    /// Another process is at work in it.
+    Locked,
+    /// `.stage`, the folder of the records, is a link, another user's, or open to others.
+    RecordsNotOwn,
+    /// The record of this number doesn't spell a step of that number.
+    NoRecord(u32),
+    /// Two files of a step have one name, or its record doesn't read back as this step.
+    NotRecorded,
+    /// A name leads out of the folder, or into `.stage`.
+    Outside,
+    /// The file, or a folder before it, is a symbolic link.
+    Link,
+    /// It isn't a regular file: a folder, for instance, or a FIFO.
+    NotRegular,
+    /// It has more than 16 MiB.
+    TooLong,
+    /// It is neither as the step found it nor as the step left it.
+    Edited,
+    /// The system's reason.
+    System(ErrorKind),
+    /// An allocation failed.
+    Memory,
+}
+
+/// Which file of a step couldn't be read or replaced, counted from 0, and why.
+#[derive(Clone, Copy, PartialEq, Eq)]
+pub struct StepFault {
+    pub file: usize,
+    pub fault: FolderFault,
+}
+
+impl From<AllocError> for FolderFault {
+    ghost from_gives = { λ _ fault. fault ≡ Memory };
+
+    fn from(_: AllocError) -> Self {
+        FolderFault::Memory
+    }
+}
+
+impl<T: Drop> From<AllocFailed<T>> for FolderFault {
+    ghost from_gives = { λ _ fault. fault ≡ Memory };
+
+    fn from(_: AllocFailed<T>) -> Self {
+        FolderFault::Memory
+    }
+}
+
+impl From<Error> for FolderFault {
+    fn from(error: Error) -> Self {
+        match error.kind() {
+            ErrorKind::OutOfMemory => FolderFault::Memory,
+            kind => FolderFault::System(kind),
+        }
+    }
+}
+
+impl fmt::Display for FolderFault {
+    fn fmt<W: fmt::Write>(&self, f: &mut fmt::Formatter<W>) -> fmt::Result {
+        match self {
+            FolderFault::NoRecord(number) => write!(f, ".stage/{number}.json {NO_RECORD}"),
+            FolderFault::System(kind) => write!(f, "{kind}"),
+            fault => f.write_str(sentence(*fault)),
+        }
+    }
+}
+
+const NO_RECORD: &str = "is no record of this step: mend it, or move it away and restore by hand";
+
+// What is wrong, and what to do.
+fn sentence(fault: FolderFault) -> &'static str {
+    match fault {
+        FolderFault::NoFolder => "there is no such folder: make it, or name another by --folder",
+        FolderFault::Locked => "another `rollout stage` is at work here: wait until it has ended",
+        FolderFault::RecordsNotOwn => {
+            ".stage isn't a folder that only you may open: give it to yourself, with mode 700"
+        }
+        FolderFault::NotRecorded => "the step can't be recorded: name each file once, in UTF-8",
+        FolderFault::Outside => "the name leads out of the folder: give the file a name inside it",
+        FolderFault::Link => "there is a symbolic link on the way: put the file itself there",
+        FolderFault::NotRegular => "it is no regular file: put one there, or give another name",
+        FolderFault::TooLong => "it has more than 16 MiB: make it shorter",
+        FolderFault::Edited =>
+            "it was edited since the step: restore it by hand, or put a manifest",
+        FolderFault::Memory => "out of memory: try again",
+        FolderFault::NoRecord(_) => NO_RECORD,
+        FolderFault::System(_) => "",
+    }
+}

@@ -1,0 +1,32 @@
+//! A folder whose files are replaced step by step, and the records of these steps.
+//!
+//! docs/OPERATING.md describes stages.
+#![tactic(auto)]
+
+// A step is recorded whole before its first file is replaced. So a step that fails in its middle,
+// or whose process ends there, can be undone: each of its files is as the step found it, or as the
+// step leaves it. The contracts say this of a folder whose files are known, which a test has in
+// memory. Nothing is known of the files of a device (`device_folder.rt`).
+
+mod device_folder;
+mod device_path;
+mod distinct_names;
+mod file_reader;
+mod folder;
+mod folder_fault;
+mod law;
+mod new_file;
+mod performing;
+mod record_folder;
+mod records;
+#[cfg(test)]
+mod tests;
+mod undoing;
+
+pub use device_folder::DeviceFolder;
+pub use folder::StageFolder;
+pub use folder_fault::{FolderFault, StepFault};
+pub use law::{performed_is_undoable, undone_restores};
+pub use performing::perform;
+pub use records::{RecordedSteps, recorded_steps, write_record};
+pub use undoing::undo;

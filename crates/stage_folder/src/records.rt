@@ -1,0 +1,102 @@
+//! The records of the steps in a folder.
+
+ghost use Rattle.std.specs.Prelude.{◌≡◌, IfOk, IsPermutation, IsSorted, OnOk, true};
+ghost use Rattle.std.specs.Ordering.{nat_cmp};
+ghost use Rattle.stage_folder.specs.Steps.{has_distinct_names};
+ghost use Rattle.stage_folder.specs.Recorded.{AreRead, AreRecorded, IsRecorded, IsStepAt};
+
+use crate::distinct_names::has_distinct_names;
+use crate::folder::StageFolder;
+use crate::folder_fault::FolderFault;
+use staging::{StagingStep, read_step, step_record};
+use std::alloc::Global;
+
+/// The steps that are recorded, in the order of their numbers, and the numbers of the records that
+/// can't be read as a step of that number.
+#[derive(Drop)]
+pub struct RecordedSteps {
+    pub steps: Vec<StagingStep>,
+    pub unread: Vec<u32>,
+}
+
+/// Reads all records of a folder. A fault is about the folder of the records, or about a record
+/// that can't be opened.
+// open: which fault is returned.
+pub fn recorded_steps<F: StageFolder>(
+    alloc: Global,
+    folder: &F,
+) -> Result<RecordedSteps, FolderFault>
+    ensures { IfOk result (AreRecorded (F.records folder.now)) }
+{
+    let numbers = in_order(folder.record_numbers()?);
+    read_records(alloc, folder, numbers.as_slice())
+}
+
+fn in_order(mut numbers: Vec<u32>) -> Vec<u32>
+    ensures all { IsPermutation numbers.items result.items }
+    ensures sorted { IsSorted nat_cmp result.items }
+{
+    numbers.as_mut_slice().sort_unstable();
+    numbers
+}
+
+// Reads the records of these numbers.
+fn read_records<F: StageFolder>(
+    alloc: Global,
+    folder: &F,
+    numbers: &[u32],
+) -> Result<RecordedSteps, FolderFault>
+    ensures { IfOk result (AreRead (F.records folder.now) numbers.now) }
+{
+    let mut steps = Vec::new(alloc);
+    let mut unread = Vec::new(alloc);
+    let mut left = numbers;
+    while let [number, others @ ..] = left {
+        match step_at(alloc, folder, *number)? {
+            Some(step) => steps.push(step)?,
+            None => unread.push(*number)?,
+        }
+        left = others;
+    }
+    Ok(RecordedSteps { steps, unread })
+}
+
+// The step of this number, if its record spells it.
+fn step_at<F: StageFolder>(
+    alloc: Global,
+    folder: &F,
+    number: u32,
+) -> Result<Option<StagingStep>, FolderFault>
+    ensures { IfOk result (IsStepAt (F.records folder.now) number) }
+{
+    let Some(bytes) = folder.read_record(number)? else {
+        return Ok(None);
+    };
+    match read_step(alloc, bytes.as_slice())? {
+        Some(step) if step.number == number => Ok(Some(step)),
+        _ => Ok(None),
+    }
+}
+
+/// Records a step whole: makes its record, or replaces it. This comes before the step's first file
+/// is replaced, and again after the step is undone. Returns `NotRecorded` if two of its files have
+/// one name, or if the record doesn't read back as this step.
+// open: which fault is returned.
+pub fn write_record<F: StageFolder>(
+    alloc: Global,
+    folder: &mut F,
+    step: &StagingStep,
+) -> Result<(), FolderFault>
+    ensures recorded { OnOk result
+        (IsRecorded step.now (F.records folder.old) (F.records folder.new)) }
+    ensures distinct { OnOk result (has_distinct_names step.now.files ≡ true) }
+    ensures files { F.files folder.new ≡ F.files folder.old }
+{
+    if !has_distinct_names(&step.files) {
+        return Err(FolderFault::NotRecorded);
+    }
+    match step_record(alloc, step)? {
+        Some(text) => folder.put_record(step.number, text.as_bytes()),
+        None => Err(FolderFault::NotRecorded),
+    }
+}
