@@ -1,0 +1,4 @@
+pub mod Opening
+pub mod Plans
+pub mod Replacing
+pub mod Put

@@ -1,0 +1,40 @@
+-- An app of the manifest in place, and a file that is replaced.
+use Rattle.std.specs.Prelude.{◌≡◌, ◌⊎◌, ℕ, List, [], find, Option, Some, None}
+use Rattle.std.specs.Str.{bytes_eq}
+use Rattle.bounded_files.specs.Files.{Gives, KnownFiles, regular_files}
+use Rattle.load.specs.Folder.{known_beside}
+use Rattle.load.specs.Sources.{AreSources}
+use Rattle.load.specs.declared.sources.AppSources.{AppSources}
+use Rattle.load.specs.declared.sources.Sources.{Sources}
+use Rattle.stage_folder.specs.Folders.{GivesFile, KnownFolder, put_known}
+use Rattle.staging.specs.Steps.{ReplacedFile}
+
+-- the app with this appid
+abbrev pub app_named : List AppSources → (appid : List ℕ) → Option AppSources
+app_named apps appid = find (λ app. bytes_eq app.entry.appid appid) apps
+
+-- the manifest at a path, as a load gathers it
+pub record IsGathered (known : KnownFiles) (path bytes : List ℕ) (sources : Sources)
+    : Type 0 where
+  pub given : Gives (regular_files known) path (Some bytes)
+  pub are_sources : AreSources (known_beside known path) [] bytes sources
+
+-- the app with this appid of the manifest at a path
+pub record IsAppOf (known : KnownFiles) (path appid : List ℕ) (app : AppSources) : Type 0 where
+  pub bytes : List ℕ
+  pub sources : Sources
+  pub gathered : IsGathered known path bytes sources
+  pub found : app_named sources.apps.items appid ≡ Some app
+
+-- ---- one file
+
+-- what replaces a file by these bytes: nothing, if it has them already
+abbrev pub ReplacesBy : KnownFolder → (name bytes : List ℕ) → Option ReplacedFile → Type 0
+ReplacesBy known name bytes None = GivesFile known name (Some bytes)
+ReplacesBy known name bytes (Some file) = (file.name ≡ name) × (file.after ≡ bytes)
+
+-- the file of this name is replaced by these bytes, and no other file changes; or it has them
+-- already, and nothing changes
+abbrev pub Replaces : (old new : KnownFolder) → (name bytes : List ℕ) → Type 0
+Replaces old new name bytes =
+    (new ≡ put_known name (Some bytes) old) ⊎ ((new ≡ old) × GivesFile old name (Some bytes))

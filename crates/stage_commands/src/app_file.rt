@@ -1,0 +1,135 @@
+//! The app whose file is to be replaced, and what replaces that.
+
+ghost use Rattle.std.specs.Prelude.{◌≡◌, IfOk, Some, option_map, option_to_list, true};
+ghost use Rattle.stage_commands.specs.Apps as specs;
+ghost use Rattle.stage_folder.specs.Folders.{GivesFile, KnownFolder};
+
+use crate::gathered::app_named;
+use crate::options::StageOptions;
+use crate::outcome::{Lines, Stop};
+use crate::stop_texts::{no_app, one_file};
+use attrs::Text;
+use load::{AppSources, file_of};
+use staging::ReplacedFile;
+use std::alloc::{AllocError, Global};
+use std::fs;
+use std::os::unix::fs::MetadataExt;
+use std::path::{Path, PathBuf};
+use std::rt::Files;
+
+// The path of a name in a manifest.
+fn path_beside(alloc: Global, manifest: &str, name: &str) -> Result<PathBuf, AllocError> {
+    let folder = Path::new(manifest).parent().unwrap_or(Path::new(""));
+    folder.join(alloc, name)
+}
+
+// Whether two paths lead to one file, links followed.
+fn leads_to_same<R: Files>(rt: &R, one: &str, other: &str) -> bool {
+    let (Ok(found), Ok(too)) = (fs::metadata(rt, one), fs::metadata(rt, other)) else {
+        return false;
+    };
+    found.dev() == too.dev() && found.ino() == too.ino()
+}
+
+// Whether two names of a manifest are those of one file.
+fn is_one_file<R>(rt: &R, manifest: &str, one: &str, other: &str) -> Result<bool, AllocError>
+where
+    R: Files + AllocGlobal,
+{
+    if one == other {
+        return Ok(true);
+    }
+    let path = path_beside(rt.alloc(), manifest, one)?;
+    let another = path_beside(rt.alloc(), manifest, other)?;
+    Ok(leads_to_same(rt, path.as_str(), another.as_str()))
+}
+
+// Another app of the manifest with the same file.
+fn app_beside<'a, R>(
+    rt: &R,
+    manifest: &str,
+    apps: &'a [AppSources],
+    app: &AppSources,
+) -> Result<Option<&'a str>, AllocError>
+where
+    R: Files + AllocGlobal,
+{
+    let file = file_of(app.entry.source());
+    for other in apps {
+        let is_other = other.entry.appid() != app.entry.appid();
+        if is_other && is_one_file(rt, manifest, file, file_of(other.entry.source()))? {
+            return Ok(Some(other.entry.appid()));
+        }
+    }
+    Ok(None)
+}
+
+/// The app with this appid, whose file no other app has; or `--anyway` is given.
+pub(crate) fn app_to_change<'a, R>(
+    rt: &R,
+    manifest: &str,
+    apps: &'a [AppSources],
+    appid: &str,
+    options: &StageOptions<'_>,
+    lines: &mut Lines,
+) -> Result<&'a AppSources, Stop>
+where
+    R: Files + AllocGlobal,
+    ensures { IfOk result (λ app. specs.app_named apps.now appid.now ≡ Some app.now) }
+{
+    let alloc = rt.alloc();
+    let Some(app) = app_named(apps, appid) else {
+        return Err(no_app(alloc, appid, apps));
+    };
+    if let Some(other) = app_beside(rt, manifest, apps, app)? {
+        let refusal = one_file(alloc, file_of(app.entry.source()), other);
+        lines.go_on_if(options.anyway, refusal)?;
+    }
+    Ok(app)
+}
+
+fn has_bytes(before: &Option<Vec<u8>>, bytes: &[u8]) -> bool
+    ensures { result ≡ true → option_map (λ b. b.items) before.now ≡ Some bytes.now }
+{
+    match before {
+        Some(before) => before.as_slice() == bytes,
+        None => false,
+    }
+}
+
+/// What replaces a file that had these bytes, if there was one; nothing if it has the new ones.
+pub(crate) fn replacement(
+    alloc: Global,
+    name: &str,
+    before: Option<Vec<u8>>,
+    bytes: &[u8],
+) -> Result<Option<ReplacedFile>, AllocError>
+    ensures { IfOk result (λ file. (known : KnownFolder)
+        → GivesFile known name.now (option_map (λ b. b.items) before)
+        → specs.ReplacesBy known name.now bytes.now file) }
+{
+    if has_bytes(&before, bytes) {
+        return Ok(None);
+    }
+    let name = Text::new(String::from_str(alloc, name)?);
+    let after = Vec::from_slice(alloc, bytes)?;
+    Ok(Some(ReplacedFile {
+        name,
+        before,
+        after,
+    }))
+}
+
+/// The file, if there is one.
+pub(crate) fn files_of(
+    alloc: Global,
+    file: Option<ReplacedFile>,
+) -> Result<Vec<ReplacedFile>, AllocError>
+    ensures { IfOk result (λ files. files.items ≡ option_to_list file) }
+{
+    let mut files = Vec::new(alloc);
+    if let Some(file) = file {
+        files.push(file)?;
+    }
+    Ok(files)
+}

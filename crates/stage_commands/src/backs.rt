@@ -1,0 +1,81 @@
+//! `stage back`: the last step that isn't undone is undone.
+
+ghost use Rattle.std.specs.Prelude.{◌≡◌, OnOk, false, option_map, true};
+ghost use Rattle.staging.specs.Steps.{last_step};
+ghost use Rattle.stage_commands.specs.Backs.{HasGoneBack};
+ghost use Rattle.stage_folder.specs.Steps.{undone};
+
+use crate::options::StageOptions;
+use crate::outcome::{Lines, Stop};
+use crate::step_lines::{action_line, push_action};
+use crate::steps::{RECORDS, name_at, read_steps};
+use crate::stop_texts::{in_folder, not_undone, nothing_to_undo};
+use stage_folder::{FolderFault, StageFolder, StepFault, undo, write_record};
+use staging::StagingStep;
+use std::alloc::Global;
+
+// The last step that isn't undone, owned.
+fn take_last(steps: Vec<StagingStep>) -> Option<StagingStep>
+    ensures { result ≡ last_step steps.items }
+{
+    let mut left = steps;
+    while let Some(step) = left.pop() {
+        if !step.is_undone {
+            return Some(step);
+        }
+    }
+    None
+}
+
+// Why a step isn't undone. If a file is edited, nothing has changed.
+fn stop_at(alloc: Global, step: &StagingStep, at: StepFault) -> Stop {
+    let name = name_at(&step.files, at.file);
+    if at.fault == FolderFault::Edited {
+        return in_folder(alloc, name, at.fault);
+    }
+    not_undone(alloc, name, at.fault)
+}
+
+// Undoes a step, and records that.
+fn undo_step<F: StageFolder>(alloc: Global, folder: &mut F, step: StagingStep) -> Result<(), Stop>
+    ensures { OnOk result
+        (F.files folder.new ≡ option_map (undone step.files) (F.files folder.old)) }
+{
+    if let Err(at) = undo(folder, &step.files) {
+        return Err(stop_at(alloc, &step, at));
+    }
+    let step = StagingStep {
+        is_undone: true,
+        ..step
+    };
+    match write_record(alloc, folder, &step) {
+        Ok(()) => Ok(()),
+        Err(fault) => Err(in_folder(alloc, RECORDS, fault)),
+    }
+}
+
+/// Undoes the last step that isn't undone, whether it was performed whole or in part.
+#[tactic(auto, using(crate::proofs::Replacing::gone_back))]
+pub(crate) fn go_back<F: StageFolder>(
+    alloc: Global,
+    folder: &mut F,
+    options: &StageOptions<'_>,
+    lines: &mut Lines,
+) -> Result<(), Stop>
+    ensures done { OnOk result (options.now.dry_run ≡ false → HasGoneBack (F.records folder.old)
+        (F.files folder.old) (F.files folder.new)) }
+    ensures unchanged { options.now.dry_run ≡ true → F.files folder.new ≡ F.files folder.old }
+{
+    let recorded = read_steps(alloc, folder)?;
+    let Some(step) = take_last(recorded.steps) else {
+        return Err(nothing_to_undo(alloc));
+    };
+    if options.dry_run {
+        push_action(&mut lines.text, "would undo", &step)?;
+        return Ok(());
+    }
+    let line = action_line(alloc, "undone", &step);
+    undo_step(alloc, folder, step)?;
+    lines.text.push_str(line?.as_str())?;
+    Ok(())
+}

@@ -1,0 +1,113 @@
+//! For whom the next manifest changes what the present one gives, with the counters of a server.
+
+ghost use Rattle.stage_commands.specs.Compared.{IsJudged};
+ghost use Rattle.manifest_diff.specs.Opened.{AreKept};
+
+use crate::options::StageOptions;
+use crate::outcome::{Lines, Stop};
+use crate::quota_lines::push_quotas;
+use crate::stop_texts::{loses, not_compared};
+use attrs::Elapsed;
+use cell_assignments::read_assignments;
+use manifest_diff::{DiffOptions, OpenedBoth, OpenedManifest, diff_manifests};
+use operator::ask_server;
+use operator_request::OperatorRequest;
+use std::fmt::Write;
+use std::net::{Net, TcpStream};
+use std::time::{Clock, SystemTime, UNIX_EPOCH};
+
+/// The second by the clock; 0 if it can't be read.
+pub(crate) fn now_of<R: Clock>(rt: &R) -> u64 {
+    let Ok(now) = SystemTime::now(rt) else {
+        return 0;
+    };
+    match now.duration_since(UNIX_EPOCH) {
+        Ok(since) => since.as_secs(),
+        Err(_) => 0,
+    }
+}
+
+// Today's number.
+fn today<R: Clock>(rt: &R) -> u32 {
+    let second = i64::try_from(now_of(rt)).unwrap_or(0);
+    Elapsed::at(second).days
+}
+
+// The lines of the first server's counters; none without a reply.
+fn counters<R>(rt: &R, options: &StageOptions<'_>, lines: &mut Lines) -> Result<String, Stop>
+where
+    R: AllocGlobal + Net<Stream = TcpStream>,
+{
+    if options.no_load {
+        return Ok(String::new(rt.alloc()));
+    }
+    let Some(port) = options.ports().first() else {
+        return Ok(String::new(rt.alloc()));
+    };
+    match ask_server(rt, OperatorRequest::Cells, *port) {
+        Ok(reply) => Ok(reply),
+        Err(fault) => {
+            writeln!(
+                lines.stderr,
+                "stage: no counters of the server at {port} ({fault}): all quotas count as open"
+            )?;
+            Ok(String::new(rt.alloc()))
+        }
+    }
+}
+
+// Adds the quotas that are used, and the rows of the comparison; and whether somebody may lose a
+// release.
+fn push_comparison<R>(
+    rt: &R,
+    both: &OpenedBoth,
+    reply: &str,
+    lines: &mut Lines,
+) -> Result<bool, Stop>
+where
+    R: AllocGlobal + Clock,
+    requires { AreKept both.now }
+{
+    let cells = read_assignments(rt.alloc(), reply)?;
+    push_quotas(&mut lines.text, &both.new.sources.arrays, &cells)?;
+    let options = DiffOptions {
+        only: None,
+        from_day: today(rt),
+        json: false,
+    };
+    match diff_manifests(rt.alloc(), both, &cells, &[], &options) {
+        Ok(output) => {
+            lines.text.push_str(output.text.as_str())?;
+            Ok(output.loses)
+        }
+        Err(fault) => Err(not_compared(rt.alloc(), &fault)),
+    }
+}
+
+/// Prints what changes from today on. A lost row is a refusal, unless `--anyway` is given. Returns
+/// the next manifest.
+#[tactic(auto, using(crate::proofs::Opening::both_kept))]
+pub(crate) fn compare<R>(
+    rt: &R,
+    old: OpenedManifest,
+    new: OpenedManifest,
+    options: &StageOptions<'_>,
+    lines: &mut Lines,
+) -> Result<(), Stop>
+where
+    R: AllocGlobal + Clock + Net<Stream = TcpStream>,
+    requires old { IsJudged old }
+    requires new { IsJudged new }
+{
+    let both = OpenedBoth { old, new };
+    let reply = counters(rt, options, lines);
+    let lost = match reply {
+        Ok(reply) => push_comparison(rt, &both, reply.as_str(), lines),
+        Err(stop) => Err(stop),
+    };
+    drop(both);
+    if lost? {
+        return lines.go_on_if(options.anyway, loses(rt.alloc()));
+    }
+    Ok(())
+}

@@ -1,0 +1,44 @@
+//! The digest of what a server judged last, by its log.
+
+use std::io::{self, BufRead, BufReader};
+use std::rt::Files;
+use std::{fs, str};
+
+/// The bytes that are read of a log at a time.
+const PIECE: usize = 0x1_0000;
+
+/// What is before a digest in a line of a log. No text of a client has it, since its quotation
+/// marks are escaped.
+const MEMBER: &str = "\"digest\":\"";
+
+// The digest in a line, if it has one.
+fn digest_in(line: &[u8]) -> Option<&str> {
+    let Ok(text) = str::from_utf8(line) else {
+        return None;
+    };
+    let (_, after) = text.split_once(MEMBER)?;
+    let (digest, _) = after.split_once('"')?;
+    Some(digest)
+}
+
+/// The last digest in a log, which is that of the last start or load that wasn't refused; None if
+/// it has none.
+pub(crate) fn last_digest<R>(rt: &R, log: &str) -> io::Result<Option<String>>
+where
+    R: Files + AllocGlobal,
+{
+    let alloc = rt.alloc();
+    let mut reader = BufReader::with_capacity(alloc, PIECE, fs::open(rt, log)?)?;
+    let mut line = Vec::new(alloc);
+    let mut last = None;
+    for _ in 0..u64::MAX {
+        line.clear();
+        if reader.read_until(b'\n', &mut line)? == 0 {
+            return Ok(last);
+        }
+        if let Some(digest) = digest_in(&line) {
+            last = Some(String::from_str(alloc, digest)?);
+        }
+    }
+    Ok(last)
+}

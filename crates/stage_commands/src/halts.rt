@@ -1,0 +1,118 @@
+//! `stage halt`: the app's file is replaced by the one that offers no release.
+
+ghost use Rattle.std.specs.Prelude.{◌≡◌, IfOk, OnOk, false, true};
+ghost use Rattle.bounded_files.specs.Files.{KnownFiles};
+ghost use Rattle.stage_commands.specs.Apps.{IsGathered};
+ghost use Rattle.stage_commands.specs.Stages.{HasHalted, PlansHalt, PlansHaltOf};
+
+use crate::app_file::{app_to_change, files_of, replacement};
+use crate::gathered::{GatheredManifest, gather};
+use crate::options::StageOptions;
+use crate::outcome::{Lines, Stop};
+use crate::steps::{owned_text, read_steps, take_step};
+use crate::stop_texts::{in_folder, no_manifest};
+use bounded_files::Disk;
+use load::{AppSources, file_of};
+use stage_folder::StageFolder;
+use staging::{ReplacedFile, StepAction, halting_file};
+use std::alloc::Global;
+use std::rt::Files;
+use std::time::Clock;
+
+// The file that halts the app, unless it is in place.
+#[tactic(auto, using(crate::proofs::Plans::halt_of))]
+fn halting_file_of<F: StageFolder>(
+    alloc: Global,
+    folder: &F,
+    app: &AppSources,
+) -> Result<Option<ReplacedFile>, Stop>
+    ensures { IfOk result (PlansHaltOf (F.files folder.now) app.now) }
+{
+    let source = app.entry.source();
+    let name = file_of(source);
+    let before = match folder.read(name) {
+        Ok(before) => before,
+        Err(fault) => return Err(in_folder(alloc, name, fault)),
+    };
+    let file = replacement(alloc, name, before, halting_file(source))?;
+    Ok(file)
+}
+
+// The same, by the manifest in place. No other app is looked at, and nothing is compared.
+fn file_by<R, F>(
+    rt: &R,
+    folder: &F,
+    manifest: &str,
+    gathered: &GatheredManifest,
+    appid: &str,
+    options: &StageOptions<'_>,
+    lines: &mut Lines,
+) -> Result<Option<ReplacedFile>, Stop>
+where
+    R: Files + AllocGlobal,
+    F: StageFolder,
+    ensures { IfOk result (λ file. (known : KnownFiles)
+        → IsGathered known manifest.now gathered.now.bytes.items gathered.now.sources
+        → PlansHalt known manifest.now appid.now (F.files folder.now) file) }
+{
+    let apps = &gathered.sources.apps;
+    let app = app_to_change(rt, manifest, apps, appid, options, lines)?;
+    let file = halting_file_of(rt.alloc(), folder, app)?;
+    Ok(file)
+}
+
+// The same, by the manifest at a path.
+fn planned_file<R, D, F>(
+    rt: &R,
+    disk: &D,
+    folder: &F,
+    manifest: &str,
+    appid: &str,
+    options: &StageOptions<'_>,
+    lines: &mut Lines,
+) -> Result<Option<ReplacedFile>, Stop>
+where
+    R: Files + AllocGlobal,
+    D: Disk,
+    F: StageFolder,
+    ensures { IfOk result (PlansHalt (D.known disk.now) manifest.now appid.now
+        (F.files folder.now)) }
+{
+    let alloc = rt.alloc();
+    let gathered = match gather(alloc, disk, manifest) {
+        Ok(gathered) => gathered,
+        Err(fault) => return Err(no_manifest(alloc, manifest, &fault)),
+    };
+    let file = file_by(rt, folder, manifest, &gathered, appid, options, lines);
+    drop(gathered);
+    Ok(file?)
+}
+
+/// Halts an app.
+#[tactic(auto, using(crate::proofs::Replacing::halted))]
+pub(crate) fn halt<R, D, F>(
+    rt: &R,
+    disk: &D,
+    folder: &mut F,
+    manifest: &str,
+    appid: &str,
+    options: &StageOptions<'_>,
+    lines: &mut Lines,
+) -> Result<(), Stop>
+where
+    R: Files + AllocGlobal + Clock,
+    D: Disk,
+    F: StageFolder,
+    ensures done { OnOk result (options.now.dry_run ≡ false → HasHalted (D.known disk.now)
+        manifest.now appid.now (F.files folder.old) (F.files folder.new)) }
+    ensures unchanged { options.now.dry_run ≡ true → F.files folder.new ≡ F.files folder.old }
+{
+    let alloc = rt.alloc();
+    let steps = read_steps(alloc, folder)?;
+    let file = planned_file(rt, disk, folder, manifest, appid, options, lines)?;
+    let files = files_of(alloc, file)?;
+    let action = StepAction::Halt {
+        appid: owned_text(alloc, appid)?,
+    };
+    take_step(rt, folder, &steps.steps, action, files, options, lines)
+}

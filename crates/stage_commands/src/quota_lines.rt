@@ -1,0 +1,34 @@
+//! The quotas of a manifest that a server's counters have used.
+
+use cell_assignments::CellAssignment;
+use declarations::ArrayDeclaration;
+use std::alloc::AllocError;
+use std::fmt::Write;
+
+// The quota of a cell, if a manifest's array has one.
+fn quota_of(arrays: &[ArrayDeclaration], cell: &CellAssignment<'_>) -> Option<u64> {
+    for array in arrays {
+        if array.name() == cell.array() && cell.index() < array.length() {
+            return array.quota();
+        }
+    }
+    None
+}
+
+/// Adds a line for each cell of an array with a quota: how many takes the server has counted, of
+/// how many that it grants.
+pub(crate) fn push_quotas(
+    text: &mut String,
+    arrays: &[ArrayDeclaration],
+    cells: &[CellAssignment<'_>],
+) -> Result<(), AllocError> {
+    for cell in cells {
+        if let Some(quota) = quota_of(arrays, cell) {
+            let (array, index, value) = (cell.array(), cell.index(), cell.value());
+            let end = if value < quota { "" } else { ": used up" };
+            write!(text, "{array}[{index}] {value} of {quota}")?;
+            writeln!(text, "{end}")?;
+        }
+    }
+    Ok(())
+}

@@ -1,0 +1,196 @@
+//! `stage raise`: the number of the one threshold in the app's rule is changed.
+
+ghost use Rattle.std.specs.Prelude.{◌≡◌, IfOk, OnOk, Some, false, string_bytes, true};
+ghost use Rattle.load.specs.Source.{file_of};
+ghost use Rattle.staging.specs.Raises.{IsRaised};
+ghost use Rattle.stage_commands.specs.Compared.{IsJudged};
+ghost use Rattle.stage_commands.specs.Stages.{HasRaised, PlansRaise, PlansRaiseOf};
+ghost use Rattle.stage_folder.specs.Folders.{GivesFile};
+
+use crate::app_file::{app_to_change, files_of, replacement};
+use crate::comparison::compare;
+use crate::gathered::{GatheredManifest, gather, judged};
+use crate::new_file::WithNewFile;
+use crate::options::StageOptions;
+use crate::outcome::{Lines, Stop};
+use crate::steps::{owned_text, read_steps, take_step};
+use crate::stop_texts::{
+    has_program, in_folder, next_refused, no_manifest, no_text, not_judged, not_raised,
+};
+use bounded_files::Disk;
+use cells::Directory;
+use load::{AppSources, FolderFiles, SourcesRefusal, collect_sources, file_of};
+use manifest::ProgramSource;
+use manifest_diff::OpenedManifest;
+use stage_folder::StageFolder;
+use staging::{ReplacedFile, StepAction, raised_rule};
+use std::alloc::Global;
+use std::net::{Net, TcpStream};
+use std::rt::Files;
+use std::str;
+use std::time::Clock;
+
+// The raised text of a rule with these bytes.
+fn raised_text(alloc: Global, app: &AppSources, bytes: &[u8], buckets: u32) -> Result<String, Stop>
+    ensures { IfOk result (λ text.
+        IsRaised app.now.shape bytes.now (string_bytes text) buckets) }
+{
+    let name = file_of(app.entry.source());
+    let Ok(text) = str::from_utf8(bytes) else {
+        return Err(no_text(alloc, name));
+    };
+    match raised_rule(alloc, text, &app.shape, buckets) {
+        Ok(raised) => Ok(raised),
+        Err(fault) => Err(not_raised(alloc, name, &fault)),
+    }
+}
+
+// The bytes of the app's rule in the folder.
+fn rule_bytes<F: StageFolder>(alloc: Global, folder: &F, app: &AppSources) -> Result<Vec<u8>, Stop>
+    ensures { IfOk result (λ bytes.
+        GivesFile (F.files folder.now) (file_of app.now.entry.source) (Some bytes.items)) }
+{
+    let name = file_of(app.entry.source());
+    if let ProgramSource::Program(_) = app.entry.source() {
+        return Err(has_program(alloc, name));
+    }
+    match folder.read(name) {
+        Ok(Some(bytes)) => Ok(bytes),
+        Ok(None) => Err(no_text(alloc, name)),
+        Err(fault) => Err(in_folder(alloc, name, fault)),
+    }
+}
+
+// The raised rule of the app, unless it is in place.
+#[tactic(auto, using(crate::proofs::Plans::raise_of))]
+fn raised_file_of<F: StageFolder>(
+    alloc: Global,
+    folder: &F,
+    app: &AppSources,
+    buckets: u32,
+) -> Result<Option<ReplacedFile>, Stop>
+    ensures { IfOk result (PlansRaiseOf (F.files folder.now) app.now buckets) }
+{
+    let bytes = rule_bytes(alloc, folder, app)?;
+    let text = raised_text(alloc, app, &bytes, buckets)?;
+    let name = file_of(app.entry.source());
+    let file = replacement(alloc, name, Some(bytes), text.as_bytes())?;
+    Ok(file)
+}
+
+// The manifest in place, with another file.
+fn judged_with<D: Disk>(
+    alloc: Global,
+    disk: &D,
+    manifest: &str,
+    bytes: &[u8],
+    file: &ReplacedFile,
+) -> Result<OpenedManifest, Stop>
+    ensures { IfOk result IsJudged }
+{
+    let beside = FolderFiles::in_folder_of(alloc, disk, manifest);
+    let name = file.name.as_str();
+    let mut files = WithNewFile::new(alloc, beside, name, file.after.as_slice());
+    let none = Directory::new(alloc);
+    let sources = match collect_sources(alloc, bytes, &mut files, &none) {
+        Ok(sources) => sources,
+        Err(SourcesRefusal { fault, .. }) => return Err(next_refused(alloc, &fault)),
+    };
+    match judged(alloc, sources) {
+        Ok(opened) => Ok(opened),
+        Err(fault) => Err(next_refused(alloc, &fault)),
+    }
+}
+
+// Prints what changes by another file of the manifest in place. A lost row is a refusal, unless
+// `--anyway` is given.
+fn compare_with<R, D>(
+    rt: &R,
+    disk: &D,
+    manifest: &str,
+    gathered: GatheredManifest,
+    file: &ReplacedFile,
+    options: &StageOptions<'_>,
+    lines: &mut Lines,
+) -> Result<(), Stop>
+where
+    R: AllocGlobal + Clock + Net<Stream = TcpStream>,
+    D: Disk,
+{
+    let alloc = rt.alloc();
+    let GatheredManifest { bytes, sources } = gathered;
+    let old = match judged(alloc, sources) {
+        Ok(old) => old,
+        Err(fault) => return Err(not_judged(alloc, manifest, &fault)),
+    };
+    match judged_with(alloc, disk, manifest, &bytes, file) {
+        Ok(new) => compare(rt, old, new, options, lines),
+        Err(stop) => Err(stop),
+    }
+}
+
+// The raised rule of an app of the manifest in place, once it is compared.
+#[tactic(auto, using(crate::proofs::Plans::raise))]
+fn planned_file<R, D, F>(
+    rt: &R,
+    disk: &D,
+    folder: &F,
+    manifest: &str,
+    appid: &str,
+    buckets: u32,
+    options: &StageOptions<'_>,
+    lines: &mut Lines,
+) -> Result<Option<ReplacedFile>, Stop>
+where
+    R: Files + AllocGlobal + Clock + Net<Stream = TcpStream>,
+    D: Disk,
+    F: StageFolder,
+    ensures { IfOk result (PlansRaise (D.known disk.now) manifest.now appid.now buckets
+        (F.files folder.now)) }
+{
+    let alloc = rt.alloc();
+    let gathered = match gather(alloc, disk, manifest) {
+        Ok(gathered) => gathered,
+        Err(fault) => return Err(no_manifest(alloc, manifest, &fault)),
+    };
+    let file = match app_to_change(rt, manifest, &gathered.sources.apps, appid, options, lines) {
+        Ok(app) => raised_file_of(alloc, folder, app, buckets),
+        Err(stop) => Err(stop),
+    };
+    let file = file?;
+    if let Some(file) = &file {
+        compare_with(rt, disk, manifest, gathered, file, options, lines)?;
+    }
+    Ok(file)
+}
+
+/// Raises the rule of an app, once the next manifest is judged and compared with the present one.
+#[tactic(auto, using(crate::proofs::Replacing::raised))]
+pub(crate) fn raise<R, D, F>(
+    rt: &R,
+    disk: &D,
+    folder: &mut F,
+    manifest: &str,
+    appid: &str,
+    buckets: u32,
+    options: &StageOptions<'_>,
+    lines: &mut Lines,
+) -> Result<(), Stop>
+where
+    R: Files + AllocGlobal + Clock + Net<Stream = TcpStream>,
+    D: Disk,
+    F: StageFolder,
+    ensures done { OnOk result (options.now.dry_run ≡ false → HasRaised (D.known disk.now)
+        manifest.now appid.now buckets (F.files folder.old) (F.files folder.new)) }
+    ensures unchanged { options.now.dry_run ≡ true → F.files folder.new ≡ F.files folder.old }
+{
+    let alloc = rt.alloc();
+    let steps = read_steps(alloc, folder)?;
+    let file = planned_file(rt, disk, folder, manifest, appid, buckets, options, lines)?;
+    let files = files_of(alloc, file)?;
+    let action = StepAction::Raise {
+        appid: owned_text(alloc, appid)?,
+        buckets,
+    };
+    take_step(rt, folder, &steps.steps, action, files, options, lines)
+}

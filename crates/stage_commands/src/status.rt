@@ -1,0 +1,130 @@
+//! `stage status`: the steps, the halts in force, and what the servers serve.
+
+// No contract says what is printed: bench/outside tests it.
+
+use crate::gathered::gather;
+use crate::options::StageOptions;
+use crate::outcome::{Lines, Stop};
+use crate::servers::{push_log, push_servers};
+use crate::step_lines::push_action;
+use crate::steps::RECORDS;
+use crate::stop_texts::{in_folder, no_manifest};
+use bounded_files::Disk;
+use load::AppSources;
+use printing::Printed;
+use stage_folder::{RecordedSteps, StageFolder, recorded_steps};
+use staging::{FileState, ReplacedFile, StagingStep, is_in_force, last_step};
+use std::alloc::AllocError;
+use std::fmt::Write;
+use std::net::{Net, TcpStream};
+use std::rt::Files;
+
+// A line for each step, and for each record that isn't one.
+fn push_steps(recorded: &RecordedSteps, lines: &mut Lines) -> Result<(), AllocError> {
+    for step in &recorded.steps {
+        let word = if step.is_undone { "undone" } else { "done" };
+        push_action(&mut lines.text, word, step)?;
+    }
+    for number in &recorded.unread {
+        writeln!(
+            lines.stderr,
+            "stage: {RECORDS}/{number}.json is no record of a step: move it away"
+        )?;
+    }
+    Ok(())
+}
+
+fn state_of<F: StageFolder>(folder: &F, file: &ReplacedFile) -> FileState {
+    match folder.read(file.name.as_str()) {
+        Ok(found) => file.state(found.as_deref()),
+        Err(_) => FileState::Edited,
+    }
+}
+
+// Adds each file that isn't as the last step left it. Returns whether there is none.
+fn push_states<F: StageFolder>(
+    folder: &F,
+    step: &StagingStep,
+    lines: &mut Lines,
+) -> Result<bool, AllocError> {
+    let number = step.number;
+    let mut whole = true;
+    for file in &step.files {
+        let end = match state_of(folder, file) {
+            FileState::After => continue,
+            FileState::Before => "isn't replaced yet: call stage back, and then the action again",
+            FileState::Edited => "was edited since: stage back would stop there",
+        };
+        let name = Printed(file.name.as_str());
+        write!(lines.stderr, "stage: {name} of step {number} ")?;
+        writeln!(lines.stderr, "{end}")?;
+        whole = false;
+    }
+    Ok(whole)
+}
+
+// Adds the apps whose halts are in force.
+fn push_halts(
+    steps: &[StagingStep],
+    apps: &[AppSources],
+    lines: &mut Lines,
+) -> Result<(), AllocError> {
+    for app in apps {
+        if is_in_force(steps, apps, app.entry.appid()) {
+            let appid = Printed(app.entry.appid());
+            writeln!(lines.text, "halted: {appid}")?;
+        }
+    }
+    Ok(())
+}
+
+// Adds what is in place, and who serves it. Returns whether all is as it is in place.
+fn push_in_place<R, D>(
+    rt: &R,
+    disk: &D,
+    manifest: &str,
+    steps: &[StagingStep],
+    options: &StageOptions<'_>,
+    lines: &mut Lines,
+) -> Result<bool, Stop>
+where
+    R: Files + AllocGlobal + Net<Stream = TcpStream>,
+    D: Disk,
+{
+    let gathered = match gather(rt.alloc(), disk, manifest) {
+        Ok(gathered) => gathered,
+        Err(fault) => return Err(no_manifest(rt.alloc(), manifest, &fault)),
+    };
+    push_halts(steps, &gathered.sources.apps, lines)?;
+    let are_served = push_servers(rt, manifest, &gathered, options, lines)?;
+    let is_logged = push_log(rt, &gathered, options, lines)?;
+    Ok(are_served && is_logged)
+}
+
+/// Prints the status of a folder. Returns whether each step is whole, and the servers serve what is
+/// in place.
+pub(crate) fn push_status<R, D, F>(
+    rt: &R,
+    disk: &D,
+    folder: &F,
+    manifest: &str,
+    options: &StageOptions<'_>,
+    lines: &mut Lines,
+) -> Result<bool, Stop>
+where
+    R: Files + AllocGlobal + Net<Stream = TcpStream>,
+    D: Disk,
+    F: StageFolder,
+{
+    let recorded = match recorded_steps(rt.alloc(), folder) {
+        Ok(recorded) => recorded,
+        Err(fault) => return Err(in_folder(rt.alloc(), RECORDS, fault)),
+    };
+    push_steps(&recorded, lines)?;
+    let is_whole = match last_step(&recorded.steps) {
+        Some(step) => push_states(folder, step, lines)?,
+        None => true,
+    };
+    let is_served = push_in_place(rt, disk, manifest, &recorded.steps, options, lines)?;
+    Ok(is_whole && is_served && recorded.unread.is_empty())
+}
