@@ -258,7 +258,7 @@ def piped(day, old, new, arrays, more):
     [recipe] = section("OPERATING.md", "Check manifests in CI")
     for folder, offers in ((day.folder / "served", old), (day.folder, new)):
         (folder / "current.toml").write_text(manifest.replace("[[app]]", f"{arrays}[[app]]", 1))
-        (folder / "editor-5.rule").write_text(rule(offers))
+        (folder / "editor.rule").write_text(rule(offers))
     day.run("cd served; git add .; git -c user.name=a -c user.email=a@b commit -qm served")
     return day.run(f"{recipe.rstrip()} {more}\n")
 
@@ -267,7 +267,6 @@ def harms(folder):
     """Changes by which operators came to harm, in a clone of a repository of manifests."""
     needs("git")
     day = Day(folder / "pipeline", BUILT)
-    (day.folder / "editor-5.toml").unlink()
     day.run('git init -q -b main served; git init -q .; git remote add origin "file://$PWD/served"')
     for title, *change, wanted, status in HARMS:
         said = piped(day, *change)

@@ -20,7 +20,7 @@ from hosts import words_of
 UP = "ip link set lo up && echo up && exec sleep 600"
 # Stand-ins for the server's user, and for another user of the host.
 SERVER, OTHER = "daemon", "nobody"
-REFUSED = (1, "refused B5 Connect\n")
+REFUSED = "refused B5 Connect\n"
 
 
 class Network:
@@ -82,7 +82,8 @@ def wrong_rules(net, host, unit, rules):
             if (found := called(*net.enter, "nft", "-f", str(rules))) != (0, ""):
                 return f"{found}"
         for words in (["show"], ["cells"], ["load", manifest], ["stop"]):
-            if (found := net.call(OTHER, program, *words, *at)) != REFUSED:
+            found = net.call(OTHER, program, *words, *at)
+            if found[0] != 1 or not found[1].startswith(REFUSED):
                 return f"{OTHER}: {words}: {found}"
         for user in ("root", SERVER):
             if (found := net.call(user, program, "load", manifest, *at))[0] != 0:

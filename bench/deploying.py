@@ -143,7 +143,8 @@ def unit_commands(folder):
             return "the halt is undone by a start"
         if wrong := wrong_stop(host, unit, server):
             return wrong
-    if host.command(unit, "ExecStop", MAINPID="1") != (1, "refused B5 Connect\n"):
+    found = host.command(unit, "ExecStop", MAINPID="1")
+    if found[0] != 1 or not found[1].startswith("refused B5 Connect\noperator port "):
         return "a stop of what has ended meanwhile"
 
 

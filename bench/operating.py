@@ -20,8 +20,7 @@ PORTS = {"8080": "18097", "8081": "18098"}
 ASKED = "curl -s http://127.0.0.1:8080/service/update2/json --data-binary @-"
 SERVING = "--port 8080 --operator 8081 --workers 1 --log"
 OFFERED, NOTHING = '"version":"2.1"', '"status":"noupdate"'
-CHECKED = "app editor releases 1 slots 21\n"
-HALTED = "app editor releases 1 slots 5\n"
+REPLACED = "replaced editor.rule\nserver at 18098: generation {}\n"
 # The fewest file descriptors with which a server starts, as "On a host" says.
 LEAST = 10
 # What the last recipe prints after the moment and the address.
@@ -37,7 +36,10 @@ REPORTED = {
     "without a cohort": ["1 editor"],
     "events that are cut": ["1 editor"],
 }
-EXPOSED = ['rollout_offers{app="editor",release="2.1"} 1', 'rollout_cut_events{app="editor"} 1']
+EXPOSED = [
+    'rollout_offers_total{app="editor",release="2.1"} 1',
+    'rollout_cut_events_total{app="editor"} 1',
+]
 
 
 class Day:
@@ -51,9 +53,8 @@ class Day:
         for it in ("rollout", "rollout-tools"):
             (folder / "libexec" / it).symlink_to(program.with_name(it))
         manifest, rule, *_ = section("OPERATING.md", "Writing a manifest")
-        (folder / "editor-5.toml").write_text(manifest)
-        (folder / "editor-5.rule").write_text(rule)
-        shutil.copy(folder / "editor-5.toml", folder / "current.toml")
+        (folder / "current.toml").write_text(manifest)
+        (folder / "editor.rule").write_text(rule)
 
     def run(self, block, given=""):
         """The output of a block up to its first failure, and then the failure."""
@@ -64,6 +65,8 @@ class Day:
 
     def words(self, block):
         text = block.replace("/etc/rollout", str(self.folder)).removeprefix("$ ")
+        if "--folder" not in text:
+            text = re.sub(r"\brollout stage \w+", rf"\g<0> --folder {self.folder}", text)
         return ["sh", "-ec", re.sub(r"\b(8080|8081)\b", lambda found: PORTS[found[0]], text)]
 
     def place(self):
@@ -89,40 +92,42 @@ class Day:
             server.wait()
 
 
-def undigested(said):
-    """The output without the lines of digests."""
-    return re.sub("^digest [0-9a-f]{64}\n", "", said, flags=re.MULTILINE)
-
-
 def asking():
     """The block that sends a machine's request to the server."""
     return section("OPERATING.md", "What is being served")[1]
 
 
 def wrong_stages(day):
-    """Raises a stage, and then halts it."""
+    """Raises a stage, halts it, and undoes both."""
     raising, moves, _ = section("OPERATING.md", "Raising a stage")
-    [placing] = section("OPERATING.md", "Putting a manifest in place")
-    halting, lost, putting = section("OPERATING.md", "Halting a release")
+    [halting] = section("OPERATING.md", "Halting a release")
     comparing, ask, buckets, _ = section("OPERATING.md", "What is being served")
     if NOTHING not in (said := day.run(ask)):
         return f"before: {said}"
-    if not (said := day.run(raising)).startswith(CHECKED) or not said.endswith(moves):
-        return f"raising: {said}"
-    if undigested(said := day.run(placing)) != CHECKED + "generation 2\n":
-        return f"placing: {said}"
+    if day.run(raising) != moves + REPLACED.format(2):
+        return f"raising: {day.run(raising)}"
     if len(told := day.run(comparing).splitlines()) != 2 or told[0] != told[1]:
         return f"comparing: {told}"
     if OFFERED not in (said := day.run(ask)):
         return f"after it: {said}"
-    if not (said := day.run(halting)).startswith(HALTED) or not said.endswith(lost):
-        return f"halting: {said}"
-    if undigested(said := day.run(putting)) != HALTED + "generation 3\n":
-        return f"putting: {said}"
-    if NOTHING not in (said := day.run(ask)):
-        return f"after a halt: {said}"
     if (said := day.run(buckets)).splitlines()[1:5] != ["0", "1", "2", "6"]:
         return f"buckets: {said}"
+    if (said := day.run(halting)) != REPLACED.format(3):
+        return f"halting: {said}"
+    if NOTHING not in (said := day.run(ask)):
+        return f"after a halt: {said}"
+    return wrong_status(day)
+
+
+def wrong_status(day):
+    """The status after a raise and a halt, but for the times, and then undoing the halt."""
+    shown = section("OPERATING.md", "Steps, and going back")[0]
+    told = day.run("rollout stage status --operator 8081 && rollout stage back --operator 8081")
+    wanted = [line for line in shown.splitlines() if not line.startswith("$ ")]
+    for line, found in zip(wanted, told.splitlines(), strict=True):
+        if re.sub(r" of \S+:", "", line.replace("8081", "18098")) != re.sub(r" of \S+:", "", found):
+            return f"{found}, not {line}"
+    day.run("rollout stage halt editor --operator 8081")
 
 
 def wrong_events(day):
@@ -163,6 +168,12 @@ def wrong_report(day):
     exposed = day.run("cat server.log | rollout report - --prometheus").splitlines()
     if lost := {*EXPOSED} - {*exposed}:
         return f"report --prometheus: no {lost}"
+    whole = day.run("rollout report server.log")
+    day.run("head -n 3 server.log > part.log && printf '{' >> part.log")
+    day.run("rollout report part.log --state now.state && cp server.log part.log")
+    for _ in range(2):
+        if (said := day.run("rollout report part.log --state now.state")) != whole:
+            return f"report --state: {said}"
     if said := day.run("rollout report server.log --since 2007-01-01T00:00:00Z --until 1d"):
         return None if said.startswith("lines\n0\tcounted\n") else f"report --until 1d: {said}"
 

@@ -24,9 +24,12 @@ SHARED += ["docs/internals/COSTS.md", "docs/reference/README.md"]
 SHARED += ["examples/one.rule", *(f"examples/deploy/{it.name}" for it in DEPLOY.iterdir())]
 INSTALLED = {"bin/rollout", "libexec/rollout", "libexec/rollout-tools"}
 INSTALLED |= {f"share/rollout/{it}" for it in SHARED}
+INSTALLED |= {"share/bash-completion/completions/rollout", "share/zsh/vendor-completions/_rollout"}
+INSTALLED |= {"share/fish/vendor_completions.d/rollout.fish", "share/man/man1/rollout.1"}
 # Words, and what an install prints.
 RUNS = [(["stop", ""], "<rollout><stop><>"), (["ask"], "<rollout-tools><ask>")]
 RUNS += [(["frob"], "<rollout><frob>"), ([], "<rollout>"), (["--version"], BUILT_FROM)]
+RUNS += [(["-V"], BUILT_FROM), (["verbose"], "1\n")]
 PORTS = [18098, 18099]
 FOLDERS = ["etc/rollout", "var/log/rollout"]
 UNITS = ["rollout.service", "rollout@.service", "rollout-nft.service"]

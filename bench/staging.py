@@ -1,58 +1,268 @@
-"""Checks examples/deploy/stage: an app is raised, halted and taken back on a server. After a call
-that stops with an error, the server still serves what it served.
+"""Checks `rollout stage` on a folder and its servers: what it changes, what it leaves, where it
+stops, and what it says. Each check is a way in which a script that edited manifests did harm.
 """
-from hosts import DEPLOY
-from operating import BUILT, Day
+import fcntl
+import os
+import subprocess
 
-HOST = "--version 1.9 --folder /etc/rollout --operator 8081"
-RAISED, LOWERED = "none to 2.1, 1972 buckets", "2.1 to none, 1972 buckets, lost"
-HALTED, LIFTED = "2.1 to none, 2444 buckets, lost", "none to 2.1, 2444 buckets"
-# A call, its output, and the reason if it stops; otherwise the generation increases.
-CALLS = [
-    ("raise nobody 2500", [], 'current.toml has no app "nobody" with a rule'),
-    ("back", [], "current.toml isn't what a stage has put there"),
-    ("raise editor 2500", [RAISED], None),
-    ("raise editor 2500", [], "no bucket moves"),
-    ("raise editor 500", [LOWERED], "buckets lose their release"),
-    ("raise editor 50", [], "check warns of it"),
-    ("raise editor 500 --anyway", [LOWERED], None),
-    ("back", [RAISED], None),
-    ("halt editor", [HALTED], None),
-    ("halt editor", [], "no bucket moves"),
-    ("raise editor 2500", [], 'stage-4.rule hasn\'t one test "bucket <"'),
-    ("back", [LIFTED], None),
-    ("back", [LOWERED], None),
-    ("back", [], "there is no stage before stage-1.toml"),
-]
+from hosts import awaited, needs
+from operating import ASKED, BUILT, NOTHING, OFFERED, Day
 
-
-def call(day, words):
-    return day.run(f"{DEPLOY / 'stage'} {words} {HOST}")
+RELEASE = """[[app.release]]
+version = "2.1"
+codebase = "https://dl.example/"
+[[app.release.package]]
+name = "editor.zip"
+hash_sha256 = "0af387e17bfc44803fbc51b0f76031f72440893adc9803b6990e84ba9542ecb2"
+size = 48231044
+required = true
+"""
+QUOTA = '[[array]]\nname = "first"\nwidth = 64\nlength = 1\nquota = 2\n'
+REQUEST = '{"request":{"protocol":"3.1","app":[{"appid":"%s","version":"1.9","updatecheck":{}}]}}'
+RULE = "when version < 2.1 and bucket(3) < %s offer 1;\notherwise none;\n"
+NONE = "otherwise none;\n"
+# `mov r0, 1` and `exit`; and with 0.
+PROGRAM = bytes([0xB7, 0, 0, 0, 1, 0, 0, 0, 0x95, 0, 0, 0, 0, 0, 0, 0])
+HALTED = bytes([0xB7, 0, 0, 0, 0, 0, 0, 0, 0x95, 0, 0, 0, 0, 0, 0, 0])
+SAME = "the same for every machine\n"
 
 
-def wrong_calls(day):
-    generation = 1
-    for words, rows, reason in CALLS:
-        said = call(day, words)
-        generation += reason is None
-        rows = "".join(f"app editor: {it}\n" for it in rows)
-        end = f"stage: {reason}; nothing has changed\n" if reason else f"generation {generation}\n"
-        if not said.startswith(rows) or not said.endswith(end):
+def manifest(apps, arrays=""):
+    """A manifest of apps: the line of each appid, and the line of its file."""
+    return 'server = "prod"\n' + arrays + "".join(f"{app}\n{file}\n{RELEASE}" for app, file in apps)
+
+
+EDITOR = ('[[app]]\nappid = "editor"', 'rule = "editor.rule"')
+
+
+class Stage(Day):
+    """A folder with a manifest and these files, and calls of `stage` in it."""
+
+    def __init__(self, folder, apps=(EDITOR,), arrays="", program=BUILT, **files):
+        super().__init__(folder, program)
+        self.write("current.toml", manifest(apps, arrays))
+        for name, text in ({"editor.rule": RULE % 500} | files).items():
+            self.write(name, text)
+
+    def write(self, name, text):
+        (self.folder / name).parent.mkdir(exist_ok=True)
+        (self.folder / name).write_bytes(text if isinstance(text, bytes) else text.encode())
+
+    def bytes(self, name):
+        return (self.folder / name).read_bytes()
+
+    def stage(self, words):
+        """The output of a call, and then its status and errors if it isn't 0."""
+        return self.run(f"rollout stage {words} --folder /etc/rollout")
+
+    def all(self):
+        """Each file of the folder with its bytes, but for programs and records."""
+        found = (it for it in self.folder.iterdir() if it.is_file() and not it.is_symlink())
+        return {it.name: it.read_bytes() for it in found}
+
+
+def alone(it, words):
+    return it.stage(f"{words} --no-load")
+
+
+def steps(folder):
+    """A raise, the same once more, a halt, and the way back; with a server and without."""
+    it = Stage(folder / "stage")
+    with it.served():
+        calls = [
+            ("raise editor 2500", ["none       2.1", "replaced editor.rule\n", "generation 2\n"]),
+            ("raise editor 2500", ["the files are so already\n", "generation 3\n"]),
+            ("halt editor", ["replaced editor.rule\n", "generation 4\n"]),
+            ("halt editor", ["the files are so already\n", "generation 5\n"]),
+            ("raise editor 5000", ["1 stage: editor.rule isn't raised: it has no test"]),
+            ("status", ["done step 2 of", "halted: editor\n", "generation 5, the apps in place\n"]),
+            ("back", ["undone step 2 of", "generation 6\n"]),
+            ("raise editor 100", ["lost", "1 stage: a row is lost"]),
+            ("raise editor 100 --anyway --dry-run", ["would replace editor.rule\n"]),
+            ("back", ["undone step 1 of", "generation 7\n"]),
+            ("back", ["1 stage: no step is left to be undone; nothing has changed\n"]),
+            ("halt nobody", ["1 stage: current.toml has no app nobody, only editor;"]),
+        ]
+        for words, wanted in calls:
+            said = it.stage(f"{words} --operator 8081")
+            if lost := [text for text in wanted if text not in said]:
+                return f"{words}: {said!r} lacks {lost}"
+    if it.bytes("editor.rule") != (RULE % 500).encode():
+        return "back: the rule isn't as before"
+    said = it.stage("halt editor --operator 8081")
+    if "not loaded at 18098" not in said or it.bytes("editor.rule") != NONE.encode():
+        return f"without a server: {said!r}"
+
+
+def halts_any_rule(folder):
+    """A rule by day and attribute is halted, as is a program, whatever the form of its TOML."""
+    needs("curl")
+    rule = 'when today >= 7000 and attr ap is "" and bucket mod 4 < 4 offer 1;\notherwise none;\n'
+    apps = [("[[ app ]]\nappid = 'editor'", 'rule = "editor.rule"')]
+    apps += [('[[app]]\n"appid" = "agent"', 'program="a/agent.bin"')]
+    it = Stage(folder / "any", apps, **{"editor.rule": rule, "a/agent.bin": PROGRAM})
+    with it.served():
+        for app in ("editor", "agent"):
+            if OFFERED not in (said := it.run(ASKED, REQUEST % app)):
+                return f"before: {said}"
+            if "generation" not in (said := it.stage(f"halt {app} --operator 8081")):
+                return f"halt {app}: {said}"
+            if NOTHING not in (said := it.run(ASKED, REQUEST % app)):
+                return f"after halt {app}: {said}"
+    if (it.bytes("editor.rule"), it.bytes("a/agent.bin")) != (NONE.encode(), HALTED):
+        return "a file isn't the halting one"
+
+
+def both_servers(folder):
+    """Two servers of one folder are halted by one call, and one of them by a second call."""
+    needs("curl")
+    it = Stage(folder / "both", **{"editor.rule": RULE % 10000})
+    ask = ASKED.replace("8080", "18107")
+    words = it.words("exec rollout serve current.toml --port 18107 --operator 18108 --workers 1")
+    with it.served(), subprocess.Popen(words, stdout=subprocess.DEVNULL, **it.place()) as second:
+        try:
+            if not awaited(lambda: OFFERED in it.run(f"{ask} || :", REQUEST % "editor")):
+                return "the second server doesn't offer"
+            for ports in ("--operator 8081", "--operator 8081 --operator 18108"):
+                said = it.stage(f"halt editor {ports}")
+                if said.count("generation") != ports.count("--"):
+                    return f"{ports}: {said}"
+            if NOTHING not in (said := it.run(ask, REQUEST % "editor")):
+                return f"the second server: {said}"
+            said = it.stage("halt editor --operator 18199 --operator 18108")
+            if "not loaded at 18199;" not in said or "server at 18108: generation" not in said:
+                return f"one server doesn't reply: {said}"
+            if "other apps" in (said := it.stage("status --operator 18108")):
+                return f"status: {said}"
+        finally:
+            second.kill()
+
+
+def used_quota(folder):
+    """A quota that is used up is named, and that a raise gives nobody more."""
+    needs("curl")
+    rule = "when version < 2.1 and bucket(3) < 5000 and take(first, 0) offer 1;\notherwise none;\n"
+    it = Stage(folder / "quota", arrays=QUOTA, **{"editor.rule": rule})
+    with it.served():
+        for bucket in range(0, 10000, 400):
+            asked = REQUEST.replace('"version"', f'"cohort":"b:{bucket:04}","version"')
+            it.run(ASKED, asked % "editor")
+        said = it.stage("raise editor 10000 --operator 8081")
+        if ": used up\n" not in said or SAME not in said or "lost" in said:
+            return said
+        if " of 2: used up\n" not in (said := it.stage("status --operator 8081")):
+            return f"status: {said}"
+
+
+def lifted(folder):
+    """A manifest from elsewhere that would lift a halt stops by its name; one that halts, too,
+    doesn't, and one that differs replaces what differs, the manifest last."""
+    it = Stage(folder / "lifted")
+    elsewhere = Stage(folder / "elsewhere", **{"editor.rule": RULE % 2500})
+    put = f"put {elsewhere.folder}/current.toml"
+    alone(it, "halt editor")
+    before = it.all()
+    if "1 stage: this lifts the halt of editor" not in (said := alone(it, put)):
+        return said
+    if it.all() != before:
+        return "a stopped put has changed a file"
+    elsewhere.write("editor.rule", NONE)
+    if "the files are so already\n" not in (said := alone(it, put)):
+        return f"with a halt: {said}"
+    elsewhere.write("editor.rule", RULE % 2500)
+    if "replaced editor.rule\n" not in (said := alone(it, f"{put} --anyway")):
+        return f"--anyway: {said}"
+    elsewhere.write("current.toml", manifest([EDITOR], "# a comment\n"))
+    elsewhere.write("editor.rule", RULE % 5000)
+    if "replaced editor.rule\nreplaced current.toml\n" not in (said := alone(it, put)):
+        return f"two files: {said}"
+    alone(it, "back")
+    if it.bytes("editor.rule") != (RULE % 2500).encode() or b"# a" in it.bytes("current.toml"):
+        return "back hasn't restored both files"
+
+
+def elsewhere_stays(folder):
+    """A folder that isn't there stops the call, and the working folder stays as it is."""
+    it = Stage(folder / "here")
+    before = it.all()
+    for words in ("halt editor", "raise editor 2500", "back", f"put {it.folder}/current.toml"):
+        said = it.run(f"rollout stage {words} --no-load --folder /etc/rolloutt")
+        if "1 stage:" not in said or "no such folder" not in said:
             return f"{words}: {said}"
-        if day.run("rollout show --operator 8081 | head -1") != f"generation {generation}\n":
-            return f"{words}: another generation"
+    if it.all() != before or (it.folder / ".stage").exists():
+        return "the working folder has changed"
 
 
-def stages(folder, program=BUILT):
-    day = Day(folder / "stages", program)
-    with day.served():
-        if wrong := wrong_calls(day):
-            return wrong
-    said = call(day, "raise editor 2500")
-    if "refused B5" not in said or "stage: not loaded" not in said:
-        return f"without a server: {said}"
-    if said := day.run("cmp current.toml stage-1.toml"):
-        return f"without a server: {said}"
+def other_files_stay(folder):
+    """No file is changed but the app's own, whatever it is called; a dry run changes none."""
+    apps = [("[[app]]\nappid = 'editor'", "rule = 'stage-2.rule'")]
+    apps += [("[[app]]\nappid = 'editor: beta'", "rule = 'x=1.rule'")]
+    texts = 'when attr ap is "#1" and bucket < 500 offer 1;\nwhen bucket < 300 offer 1;\n' + NONE
+    files = {"stage-2.rule": RULE % 500, "x=1.rule": RULE % 700, "stage-1.toml": "old"}
+    it = Stage(folder / "files", apps, **files)
+    before = it.all()
+    for words in ("raise editor 2500", "halt 'editor: beta'"):
+        alone(it, f"{words} --dry-run")
+        if it.all() != before:
+            return f"{words} --dry-run has changed a file"
+    for words, name, text in (
+        ("halt editor", "stage-2.rule", NONE),
+        ("raise 'editor: beta' 2500", "x=1.rule", RULE % 2500),
+    ):
+        said = alone(it, words)
+        before[name] = text.encode()
+        if it.all() != before:
+            return f"{words}: {said}"
+    it.write("x=1.rule", texts)
+    if "several tests" not in (said := alone(it, "raise 'editor: beta' 2500")):
+        return f"two tests: {said}"
 
 
-STAGES = {"examples/deploy/stage": stages}
+def links_stay(folder):
+    """Nothing is written through a link: not through an app's file, a folder or the records."""
+    it = Stage(folder / "links", [("[[app]]\nappid = 'editor'", "rule = 'linked/editor.rule'")])
+    outside = folder / "outside"
+    outside.mkdir()
+    (outside / "editor.rule").write_text(RULE % 500)
+    (it.folder / "linked").symlink_to(outside)
+    for words in ("halt editor", "raise editor 2500"):
+        if "1 stage:" not in (said := alone(it, words)) or "link" not in said:
+            return f"{words}: {said}"
+    it.write("current.toml", manifest([EDITOR]))
+    (it.folder / ".stage").symlink_to(outside)
+    said = alone(it, "halt editor")
+    if "1 stage:" not in said or len(list(outside.iterdir())) != 1:
+        return f".stage: {said}"
+    if (outside / "editor.rule").read_text() != RULE % 500:
+        return "a linked file has changed"
+
+
+def one_at_a_time(folder):
+    """A second call is refused while the first is at work; one file of two apps is named."""
+    it = Stage(folder / "lock")
+    held = os.open(it.folder, os.O_RDONLY)
+    fcntl.flock(held, fcntl.LOCK_EX)
+    said = alone(it, "halt editor")
+    os.close(held)
+    if "at work" not in said:
+        return said
+    twice = [EDITOR, ('[[app]]\nappid = "other"', 'rule = "./editor.rule"')]
+    it.write("current.toml", manifest(twice))
+    for words in ("halt editor", "raise editor 2500"):
+        if "the file of app other, too" not in (said := alone(it, words)):
+            return f"{words}: {said}"
+    if "replaced editor.rule\n" not in (said := alone(it, "halt editor --anyway")):
+        return f"--anyway: {said}"
+
+
+STAGES = {
+    "stage: raise, halt, back": steps,
+    "stage: any rule and program is halted": halts_any_rule,
+    "stage: both servers of a folder": both_servers,
+    "stage: a quota that is used up": used_quota,
+    "stage: a halt isn't lifted": lifted,
+    "stage: a folder that isn't there": elsewhere_stays,
+    "stage: other files stay": other_files_stay,
+    "stage: links": links_stay,
+    "stage: one call at a time, one file an app": one_at_a_time,
+}

@@ -27,6 +27,14 @@ PLACES = {
     "libexec/rollout-tools": BUILT / "rollout-tools",
     "libexec/rollout": BUILT / "rollout",
 }
+# What `rollout completion` prints for each shell, and the page of the manual, at the places in which
+# shells and `man` look.
+PRINTED = {
+    "share/bash-completion/completions/rollout": "bash",
+    "share/zsh/vendor-completions/_rollout": "zsh",
+    "share/fish/vendor_completions.d/rollout.fish": "fish",
+    "share/man/man1/rollout.1": "man",
+}
 # The scripts that check the pages aren't installed, and neither is an existing reference, since it
 # may belong to other sources.
 LEFT_OUT = shutil.ignore_patterns("*.py", "checking", "__pycache__", "reference")
@@ -66,12 +74,22 @@ def write_reference(folder):
         raise OSError("docs/check.py doesn't write the reference")
 
 
+def completion(shell):
+    words = [BUILT / "rollout-tools", "completion", shell]
+    done = subprocess.run(words, capture_output=True)
+    if done.returncode:
+        raise OSError(f"rollout-tools doesn't print its completions for {shell}")
+    return done.stdout
+
+
 def write_beside(source, place, undo):
     make_folder(place.parent, undo)
     new = beside(place, "new")
     remove(new)
     undo.callback(remove, new)
-    if source.is_dir():
+    if isinstance(source, bytes):
+        new.write_bytes(source)
+    elif source.is_dir():
         shutil.copytree(source, new, ignore=LEFT_OUT)
         if source == DOCS:
             write_reference(new / "reference")
@@ -110,9 +128,10 @@ def cause(error):
 
 def copy_all(folder):
     """Copies all or nothing, and replaces what an earlier call copied."""
-    *shared, program = [folder / it for it in PLACES]
+    places = {**{it: completion(shell) for it, shell in PRINTED.items()}, **PLACES}
+    *shared, program = [folder / it for it in places]
     with contextlib.ExitStack() as undo:
-        for place, source in PLACES.items():
+        for place, source in places.items():
             write_beside(source, folder / place, undo)
         for place in shared:
             set_in_place(place, undo)

@@ -15,8 +15,9 @@ from building.work import Guard, Work, count_jobs, count_room
 # More jobs for one crate gain nothing.
 MOST_JOBS = 8
 # A crate's priority is lower by a level for each ten seconds by which its chain is shorter than the
-# longest. It is urgent up to the third.
-SECONDS_A_LEVEL, URGENT, LOWEST = 10, 3, 19
+# longest. It is urgent up to the third. At the lowest it has about a third of an urgent one's time:
+# with less, a chain that is longer than recorded would end last.
+SECONDS_A_LEVEL, URGENT, LOWEST = 10, 3, 5
 # A crate may take minutes. After this many seconds without a line, a line says what is running.
 MOST_SILENT = 50
 

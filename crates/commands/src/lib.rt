@@ -10,8 +10,10 @@
 // serves, and serves until it is stopped. The status says whether all this was done.
 
 mod command_fault;
+mod details;
 mod logged;
 mod output;
+mod removed_apps;
 mod replays;
 mod requests;
 mod serve;

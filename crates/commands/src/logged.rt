@@ -40,11 +40,11 @@ where
         (Appends (O.contents out.old) (O.contents out.new) (serving_line 1)) }
     ensures fault { IfErr result (λ e. IsStaffFault e ⊎ IsEndFault e) }
 {
-    let (queue, end) = match start_log(rt) {
+    let ports = server.ports();
+    let (queue, end) = match start_log(rt, ports.service().port()) {
         Ok(log) => log,
         Err(fault) => return Err(ServingFault::Resource(fault)),
     };
-    let ports = server.ports();
     let starting = Starting {
         manifest,
         port: ports.service().port(),

@@ -7,11 +7,13 @@ ghost use Rattle.commands.specs.Commands.{AreWrong, IsAnswered, IsDone};
 ghost use Rattle.workers.specs.Texts.{serving_line};
 
 use crate::command_fault::Fault;
+use crate::details::print_details;
 use crate::logged::note_refusal;
 use crate::output::CommandOutput;
+use crate::removed_apps::{apps_shown, print_removed_apps};
 use crate::requests::output_of;
 use crate::serve::serve_until_stopped;
-use command_line::{print_output, refused, usage};
+use command_line::{is_verbose, print_output, refused, usage};
 use command_words::{Command, Plan, read_words};
 use load::Disk;
 use server_log::LogOutput;
@@ -25,9 +27,10 @@ use std::thread::Threads;
 use std::time::Clock;
 
 /// Does what the words request, with files of the disk. The first word is the program's name.
-/// Results go to `out`, and only refusals and usage to `err`. The status is 0 if the request was
-/// done; 1 if it was refused, or a write failed; and 2 for usage. For `serve` it is returned after
-/// the server's end.
+/// Results go to `out`, and only refusals and usage to `err`. With `--verbose` a refusal has a second
+/// line, and a load prints by the runtime itself which apps the server no longer has. The status is
+/// 0 if the request was done; 1 if it was refused, or a write failed; and 2 for usage. For `serve`
+/// it is returned after the server's end.
 // open: `clap`'s texts; that the status isn't 1, since a read or a write may fail at any time: the
 // tests compare each command's lines and status.
 pub fn command<R, D, S, O, E>(rt: &R, disk: &D, words: &[S], out: &mut O, err: &mut E) -> u8
@@ -48,13 +51,50 @@ where
     ensures usage { result ≡ 2 → out.new ≡ out.old }
 {
     match read_words(rt.alloc(), words) {
-        Ok(command) => perform(rt, disk, &command, out, err),
+        Ok(command) => perform_comparing(rt, disk, &command, is_verbose(words), out, err),
         Err(fault) => usage(&fault, out, err),
     }
 }
 
-// Does what is requested, and prints the output or the refusal.
-fn perform<R, D, O, E>(rt: &R, disk: &D, command: &Command<'_>, out: &mut O, err: &mut E) -> u8
+// Does what is requested. With `verbose`, a load also prints which apps it removed.
+fn perform_comparing<R, D, O, E>(
+    rt: &R,
+    disk: &D,
+    command: &Command<'_>,
+    verbose: bool,
+    out: &mut O,
+    err: &mut E,
+) -> u8
+where
+    R: Files + Threads + Wait + AllocGlobal + Clock + LogOutput,
+    R: Copy + Drop + Send + Sync + 'static,
+    R: Net<Listener = TcpListener, Stream = TcpStream>,
+    R::File: Send,
+    R::Dir: Send,
+    D: Disk + Sync,
+    O: Write,
+    E: Write,
+    ensures within { result ≤ 1 }
+    ensures done { result ≡ 0 → IsAnswered (D.known disk.now) command.now
+        (O.contents out.old) (O.contents out.new) (IsGiven E.contents err.old err.new) }
+{
+    let before = apps_shown(rt, command, verbose);
+    let status = perform(rt, disk, command, verbose, out, err);
+    if status == 0 {
+        print_removed_apps(rt, command, before.as_str());
+    }
+    status
+}
+
+// Does what is requested, and prints the output or the refusal, with its second line if `verbose`.
+fn perform<R, D, O, E>(
+    rt: &R,
+    disk: &D,
+    command: &Command<'_>,
+    verbose: bool,
+    out: &mut O,
+    err: &mut E,
+) -> u8
 where
     R: Files + Threads + Wait + AllocGlobal + Clock + LogOutput,
     R: Copy + Drop + Send + Sync + 'static,
@@ -82,6 +122,9 @@ where
         Err(fault) => {
             note_refusal(rt, command, &fault);
             let status = refused(err, &fault);
+            if verbose {
+                print_details(rt, disk, command, &fault, err);
+            }
             drop(fault);
             status
         }

@@ -3,14 +3,12 @@
 //! programs. `command` of the library `commands` does what the words request.
 #![tactic(auto)]
 
+mod environment;
+
+use crate::environment::words_of;
 use command_line::unreadable_words;
 use commands::{Device, command};
 use std::process::ExitCode;
-use std::{env, io};
-
-fn words_of(rt: &HostRuntime) -> io::Result<Vec<String>> {
-    Ok(env::args(rt)?.collect(rt.alloc())?)
-}
 
 fn main(rt: HostRuntime) -> ExitCode {
     let mut out = rt.stdout();

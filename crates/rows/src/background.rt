@@ -8,7 +8,7 @@ use crate::printed::Printed;
 use anyhow::{Result, bail};
 use commands::LogOutput;
 use std::alloc::AllocError;
-use std::fs;
+use std::fs::{self, File};
 use std::io::{Read, Write};
 use std::net::{Ipv4Addr, Net, TcpListener, TcpStream};
 use std::rt::Files;
@@ -66,7 +66,7 @@ fn await_port<R: Clock + Net<Stream = TcpStream>>(rt: &R, port: u16) {
 /// The output of a command, if it is a text.
 fn printed<R>(rt: R, words: Vec<String>) -> Option<Printed>
 where
-    R: Files + Threads + Wait + AllocGlobal + Clock + LogOutput,
+    R: Files<File = File> + Threads + Wait + AllocGlobal + Clock + LogOutput,
     R: Copy + Drop + Send + Sync + 'static,
     R: Net<Listener = TcpListener, Stream = TcpStream>,
     R::File: Send,
@@ -81,7 +81,7 @@ where
 /// Starts a command, by a port and its words, and waits until something listens at the port.
 pub(crate) fn start<R>(rt: &R, place: usize, text: &str) -> Result<Background>
 where
-    R: Files + Threads + Wait + AllocGlobal + Clock + LogOutput,
+    R: Files<File = File> + Threads + Wait + AllocGlobal + Clock + LogOutput,
     R: Copy + Drop + Send + Sync + 'static,
     R: Net<Listener = TcpListener, Stream = TcpStream>,
     R::File: Send,

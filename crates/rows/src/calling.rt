@@ -7,7 +7,7 @@ use anyhow::Result;
 use command_line::{WordsFault, unreadable_words, usage};
 use commands::{Device, LogOutput};
 use std::alloc::Global;
-use std::fs;
+use std::fs::{self, File};
 use std::io::{self, ErrorKind, Write};
 use std::net::{Net, TcpListener, TcpStream};
 use std::os::unix::fs::symlink;
@@ -21,7 +21,16 @@ fn is_tool(words: &[String]) -> bool {
     match words {
         [_, command, ..] => matches!(
             command.as_str(),
-            "check" | "diff" | "explain" | "trace" | "order" | "simulate" | "ask" | "report"
+            "check"
+                | "diff"
+                | "explain"
+                | "trace"
+                | "order"
+                | "simulate"
+                | "ask"
+                | "report"
+                | "stage"
+                | "completion"
         ),
         _ => false,
     }
@@ -48,7 +57,7 @@ fn program_of(words: &[String]) -> (&[String], bool) {
 /// Calls a command, and returns its status.
 fn status_of<R, O>(rt: &R, words: &[String], out: &mut O, err: &mut Vec<u8>) -> u8
 where
-    R: Files + Threads + Wait + AllocGlobal + Clock + LogOutput,
+    R: Files<File = File> + Threads + Wait + AllocGlobal + Clock + LogOutput,
     R: Copy + Drop + Send + Sync + 'static,
     R: Net<Listener = TcpListener, Stream = TcpStream>,
     R::File: Send,
@@ -67,7 +76,7 @@ where
 /// The output of a command.
 pub(crate) fn printed_of<R>(rt: &R, words: &[String]) -> Result<Printed>
 where
-    R: Files + Threads + Wait + AllocGlobal + Clock + LogOutput,
+    R: Files<File = File> + Threads + Wait + AllocGlobal + Clock + LogOutput,
     R: Copy + Drop + Send + Sync + 'static,
     R: Net<Listener = TcpListener, Stream = TcpStream>,
     R::File: Send,
@@ -86,7 +95,7 @@ where
 /// The output of a command whose standard output takes only ten bytes, without these.
 fn narrow_of<R>(rt: &R, words: &[String]) -> Result<Printed>
 where
-    R: Files + Threads + Wait + AllocGlobal + Clock + LogOutput,
+    R: Files<File = File> + Threads + Wait + AllocGlobal + Clock + LogOutput,
     R: Copy + Drop + Send + Sync + 'static,
     R: Net<Listener = TcpListener, Stream = TcpStream>,
     R::File: Send,
@@ -133,7 +142,7 @@ fn link<R: Files + AllocGlobal>(rt: &R, text: &str) -> Result<Printed> {
 /// What the call of a step gives.
 pub(crate) fn called<R>(rt: &R, words: &str) -> Result<Printed>
 where
-    R: Files + Threads + Wait + AllocGlobal + Clock + LogOutput,
+    R: Files<File = File> + Threads + Wait + AllocGlobal + Clock + LogOutput,
     R: Copy + Drop + Send + Sync + 'static,
     R: Net<Listener = TcpListener, Stream = TcpStream>,
     R::File: Send,

@@ -154,6 +154,10 @@ impl<R: Files> Files for Logging<R> {
         self.rt.create_dir(path)
     }
 
+    fn create_dir_with_mode(&self, path: &str, mode: u32) -> io::Result<()> {
+        self.rt.create_dir_with_mode(path, mode)
+    }
+
     fn remove_dir(&self, path: &str) -> io::Result<()> {
         self.rt.remove_dir(path)
     }

@@ -8,7 +8,7 @@ use crate::reading::read_steps;
 use crate::steps::Step;
 use anyhow::{Result, bail};
 use commands::LogOutput;
-use std::fs;
+use std::fs::{self, File};
 use std::net::{Net, TcpListener, TcpStream};
 use std::rt::Files;
 use std::sync::Wait;
@@ -115,7 +115,7 @@ where
 /// What starts in the background, if these words start something.
 fn started<R>(rt: &R, place: usize, words: &str) -> Result<Option<Background>>
 where
-    R: Files + Threads + Wait + AllocGlobal + Clock + LogOutput,
+    R: Files<File = File> + Threads + Wait + AllocGlobal + Clock + LogOutput,
     R: Copy + Drop + Send + Sync + 'static,
     R: Net<Listener = TcpListener, Stream = TcpStream>,
     R::File: Send,
@@ -141,7 +141,7 @@ fn write<R: Files>(rt: &R, name: &str, bytes: &[u8]) -> Result<()> {
 /// Runs the steps of a file of rows.
 fn run_steps<R>(rt: &R, steps: &[Step]) -> Result<Count>
 where
-    R: Files + Threads + Wait + AllocGlobal + Clock + LogOutput + Print,
+    R: Files<File = File> + Threads + Wait + AllocGlobal + Clock + LogOutput + Print,
     R: Copy + Drop + Send + Sync + 'static,
     R: Net<Listener = TcpListener, Stream = TcpStream>,
     R::File: Send,
@@ -175,7 +175,7 @@ where
 /// Runs the rows of a file, and returns whether all are right.
 fn run_file<R>(rt: &R, name: &str) -> Result<bool>
 where
-    R: Files + Threads + Wait + AllocGlobal + Clock + LogOutput + Print,
+    R: Files<File = File> + Threads + Wait + AllocGlobal + Clock + LogOutput + Print,
     R: Copy + Drop + Send + Sync + 'static,
     R: Net<Listener = TcpListener, Stream = TcpStream>,
     R::File: Send,
@@ -192,7 +192,7 @@ where
 /// right.
 pub(crate) fn run_files<R>(rt: &R, words: &[String]) -> Result<bool>
 where
-    R: Files + Threads + Wait + AllocGlobal + Clock + LogOutput + Print,
+    R: Files<File = File> + Threads + Wait + AllocGlobal + Clock + LogOutput + Print,
     R: Copy + Drop + Send + Sync + 'static,
     R: Net<Listener = TcpListener, Stream = TcpStream>,
     R::File: Send,

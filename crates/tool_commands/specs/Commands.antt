@@ -14,7 +14,7 @@ use Rattle.tool_words.specs.Tools.{tools}
 use Rattle.tool_words.specs.declared.args.ToolCommand.{ToolCommand}
 
 -- the command was done, and the text of its output was appended; standard error got the warnings of
--- a check, none of which counts, or else nothing
+-- a check, none of which counts, the notes of a stage, or else nothing
 pub record IsAnswered (known : KnownFiles) (command : ToolCommand)
     (before after : Option (List ℕ)) (IsWarned : List ℕ → Type 0) : Type 0 where
   pub output : ToolOutput

@@ -2,11 +2,14 @@
 -- known. The bytes of a device's files aren't known, so an output is one for some bytes. No
 -- contract can say what a server replies, and nothing is claimed for out of memory.
 use Rattle.std.specs.Prelude.{◌≡◌, ◌⊎◌, ◌&&◌, List, ℕ, None, Some, true, false, not}
-use Rattle.std.specs.Prelude.{is_some, length, option_copied}
+use Rattle.std.specs.Prelude.{IsSome, is_some, length, option_copied}
 use Rattle.std.specs.String.{string_bytes}
 use Rattle.bounded_files.specs.Files.{KnownFiles}
+use Rattle.bounded_files.specs.declared.resource_fault.ResourceFault.TheVariants as resource
 use Rattle.command_line.specs.declared.declared_shape.DeclaredShape.{DeclaredShape}
+use Rattle.log_tools.specs.Continued.{HasContinued}
 use Rattle.log_tools.specs.Reports.{HasReported}
+use Rattle.log_tools.specs.declared.report_form.ReportForm.{ReportForm}
 use Rattle.manifest_tools.specs.CheckObjects.{IsCheckOutput, RefusesChecks}
 use Rattle.manifest_tools.specs.Simulations.{HasSimulated, IsSimulationRefusal}
 use Rattle.program_inspection.specs.Explanations.{HasExplained, IsExplainRefusal}
@@ -21,8 +24,12 @@ use Rattle.tool_commands.specs.declared.fault.Fault.{Fault}
 use Rattle.tool_commands.specs.declared.fault.Fault.TheVariants as fault
 use Rattle.tool_commands.specs.declared.output.ToolOutput.{ToolOutput}
 use Rattle.tool_commands.specs.declared.output.ToolOutput.TheVariants as output
+use Rattle.tool_words.specs.declared.args.ReportArgs.{ReportArgs}
 use Rattle.tool_words.specs.declared.args.ToolCommand.{ToolCommand}
 use Rattle.tool_words.specs.declared.args.ToolCommand.TheVariants as command
+
+abbrev pub form_of : ReportArgs → ReportForm
+form_of args = record { prometheus = args.prometheus; heads = args.heads }
 
 module _ (known : KnownFiles) where
   -- an accepted program with what is known about it
@@ -33,8 +40,8 @@ module _ (known : KnownFiles) where
 
   -- a refused program with what is known about it, or no program
   abbrev pub IsExplainedRefusal : (path : List ℕ) → DeclaredShape → Fault → Type 0
-  IsExplainedRefusal path shape (fault.Explained text refusal) =
-      HasExplained known path shape (Some refusal) (string_bytes text)
+  IsExplainedRefusal path shape (fault.Explained text refused) =
+      HasExplained known path shape (Some refused) (string_bytes text)
   IsExplainedRefusal path shape (fault.Program why) = IsExplainRefusal known path shape why
   IsExplainedRefusal path shape other = ⊥
 
@@ -45,18 +52,24 @@ module _ (known : KnownFiles) where
       (args.why ≡ true) × HasWhy known args (string_bytes text)
   IsOutput (command.Check args) (output.Checked checked) =
       IsCheckOutput known args.json args.strict args.allowed.items args.manifests.items checked
+  -- what shells and `man` read is left open
+  IsOutput (command.Completion shell) (output.Completed text) = Unit {0}
   IsOutput (command.Diff args) (output.Diffed diff passes) =
       HasDiffed known args diff × (passes ≡ not (args.fail_on_lost && diff.loses))
   IsOutput (command.Explain path shape) explained = IsExplainedOutput path.now shape explained
   IsOutput (command.Order path out) (output.Ordered program) =
       IsOrderedFrom known path.now program.items
   IsOutput (command.Report args) (output.Reported report) =
-      HasReported (length args.logs.items) args.since args.until args.prometheus
+      HasReported (length args.logs.items) args.since args.until (form_of args)
       (is_some args.picture) report
+  IsOutput (command.Report args) (output.Continued text) =
+      IsSome args.state × HasContinued (length args.logs.items) (form_of args) (string_bytes text)
   IsOutput (command.Simulate args) (output.Simulated simulation passes) =
       HasSimulated known args.json (client_of args.app) args.manifest.now
       (option_copied args.against) (option_copied args.appid) (option_copied args.picture)
       simulation × (passes ≡ not (args.fail_on_lost && simulation.loses))
+  -- nothing is known about a folder of a device, nor about its servers
+  IsOutput (command.Stage args) (output.Staged outcome) = Unit {0}
   IsOutput (command.Trace run) (output.Traced lines choice instructions) =
       HasTraced known run choice instructions (string_bytes lines)
   IsOutput command output = ⊥
@@ -67,14 +80,17 @@ module _ (known : KnownFiles) where
       ⊎ ((args.why ≡ true) × IsWhyRefusal known args why)
   IsRefused (command.Check args) (fault.Manifest why) =
       RefusesChecks known args.json args.manifests.items why
+  IsRefused (command.Completion shell) (fault.Resource resource.Memory) = Unit {0}
   IsRefused (command.Diff args) why = IsDiffRefusal known args why
   IsRefused (command.Explain path shape) why = IsExplainedRefusal path.now shape why
   IsRefused (command.Order path out) (fault.Program why) = IsOrderRefusal known path.now why
   -- nothing is known about the logs of a device, nor about its clock
   IsRefused (command.Report args) (fault.Resource why) = Unit {0}
+  IsRefused (command.Report args) (fault.Report why) = IsSome args.state
   IsRefused (command.Simulate args) (fault.Manifest why) =
       IsSimulationRefusal known args.json (client_of args.app) args.manifest.now
       (option_copied args.against) (option_copied args.appid) (option_copied args.picture) why
+  IsRefused (command.Stage args) (fault.Resource resource.Memory) = Unit {0}
   IsRefused (command.Trace run) (fault.Program why) =
       IsRunRefusal known run.path.now run.shape why
   IsRefused command why = ⊥

@@ -9,9 +9,9 @@ use crate::dry_runs::served_reply;
 use crate::fault::Fault;
 use crate::output::ToolOutput;
 use bounded_files::{Disk, ResourceFault};
+use cell_assignments::read_assignments;
 use manifest_diff::{DiffOptions, DiffOutput, OpenedBoth, diff_manifests, open_both};
 use std::net::{Net, TcpStream};
-use cell_assignments::read_assignments;
 use tool_words::{DiffArgs, ToolCommand};
 
 /// The comparison of two manifests. They are opened first; then a server's counters are requested,

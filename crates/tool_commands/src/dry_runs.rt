@@ -13,12 +13,12 @@ use crate::output::ToolOutput;
 use crate::whys::why_of;
 use attrs::Moment;
 use bounded_files::{Disk, ResourceFault};
+use cell_assignments::read_assignments;
 use dry_run::{Opened, open_files, reply_on_counters};
 use operator::{RequestFault, ask_server};
 use operator_request::OperatorRequest;
 use std::net::{Net, TcpStream};
 use std::time::{Clock, SystemTime, UNIX_EPOCH};
-use cell_assignments::read_assignments;
 use tool_words::{AskArgs, ToolCommand};
 
 /// The body of the reply, or why each app gets what it gets. The files are opened first; then a

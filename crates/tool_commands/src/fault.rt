@@ -4,11 +4,12 @@ ghost use Rattle.std.specs.Prelude.{◌≡◌, Some};
 ghost use Rattle.tool_commands.specs.Texts.{fault_text, refusal_reason};
 
 use bounded_files::ResourceFault;
-use bpf_verify::Refusal;
 use dry_run::DryRunFault;
+use log_tools::ReportFault;
 use manifest_diff::DiffFault;
 use manifest_tools::ManifestToolFault;
 use operator::RequestFault;
+use program_inspection::RefusedProgram;
 use program_tools::ProgramToolFault;
 use std::fmt;
 
@@ -20,23 +21,30 @@ pub(crate) enum Fault {
     /// `order` or `trace` is refused, or `explain`, except by a rule.
     Program(ProgramToolFault),
     /// V1 to V14, from `explain`: a rule refuses the program; the text has what is known about it.
-    Explained { text: String, refusal: Refusal },
+    Explained {
+        text: String,
+        refused: RefusedProgram,
+    },
     /// `check` or `simulate` is refused.
     Manifest(ManifestToolFault),
     /// B3, B4, B7, M1 to M8, O1 to O5, P5: a request gets no reply.
     DryRun(DryRunFault),
     /// B3, B4, B7, B8, M1 to M8: two manifests can't be compared.
     Diff(DiffFault),
+    /// B3, B4, B9, B10: a report can't go on from a file of counts.
+    Report(ReportFault),
     /// B4, B5, or a refusal in the server's words: a server's counters can't be had.
     Ask(RequestFault),
 }
 
 impl Fault {
-    /// The lines after the refusal: the place and the reason of a manifest's refusal.
+    /// The lines after the refusal: the place and the reason of a manifest's refusal, and the
+    /// reason of a program's in `explain`.
     pub(crate) fn reason(&self) -> &str
         ensures { result.now ≡ refusal_reason self.now }
     {
         match self {
+            Fault::Explained { refused, .. } => refused.reason.as_str(),
             Fault::Manifest(ManifestToolFault::Diagnosed(refused)) => refused.reason.as_str(),
             _ => "",
         }
@@ -50,10 +58,14 @@ impl fmt::Display for Fault {
         match self {
             Fault::Resource(fault) => write!(f, "{fault}"),
             Fault::Program(fault) => write!(f, "{fault}"),
-            Fault::Explained { refusal, .. } => write!(f, "{refusal}"),
+            Fault::Explained { refused, .. } => {
+                let refusal = refused.refusal;
+                write!(f, "{refusal}")
+            }
             Fault::Manifest(fault) => write!(f, "{fault}"),
             Fault::DryRun(fault) => write!(f, "{fault}"),
             Fault::Diff(fault) => write!(f, "{fault}"),
+            Fault::Report(fault) => write!(f, "{fault}"),
             Fault::Ask(fault) => write!(f, "{fault}"),
         }
     }

@@ -9,6 +9,7 @@
 // the files of a dry run and a server's counters. Its output is printed, or its refusal. The status
 // says whether all this was done, and for a check, a comparison or a simulation whether it passes.
 
+mod details;
 mod diffs;
 mod dry_runs;
 mod fault;
@@ -17,6 +18,7 @@ mod programs;
 mod reports;
 mod requests;
 mod simulations;
+mod stages;
 mod status;
 mod whys;
 

@@ -6,6 +6,7 @@ ghost use Rattle.tool_commands.specs.Texts.{output_text, passes, warnings_of};
 use log_tools::ReportOutput;
 use manifest_diff::DiffOutput;
 use manifest_tools::{CheckOutput, SimulationOutput};
+use stage_commands::StageOutcome;
 use std::{fmt, str};
 
 /// The output of a command: lines, each ended by LF, except for the body of a reply.
@@ -14,6 +15,14 @@ pub(crate) enum ToolOutput {
     /// The messages about checked manifests: for one manifest the lines of its arrays and apps, and
     /// its warnings; or those for several.
     Checked(CheckOutput),
+    /// A shell's completions, or the page of the manual.
+    Completed {
+        text: String,
+    },
+    /// The report on logs, with the counts of earlier calls.
+    Continued {
+        text: String,
+    },
     /// The comparison of two manifests, and whether it passes.
     Diffed {
         output: DiffOutput,
@@ -33,6 +42,8 @@ pub(crate) enum ToolOutput {
     },
     /// The report on logs, of which the lines are printed.
     Reported(ReportOutput),
+    /// What was done with a folder's files and servers, or its steps; and whether all was done.
+    Staged(StageOutcome),
     /// The lines of a simulation, and whether it passes.
     Simulated {
         output: SimulationOutput,
@@ -52,23 +63,26 @@ pub(crate) enum ToolOutput {
 }
 
 impl ToolOutput {
-    /// The lines for standard error: the warnings of a check.
+    /// The lines for standard error: the warnings of a check, and why a stage isn't done.
     pub(crate) fn warnings(&self) -> &str
         ensures { result.now ≡ warnings_of self.now }
     {
         match self {
             ToolOutput::Checked(output) => output.stderr.as_str(),
+            ToolOutput::Staged(outcome) => outcome.stderr.as_str(),
             _ => "",
         }
     }
 
-    /// Whether a check, a comparison or a simulation passes; any other command does.
+    /// Whether a check, a comparison or a simulation passes, or a stage is done; any other command
+    /// passes.
     pub(crate) fn passes(&self) -> bool
         ensures { result ≡ passes self.now }
     {
         match self {
             ToolOutput::Checked(output) => output.passes,
             ToolOutput::Diffed { passes, .. } => *passes,
+            ToolOutput::Staged(outcome) => outcome.is_done,
             ToolOutput::Simulated { passes, .. } => *passes,
             _ => true,
         }
@@ -81,6 +95,8 @@ impl fmt::Display for ToolOutput {
     fn fmt<W: fmt::Write>(&self, f: &mut fmt::Formatter<W>) -> fmt::Result {
         match self {
             ToolOutput::Checked(output) => f.write_str(output.text.as_str()),
+            ToolOutput::Completed { text } => f.write_str(text),
+            ToolOutput::Continued { text } => f.write_str(text),
             ToolOutput::Diffed { output, .. } => f.write_str(output.text.as_str()),
             ToolOutput::Explained { text } => f.write_str(text),
             ToolOutput::Ordered { program } => {
@@ -92,6 +108,7 @@ impl fmt::Display for ToolOutput {
                 Err(_) => Err(fmt::Error),
             },
             ToolOutput::Reported(output) => f.write_str(output.text.as_str()),
+            ToolOutput::Staged(outcome) => f.write_str(outcome.text.as_str()),
             ToolOutput::Simulated { output, .. } => f.write_str(output.text.as_str()),
             ToolOutput::Traced {
                 lines,

@@ -8,7 +8,7 @@ use crate::fault::Fault;
 use crate::output::ToolOutput;
 use bounded_files::Disk;
 use command_line::{DeclaredShape, RunArgs};
-use program_inspection::{explain_file, trace_file};
+use program_inspection::{ExplainedProgram, explain_file, trace_file};
 use std::alloc::Global;
 use tool_words::ToolCommand;
 
@@ -22,18 +22,13 @@ pub(crate) fn explained<D: Disk>(
     ensures output { IfOk result (IsExplainedOutput (D.known disk.now) path.now shape.now) }
     ensures fault { IfErr result (IsExplainedRefusal (D.known disk.now) path.now shape.now) }
 {
-    let explained = match explain_file(alloc, disk, path, shape) {
+    let ExplainedProgram { text, refused } = match explain_file(alloc, disk, path, shape) {
         Ok(explained) => explained,
         Err(fault) => return Err(Fault::Program(fault)),
     };
-    match explained.refusal {
-        None => Ok(ToolOutput::Explained {
-            text: explained.text,
-        }),
-        Some(refusal) => Err(Fault::Explained {
-            text: explained.text,
-            refusal,
-        }),
+    match refused {
+        None => Ok(ToolOutput::Explained { text }),
+        Some(refused) => Err(Fault::Explained { text, refused }),
     }
 }
 

@@ -7,9 +7,10 @@ ghost use Rattle.tool_commands.specs.Outputs.{IsOutput, IsRefused};
 use crate::fault::Fault;
 use crate::output::ToolOutput;
 use bounded_files::Disk;
-use log_tools::report_logs;
+use log_tools::{ReportForm, report_logs, report_on_state};
 use manifest_tools::check_files;
 use std::alloc::Global;
+use std::fs::File;
 use std::rt::Files;
 use std::time::Clock;
 use tool_words::{CheckArgs, ReportArgs, ToolCommand};
@@ -30,18 +31,27 @@ pub(crate) fn checked<D: Disk>(
     }
 }
 
-/// The report on the logs.
+/// The report on the logs; with a state, on the lines that it hasn't counted yet.
 pub(crate) fn reported<R>(rt: &R, args: &ReportArgs<'_>) -> Result<ToolOutput, Fault>
 where
-    R: Files + AllocGlobal + Clock + Eprint,
+    R: Files<File = File> + AllocGlobal + Clock + Eprint,
     ensures output { (known : KnownFiles)
         → IfOk result (IsOutput known (ToolCommand.Report args.now)) }
     ensures fault { (known : KnownFiles)
         → IfErr result (IsRefused known (ToolCommand.Report args.now)) }
 {
     let logs = args.logs.as_slice();
-    let (since, until) = (args.since, args.until);
-    match report_logs(rt, logs, since, until, args.prometheus, args.picture) {
+    let form = ReportForm {
+        prometheus: args.prometheus,
+        heads: args.heads,
+    };
+    if let Some(state) = args.state {
+        return match report_on_state(rt, logs, state, form) {
+            Ok(text) => Ok(ToolOutput::Continued { text }),
+            Err(fault) => Err(Fault::Report(fault)),
+        };
+    }
+    match report_logs(rt, logs, args.since, args.until, form, args.picture) {
         Ok(output) => Ok(ToolOutput::Reported(output)),
         Err(fault) => Err(Fault::Resource(fault)),
     }

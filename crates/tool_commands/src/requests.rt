@@ -10,8 +10,10 @@ use crate::output::ToolOutput;
 use crate::programs::{explained, traced};
 use crate::reports::{checked, reported};
 use crate::simulations::simulated;
+use crate::stages::{completed, staged};
 use bounded_files::Disk;
 use program_inspection::order_file;
+use std::fs::File;
 use std::net::{Net, TcpStream};
 use std::rt::Files;
 use std::time::Clock;
@@ -26,7 +28,7 @@ pub(crate) fn output_of<R, D>(
     command: &ToolCommand<'_>,
 ) -> Result<ToolOutput, Fault>
 where
-    R: Files + AllocGlobal + Clock + Eprint + Net<Stream = TcpStream>,
+    R: Files<File = File> + AllocGlobal + Clock + Eprint + Net<Stream = TcpStream>,
     D: Disk,
     ensures output { IfOk result (IsOutput (D.known disk.now) command.now) }
     ensures fault { IfErr result (IsRefused (D.known disk.now) command.now) }
@@ -34,6 +36,7 @@ where
     match command {
         ToolCommand::Ask(args) => dry_run_of(rt, disk, args),
         ToolCommand::Check(args) => checked(rt.alloc(), disk, args),
+        ToolCommand::Completion { shell } => completed(rt.alloc(), *shell),
         ToolCommand::Diff(args) => diffed(rt, disk, args),
         ToolCommand::Explain { path, shape } => explained(rt.alloc(), disk, path, shape),
         ToolCommand::Order { path, out } => Ok(ToolOutput::Ordered {
@@ -41,6 +44,7 @@ where
         }),
         ToolCommand::Report(args) => reported(rt, args),
         ToolCommand::Simulate(args) => simulated(rt, disk, args),
+        ToolCommand::Stage(args) => staged(rt, disk, args),
         ToolCommand::Trace(run) => traced(rt.alloc(), disk, run),
     }
 }

@@ -6,12 +6,14 @@ ghost use Rattle.command_line.specs.Printed.{IsGiven};
 ghost use Rattle.tool_commands.specs.Commands.{AreWrong, IsAnswered, IsDone, IsFaultPrinted};
 ghost use Rattle.tool_commands.specs.Texts.{output_text, passes, warnings_of};
 
+use crate::details::{print_details, print_unread_checked};
 use crate::fault::Fault;
 use crate::output::ToolOutput;
 use crate::requests::output_of;
 use bounded_files::{Disk, ResourceFault};
 use command_line::{print_lines, print_refusal, refused, usage};
 use std::convert::AsStr;
+use std::fs::File;
 use std::io::{self, Write};
 use std::net::{Net, TcpStream};
 use std::rt::Files;
@@ -27,7 +29,7 @@ use tool_words::{ToolCommand, read_tool_words};
 // tests compare each command's lines and status.
 pub fn command<R, D, S, O, E>(rt: &R, disk: &D, words: &[S], out: &mut O, err: &mut E) -> u8
 where
-    R: Files + AllocGlobal + Clock + Eprint + Net<Stream = TcpStream>,
+    R: Files<File = File> + AllocGlobal + Clock + Eprint + Net<Stream = TcpStream>,
     D: Disk,
     S: AsStr,
     O: Write,
@@ -39,15 +41,39 @@ where
     ensures usage { result ≡ 2 → out.new ≡ out.old }
 {
     match read_tool_words(rt.alloc(), words) {
-        Ok(command) => perform(rt, disk, &command, out, err),
+        Ok(command) => perform_whole(rt, disk, &command, out, err),
         Err(fault) => usage(&fault, out, err),
     }
 }
 
-// Does what the command says, and prints its output or its refusal.
+// Does what the command says. After a check that doesn't pass, prints which files can't be read.
+fn perform_whole<R, D, O, E>(
+    rt: &R,
+    disk: &D,
+    command: &ToolCommand<'_>,
+    out: &mut O,
+    err: &mut E,
+) -> u8
+where
+    R: Files<File = File> + AllocGlobal + Clock + Eprint + Net<Stream = TcpStream>,
+    D: Disk,
+    O: Write,
+    E: Write,
+    ensures within { result ≤ 1 }
+    ensures done { result ≡ 0 → IsAnswered (D.known disk.now) command.now
+        (O.contents out.old) (O.contents out.new) (IsGiven E.contents err.old err.new) }
+{
+    let status = perform(rt, disk, command, out, err);
+    if status != 0 {
+        print_unread_checked(rt, disk, command, err);
+    }
+    status
+}
+
+// Does what the command says, and prints its output, or its refusal with a second line.
 fn perform<R, D, O, E>(rt: &R, disk: &D, command: &ToolCommand<'_>, out: &mut O, err: &mut E) -> u8
 where
-    R: Files + AllocGlobal + Clock + Eprint + Net<Stream = TcpStream>,
+    R: Files<File = File> + AllocGlobal + Clock + Eprint + Net<Stream = TcpStream>,
     D: Disk,
     O: Write,
     E: Write,
@@ -65,6 +91,7 @@ where
         }
         Err(fault) => {
             let status = refused_for(&fault, out, err);
+            print_details(rt, disk, command, &fault, err);
             drop(fault);
             status
         }

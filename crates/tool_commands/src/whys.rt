@@ -11,12 +11,12 @@ ghost use Rattle.manifest_tools.specs.Checks.{digest_line};
 use crate::dry_runs::{moment_of, served_reply};
 use crate::fault::Fault;
 use bounded_files::{Disk, ResourceFault};
+use cell_assignments::read_assignments;
 use dry_run::{OpenedWhy, open_why, why_on_counters};
 use manifest_tools::push_digest;
 use std::alloc::AllocError;
 use std::net::{Net, TcpStream};
 use std::time::Clock;
-use cell_assignments::read_assignments;
 use tool_words::AskArgs;
 
 /// Why each app gets what it gets, and last the line `digest ..` that `check` prints for the

@@ -15,3 +15,15 @@ returns-in-Report-clause-fault g c =
     let known = g.D.Disk.known c.args.disk.now in
     subst (λ (r : ToolCommand). IfErr c.reported.result (IsRefused known r)) (sym c.in-Report.is)
     (c.reported.ensures.fault known)
+
+pub returns-in-Completion-clause-output : goal.returns-in-Completion-clause-output
+returns-in-Completion-clause-output g c =
+    let known = g.D.Disk.known c.args.disk.now in
+    subst (λ (r : ToolCommand). IfOk c.completed.result (IsOutput known r))
+    (sym c.in-Completion.is) (c.completed.ensures.output known)
+
+pub returns-in-Completion-clause-fault : goal.returns-in-Completion-clause-fault
+returns-in-Completion-clause-fault g c =
+    let known = g.D.Disk.known c.args.disk.now in
+    subst (λ (r : ToolCommand). IfErr c.completed.result (IsRefused known r))
+    (sym c.in-Completion.is) (c.completed.ensures.fault known)

@@ -1,0 +1,114 @@
+//! The second line of a refusal, with `--verbose`: the path or the port that it is about, and why.
+
+use crate::command_fault::Fault;
+use bounded_files::{Disk, ResourceFault};
+use command_words::{Command, Plan};
+use operator::RequestFault;
+use operator_request::OperatorRequest;
+use program_tools::ProgramToolFault;
+use refusal_details::{
+    print_bind_fault, print_cause, print_check_hint, print_connect_fault, print_program_fault,
+    print_read_fault, print_unread_manifest, print_write_fault,
+};
+use serving::ServingFault;
+use std::io::Write;
+use std::net::{Net, TcpListener, TcpStream};
+use std::rt::Files;
+
+/// Prints a line about what a refused command names, if looking at it again shows the cause.
+// open: the line, and when there is one: rows.
+pub fn print_details<R, D, E>(rt: &R, disk: &D, command: &Command<'_>, fault: &Fault, err: &mut E)
+where
+    R: Files + AllocGlobal + Net<Listener = TcpListener, Stream = TcpStream>,
+    D: Disk,
+    E: Write,
+{
+    let _printed = match command {
+        Command::Assemble { text, out } => print_texts_fault(rt, text, out, fault, err),
+        Command::Compile { text, out, .. } => print_texts_fault(rt, text, out, fault, err),
+        Command::List { path } => print_program_fault(rt, disk, path, err),
+        Command::Replay { manifest, script } => {
+            print_read_fault(rt, script, err) || print_unread_manifest(rt, disk, manifest, err)
+        }
+        Command::Run(run) => print_program_fault(rt, disk, run.path, err),
+        Command::Send { request, port } => print_request_fault(rt, request, *port, fault, err),
+        Command::Serve { manifest, plan } => {
+            print_start_fault(rt, disk, manifest, plan, fault, err)
+        }
+        Command::StopAndWait { port } => {
+            print_request_fault(rt, &OperatorRequest::Stop, *port, fault, err)
+        }
+        Command::Verify { path, .. } => print_program_fault(rt, disk, path, err),
+    };
+}
+
+// The file from which a command reads a text, and the one to which it writes a program.
+fn print_texts_fault<R: Files, E: Write>(
+    rt: &R,
+    text: &str,
+    out: &str,
+    fault: &Fault,
+    err: &mut E,
+) -> bool {
+    if print_read_fault(rt, text, err) {
+        return true;
+    }
+    match fault {
+        Fault::Program(ProgramToolFault::Resource(ResourceFault::File)) => {
+            print_write_fault(rt, out, err)
+        }
+        _ => false,
+    }
+}
+
+// A server that doesn't reply, or that refuses a manifest.
+fn print_request_fault<R, E>(
+    rt: &R,
+    request: &OperatorRequest<'_>,
+    port: u16,
+    fault: &Fault,
+    err: &mut E,
+) -> bool
+where
+    R: Net<Stream = TcpStream>,
+    E: Write,
+{
+    match fault {
+        Fault::Ask(RequestFault::Connect) => print_connect_fault(rt, port, err),
+        Fault::Ask(RequestFault::Refused(_)) => print_load_hint(request, err),
+        _ => false,
+    }
+}
+
+fn print_load_hint<E: Write>(request: &OperatorRequest<'_>, err: &mut E) -> bool {
+    match request {
+        OperatorRequest::Load(path) => print_check_hint(path, err),
+        _ => false,
+    }
+}
+
+// A server that doesn't start.
+fn print_start_fault<R, D, E>(
+    rt: &R,
+    disk: &D,
+    manifest: &str,
+    plan: &Plan,
+    fault: &Fault,
+    err: &mut E,
+) -> bool
+where
+    R: Files + AllocGlobal + Net<Listener = TcpListener, Stream = TcpStream>,
+    D: Disk,
+    E: Write,
+{
+    match fault {
+        Fault::Serving(ServingFault::Bind) => {
+            print_bind_fault(rt, plan.port, plan.operator, err)
+        }
+        Fault::Serving(ServingFault::Manifest(_)) => {
+            print_unread_manifest(rt, disk, manifest, err)
+                || print_cause(fault.cause(), manifest, err)
+        }
+        _ => false,
+    }
+}

@@ -1,0 +1,87 @@
+//! Files that can't be read or written: the path, and the reason that the system gives.
+
+use bounded_files::may_write_over;
+use printing::Printed;
+use std::fs::{self, OpenOptions};
+use std::io::{Error, ErrorKind, Write};
+use std::path::Path;
+use std::rt::Files;
+
+/// Prints why the file at a path can't be read, if it can't. The path `-` is standard input. Only a
+/// regular file is opened, since opening a FIFO may wait.
+// open: the line, and when there is one: rows.
+pub fn print_read_fault<R: Files, E: Write>(rt: &R, path: &str, err: &mut E) -> bool {
+    match read_fault(rt, path) {
+        Some(error) if path != "-" => print_fault(path, &error, err),
+        _ => false,
+    }
+}
+
+/// Prints why no file can be written at a path, if that shows. What only a write shows, such as a
+/// full disk, has a line without the system's reason.
+// open: the line, and when there is one: rows and `bench/outside`.
+pub fn print_write_fault<R: Files, E: Write>(rt: &R, path: &str, err: &mut E) -> bool {
+    match write_fault(rt, path) {
+        Some(error) => print_fault(path, &error, err),
+        None => print_line(
+            path,
+            "the disk is full, or its folder takes no new file",
+            err,
+        ),
+    }
+}
+
+/// Prints why no picture can be written at a path, if that shows: the file there isn't empty and
+/// isn't a picture in SVG, or what `print_write_fault` prints.
+// open: the line, and when there is one: rows.
+pub fn print_picture_fault<R: Files, E: Write>(rt: &R, path: &str, err: &mut E) -> bool {
+    if may_write_over(rt, path, b"<svg") {
+        print_write_fault(rt, path, err)
+    } else {
+        print_line(
+            path,
+            "a file that isn't empty and isn't a picture in SVG",
+            err,
+        )
+    }
+}
+
+fn print_fault<E: Write>(path: &str, error: &Error, err: &mut E) -> bool {
+    let path = Printed(path);
+    writeln!(err, "{path}: {error}").is_ok()
+}
+
+fn print_line<E: Write>(path: &str, reason: &str, err: &mut E) -> bool {
+    let path = Printed(path);
+    writeln!(err, "{path}: {reason}").is_ok()
+}
+
+// Why a file can't be opened for reading.
+fn read_fault<R: Files>(rt: &R, path: &str) -> Option<Error> {
+    match fs::metadata(rt, path) {
+        Ok(found) if found.is_dir() => Some(Error::from(ErrorKind::IsADirectory)),
+        Ok(found) if found.is_file() => fs::open(rt, path).err(),
+        Ok(_) => None,
+        Err(error) => Some(error),
+    }
+}
+
+// Why a file can't be opened for writing, or its folder isn't there.
+fn write_fault<R: Files>(rt: &R, path: &str) -> Option<Error> {
+    match fs::metadata(rt, path) {
+        Ok(found) if found.is_dir() => Some(Error::from(ErrorKind::IsADirectory)),
+        Ok(found) if found.is_file() => OpenOptions::new().write(true).open(rt, path).err(),
+        Ok(_) => None,
+        Err(error) if error.kind() == ErrorKind::NotFound => folder_fault(rt, path),
+        Err(error) => Some(error),
+    }
+}
+
+// Why the folder of a path can't be found.
+fn folder_fault<R: Files>(rt: &R, path: &str) -> Option<Error> {
+    let folder = match Path::new(path).parent() {
+        Some(folder) if folder.as_str() != "" => folder.as_str(),
+        _ => ".",
+    };
+    fs::metadata(rt, folder).err()
+}

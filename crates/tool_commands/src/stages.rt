@@ -1,0 +1,73 @@
+//! `stage` and `completion`: steps that change what the servers of a folder serve, and what shells
+//! and `man` read.
+
+ghost use Rattle.std.specs.Prelude.{IfOk, IfErr};
+ghost use Rattle.bounded_files.specs.Files.{KnownFiles};
+ghost use Rattle.tool_commands.specs.Outputs.{IsOutput, IsRefused};
+
+use crate::fault::Fault;
+use crate::output::ToolOutput;
+use bounded_files::{Disk, ResourceFault};
+use completions::completion_text;
+use stage_commands::{StageOptions, stage};
+use std::alloc::Global;
+use std::fs::File;
+use std::net::{Net, TcpStream};
+use std::rt::Files;
+use std::time::Clock;
+use tool_words::{Shell, StageAction, StageArgs, ToolCommand};
+
+/// What was done with the folder's files and servers, or why nothing was.
+// open: what `stage` leaves open.
+pub(crate) fn staged<R, D>(rt: &R, disk: &D, args: &StageArgs<'_>) -> Result<ToolOutput, Fault>
+where
+    R: Files<File = File> + AllocGlobal + Clock + Net<Stream = TcpStream>,
+    D: Disk,
+    ensures output { IfOk result (IsOutput (D.known disk.now) (ToolCommand.Stage args.now)) }
+    ensures fault { IfErr result (IsRefused (D.known disk.now) (ToolCommand.Stage args.now)) }
+{
+    match stage(rt, disk, &action_of(&args.action), &options_of(args)) {
+        Ok(outcome) => Ok(ToolOutput::Staged(outcome)),
+        Err(_) => Err(Fault::Resource(ResourceFault::Memory)),
+    }
+}
+
+fn action_of<'x>(action: &StageAction<'x>) -> stage_commands::StageAction<'x> {
+    match action {
+        StageAction::Halt { appid } => stage_commands::StageAction::Halt { appid: *appid },
+        StageAction::Raise { appid, buckets } => stage_commands::StageAction::Raise {
+            appid: *appid,
+            buckets: *buckets,
+        },
+        StageAction::Back => stage_commands::StageAction::Back,
+        StageAction::Put { manifest } => stage_commands::StageAction::Put {
+            manifest: *manifest,
+        },
+        StageAction::Status => stage_commands::StageAction::Status,
+    }
+}
+
+fn options_of<'x>(args: &'x StageArgs<'x>) -> StageOptions<'x> {
+    StageOptions {
+        operators: args.operators.as_slice(),
+        folder: args.folder,
+        log: args.log,
+        no_load: args.no_load,
+        dry_run: args.dry_run,
+        anyway: args.anyway,
+    }
+}
+
+/// The text for a shell or for `man`.
+// open: what `completion_text` leaves open.
+pub(crate) fn completed(alloc: Global, shell: Shell) -> Result<ToolOutput, Fault>
+    ensures output { (known : KnownFiles)
+        → IfOk result (IsOutput known (ToolCommand.Completion shell)) }
+    ensures fault { (known : KnownFiles)
+        → IfErr result (IsRefused known (ToolCommand.Completion shell)) }
+{
+    match completion_text(alloc, shell) {
+        Ok(text) => Ok(ToolOutput::Completed { text }),
+        Err(_) => Err(Fault::Resource(ResourceFault::Memory)),
+    }
+}
