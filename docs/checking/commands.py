@@ -5,13 +5,13 @@ import re
 from checking.places import CRATES, HELP, ROOT
 
 ROLLOUT = ("command_words/src/program_rows.rt", "command_words/src/server_rows.rt")
-TOOLS = ("tool_words/src/rows.rt",)
+TOOLS = ("tool_words/src/manifest_rows.rt", "tool_words/src/rows.rt")
 NAME = re.compile(r'^    name: "([a-z]+)",$', re.M)
 SHOWN = re.compile(r"^  ([a-z]+)  +[A-Z]", re.M)
 # A list of words: a pattern of the shell's, a set of Python's, or a pattern of a match.
-SHELL = re.compile(r"^((?:\w+ \| )+\w+)\) program=rollout-tools", re.M)
-SET = re.compile(r'^TOOLS = {((?:"\w+"(?:, )?)+)}', re.M)
-MATCH = re.compile(r'((?:"\w+" \| )+"\w+")')
+SHELL = re.compile(r"^((?:\w+ \| )+\w+)\)\s+program=rollout-tools", re.M)
+SET = re.compile(r'^TOOLS = {\s*((?:"\w+"(?:, )?)+)\s*}', re.M)
+MATCH = re.compile(r'((?:"\w+"\s+\| )+"\w+")')
 LISTS = {
     ROOT / "rollout": SHELL,
     ROOT / "building" / "installed": SHELL,
