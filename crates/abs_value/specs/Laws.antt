@@ -151,7 +151,8 @@ CoversLater =
     (g after : Returns) (e : AbsState) (s : State)
     → IsMore g after → Covers g e s → Covers after e s
 
--- results before a slot, and that of the call there, are before each later slot
+-- results of calls before a slot are before each later slot; so are these with the result of the
+-- call at the slot
 abbrev pub StaysBefore : Type 0
 StaysBefore =
     (g : Returns) (slot next : ℕ) → slot ≤ next → AreBefore slot g → AreBefore next g

@@ -48,8 +48,8 @@ pub fn registers_cover()
     ensures opening { laws.CoversOpening }
 {}
 
-/// Law: what covers a state still covers it when another call has returned. The results of calls
-/// before a slot, and that of the call there, are before each later slot.
+/// Law: what covers a state still covers it when another call has returned. Results of calls before
+/// a slot are before each later slot, and so are these with the result of the call at the slot.
 pub fn answers_are_kept()
     ensures later { laws.CoversLater }
     ensures before { laws.StaysBefore }
@@ -57,7 +57,7 @@ pub fn answers_are_kept()
 {}
 
 /// Law: at a conditional jump the edge that a run takes isn't dropped, and the abstract state on it
-/// covers the state. So does the abstract state once each copy of a lookup's result is known.
+/// covers the state. It still covers the state once each copy of a lookup's result is known.
 pub fn lookups_cover()
     ensures answered { laws.CoversAnswered }
     ensures edges { laws.CoversEdges }

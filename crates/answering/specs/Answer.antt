@@ -1,6 +1,6 @@
 -- Which reply a request has, and which events on counters its runs make, with a constructor for
--- each outcome. Those for "out of memory" are open, since it is unspecified when an allocation
--- fails; every other refusal is the one that the bytes have.
+-- each outcome. When an allocation fails is unspecified, so "out of memory" is always possible.
+-- Every other refusal is determined by the bytes.
 use Rattle.std.specs.Prelude.{◌≡◌, ℕ, ℤ, List, [], Option, Some, Result, Ok, Err, Vec}
 use Rattle.cells.specs.declared.event.CellEvent.{CellEvent}
 use Rattle.hot_swap.specs.Published.{KnownPrefix, IsLatest}
@@ -21,7 +21,7 @@ use Rattle.answering.specs.Reply.{omaha_rejection, no_place, settled_reply}
 use Rattle.answering.specs.declared.answering.AnswerFault.{AnswerFault}
 use Rattle.answering.specs.declared.answering.AnswerFault.TheVariants as answer
 
--- to a request, under the ruleset that the watcher read last
+-- the replies to a request, under the ruleset that the watcher read last
 pub data RepliesToRequest (request : Request) (watcher : KnownPrefix) (moment : ℤ)
     : List CellEvent → HttpReply → Type 0 where
   -- Omaha's reply: all apps get their results under one ruleset, each by the choice of its run
@@ -38,7 +38,7 @@ pub data RepliesToRequest (request : Request) (watcher : KnownPrefix) (moment : 
       → RunsFew rules request.facts moment request.apps events
       → RepliesToRequest request watcher moment events (omaha_rejection omaha.Memory)
 
--- to a body
+-- the replies to a body
 pub data RepliesToBody (body : List ℕ) (watcher : KnownPrefix) (moment : ℤ)
     : List CellEvent → HttpReply → Type 0 where
   accepted : {request : Request} {events : List CellEvent} {reply : HttpReply}
@@ -50,7 +50,7 @@ pub data RepliesToBody (body : List ℕ) (watcher : KnownPrefix) (moment : ℤ)
   -- an allocation fails while it is read
   unread : RepliesToBody body watcher moment [] (omaha_rejection omaha.Memory)
 
--- to the bytes of a reader, if they are known
+-- the replies to the bytes of a reader; `None` means that these aren't known
 pub data RepliesTo (told : Option (List ℕ)) (watcher : KnownPrefix) (moment : ℤ)
     : List CellEvent → HttpReply → Type 0 where
   taken : {events : List CellEvent} {reply : HttpReply} (body : List ℕ) → AnswersPost told (Ok body)
@@ -61,13 +61,13 @@ pub data RepliesTo (told : Option (List ℕ)) (watcher : KnownPrefix) (moment : 
       → status_of fault ≡ Some status
       → RepliesTo told watcher moment [] (rejection status (post_name fault))
 
--- what a body is: a request, or a refusal that depends on neither ruleset nor moment
+-- a body is this request, or has this refusal under every ruleset and at every moment
 abbrev pub IsReceivedBody : List ℕ → Result Request HttpReply → Type 0
 IsReceivedBody body (Ok request) = request_in body ≡ Ok request
 IsReceivedBody body (Err reply) =
     (watcher : KnownPrefix) (moment : ℤ) → RepliesToBody body watcher moment [] reply
 
--- and what the bytes of a reader are
+-- the same for the bytes of a reader
 abbrev pub IsReceived : Option (List ℕ) → Result Request HttpReply → Type 0
 IsReceived told (Ok request) =
     (body : List ℕ) × AnswersPost told (Ok body) × (request_in body ≡ Ok request)

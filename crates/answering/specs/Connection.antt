@@ -14,9 +14,9 @@ use Rattle.answering.specs.declared.answering.AnswerFault.{AnswerFault}
 use Rattle.answering.specs.declared.answering.AnswerFault.TheVariants as answer
 use Rattle.answering.specs.declared.sent.Sent.{Sent}
 
--- How a pass (a ghost token) grows, what a reader has left, and what a writer holds. Then what the
--- watcher knows, the moment, the pass, the reader and the writer, each before and after, and the
--- outcome.
+-- The parameters, in order: how a pass (a ghost token) grows, what a reader has left, and what a
+-- writer holds; what the watcher knows, and the moment; the pass, the reader and the writer, each
+-- before and after; and the outcome.
 pub record Answers {P R W : Type 0} (grew : P → CellEvent → P → Type 0)
     (remaining : R → Option (List ℕ)) (contents : W → Option (List ℕ))
     (known : KnownPrefix) (moment : ℤ) (pass pass' : P) (reader reader' : Counted R)

@@ -9,9 +9,9 @@ use std::mem;
 /// is offered a release of sixteen packages.
 const KEPT_TEXT: usize = 1_048_576;
 
-/// Buffers for the head and the body of a request and for the text of a reply. They are allocated
-/// as requests need them, and kept for a head, a body up to 65,536 bytes and a text up to
-/// 1,048,576. No reply depends on their earlier contents.
+/// Buffers for the head and the body of a request and for the text of a reply. They grow as
+/// requests need them. A body's buffer over 65,536 bytes and a text's over 1,048,576 aren't kept
+/// for the next request. No reply depends on their earlier contents.
 #[derive(Drop)]
 pub struct AnswerBuffers {
     pub(crate) post: PostBuffers,

@@ -81,7 +81,7 @@ fn run_app<'r, C: CellSteps>(
 }
 
 /// What the ruleset has for all apps of a request, with the choice of each run that was made. If an
-/// allocation fails, the runs of the first few apps were made.
+/// allocation fails, only the runs of the first few apps were made.
 pub fn run_apps<'r, C: CellSteps>(
     turn: &Turn<'_, C>,
     request: &Request,
@@ -99,7 +99,7 @@ pub fn run_apps<'r, C: CellSteps>(
 {
     growth::<C>();
     let facts = request.facts();
-    // Once a request: the time that it takes depends on the length of the request's id.
+    // Computed only once, since its time grows with the length of the request's id.
     let hashed = hashed_bucket(facts);
     let apps = request.apps();
     let Ok(mut found) = Vec::with_capacity(turn.alloc, apps.len()) else {

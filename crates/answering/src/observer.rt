@@ -16,7 +16,7 @@ pub trait RequestObserver: AppObserver {
     );
 }
 
-/// A witness that does nothing.
+/// An observer that does nothing.
 #[derive(Clone, Copy, Debug)]
 pub struct NoObserver;
 

@@ -1,4 +1,5 @@
-//! What the bytes of a reader are: a request, or a refusal, or nothing that gets a reply.
+//! Reads a request from a reader. The result is the request or its refusal, or no reply if the
+//! input ends or the reader fails.
 
 ghost use Rattle.std.specs.Prelude.{◌≡◌, ◌+◌, ◌-◌, ◌^◌, ◌<◌, Err, IfOk, IfErr};
 ghost use Rattle.http_front.specs.Post.{AnswersPost};
@@ -41,7 +42,7 @@ pub fn receive_request<R: Read, W: RequestObserver>(
     }
 }
 
-// The request that a body is, or its refusal.
+// The request in a body, or its refusal.
 fn request_of<W: RequestObserver>(
     alloc: Global,
     body: &[u8],

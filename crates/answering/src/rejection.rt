@@ -1,5 +1,5 @@
-//! What is sent if there is no reply to a request: a status, and a line that names what is wrong.
-//! The lines are constants, so they need no memory.
+//! The reply to a refused request: a status, and a line that names what is wrong. The lines are
+//! constants, so they need no memory.
 
 ghost use Rattle.std.specs.Prelude.{◌≡◌};
 ghost use Rattle.http_front.specs.Faults.{post_name};
@@ -48,7 +48,7 @@ impl Rejection {
         }
     }
 
-    /// The refusal, with this status, of a head, or of a body that could not be read.
+    /// The refusal, with this status, of a head, or of a body that can't be read.
     pub fn of_post(fault: PostFault, status: Status) -> Rejection
         requires { specs.IsRefusalStatus status }
         ensures { result ≡ specs.rejection status (post_name fault) }

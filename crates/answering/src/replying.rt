@@ -14,8 +14,8 @@ use hot_swap::Watcher;
 use omaha_json::{OmahaFault, Request, found_text};
 use ruleset::Ruleset;
 
-/// The text of the reply to a request, in the buffer of an earlier text, or why there is none. The
-/// ruleset is looked up once. The witness is passed the result of each app.
+/// Writes the text of the reply to a request into the buffer `text` and returns it, or returns the
+/// refusal. The ruleset is looked up once. The observer is passed the result of each app.
 pub fn reply_to<C: CellSteps, W: RequestObserver>(
     turn: &Turn<'_, C>,
     text: Vec<u8>,

@@ -1,4 +1,4 @@
-//! One request: it is read into reused buffers, its reply is found, and written.
+//! One request: it is read into reused buffers, and its reply is made and written.
 
 ghost use Rattle.std.specs.Prelude.{◌≡◌, ◌+◌, ◌-◌, ◌^◌, ◌<◌, Err, IfOk};
 ghost use Rattle.hot_swap.specs.Published.{Extends};
@@ -23,10 +23,10 @@ use hot_swap::Watcher;
 use http_front::{Counted, Status, WriteFault, write_reply};
 use std::io::{Read, Write};
 
-/// Reads a request into reused buffers, writes its reply, and returns the reply that was sent. A
-/// witness observes both.
-// open: whether an allocation fails (O5, P9), or a ruleset can't have another owner (H2), each a
-// reply with status 500; which bytes a socket carries; that the moment is the clock's: a test.
+/// Reads a request into reused buffers, writes its reply, and returns what was sent. The observer
+/// is passed the request and its result.
+// open: whether an allocation fails (O5, P9), or the ruleset can't have another owner (H2): then the
+// status is 500. Which bytes a socket carries. That the moment is the clock's: a test.
 pub fn answer_in<R: Read, W: Write, C: CellSteps, N: RequestObserver>(
     turn: &Turn<'_, C>,
     room: &mut AnswerBuffers,
@@ -54,7 +54,7 @@ pub fn answer_in<R: Read, W: Write, C: CellSteps, N: RequestObserver>(
     }
 }
 
-// Reads a request, and finds its reply.
+// Reads a request, and makes its reply.
 fn settle<R: Read, C: CellSteps, N: RequestObserver>(
     turn: &Turn<'_, C>,
     room: &mut AnswerBuffers,

@@ -12,7 +12,7 @@ pub record Context : Type 0 where
   pub today : ℕ
   pub seconds : ℕ
 
--- the ranges that the type of a context keeps
+-- the ranges of a context's fields, which the type's invariant keeps
 pub record HasContextRanges (c : Context) : Type 0 where
   pub version : All (λ n. n < 2 ^ 32) c.version
   pub install_day : c.install_day < 2 ^ 32
@@ -56,7 +56,7 @@ seconds_offset = 28
 abbrev pub StandsAt : Context → ℕ → List ℕ → Type 0
 StandsAt c offset field = take (length field) (drop offset (context_bytes c)) ≡ field
 
--- the flags, which are added up
+-- the flags; a context has their sum
 abbrev pub version_known : ℕ
 version_known = 1
 

@@ -150,7 +150,7 @@ impl Attrs {
         self.context
     }
 
-    /// The facts that the type keeps: the context is in its ranges, and no text is over 1024 bytes.
+    /// The type's invariant: the context is in its ranges, and no text is over 1024 bytes.
     #[tactic(auto, using(crate::proofs::ShortTexts::all_are_short))]
     pub fn keeps(&self)
         ensures context { HasContextRanges self.now.context }

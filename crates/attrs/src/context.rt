@@ -5,7 +5,8 @@ ghost use Rattle.std.specs.List.{splice};
 
 use std::marker::Model;
 
-/// The facts of one app of a request at a moment. Its type keeps the ranges.
+/// The facts of one app of a request at a moment. The type's invariant: the bucket is below 10000,
+/// the flags below 64, and the seconds below 86400.
 #[derive(Clone, Copy, Debug, PartialEq, Eq)]
 pub struct Context {
     /// The four numbers of the app's version; `Attrs` sets them to 0 if it isn't known.
@@ -117,7 +118,7 @@ impl Context {
             → StandsAt c seconds_offset (to_le_bytes w32 c.seconds) }
     {}
 
-    /// What the type keeps: each number is in its range.
+    /// Law: the type's invariant, and the range of each other number.
     pub fn keeps(&self)
         ensures { HasContextRanges self.now }
     {

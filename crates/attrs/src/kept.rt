@@ -54,7 +54,7 @@ pub(crate) fn keep_some(alloc: Global, text: Option<&str>) -> Result<Option<Text
     }
 }
 
-/// The facts, for one owner.
+/// Moves the facts into a `SharedFacts` with one owner.
 pub(crate) fn own(alloc: Global, app: AppFacts) -> Result<SharedFacts, AttrFault>
     ensures { IfOk result (λ s. s ≡ app) }
 {

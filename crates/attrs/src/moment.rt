@@ -26,7 +26,7 @@ impl Elapsed {
     pub const FIRST_SECOND: u64 = 1167609600;
     /// The seconds of a day.
     pub const SECONDS_OF_A_DAY: u64 = 86400;
-    /// The last day that a moment is in, 9999-12-31.
+    /// The last day of any moment: 9999-12-31.
     pub const LAST_DAY: u32 = 2919382;
 
     /// Law: each constant is the number in the definitions.

@@ -1,5 +1,5 @@
-//! The facts of one app of a request. Its owners are the request, the attributes of the app's run,
-//! and the log. So none of its texts is copied.
+//! The facts of one app of a request, which the request, the attributes of the app's run and the
+//! log own together. So none of the app's texts is copied.
 
 ghost use Rattle.std.specs.Prelude.{◌≡◌, IfOk};
 
@@ -8,7 +8,7 @@ use std::alloc::{AllocError, Global};
 use std::marker::Model;
 use std::sync::Arc;
 
-/// The facts of an app, by one of their owners.
+/// One owner's handle to the facts of an app.
 #[derive(Drop)]
 pub struct SharedFacts {
     facts: Arc<AppFacts>,

@@ -19,7 +19,7 @@ impl Model for Text {
 }
 
 impl Text {
-    /// A text as an attribute; it allocates nothing.
+    /// The text of this string. It allocates nothing.
     pub fn new(text: String) -> Text
         ensures { result ≡ string_bytes text }
     {

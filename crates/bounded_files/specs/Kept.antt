@@ -37,8 +37,8 @@ KeepsOf remaining kept most None = IfSome remaining (λ all. most < length all)
 abbrev pub IsOpen : List ℕ → Type 0
 IsOpen bytes = (n : ℕ) → 0 < n → n ≤ length bytes → ¬ IsUtf8 (take n bytes)
 
--- the bytes after the UTF-8 prefix are less than a character; or the bytes can't be text, whatever
--- follows
+-- the bytes after a UTF-8 prefix: at most three, of which no prefix is UTF-8; `None` if no text
+-- begins with these bytes
 abbrev pub LeavesOpen : List ℕ → Option (Vec ℕ Global) → Type 0
 LeavesOpen bytes (Some left) =
     (front : List ℕ) × IsUtf8 front × (bytes ≡ front ++ left.items) × IsOpen left.items

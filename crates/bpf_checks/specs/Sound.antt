@@ -1,4 +1,4 @@
--- One step at an instruction that breaks no rule. It is no trap, it follows an edge whose entry
+-- One step at an instruction that breaks no rule. It doesn't trap, it follows an edge whose entry
 -- represents the new state, and the shape allows its counter operation.
 use Rattle.std.specs.Prelude.{◌≡◌, ℕ, ◌≤◌, List, Contains, None, IsSome, IfSome}
 use Rattle.attrs.specs.Attributes.{Attributes}
@@ -38,7 +38,7 @@ pub record IsLawful (shape : AppShape) (cell : ℕ) (op : CellOp) : Type 0 where
 
 -- ---- the edge of a step
 
--- along one of these edges, with an entry that represents the state
+-- the state is reached along one of these edges, whose entry represents it
 pub record Leads (shape : AppShape) (edges : List Edge) (t : State) : Type 0 where
   pub entry : AbsState
   pub along : Contains edges (edge_to t.slot entry)

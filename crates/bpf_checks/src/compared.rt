@@ -26,7 +26,7 @@ pub enum Compared {
 impl Compared {
     /// The comparison of an instruction. Unless the instruction checks a lookup's result, the edge
     /// that jumps changes only these values.
-    // open: its result if the instruction checks a lookup's result: then nothing is restored by it.
+    // open: its result if the instruction checks a lookup's result: it isn't used then.
     pub fn of(e: &AbsState, insn: &Insn) -> Compared
         ensures { rules.is_lookup_check e.now insn.now ≡ false
             → transfer.Restores e.now insn.now result }

@@ -1,5 +1,5 @@
-//! Laws about the rules. At an instruction that breaks none, a step of the machine is no trap, and
-//! follows an edge whose abstract state represents the new state.
+//! Laws about the rules. At an instruction that breaks none, a step of the machine doesn't trap,
+//! and follows an edge whose abstract state represents the new state.
 
 ghost use Rattle.bpf_checks.specs.Sound as sound;
 
@@ -9,7 +9,7 @@ use abs_value::{
     values_stay_in_order,
 };
 
-/// Law: a step from a represented state, at an instruction that breaks no rule, is safe. It is no
+/// Law: a step from a represented state, at an instruction that breaks no rule, is safe. It doesn't
 /// trap, and it follows an edge that isn't dropped, whose abstract state represents the new state.
 /// Its operation on a counter is allowed by the shape, and a choice is 0 or one of the releases.
 pub fn steps_are_safe()

@@ -23,7 +23,7 @@
 // uses a copy of the state.
 //
 // `laws.rt` says why this is sound. Take a state of the machine that the abstract state represents,
-// at an instruction that breaks no rule. Then a step is no trap, and follows an edge that isn't
+// at an instruction that breaks no rule. Then a step doesn't trap, and follows an edge that isn't
 // dropped to a state that the edge's abstract state represents, whatever a counter replies. Its
 // operation on a counter is allowed by the shape, and a choice is 0 or one of the releases. So a
 // crate above that joins edges only has to show that a join keeps what it represents.

@@ -27,7 +27,7 @@ pub record IsOfRow (form : Form) (f : Fields) : Type 0 where
   pub opcode : opcode_of form ≡ f.opcode
   pub only : (other : Form) → opcode_of other ≡ f.opcode → form ≡ other
 
--- also, its registers and unused fields are valid
+-- the same, with valid registers, and 0 in each field that the row doesn't use
 pub record IsInOrder (form : Form) (f : Fields) : Type 0 where
   pub fits : IsFields f
   pub opcode : opcode_of form ≡ f.opcode

@@ -1,6 +1,6 @@
-//! Building an instruction from the fields of its halves. The row decides whether registers and
-//! unused fields are valid. Then each class of instructions reads its parts; a number that encodes
-//! no part is a fault.
+//! Building an instruction from the fields of its halves. First the row's rules for registers and
+//! unused fields are checked. Then each class of instructions reads its parts; a number that
+//! encodes no part is a fault.
 
 ghost use Rattle.std.specs.Prelude.{◌≢◌, IfOk, IfErr, IfSome, IfNone, None};
 ghost use Rattle.bpf_insn.specs.Halves.{IsOfRow, IsInOrder, IsRowFault, IsTheInsn};
@@ -15,7 +15,8 @@ use crate::form::Form;
 use crate::insn::Insn;
 pub use wide::wide_in;
 
-/// The instruction of a one-slot row with valid registers and unused fields.
+/// The instruction of a one-slot row, from fields with valid registers, and 0 in each field that
+/// the row doesn't use.
 #[inline(always)]
 fn parts_in(form: Form, fields: Fields) -> Result<Insn, InsnFault>
     requires one_slot { form ≢ Form.Wide }

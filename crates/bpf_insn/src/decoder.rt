@@ -1,5 +1,6 @@
 //! The decoder. It splits the first half into fields, looks up the row by the opcode, and builds
-//! the instruction if the row has no fault. For a wide load it also reads the second half.
+//! the instruction if the fields break no rule of the row. For a wide load it also reads the second
+//! half.
 
 ghost use Rattle.std.specs.Prelude.{◌≡◌, ◌<◌, ◌≤◌, ◌+◌, ◌*◌, length, IfSome, IfNone, IfOk, IfErr};
 ghost use Rattle.bpf_insn.specs.declared.insn.Insn.{Insn};
@@ -47,7 +48,7 @@ fn wide_at(bytes: &[u8], slot: usize, first: Fields) -> Result<Insn, InsnFault>
     Ok(wide_in(first, second))
 }
 
-/// The instruction of a row whose first half is in this slot.
+/// The instruction whose first half is in this slot, by its row.
 #[inline(always)]
 fn row_at(bytes: &[u8], slot: usize, form: Form, first: Fields) -> Result<Insn, InsnFault>
     requires room { 8 * slot + 8 ≤ length bytes.now }

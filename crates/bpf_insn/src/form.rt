@@ -92,7 +92,7 @@ pub enum OffsetField {
     Any,
     /// 0 for DIV and MOD, 1 for SDIV and SMOD.
     Sign,
-    /// 0 for MOV, or the bits that MOVSX extends: 8 or 16, and for 64 bits also 32.
+    /// 0 for MOV, or the number of bits that MOVSX extends: 8 or 16, and for 64 bits also 32.
     Extension(Bits),
 }
 

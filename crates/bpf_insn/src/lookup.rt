@@ -1,5 +1,5 @@
-//! The parts of an instruction that imm, offset or src encodes as a number. Different parts have
-//! different numbers.
+//! Parts of an instruction, looked up by the numbers that encode them in imm, offset or src.
+//! Different parts have different numbers.
 
 ghost use Rattle.std.specs.Prelude.{◌≡◌, pos, IfSome, Some};
 ghost use Rattle.bpf_insn.specs.declared.operand.AluOp.{AluOp};

@@ -70,7 +70,7 @@ has_label ls label = has_slot (label_slot 0 ls) label
 abbrev pub too_long : ℕ → Option AsmFaultKind
 too_long slots = if nat_lt 4096 slots then Some kind.TooLong else None
 
--- the fault of a line that begins at slot s; twice: an earlier line has its label
+-- the fault of a line that begins at slot s; `twice` says whether an earlier line has its label
 abbrev pub fault_of_body : ℕ → Bool → Body → Option AsmFaultKind
 fault_of_body s twice (Err kind.Range) = if twice then Some kind.Label else Some kind.Range
 fault_of_body s twice (Err e) = Some e
@@ -175,7 +175,7 @@ assembly_of_lines v ls =
 unfoldable pub assembly_of : Vocabulary → List ℕ → BytesOrFault
 assembly_of v text = assembly_of_lines v (lines_in v text)
 
--- the same, with an exact vocabulary; there is only one
+-- the verdict is that with an exact vocabulary, of which there is only one
 abbrev pub Assembles : List ℕ → BytesOrFault → Type 0
 Assembles text verdict = (v : Vocabulary) × IsExact v × (assembly_of v text ≡ verdict)
 

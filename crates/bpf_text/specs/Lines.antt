@@ -31,7 +31,7 @@ body_of v (Word w ∷ rest) =
     Ok (Some (record { mnemonic = m; arguments = a }))
 body_of v tokens = Err fault.Mnemonic
 
--- a word before a colon at the front is a label; and the tokens after it
+-- the label, which is a word before a colon at the front, and the tokens after it
 abbrev pub split_label : Tokens → Option Name × Tokens
 split_label (Word w ∷ Colon ∷ rest) = (Some w, rest)
 split_label tokens = (None, tokens)

@@ -15,7 +15,7 @@ use Rattle.abs_value.specs.Covers.{IsStoodFor}
 use Rattle.bpf_checks.specs.Sound.{IsLawful}
 use Rattle.bpf_verify.specs.Accepted.{entry_of}
 
--- the entry of the state's slot represents the state, for some results of the calls before; its
+-- the entry of the state's slot represents the state, given some results of the earlier calls; its
 -- numbers are words
 pub record IsCovered (p : ShapedProgram) (s : State) : Type 0 where
   pub entry : AbsState

@@ -12,11 +12,11 @@ use Rattle.bpf_verify.specs.declared.entries.Entries.{Entries}
 abbrev pub at_hand : Entries → Option AbsState
 at_hand e = if e.is_live then Some e.here else None
 
--- before slot k is judged
+-- the invariant of the sweep, before slot k is judged
 abbrev pub AreSwept : Program → AppShape → ℕ → Entries → Type 0
 AreSwept code shape k e = IsSwept (shaped code shape) k (at_hand e) e.waiting
 
--- at slot k
+-- the sweep at slot k, whose entry is the current one
 abbrev pub HaveArrived : Program → AppShape → ℕ → Entries → Type 0
 HaveArrived code shape k e = HasArrived (shaped code shape) k (at_hand e) e.waiting
 

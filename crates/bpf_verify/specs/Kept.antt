@@ -28,12 +28,12 @@ jumps_to p (suc k) m = jumps_to p k m || is_at m (at p k >>= target_of k)
 abbrev pub ahead : Program → ℕ → ℕ
 ahead p s = count (λ m. nat_lt s m && jumps_to p (suc s) m) (length p)
 
--- the greatest number ahead of one of the slots below n
+-- the greatest number of targets ahead of any slot below n
 unfoldable pub most_ahead : Program → ℕ → ℕ
 most_ahead p zero = 0
 most_ahead p (suc n) = max (most_ahead p n) (ahead p n)
 
--- the greatest number of jump targets ahead of one slot
+-- the greatest number of targets ahead of any slot
 abbrev pub greatest_ahead : Program → ℕ
 greatest_ahead p = most_ahead p (length p)
 
@@ -43,8 +43,8 @@ abbrev pub jump_edges : ℕ → Option AbsState → Option Insn → List Edge
 jump_edges s (Some e) (Some i) = jump_edge s e i
 jump_edges s e i = []
 
--- the entry that waits for slot m once the jump at s is judged: from earlier edges, and from its
--- own
+-- the entry that waits for slot m once the jump at s is judged: the join over edges from before s
+-- and from s
 abbrev pub awaited : ShapedProgram → ℕ → ℕ → Option AbsState
 awaited p s m =
     join_all (incoming p s m ++ to_place m (jump_edges s (entry_of p s) (at p.code s)))

@@ -25,7 +25,7 @@ pub record IsAwaited (p : Program) (k m : ℕ) : Type 0 where
   pub place : IsSome (at p m)
   pub target : jumps_to p k m ≡ true
 
--- before slot k is judged
+-- the invariant before slot k is judged
 pub record IsSwept (p : ShapedProgram) (k : ℕ) (here : Option AbsState) (w : Waiting) : Type 0 where
   pub place : (k ≡ length p.code) ⊎ IsSome (at p.code k)
   pub len : length w.entries ≡ length p.code

@@ -39,7 +39,8 @@ pub record Knows (known : Known) (e : AbsState) : Type 0 where
   pub bytes : (place : ℕ) → place < stack_size → known.set place ≡ true
       → is_set e.stack place ≡ true
 
--- under the table no slot breaks a rule, whatever else is known, and each edge preserves it
+-- each edge preserves the facts, and no slot breaks a rule in an entry that knows at least its
+-- facts
 pub record IsTable (p : Program) (shape : AppShape) (table : ℕ → Known) : Type 0 where
   pub start : Knows (table 0) opening_state
   pub passes : (s : ℕ) (e : AbsState) (i : Insn) → at p s ≡ Some i → Knows (table s) e

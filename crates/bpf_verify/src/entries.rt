@@ -103,9 +103,9 @@ impl Entries {
         Ok(())
     }
 
-    /// Like `jump`, for a comparison of a lookup's result with 0. Each copy of that result changes,
-    /// so the edge needs a copy of the state. That copy is on the stack frame of this function, not
-    /// of its callers.
+    /// Like `jump`, for a comparison of a lookup's result with 0. The edge also narrows each copy
+    /// of that result, so it needs a copy of the state. That copy is on the stack frame of this
+    /// function, not of its callers.
     #[inline(never)]
     fn jump_at_check(&mut self, target: usize, insn: &Insn) -> Result<(), AllocError>
         requires { target < length self.old.waiting.entries }
@@ -122,7 +122,8 @@ impl Entries {
         Ok(())
     }
 
-    /// Changes the current entry to that after the instruction, if a run may fall through.
+    /// Makes the entry after the instruction the current one. If no run can fall through, no entry
+    /// is current.
     pub fn go_on(&mut self, shape: &Shape, slot: usize, insn: &Insn)
         requires { slot < 4096 }
         ensures here { at_hand self.new ≡ falling shape.now slot self.old.here insn.now }

@@ -61,7 +61,7 @@ impl Pool {
         }
     }
 
-    /// Makes an entry wait for a slot that has none.
+    /// Stores a copy of an entry for a slot for which none waits.
     #[inline(never)]
     fn put(&mut self, place: usize, entry: &AbsState) -> Result<(), AllocError>
         requires within { place < length self.old.entries }
@@ -84,7 +84,7 @@ impl Pool {
         Ok(())
     }
 
-    /// Joins an entry into the one that waits for the slot; if there is none, a copy of it waits.
+    /// Joins an entry into the one that waits for the slot. If none waits, stores a copy of it.
     pub fn add(&mut self, place: usize, entry: &AbsState) -> Result<(), AllocError>
         requires { place < length self.old.entries }
         ensures changed { OnOk result (IsChanged self.old self.new place

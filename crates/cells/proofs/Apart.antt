@@ -43,7 +43,7 @@ are_wide arrays a cell known there has in_a =
 
 -- ---- by their names
 
--- the array that a name finds in a nonempty list
+-- the array that a name finds in a list with a first array
 found_by : (name : List ℕ) (b : CellArray) (rest : List CellArray) (t : Bool)
     → bytes_eq b.name name ≡ t
     → array_named name (b ∷ rest) ≡ (if t then Some b else array_named name rest)
@@ -95,7 +95,7 @@ numbered_named directory numbers arrays apart are k d within =
     let there = placed directory numbers arrays are k a (slice_get-get_or arrays k d within) in
     named_at directory there.0 a apart there.1
 
--- ---- for good
+-- ---- in longer directories
 
 found_still : (name : List ℕ) (old more : List CellArray) (a : CellArray)
     → array_named name old ≡ Some a → array_named name (old ++ more) ≡ Some a

@@ -27,7 +27,7 @@ pushed_place (z ∷ zs) y zero x e = inl e
 pushed_place (z ∷ zs) y (suc i) x e = elim (pushed_place zs y i x e)
     [ inl h ↦ inl h | inr h ↦ inr (ap (λ n. suc n) h.0, h.1) ]
 
--- what is true of all elements, at a place
+-- what is true of all elements is true of the one at a place
 pub all_at : {X : Type 0} (P : X → Type 0) (xs : List X) (i : ℕ) (x : X) → All P xs
     → slice_get xs i ≡ Some x → P x
 all_at P xs i x all e = subst P (get_or_from_slice_get xs i x x e)

@@ -16,7 +16,7 @@ same_width Bits32 Bits32 = true
 same_width Bits64 Bits64 = true
 same_width v w = false
 
--- how many cells of a width an array has, and how many arrays have
+-- how many cells of a width an array has; then, how many all of these arrays have
 abbrev pub cells_of : CellWidth → CellArray → ℕ
 cells_of w a = if same_width w a.width then a.length else 0
 
@@ -44,11 +44,11 @@ abbrev pub array_named : List ℕ → List CellArray → Option CellArray
 array_named name [] = None
 array_named name (a ∷ rest) = if bytes_eq a.name name then Some a else array_named name rest
 
--- this array is the one of its name among these
+-- this array is the one that its name finds among these
 abbrev pub HasArray : List CellArray → CellArray → Type 0
 HasArray arrays a = array_named a.name arrays ≡ Some a
 
--- what a `Directory` keeps as well as its arrays: how many cells of each width they have
+-- the invariant of a `Directory`: its two counts are those of its arrays' cells, by width
 pub record IsKept (arrays : List CellArray) (taken_64 taken_32 : ℕ) : Type 0 where
   pub directory : IsDirectory arrays
   pub wide : taken_64 ≡ taken Bits64 arrays

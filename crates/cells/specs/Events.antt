@@ -56,7 +56,7 @@ pub record AreCells (values : List ℕ) : Type 0 where
   pub count : length values ≡ 8192
   pub fit : (c : ℕ) → slice_index values c < limit c
 
--- n zeros: the cells at first
+-- n zeros, such as the values of all cells at the start
 pub record AreZeros (n : ℕ) (values : List ℕ) : Type 0 where
   pub count : length values ≡ n
   pub zero : (c : ℕ) → slice_index values c ≡ 0

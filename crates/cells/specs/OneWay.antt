@@ -16,7 +16,8 @@ pub record DeclaresOneWay (d : Declaration) (old : List CellArray) : Type 0 wher
   pub either : (n : ℕ) (new : List CellArray) (e : CellsFault) → Declares d old n new
       → IsRefusedDeclaration d old e → e ≡ Memory
 
--- it does so if there are no duplicate names, and then the directory after it has none
+-- each declaration does so if the directory has no duplicate names, and then the directory after it
+-- has none
 abbrev pub DeclareOneWay : Type 0
 DeclareOneWay = (d : Declaration) (old : List CellArray) → HasDistinctNames old
     → DeclaresOneWay d old

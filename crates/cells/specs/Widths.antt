@@ -3,7 +3,7 @@ use Rattle.std.specs.Prelude.{List, ℕ}
 use Rattle.cells.specs.declared.event.CellEvent.{CellEvent}
 use Rattle.cells.specs.Events.{AreCells, CanReply, IsEvent}
 
--- the cells after an event on cells, and its reply
+-- each cell's value after an event is within its width, and the reply fits the event's cell
 pub record FitsWidths (e : CellEvent) (new : List ℕ) : Type 0 where
   pub cells : AreCells new
   pub reply : CanReply e.cell e.op e.reply

@@ -88,8 +88,8 @@ pub struct ArrayNo {
     pub number: usize,
 }
 
-/// An array of cells: the `length` cells from number `base` on. With a quota, that number of takes
-/// of each cell is granted.
+/// An array of cells: the `length` cells from number `base` on. With a quota, each of its cells
+/// grants that many takes, and no more.
 #[derive(Debug, Drop)]
 pub struct CellArray {
     pub name: ArrayName,

@@ -46,11 +46,13 @@ impl Directory {
         }
     }
 
-    /// Declares an array of 1 to 4096 cells, with a quota of 1 to 2^63 - 1 over 64-bit cells only.
+    /// Declares an array of 1 to 4096 cells. A quota is allowed only for 64-bit cells, and is 1 to
+    /// 2^63 - 1.
     ///
-    /// Returns an array that exists with the same values. Returns N2 if the name exists with other
-    /// values. Returns N1 if the name is new and too few cells of the width are left. Returns N3 if
-    /// an allocation fails. A new array gets the lowest cells of its width that no array has.
+    /// If the name exists with the same values, returns that array. Otherwise a new array gets the
+    /// lowest cells of its width that no array has. Returns N2 if the name exists with other
+    /// values, N1 if the name is new and too few cells of the width are left, and N3 if an
+    /// allocation fails.
     // open: whether an allocation fails (N3).
     pub fn declare(
         &mut self,

@@ -4,7 +4,7 @@ ghost use Rattle.cells.specs.Apart.{ArraysLieApart, ArraysStay, NamedArraysAreTh
 ghost use Rattle.cells.specs.Apart.{NumberedArraysAreNamed, QuotasAreWide};
 ghost use Rattle.cells.specs.OneWay.{DeclareOneWay, KeepsDirectory, KeepsNames};
 
-/// Law: a declaration has one result in a directory, which stays a directory.
+/// Law: declaring an array in a directory has one result, and the directory stays a directory.
 pub fn declares_one_way()
     ensures one_way { DeclareOneWay }
     ensures names { KeepsNames }
@@ -18,7 +18,8 @@ pub fn arrays_lie_apart()
     ensures wide { QuotasAreWide }
 {}
 
-/// Law: which arrays a directory has, and that it has them for good.
+/// Law: the arrays of a directory are those that it has by name, and each longer directory also has
+/// them.
 pub fn arrays_stay()
     ensures there { NamedArraysAreThere }
     ensures numbered { NumberedArraysAreNamed }

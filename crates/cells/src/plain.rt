@@ -11,7 +11,7 @@ use crate::steps::CellSteps;
 use std::alloc::{AllocError, Global};
 use std::marker::Model;
 
-/// Cells of one thread. Every pass belongs to them.
+/// Cells of one thread. Any pass can be used with them.
 #[derive(Clone, Copy, Debug)]
 pub struct PlainCells;
 
@@ -45,7 +45,7 @@ impl PlainCells {
 }
 
 impl PlainPass {
-    /// Law: what the type keeps.
+    /// Law: the type's invariant.
     pub fn keeps(&self)
         ensures { AreCells self.now }
     {

@@ -1,4 +1,4 @@
-//! The shape of an app: what its programs are checked against, besides their own instructions.
+//! The shape of an app: what the verifier's verdict on a program depends on, besides the program.
 
 ghost use Rattle.std.specs.Prelude.{◌≡◌, ◌<◌, ◌≤◌, [], length, IfOk, IfErr, All};
 ghost use Rattle.cells.specs.Arrays.{AreNumbered, IsShape};
@@ -93,7 +93,7 @@ impl Shape {
         &self.arrays
     }
 
-    /// Law: what the type keeps.
+    /// Law: the type's invariant.
     pub fn keeps(&self)
         ensures { IsShape self.now }
     {

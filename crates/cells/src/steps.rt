@@ -28,7 +28,8 @@ pub trait CellSteps {
         ensures fits { CanReply cell.number op result };
 }
 
-/// Law: how lists of events join, for any cells.
+/// Law: a pass that grows by a list of events, and then by an event or another list, grows by one
+/// longer list.
 pub fn growth<C: CellSteps>()
     ensures snoc { GrowsBySnoc C.grew }
     ensures append { GrowsByAppend C.grew }

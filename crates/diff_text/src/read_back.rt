@@ -15,9 +15,9 @@ use rule_lang::{Rule, RuleFault, Statement, Step, parse};
 use rule_space::Dimension;
 use std::alloc::{AllocError, Global};
 
-/// Whether a condition holds exactly for the machines in states that are in these sets, of which
-/// those of cells that grant takes don't count. If the steps aren't of the form that is printed,
-/// the result is no.
+/// Whether a condition holds exactly for the machines in states that are in these sets, apart from
+/// sets of cells that grant takes. If the steps aren't of the form that is printed, the result is
+/// no.
 fn mean_sets(
     alloc: Global,
     dimensions: &[Dimension],
@@ -121,7 +121,7 @@ fn rule_of(alloc: Global, condition: &str) -> Result<Option<Rule>, AllocError>
 }
 
 /// Whether the text of a condition, read by the parser of rules, holds exactly for the machines in
-/// states that are in these sets, of which those of cells that grant takes don't count.
+/// states that are in these sets, apart from sets of cells that grant takes.
 pub(crate) fn reads_back(
     alloc: Global,
     dimensions: &[Dimension],

@@ -128,7 +128,7 @@ fn take_steps(
     Ok(true)
 }
 
-/// The tables of a condition's steps; none if they can't be had so.
+/// The part that a condition's steps make; none if they don't make a list of tables that all hold.
 pub(crate) fn tables_of(
     alloc: Global,
     dimensions: &[Dimension],

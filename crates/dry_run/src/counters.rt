@@ -5,10 +5,10 @@ ghost use Rattle.std.specs.Prelude.{nat_lt, option_copied};
 ghost use Rattle.cells.specs.Events.{AreZeros, limit};
 ghost use Rattle.dry_run.specs.Counters as specs;
 
+use cell_assignments::CellAssignment;
 use cells::{CellArray, CellNo, CellOp, CellSteps, PlainCells, PlainPass};
 use rule_lang::array_named;
 use std::alloc::{AllocError, Global};
-use cell_assignments::CellAssignment;
 
 /// The first cell of 32 bits.
 const NARROW: u16 = 4096;

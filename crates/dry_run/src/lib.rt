@@ -24,8 +24,8 @@ mod ignored_lines;
 mod law;
 mod length_lines;
 mod member_kinds;
-mod reply;
 mod on_counters;
+mod reply;
 mod why;
 mod why_files;
 

@@ -10,9 +10,9 @@ use crate::files::Opened;
 use crate::reply::find_reply;
 use attrs::Moment;
 use bounded_files::ResourceFault;
+use cell_assignments::CellAssignment;
 use cells::{CellArray, PlainPass};
 use std::alloc::Global;
-use cell_assignments::CellAssignment;
 
 /// The text of the reply to a body at a moment. Counters are 0, except for those in `served` that
 /// belong to arrays of the manifest, and then for those in `words`. Returns B7 if the manifest

@@ -16,12 +16,12 @@ use crate::on_counters::assigned_counters;
 use crate::why_files::OpenedWhy;
 use answering::NoObserver;
 use attrs::{AppFacts, Attrs, Context, Moment, RequestFacts, SharedFacts};
+use cell_assignments::CellAssignment;
 use cells::PlainPass;
 use omaha_json::{OmahaFault, Request, read_request};
 use rule_lang::Rule;
 use ruleset::App;
 use std::alloc::{AllocError, Global};
-use cell_assignments::CellAssignment;
 
 /// Why the apps of a body's request get what they get, at a moment, on the counters of
 /// `reply_on_counters`. First come the request's members that count as absent; then for each app: a

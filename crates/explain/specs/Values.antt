@@ -33,7 +33,7 @@ range_tells a j = a.range.lo / 2 ^ j == a.range.hi / 2 ^ j
 abbrev pub says_more : Number → ℕ → Bool
 says_more a j = (bit_at (unknown a.bits) j == 0) && not (range_tells a j)
 
--- how many bits there are up to the highest one below k that says more
+-- the place after the highest bit below k that says more than the range; 0 if there is none
 abbrev pub telling_bits : Number → ℕ → ℕ
 telling_bits a zero = 0
 telling_bits a (suc j) = if says_more a j then suc j else telling_bits a j

@@ -4,7 +4,7 @@ use Rattle.logbook.specs.Pages.{Cell, Step, View, Book, Named}
 use Rattle.hot_swap.specs.declared.publisher_id.PublisherId.{PublisherId}
 use Rattle.ruleset.specs.Rules.{Rules}
 
--- a publisher is known by its book
+-- a publisher is identified by its book
 abbrev pub id_of : Book → PublisherId
 id_of book = record { number = book.number; log_name = book.log_name; cells_name = book.cells_name }
 

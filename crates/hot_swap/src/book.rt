@@ -5,7 +5,7 @@ use logbook::{Gain, Plain, Play, Rule};
 use ruleset::Ruleset;
 use std::sync::Arc;
 
-/// The rule: the word is the number of rulesets.
+/// The rule: the book's word is the number of its rulesets.
 pub(crate) struct CountsRulesets;
 
 impl Rule<Ruleset, u64> for CountsRulesets {

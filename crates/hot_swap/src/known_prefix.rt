@@ -13,11 +13,11 @@ use ruleset::Ruleset;
 use std::marker::Model;
 use std::sync::Arc;
 
-/// The version number of the published ruleset, which is the number of rulesets installed with it.
-/// The first has 1.
+/// The number of a published ruleset. Rulesets are numbered from 1, in the order of their installs.
 pub type Generation = u64;
 
-/// The list itself exists only in the proofs; what is kept is its length.
+/// A prefix of a published list. The list exists only in the proofs; its length is kept at run
+/// time.
 #[derive(Drop)]
 pub(crate) struct KnownPrefix {
     generation: Generation,

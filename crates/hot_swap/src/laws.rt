@@ -2,8 +2,8 @@
 
 ghost use Rattle.hot_swap.specs.Published.{HasOneRuleset, NeverGoesBack, ShorterBegins};
 
-/// Law: in one published list generations never go back, and each has one ruleset. Of the lists of
-/// a publisher and of a watcher that learned its notice, one is a prefix of the other.
+/// Law: in one published list generations never go back, and each has one ruleset. Of two prefixes
+/// of the list, the shorter is a prefix of the longer.
 pub fn generations_go_onwards()
     ensures back { NeverGoesBack }
     ensures one { HasOneRuleset }

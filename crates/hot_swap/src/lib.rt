@@ -7,8 +7,8 @@
 //! length. It only grows: a list that was read once is a prefix of every later one.
 //!
 //! A publish appends its ruleset to the list after the last step that can fail, and before any
-//! reader gets the ruleset. So what is published comes with the list that it ends. What a watcher
-//! has read, what a notice has and what was installed are prefixes of one list.
+//! reader gets the ruleset. So each published ruleset comes with the list of all installs up to it.
+//! What a watcher has read, what a notice has and what was installed are prefixes of one list.
 //!
 //! See docs/DECISIONS.md, "The published ruleset".
 #![tactic(auto)]

@@ -8,8 +8,8 @@ use logbook::Word;
 use ruleset::Ruleset;
 use std::sync::atomic::{AtomicU64, Ordering};
 
-/// The word of the book, which is the length of the list, and the number of the only install that
-/// may append the next ruleset.
+/// The word of the book, which is the length of the list, and the number of the newest install.
+/// Only this install may append the next ruleset.
 #[derive(Drop)]
 pub(crate) struct ListEnd {
     pub(crate) word: Word<Ruleset, u64, CountsRulesets>,

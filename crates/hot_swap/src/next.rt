@@ -14,7 +14,7 @@ use ruleset::Ruleset;
 use std::alloc::AllocError;
 use std::sync::Arc;
 
-/// The install of a ruleset after all that was known.
+/// One install: its ruleset, and the list that was known when it began.
 #[derive(Drop)]
 pub struct NextInstall {
     generation: Generation,
@@ -66,8 +66,8 @@ impl NextInstall {
         (known, entered)
     }
 
-    // What the install publishes first. The Arc is copied, which may fail, before the ruleset is
-    // appended.
+    // What the first copy becomes, which is published. The Arc is copied, which may fail, before
+    // the ruleset is appended.
     fn listed(&self) -> Result<PublishedRuleset, AllocError>
         ensures { IfOk result (λ x. (x.generation ≡ self.now.generation)
             × (arc_value x.rules ≡ arc_value self.now.rules)
@@ -83,7 +83,8 @@ impl NextInstall {
         })
     }
 
-    // What the other copy becomes. The next operation replaces it before it is published.
+    // What the second copy becomes. It is never published, since the next operation replaces it
+    // first.
     fn unlisted(self) -> PublishedRuleset
         ensures { (result.generation ≡ self.generation)
             × (arc_value result.rules ≡ arc_value self.rules)

@@ -94,7 +94,7 @@ impl Publisher {
         }
     }
 
-    /// Law: what the type keeps.
+    /// Law: the type's invariant.
     pub fn keeps(&self)
         ensures last { IsLatest self.now.known self.now.latest.generation self.now.latest.rules }
         // In each ruleset of the list an appid has one app, and a run of its program ends well.

@@ -6,7 +6,7 @@ use crate::publisher_id::PublisherId;
 use atomic_table::{Join, Split};
 use crossbeam_utils::rule::{Outcome, Protocol};
 
-/// The rule: all seats that know a publisher know the same.
+/// The rule: all seats that know a publisher know the same one.
 pub struct OnePublisher;
 
 impl Protocol<PublishedRuleset, Option<PublisherId>> for OnePublisher {

@@ -14,7 +14,7 @@ use ruleset::Ruleset;
 use std::alloc::{AllocError, Global};
 use std::sync::{Arc, Wait};
 
-/// What publishes rulesets to the readers.
+/// The writing half of `left_right`, which publishes rulesets to the readers.
 pub(crate) type PublishedWriter = Writer<
     PublishedRuleset,
     NextInstall,
@@ -63,8 +63,8 @@ pub(crate) fn show<R: Wait>(
     }
 }
 
-// Publishes the next ruleset. In the same publish it replaces one that a failed install left
-// waiting.
+// Publishes the next ruleset. If a failed install left an operation waiting, the same publish
+// replaces that one's ruleset.
 fn publish<R: Wait>(
     mut writer: PublishedWriter,
     next: NextInstall,

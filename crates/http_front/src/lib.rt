@@ -3,7 +3,7 @@
 //!
 //! A head is what the crate `httparse` accepts: lines may end in LF only, and empty lines may come
 //! first. It is checked as its bytes arrive, so that a malformed head is refused as early as
-//! possible, and no more than a head's limit is read. Only then are the target, the method and the
+//! possible, and at most a head's limit is read. Only then are the target, the method and the
 //! length checked, in this order, and the buffer for the body is allocated, once.
 //!
 //! See docs/DECISIONS.md, "The front".

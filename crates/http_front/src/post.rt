@@ -14,7 +14,7 @@ use std::alloc::Global;
 use std::io::Read;
 
 /// Reads the one POST of a connection, and returns its body. At most 16,384 bytes are read until a
-/// head is whole, and of a refused body no more than came with its head. The reader may have
+/// head is whole, and a refused body isn't read beyond what came with its head. The reader may have
 /// returned more bytes than the request has; they are lost.
 // open: whether an allocation fails (P9). At which of these bytes a head is refused that no bytes
 // can complete: tests. Which of two faults is returned if `httparse` allows both. For a head with

@@ -1,4 +1,4 @@
--- What a log prints of a load: what its ruleset was made of, or the cause of its fault.
+-- What a log prints about a load: what its ruleset was made of, or the cause of its fault.
 use Rattle.std.specs.Prelude.{◌≡◌, ℕ, ◌-◌, List, ◌++◌, codes, slice_get, IfSome}
 use Rattle.std.specs.Prelude.{Option, Some, None, option_map, option_and_then, Result, Ok, Err}
 use Rattle.std.specs.String.{string_bytes}

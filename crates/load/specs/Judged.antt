@@ -73,7 +73,7 @@ module _ (known : KnownFiles) (directory : List CellArray) (bytes : List ℕ) (o
   CountsFault (Rule number fault) = CountsFailures (Rule number fault)
   CountsFault Memory = Unit {0}
 
-  -- with a ruleset each file was read
+  -- if there is a ruleset, each file was read
   abbrev pub CountsLoad : {X : Type 0} → Result X LoadFault → Type 0
   CountsLoad (Ok loaded) = new ≡ old
   CountsLoad (Err fault) = CountsFault fault

@@ -22,8 +22,8 @@ pub fn one_load()
     bpf_verify::one_verdict();
 }
 
-/// Law: the verdict on a gathered manifest and its files is that of their load, and the verdict on
-/// each app that on its entry.
+/// Law: the verdict on a gathered manifest and its files is that of their load, and each app's
+/// verdict is that of its entry.
 pub fn sources_are_loaded()
     ensures { SourcesAreLoaded }
 {}

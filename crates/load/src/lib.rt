@@ -15,8 +15,8 @@
 // A load takes a manifest's bytes and any files (`load_bytes` in `loading.rt`). Servers use it to
 // load the manifest at a path (`path.rt`); `load_over` and `load_ruleset` call it.
 //
-// A file is read to its end. If it is longer than it may be, only its beginning is kept, how many
-// bytes it has, and whether they are text. Such a file is always a fault. So once those that were
+// A file is read to its end. If it is longer than it may be, only its first bytes are kept, with
+// its length and whether it is text. Such a file is always a fault. So once those that were
 // gathered have more than 64 MiB in all, the first fault is among them, and no further file is
 // read.
 //

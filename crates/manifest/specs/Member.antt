@@ -22,12 +22,12 @@ passed test text = if test text then Some text else None
 abbrev pub text_that : (List ℕ → Bool) → Data → Option (List ℕ)
 text_that test value = option_and_then (passed test) (as_str value)
 
--- continues with the value, or else with this fault
+-- continues with the value; without one, the result is this fault
 abbrev pub needs : {X Y E : Type 0} → Option X → E → (X → Result Y E) → Result Y E
 needs None fault next = Err fault
 needs (Some x) fault next = next x
 
--- continues with the value, or else with the schema error inside it
+-- continues with the value; a schema error becomes that of the outer table
 abbrev pub fits :
     {X Y E F : Type 0} → Result X E → (E → F) → (X → Result Y F) → Result Y F
 fits (Err schema_error) fault next = Err (fault schema_error)

@@ -10,7 +10,7 @@ use Rattle.manifest.specs.declared.refused.Parsed.TheVariants.{Document, Error, 
 use Rattle.manifest.specs.declared.refused.RefusedManifest.{RefusedManifest}
 use Rattle.manifest.specs.Manifest.{IsTree, ReadsManifest}
 
--- the document of the bytes, if they are one; an error, unspecified; or nothing
+-- for M2 and M3 the document of the bytes; for M1 an error, which is unspecified, or nothing
 abbrev pub IsParsed : List ℕ → ManifestFault → Parsed → Type 0
 IsParsed bytes (Field schema_error) (Document table) = IsTree bytes (table_view table)
 IsParsed bytes (Duplicate duplicate) (Document table) = IsTree bytes (table_view table)

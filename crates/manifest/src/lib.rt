@@ -27,8 +27,8 @@
 //!
 //! Each kind of table has a file, a definition of the same name in `specs/`, and a type of its
 //! schema errors. The error that counts is the first unknown member, or else the first wrong
-//! member in the order of this sample. So a manifest has at most one schema error, whose path says
-//! where it is.
+//! member in the order of this sample. So a manifest has at most one schema error, whose path leads
+//! to the member.
 //!
 //! See docs/DECISIONS.md, "Manifests".
 #![tactic(auto)]

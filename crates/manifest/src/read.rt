@@ -20,7 +20,7 @@ pub const MOST_MANIFEST: usize = 1048576;
 /// Its faults:
 ///
 /// - M1: there are more bytes, or they aren't a document.
-/// - M2: the first schema error, in the order of the format.
+/// - M2: the first schema error, in the order of the sample in `lib.rt`.
 /// - M3: an array's name or an appid is a duplicate.
 /// - M8: an allocation failed.
 // open: whether an allocation fails (M8).

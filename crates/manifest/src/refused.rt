@@ -14,10 +14,10 @@ pub struct RefusedManifest {
 /// The result of the crate `toml` for the bytes of a refused manifest.
 #[derive(Drop)]
 pub enum Parsed {
-    /// The document, with M2 and M3.
+    /// The document. The fault is M2 or M3.
     Document(Table),
-    /// Why the bytes aren't a document, with M1.
+    /// Why the bytes aren't a document. The fault is M1.
     Error(Error),
-    /// Nothing: there are more than 1048576 bytes (M1), or an allocation failed (M8).
+    /// More than 1048576 bytes (M1), or a failed allocation (M8).
     Nothing,
 }

@@ -12,8 +12,8 @@ use std::alloc::{AllocError, Global};
 use toml::Table;
 
 /// All duplicate names of a manifest that has no schema error: those of arrays, and then appids. So
-/// the first one is that of `read_manifest`. Returns `None` if an allocation fails, or if there is
-/// a schema error.
+/// the first is the one that `read_manifest` returns. Returns `None` if an allocation fails, or if
+/// there is a schema error.
 // open: when the result is None: if an allocation fails, or the document has a schema error.
 pub fn all_duplicates(alloc: Global, document: &Table) -> Option<Vec<DuplicateName>>
     ensures { IfSome result (λ v. HasAllDuplicates (table_view document.now) v.items) }

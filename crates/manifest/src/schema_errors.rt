@@ -25,7 +25,7 @@ use std::alloc::{AllocError, Global};
 use toml::{Table, Value};
 
 /// All schema errors of a manifest's document: the first unknown member, the server, and then the
-/// first error of each array and each app. So the first one is that of `read_manifest`.
+/// first error of each array and each app. So the first is the one that `read_manifest` returns.
 // open: whether an allocation fails.
 pub fn all_schema_errors(alloc: Global, document: &Table) -> Result<Vec<SchemaError>, AllocError>
     ensures { IfOk result (λ v. v.items ≡ schema_errors_of (table_view document.now)) }

@@ -13,14 +13,14 @@ abbrev pub gone_among : OpenedBoth → List (List ℕ) → List (List ℕ)
 gone_among both appids = filter (λ appid. not (has_appid (manifest_appids both.new) appid)) appids
 
 module _ (both : OpenedBoth) (from_day : ℕ) (used : List CellBound) where
-  -- those of some appids are added, as far as they are reported
+  -- the comparisons of these appids are added, as far as they are reported
   pub record AddsDiffs (only : Option (List ℕ)) (appids : List (List ℕ))
       (before after : List AppDiff) : Type 0 where
     pub added : map (λ d. string_bytes d.appid) after
         ≡ map (λ d. string_bytes d.appid) before ++ filter (is_reported only) appids
     pub each : All (IsAppDiff both from_day used) before → All (IsAppDiff both from_day used) after
 
-  -- and those that are left of them aren't yet
+  -- the same, while those of the appids in `left` are still to be added
   pub record AddsMore (only : Option (List ℕ)) (appids left : List (List ℕ))
       (before after : List AppDiff) : Type 0 where
     pub added : map (λ d. string_bytes d.appid) after ++ filter (is_reported only) left

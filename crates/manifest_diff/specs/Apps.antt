@@ -14,7 +14,7 @@ use Rattle.rule_space.specs.Machines.{Side}
 
 -- ---- apps
 
--- what a manifest gathers of an app, the program of its file, and the rule, if the file has one
+-- an app as gathered from its manifest, the program of its file, and the rule if its file has one
 pub record ManifestApp : Type 0 where
   pub sources : AppSources
   pub program : ShapedProgram
@@ -37,7 +37,7 @@ pub record IsKeptApp (app : ManifestApp) : Type 0 where
   pub judged : IsJudged app.sources app.program
   pub rule_is : IsRuleKept app.sources.entry.source app.sources.kept app.program app.rule
 
--- the releases of an app; none of an app that the manifest lacks
+-- the releases of an app; none if the manifest lacks it
 abbrev pub releases_or_none : Option ManifestApp → List Release
 releases_or_none (Some app) = app.sources.entry.releases
 releases_or_none None = []
@@ -79,7 +79,7 @@ side_in releases (Some app) = option_map (side_with releases app) app.rule
 
 -- ---- the same app in both manifests
 
--- what has one number is equal, as far as both lists go
+-- elements with the same number are equal, up to the end of the shorter list
 abbrev pub AgreeAsFar : {A : Type 0} → (xs ys : List A) → Type 0
 AgreeAsFar {A} xs ys = (number : ℕ) (x y : A) → slice_get xs number ≡ Some x
     → slice_get ys number ≡ Some y → x ≡ y

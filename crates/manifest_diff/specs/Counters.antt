@@ -30,8 +30,8 @@ is_alike (Some d) (Some e) = is_declared_alike d e
 is_alike one other = true
 
 module _ (old new : List Declaration) where
-  -- A value bounds an array that one manifest declares, or both alike. If they declare it in
-  -- different ways, NEW's array is only on a server that was started anew, with other values.
+  -- A value bounds an array that only one manifest declares, or that both declare alike. If they
+  -- declare it in different ways, only a restarted server has NEW's array, and with other values.
   abbrev pub used_if_declared : Assignment → Option CellBound
   used_if_declared cell =
       if is_alike (declared_as old cell.array) (declared_as new cell.array)

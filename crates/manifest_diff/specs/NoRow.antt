@@ -1,7 +1,7 @@
 -- The promise of a comparison: a machine that is in no row of an app compared by rows gets the same
 -- from both manifests. One that is in a row gets what the row says, and none is in two (`IsDiff`).
--- What a server gives is what some state gives. A comparison may always say that an app isn't
--- compared.
+-- What a server gives a machine, the rule gives it in some state. A comparison may always say that
+-- an app isn't compared.
 use Rattle.std.specs.Prelude.{◌≡◌, ◌⊎◌, ℕ, List, map, Contains, Option, Some, None, true}
 use Rattle.std.specs.String.{string_bytes}
 use Rattle.attrs.specs.Attributes.{Attributes}
@@ -32,7 +32,7 @@ pub record GetsTheSame (old new : Option ManifestApp) (a : Attributes) (g : Stat
   pub new_is : side_in (releases_in old new) new ≡ Some new_side
   pub same : gets old_side a g ≡ gets new_side a g
 
--- so it does, or both have the app with the same program, of which nothing more is said
+-- either that, or both manifests have the app with the same program; then nothing more is promised
 pub data IsAlike (old new : Option ManifestApp) (a : Attributes) (g : State) : Type 0 where
   same_content : GetsTheSame old new a g → IsAlike old new a g
   same_program : (app other : ManifestApp) → old ≡ Some app → new ≡ Some other
@@ -40,8 +40,8 @@ pub data IsAlike (old new : Option ManifestApp) (a : Attributes) (g : State) : T
 
 -- ---- servers
 
--- the shape of an app on a server: as many releases, and arrays that are declared alike, at
--- whichever cells the server has for them
+-- the shape of an app on a server: as many releases, and arrays that are declared alike, but may
+-- have other cells
 pub record IsServedShape (own served : AppShape) : Type 0 where
   pub shape : IsShape served
   pub releases : served.releases ≡ own.releases
@@ -51,8 +51,8 @@ abbrev pub served_side : Side → AppShape → Side
 served_side side shape =
     record { shape = shape; statements = side.statements; contents = side.contents }
 
--- a run on a server, as the rule means it, gives a machine this content. The replies of a cell with
--- a quota rise along the run, and are at least the value that the cell is known to have
+-- a run of the rule on a server gives a machine this content. The replies of a cell with a quota
+-- rise along the run, and are at least the value that the cell is known to have
 pub record Serves (x : Scope) (side : Side) (a : Attributes) (content : ℕ) : Type 0 where
   pub shape : AppShape
   pub served : IsServedShape side.shape shape
@@ -76,15 +76,15 @@ pub record GivesAlike (x : Scope) (side : Side) (a : Attributes) (content : ℕ)
 abbrev pub HasMachine : Space → Row → Attributes → State → Type 0
 HasMachine space row a g = row_agrees row (place_of space.dimensions a g) ≡ true
 
--- a row has the machine in the state, and says this content by one manifest; or the other manifest
--- also gives it this content
+-- the content is what a row with the machine in the state says, or what the other manifest also
+-- gives the machine
 abbrev pub IsSaid : Space → List Row → (said : Row → ℕ) → (other : Side) → Attributes → State
     → (content : ℕ) → Type 0
 IsSaid space rows said other a g content =
     ((row : Row) × Contains rows row × HasMachine space row a g × (said row ≡ content))
     ⊎ (gets other a g ≡ content)
 
--- what a server of one manifest gives a machine, the rows say in a state that grants the same takes
+-- the rows say what a server of one manifest gives a machine, in a state that grants the same takes
 abbrev pub SaysRuns : Scope → Space → List Row → (side other : Side) → (said : Row → ℕ) → Type 0
 SaysRuns x space rows side other said =
     (a : Attributes) (content : ℕ) (run : Serves x side a content)
@@ -92,7 +92,8 @@ SaysRuns x space rows side other said =
 
 -- ---- the promise of the command
 
--- of an app that is compared by rows: for machines in states, and for runs of servers
+-- for an app that is compared by rows: the rows are true of machines in states, and of runs of
+-- servers
 pub record RowsAreSo (x : Scope) (old new : Option ManifestApp) (space : Space) (rows : List Row)
     (has : HasRows x old new space rows) : Type 0 where
   pub no_row : AreComplete x has.old_side has.new_side space rows

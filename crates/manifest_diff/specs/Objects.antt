@@ -52,7 +52,7 @@ app_object d = object (
 abbrev pub app_if_any : AppDiff → Option Data
 app_if_any d = if is_silent d then None else Some (app_object d)
 
--- of the apps that differ
+-- the objects of the apps that differ
 abbrev pub app_objects : List AppDiff → List Data
 app_objects diffs = filter_map app_if_any diffs
 

@@ -1,5 +1,5 @@
--- A manifest as it is opened: gathered with its files, and judged as a load over no arrays judges
--- it, with the rule of each app.
+-- A manifest as it is opened: gathered with its files, and judged as by a load on a server without
+-- arrays, with the rule of each app.
 use Rattle.std.specs.Prelude.{ℕ, List, [], Option, Some, map}
 use Rattle.bounded_files.specs.Files.{KnownFiles, Gives, regular_files}
 use Rattle.app_rules.specs.Rules.{AreRulesKept}

@@ -41,7 +41,7 @@ abbrev pub arrays_or_none : Option ManifestApp → List CellArray
 arrays_or_none (Some app) = app.program.shape.arrays
 arrays_or_none None = []
 
--- what is shown of an app's rows
+-- what an app's rows are shown with: releases, contents and arrays
 abbrev pub sources_of : (old new : Option ManifestApp) → Sources
 sources_of old new = record {
   all = releases_in old new;
@@ -84,8 +84,8 @@ outcome_loses Same = false
 outcome_loses (Rows shown) = some_shown_lost shown.rows.items
 outcome_loses (NotCompared why) = true
 
--- the old manifest offers nothing of a new app; a request for one that is gone gets the reply that
--- it is unknown
+-- OLD offers nothing for a new app, so nothing is lost. For an app that is gone, the reply says
+-- that it is unknown
 abbrev pub app_loses : AppChange → AppOutcome → Bool
 app_loses New outcome = false
 app_loses Gone outcome = true

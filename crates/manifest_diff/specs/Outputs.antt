@@ -18,7 +18,7 @@ use Rattle.manifest_diff.specs.declared.output.DiffOptions.{DiffOptions}
 use Rattle.manifest_diff.specs.declared.output.DiffOutput.{DiffOutput}
 use Rattle.manifest_diff.specs.declared.app_diff.AppDiff.{AppDiff}
 
--- neither manifest has the one app
+-- neither manifest has the app `only`
 abbrev pub lacks_app : OpenedBoth → (only : Option (List ℕ)) → Bool
 lacks_app both None = false
 lacks_app both (Some appid) = not (have_app both appid)

@@ -65,7 +65,7 @@ module _ (both : OpenedBoth) (from_day : ℕ) (used : List CellBound) where
 abbrev pub loses : AppDiff → Bool
 loses d = app_loses d.change d.outcome
 
--- a release of an app, or an array
+-- whether an app may lose a release, or an array is declared differently
 abbrev pub is_lossy : OpenedBoth → List AppDiff → Bool
 is_lossy both apps =
     list_any loses apps

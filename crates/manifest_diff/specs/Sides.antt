@@ -7,7 +7,7 @@ use Rattle.rule_lang.specs.declared.rule.Statement.{Statement}
 use Rattle.rule_space.specs.Machines.{Side}
 use Rattle.manifest_diff.specs.Apps.{ManifestApp, side_in}
 
--- the rule is one for the side's shape
+-- the side's rule fits its shape
 pub record IsRuleSide (side : Side) : Type 0 where
   pub shape : IsShape side.shape
   pub fits : fits side.shape side.statements ≡ true

@@ -65,7 +65,7 @@ abbrev pub has_rows : AppOutcome → Bool
 has_rows (Rows shown) = not (length shown.rows.items == 0)
 has_rows outcome = false
 
--- nobody gets anything else
+-- every machine gets the same
 abbrev pub is_unchanged : AppOutcome → Bool
 is_unchanged Same = true
 is_unchanged (Rows shown) = length shown.rows.items == 0

@@ -21,7 +21,7 @@ pub struct AppDiff {
     pub outcome: AppOutcome,
 }
 
-/// Which machines and states are compared: from a day on, while these cells have at least these
+/// What is compared: requests from a day on, in states in which these cells have at least these
 /// values.
 #[derive(Clone, Copy)]
 pub(crate) struct Within<'a> {
@@ -109,7 +109,7 @@ fn add_app(
     Ok(())
 }
 
-// Adds those of the apps of NEW.
+// Adds the comparisons of the apps of NEW.
 fn add_new(
     alloc: Global,
     diffs: &mut Vec<AppDiff>,
@@ -130,7 +130,7 @@ fn add_new(
     Ok(())
 }
 
-// Adds those of the apps that only OLD has.
+// Adds the comparisons of the apps that only OLD has.
 fn add_gone(
     alloc: Global,
     diffs: &mut Vec<AppDiff>,
@@ -174,7 +174,7 @@ pub(crate) fn diff_apps(
 // ---- what is lost
 
 impl AppDiff {
-    /// Whether somebody may lose a release.
+    /// Whether a machine may lose a release.
     pub(crate) fn loses(&self) -> bool
         ensures { result ≡ specs.loses self.now }
     {

@@ -1,4 +1,4 @@
-//! The app of a manifest with an appid.
+//! The app with a given appid in a manifest.
 
 ghost use Rattle.std.specs.Prelude.{◌≡◌, ◌≤◌, length, IfSome, option_copied};
 ghost use Rattle.app_rules.specs.Rules.{AreRulesKept};
@@ -13,7 +13,7 @@ use releases::Release;
 use rule_lang::Rule;
 use std::marker::Model;
 
-/// What a manifest gathers of an app, the program of its file, and its rule, if the file has one.
+/// An app as gathered from its manifest, the program of its file, and the rule if its file has one.
 #[derive(Drop)]
 pub struct ManifestApp<'a> {
     pub sources: &'a AppSources,
@@ -70,7 +70,7 @@ pub(crate) fn app_in<'a>(
     None
 }
 
-/// The releases of an app; none of an app that the manifest lacks.
+/// The releases of an app; none if the manifest lacks it.
 pub(crate) fn releases_or_none<'a>(app: Option<&ManifestApp<'a>>) -> &'a [Release]
     ensures releases { result.now ≡ specs.releases_or_none (option_copied app.entry) }
     ensures few { length result.now ≤ 64 }

@@ -104,7 +104,7 @@ fn have_same_program(
     }
 }
 
-/// The outcome for an app. The same rule is found without a search, so however large it is.
+/// The outcome for an app. Equal rules are found without a search, however large they are.
 pub(crate) fn compare_app(
     alloc: Global,
     bounds: &Bounds<'_>,

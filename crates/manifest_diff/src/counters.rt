@@ -1,14 +1,14 @@
-//! The cells whose values bound the states: those of a server, and those that are given.
+//! The cells whose values bound the states: those of a server, and those of the command line.
 
 ghost use Rattle.std.specs.Prelude.{◌≡◌, ◌++◌, IfOk, OnOk, IfSome, Some, None, option_copied};
 ghost use Rattle.manifest_diff.specs.Counters as specs;
 
 use crate::arrays::{array_named, is_declared_alike};
+use cell_assignments::CellAssignment;
 use cells::ArrayName;
 use declarations::ArrayDeclaration;
 use rule_space::CellBound;
 use std::alloc::{AllocError, Global};
-use cell_assignments::CellAssignment;
 
 // Whether an array has the cell.
 fn declares_cell(array: &ArrayDeclaration, cell: &CellAssignment<'_>) -> bool

@@ -7,7 +7,7 @@ use bounded_files::ResourceFault;
 use load::PathFault;
 use std::fmt;
 
-/// What is wrong; it is displayed as it is printed.
+/// What is wrong; `Display` gives the line that is printed.
 #[derive(Drop)]
 pub enum DiffFault {
     /// B4: an allocation failed.
@@ -16,7 +16,7 @@ pub enum DiffFault {
     Old(PathFault),
     /// B3, B4, M1 to M8: NEW can't be loaded.
     New(PathFault),
-    /// B7: neither manifest has a cell that is given.
+    /// B7: neither manifest has one of the given cells.
     Cell,
     /// B8: neither manifest has the one app that is to be compared.
     NoApp,

@@ -1,13 +1,14 @@
-//! The comparison of two manifests: for each app rows of machines in states that get another
-//! release, or that it is the same, or that it isn't compared; and what the command `diff` prints.
+//! The comparison of two manifests, and what the command `diff` prints. For each app it gives rows
+//! of machines and states that get another release, or says that the app is the same, or that it
+//! isn't compared.
 //!
 //! See docs/PROGRAM.md, "diff".
 #![tactic(auto)]
 
 // How it works. Each manifest is gathered with its files and judged like a server's first one
 // (`opened.rt`). An app with a rule is a side of a comparison by rows (`sides.rt`); a manifest that
-// lacks the app is a side that offers nothing. Two equal sides are the same app without a search,
-// and so are two equal programs (`same.rt`). Everything else with a program isn't compared.
+// lacks the app is a side that offers nothing. An app with two equal sides, or two equal programs,
+// is the same without a search (`same.rt`). Everything else with a program isn't compared.
 //
 // What is promised of rows is proved in `rule_diff`. Here the law `diff_is_so` says it of apps: a
 // machine that is in no row of an app compared by rows gets the same from both manifests.

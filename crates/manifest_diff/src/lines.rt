@@ -68,7 +68,8 @@ fn title_mark(change: AppChange, outcome: &AppOutcome) -> &'static str
     }
 }
 
-// The app, which manifest has it, and whether it is compared; lost, if all of it is.
+// The title of an app: its appid, which manifests have it, whether it is compared, and `lost` if
+// all of it is lost.
 fn push_title(text: &mut String, diff: &AppDiff) -> Result<(), AllocError>
     ensures { OnOk result (Puts text.old text.new (specs.title diff.now)) }
 {
@@ -88,8 +89,7 @@ fn has_rows(outcome: &AppOutcome) -> bool
     }
 }
 
-/// Whether nothing is printed of an app: both manifests have it, and it is the same, or nobody is
-/// in a row.
+/// Whether nothing is printed for an app: both manifests have it, and it is the same or has no row.
 pub(crate) fn is_silent(diff: &AppDiff) -> bool
     ensures { result ≡ specs.is_silent diff.now }
 {

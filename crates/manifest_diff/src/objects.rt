@@ -83,7 +83,7 @@ fn app_object(alloc: Global, diff: &AppDiff) -> Result<Value, AllocError>
     })
 }
 
-// Those of the apps that differ.
+// The objects of the apps that differ.
 fn app_objects(alloc: Global, diffs: &[AppDiff]) -> Result<Vec<Value>, AllocError>
     ensures { IfOk result (λ values. map view values.items ≡ specs.app_objects diffs.now) }
 {

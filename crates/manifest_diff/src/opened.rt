@@ -21,8 +21,8 @@ use load::{
 use rule_lang::Rule;
 use std::alloc::Global;
 
-/// What is gathered of a manifest and its files. Also the program of each app, and its rule: none
-/// if its file is a program.
+/// A manifest gathered with its files, and for each app its program, and its rule if its file has
+/// one.
 #[derive(Drop)]
 pub struct OpenedManifest {
     pub sources: Sources,
@@ -64,7 +64,7 @@ impl OpenedManifest {
     }
 }
 
-// Opens the manifest at a path, over no arrays.
+// Opens the manifest at a path, as on a server without arrays.
 #[tactic(auto, using(crate::proofs::Opening::is_opened))]
 fn open_manifest<D: Disk>(alloc: Global, disk: &D, path: &str) -> Result<OpenedManifest, PathFault>
     ensures opened { IfOk result (specs.IsOpened (D.known disk.now) path.now) }

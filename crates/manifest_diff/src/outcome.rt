@@ -15,7 +15,7 @@ pub enum AppChange {
 }
 
 impl AppChange {
-    /// By the app in OLD and in NEW, of which one is there.
+    /// From the app in OLD and in NEW, at least one of which exists.
     pub(crate) fn of(old: Option<&ManifestApp<'_>>, new: Option<&ManifestApp<'_>>) -> AppChange
         ensures { result ≡ specs.change_of (option_copied old.entry) (option_copied new.entry) }
     {
@@ -30,8 +30,7 @@ impl AppChange {
 /// Why an app isn't compared.
 #[derive(Clone, Copy)]
 pub enum WhyNot {
-    /// A program decides in one of the manifests, and not the same one on the same arrays and
-    /// contents in both.
+    /// A program decides in at least one manifest, and programs, arrays or contents differ.
     Program,
     /// The search would take too many steps, or a condition is too long for a rule.
     Size,
@@ -59,8 +58,8 @@ impl WhyNot {
     }
 }
 
-/// The app is the same in both manifests; or rows say for whom it isn't, perhaps for nobody; or it
-/// isn't compared.
+/// The app is the same in both manifests, or it has rows, perhaps none, of the machines for which
+/// it differs, or it isn't compared.
 #[derive(Drop)]
 pub enum AppOutcome {
     Same,

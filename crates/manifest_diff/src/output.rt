@@ -14,13 +14,13 @@ use crate::lines::{is_same, push_diff};
 use crate::objects::diff_object;
 use crate::opened::OpenedBoth;
 use bounded_files::ResourceFault;
+use cell_assignments::CellAssignment;
 use rule_space::CellBound;
 use simulate::json_line;
 use std::alloc::{AllocError, Global};
-use cell_assignments::CellAssignment;
 
-/// What is compared and how it is printed: machines that request from a day on, and one app or all;
-/// lines, or a line of JSON.
+/// What is compared, and how it is printed: all apps or `only` one, requests from a day on, and
+/// lines or a line of JSON.
 #[derive(Clone, Copy)]
 pub struct DiffOptions<'a> {
     pub only: Option<&'a str>,
@@ -28,7 +28,7 @@ pub struct DiffOptions<'a> {
     pub json: bool,
 }
 
-/// The lines, each ended by LF, or the line of JSON; and whether somebody may lose a release.
+/// The lines, each ended by LF, or the line of JSON; and whether a machine may lose a release.
 #[derive(Drop)]
 pub struct DiffOutput {
     pub text: String,
@@ -102,7 +102,7 @@ fn text_of(
     Ok(text)
 }
 
-// The output, by these cells.
+// The output, with these cells as bounds.
 fn output_of(
     alloc: Global,
     both: &OpenedBoth,
@@ -124,13 +124,13 @@ fn output_of(
     Ok(DiffOutput { text: text?, loses })
 }
 
-/// What is printed of two manifests, with the cells of a server and the given ones, whose last
-/// value counts.
+/// What is printed for two manifests. `served` are the cells of a server, and `given` those of the
+/// command line; the last value of a cell counts.
 ///
 /// Returns the first fault in this order:
 ///
-/// - B8 if neither manifest has the one app;
-/// - B7 if neither has a given cell.
+/// - B8 if neither manifest has the app `only`;
+/// - B7 if neither has one of the given cells.
 ///
 /// Returns B4 if an allocation fails.
 // open: whether an allocation fails; which apps aren't compared; the order of rows, and which days

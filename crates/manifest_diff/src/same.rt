@@ -33,7 +33,7 @@ fn is_same_array(one: &CellArray, other: &CellArray) -> bool
         && one.quota == other.quota
 }
 
-// Whether arrays with one number are equal, as far as both lists go.
+// Whether arrays with the same number are equal, up to the end of the shorter list.
 #[tactic(auto, using(crate::proofs::SameApps::agree_none, crate::proofs::SameApps::agree_past))]
 fn agree_on_arrays(arrays: &[CellArray], others: &[CellArray]) -> bool
     ensures agree { result ≡ true → specs.AgreeAsFar arrays.now others.now }

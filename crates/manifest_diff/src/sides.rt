@@ -39,8 +39,8 @@ fn side_with<'a>(shape: &'a Shape, rule: &'a Rule, contents: &'a [u8]) -> Option
     }
 }
 
-/// The side of an app, or that of a manifest that lacks it, which has a plain shape; none for a
-/// program.
+/// The side of an app. A manifest that lacks the app has a side with a plain shape and no
+/// statements, and an app with a program has none.
 #[tactic(auto, using(crate::proofs::RowSides::side_of_app, crate::proofs::RowSides::side_of_none))]
 pub(crate) fn side_in<'a>(
     plain: &'a Shape,

@@ -90,7 +90,7 @@ abbrev pub is_protocol : Option (List ℕ) → Bool
 is_protocol (Some text) = bytes_eq text (codes "3.1")
 is_protocol None = false
 
--- the request that the member `request` is, or its fault
+-- the request in the member `request`, or its fault
 abbrev pub of_request : Data → Result Request OmahaFault
 of_request request =
     if is_protocol (text_in (codes "protocol") request)
@@ -100,6 +100,6 @@ of_request request =
 abbrev pub of_value : Data → Result Request OmahaFault
 of_value top = or_fault Shape of_request (object_in (codes "request") top)
 
--- the request that a body is, or its first fault
+-- the request in a body, or its first fault
 abbrev pub request_in : List ℕ → Result Request OmahaFault
 request_in body = or_fault Json of_value (json_of body)

@@ -1,4 +1,4 @@
-//! Observers of the raw JSON of a request's apps, such as a log, which has more of an app than its
+//! Observers of the raw JSON of a request's apps, such as a log, which prints more than the apps'
 //! facts.
 
 ghost use Rattle.std.specs.Prelude.{◌≡◌, IfOk, option_map, string_bytes};
@@ -16,7 +16,7 @@ pub struct WrittenApp<'a> {
 }
 
 impl<'a> WrittenApp<'a> {
-    // The app that this value is.
+    // The app with this value.
     pub(crate) fn of(value: &'a Value) -> WrittenApp<'a>
         ensures { result.value.now ≡ value.now }
     {

@@ -19,10 +19,10 @@ use releases::MOST_APPS;
 use serde_json::{Map, Value};
 use std::alloc::Global;
 
-/// The request that a body is. A duplicate member has its last value, and members that the profile
-/// doesn't name are ignored. The witness is passed the apps; if the request is refused, some of
-/// them.
-// open: whether an allocation fails (O5); which apps the witness is passed: tests.
+/// The request in a body. A duplicate member has its last value, and members that the profile
+/// doesn't name are ignored. The observer is passed the apps, or some of them if the request is
+/// refused.
+// open: whether an allocation fails (O5); which apps the observer is passed: tests.
 pub fn read_request<H: AppObserver>(
     alloc: Global,
     body: &[u8],
@@ -39,7 +39,7 @@ pub fn read_request<H: AppObserver>(
     }
 }
 
-// The request that a body's value is.
+// The request in a body's value.
 fn of_value<H: AppObserver>(
     alloc: Global,
     value: Value,
@@ -53,7 +53,7 @@ fn of_value<H: AppObserver>(
     }
 }
 
-// The request that the member `request` is.
+// The request in the member `request`.
 fn of_request<H: AppObserver>(
     alloc: Global,
     request: Map<String, Value>,

@@ -7,7 +7,8 @@ use Rattle.cells.specs.declared.event.CellEvent.{CellEvent}
 use Rattle.cells.specs.declared.event.CellOp.TheVariants.{Load}
 use Rattle.operator.specs.Texts.{cell_text}
 
--- the first cells of an array, as many as the number, with the events of their loads and the lines
+-- the first cells of an array, as many as this number, with the events of their loads and their
+-- lines
 pub data ReadsCells (array : CellArray) : ℕ → List CellEvent → List ℕ → Type 0 where
   no_cell : ReadsCells array 0 [] []
   one_cell : {index : ℕ} {events : List CellEvent} {lines : List ℕ} (value : ℕ)

@@ -28,7 +28,7 @@ module _ {F : Type 0} (loads : Loading F) where
         → LinesLead c (lines ++ record { request = request; reply = reply } ∷ [])
         (before ++ events) e
 
-  -- then the former list of rulesets is a prefix of the latter
+  -- then answered lines only append to the list of published rulesets
   abbrev pub LinesGoOnwards : Type 0
   LinesGoOnwards = (c d : Controlled) (lines : List (AnsweredLine F)) (reads : List CellEvent)
       → LinesLead c lines reads d → Extends c.publishing.known d.publishing.known

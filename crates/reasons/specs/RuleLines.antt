@@ -57,7 +57,7 @@ module _ (a : Attributes) (s : AppShape) where
   abbrev pub rule_text : (counters : List ℕ) → List Statement → List ℕ
   rule_text counters rule = flat_map ended (rule_lines counters rule)
 
--- `ChoosesByLastLine a s old rule told choice new`: on counters with the values `old`, the rule
+-- `ChoosesByLastLine a s old rule report choice new`: on counters with the values `old`, the rule
 -- makes this choice and leaves the values `new`. The last line of `report` is that of the `when`
 -- that chooses, or of the rule's end.
 pub data ChoosesByLastLine (a : Attributes) (s : AppShape)

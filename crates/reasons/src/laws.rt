@@ -8,8 +8,8 @@ pub fn truths_are_so()
     ensures { specs.TruthsAreSo }
 {}
 
-/// Law: a condition that is reported to hold continues as its meaning does if it holds, and
-/// otherwise as it does if it fails.
+/// Law: a condition's meaning takes the reported branch: the first if it is reported to hold,
+/// otherwise the second.
 pub fn conditions_are_so()
     ensures { specs.ConditionsAreSo }
 {}

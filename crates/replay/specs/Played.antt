@@ -57,7 +57,7 @@ pub record AreRepliesTo (w : WorldState) (lines : List EventLine) (events : List
   pub run : Plays w (all_events lines events) (flat_map (λ own. own) answers) after
   pub lines_replied : AreLinesReplied lines events answers replies
 
--- this holds from every world that `before` stands for
+-- this holds from every world that `before` represents
 abbrev pub AreRepliesFrom : Parts → List EventLine → List Event → List Reply → Type 0
 AreRepliesFrom before lines events replies = (w : WorldState) → WorldStandsFor before w
     → AreRepliesTo w lines events replies

@@ -32,7 +32,7 @@ pub(crate) fn play_lines(
         left = others;
         events = behind;
     }
-    // Each line has its event; with more of either, there would be no replies.
+    // There is one event for each line; with more of either the result is an error.
     if let [_, ..] = events {
         return Err(AllocError);
     }

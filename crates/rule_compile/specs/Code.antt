@@ -91,7 +91,8 @@ tree_code s (Both b c) sense label rest =
 tree_code s (Either b c) sense label rest =
     tree_code s b true (if sense then label else length rest) (tree_code s c sense label rest)
 
--- trees in front of the rest, the first one last, each for its goal
+-- the code of these trees in front of the rest, each for its goal; the first tree is nearest to the
+-- rest
 abbrev pub trees_code : AppShape → List Tree → List Goal → Program → Program
 trees_code s [] gs rest = rest
 trees_code s (t ∷ ts) [] rest = rest

@@ -1,4 +1,4 @@
--- What it means that a program has a rule's meaning.
+-- When a program has a rule's meaning.
 use Rattle.std.specs.Prelude.{ℕ, List}
 use Rattle.attrs.specs.Attributes.{Attributes}
 use Rattle.attrs.specs.Context.{HasContextRanges}

@@ -47,7 +47,7 @@ impl Code {
         }
     }
 
-    /// How many slots there are, which is the label of their beginning.
+    /// The number of slots, which is the label of the first one.
     pub fn len(&self) -> usize
         ensures length { result ≡ length self.now }
         ensures in_range { result ≤ 4096 }

@@ -9,9 +9,9 @@
 //! See docs/DECISIONS.md, "Rules".
 #![tactic(auto)]
 
-// What a run does is defined by continuations. From the rest of the code, a run does what some
-// behaviour says. From a piece in front of it, a run does what that part of the rule says, and then
-// what the rest does. So the proof is one induction over the rule, with a lemma for each
+// The proof is by continuations. Assume that from the rest of the code a run does what some
+// behaviour says. Then from a piece in front of it, the run does what that part of the rule says,
+// and then what the rest does. So the proof is one induction over the rule, with a lemma for each
 // instruction.
 //
 // The proof that the code is accepted uses a table of what is known at each place. Between two

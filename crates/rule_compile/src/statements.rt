@@ -20,7 +20,8 @@ use cells::{CellArray, CellWidth, Shape};
 use rule_lang::{RuleCondition, Statement, Step};
 use std::alloc::Global;
 
-/// Writes the steps of a condition, from the last to the first: it jumps to the label if it holds.
+/// Writes the steps of a condition, from the last to the first. The code jumps to the label if the
+/// condition holds.
 pub fn put_steps(
     rest: &mut Code,
     shape: &Shape,

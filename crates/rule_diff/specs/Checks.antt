@@ -1,5 +1,5 @@
--- The check of rows against classes. What is promised of rows follows from it, and from that the
--- classes cover all machines in all states.
+-- The check of rows against classes. The promise about rows follows from it, since the classes
+-- cover all machines in all states.
 use Rattle.std.specs.Prelude.{ℕ, List, [], ◌∷◌, Bool, false, ◌&&◌, ◌==◌, not}
 use Rattle.std.specs.Prelude.{Option, Some, None, if◌then◌else◌}
 use Rattle.std.specs.List.{list_all, list_any}
@@ -37,7 +37,7 @@ has_none partial row = list_any (out_of_set partial) row.sets
 abbrev pub have_none : List Row → PartialPlace → Bool
 have_none rows partial = list_all (has_none partial) rows
 
--- the row has all of the class, and says what it gets
+-- the row has the whole class, and says what the class gets
 abbrev pub is_row_of : Row → Class → Bool
 is_row_of row c = (row.current == c.current) && (row.next == c.next) && has_all row c.partial
 

@@ -41,7 +41,7 @@ are_some (Some d) segments =
 abbrev pub is_set : List Dimension → SegmentSet → Bool
 is_set ds set = are_some (slice_get ds set.dimension) set.segments
 
--- its contents differ, and its sets are such
+-- its contents differ, and `is_set` holds for each of its sets
 abbrev pub is_row : List Dimension → Row → Bool
 is_row ds row = not (row.current == row.next) && list_all (is_set ds) row.sets
 

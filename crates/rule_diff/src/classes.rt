@@ -51,8 +51,8 @@ fn add_class(
     Ok(())
 }
 
-// Makes a class of the place, or adds it with each segment of the dimension that a run needs; false
-// if segments don't decide a test.
+// Turns the place into a class, or adds the place with each segment of the dimension that a run
+// needs. Returns `false` if segments don't decide a test.
 fn advance(
     alloc: Global,
     space: &Space,

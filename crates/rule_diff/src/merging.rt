@@ -1,5 +1,5 @@
-//! Merges classes into rows: dimension by dimension, from the last to the first, those that differ
-//! in no other dimension. No contract describes the result; it is checked afterwards.
+//! Merges classes into rows. Dimension by dimension, from the last to the first, those that differ
+//! only there are merged. No contract describes the result; it is checked afterwards.
 
 ghost use Rattle.std.specs.Prelude.{◌<◌, IfSome, length};
 

@@ -1,4 +1,4 @@
--- All tokens of a text are a rule, or have a first token that no rule continues with.
+-- All tokens of a text are a rule, or have a first token with which no rule continues.
 use Rattle.std.proofs.Common.{◌≡◌, ℕ, zero, suc, ◌+◌, ◌-◌, ◌⊎◌, inl, inr, List, [], ◌∷◌, ◌++◌}
 use Rattle.std.proofs.Common.{length}
 use Rattle.std.proofs.Common.{Option, Some, None, Ok, Err, true, false, refl, sym, ap, ◌∙◌}

@@ -65,7 +65,7 @@ pub data Behaviour : Type 0 where
   Chooses : ℕ → Behaviour
   Asks : (cell : ℕ) → CellOp → (ℕ → Behaviour) → Behaviour
 
--- with any replies, these are its events, and it ends with this choice
+-- it makes exactly these events, given their replies, and then this choice
 abbrev pub HasTrace : Behaviour → List CellEvent → ℕ → Type 0
 HasTrace (Chooses k) [] choice = k ≡ choice
 HasTrace (Chooses k) (e ∷ es) choice = ⊥

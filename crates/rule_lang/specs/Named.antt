@@ -1,4 +1,4 @@
--- The reader's tokens with their texts, the bytes that they borrow.
+-- The tokens of the code as those of the definitions: each borrowed text becomes its bytes.
 use Rattle.std.specs.Prelude.{◌≡◌, ℕ, List, [], ◌∷◌, ◌++◌, map, Result, Ok, Err}
 use Rattle.std.specs.Borrow.{Bor}
 use Rattle.rule_lang.specs.declared.draft.Draft as the_draft
@@ -50,7 +50,7 @@ abbrev pub AddsToken : List (the_placed.Placed Bytes) → ℕ → the_token.Toke
 AddsToken before line t after =
     placed_all after ≡ placed_all before ++ (on line (token_named t) ∷ [])
 
--- a borrowed array
+-- a borrowed array as the array itself, or the fault
 abbrev pub array_given : Result (Bor CellArray) RuleFault → Result CellArray RuleFault
 array_given (Ok a) = Ok a.now
 array_given (Err e) = Err e

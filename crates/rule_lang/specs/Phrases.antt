@@ -16,8 +16,8 @@ use Rattle.rule_lang.specs.Words.{same_keyword, modulus_word}
 
 -- ---- phrases
 
--- what comes next: nothing; a token; or an optional part by its first token, with what follows with
--- the part and without it
+-- what comes next: nothing; a token; or an optional part, by its first token, with what follows if
+-- the part is given and if it isn't
 pub data Phrase : Type 0 where
   Ends : Phrase
   Needs : Want → Phrase → Phrase
@@ -85,7 +85,7 @@ takes want.Close token.Close = true
 takes want.End token.End = true
 takes w t = false
 
--- the fault of a token that no rule continues with
+-- the fault of a token with which no rule continues
 abbrev pub misplaced : (line : ℕ) → RuleFault
 misplaced line = fault.At line kind.Shape
 

@@ -50,7 +50,7 @@ steps_of (Negated c) = steps_of c ++ (step.Not ∷ [])
 steps_of (Both a b) = steps_of a ++ (steps_of b ++ (step.And ∷ []))
 steps_of (Either a b) = steps_of a ++ (steps_of b ++ (step.Or ∷ []))
 
--- the array has no quota
+-- the statement `count`, whose array must have no quota
 abbrev pub count_of : AppShape → List Placed → OrFault Statement
 count_of s ts =
     array s false (part ts 1) >>? λ a.

@@ -57,7 +57,7 @@ installed_test ts = number (part ts 2) >>? λ n. Ok (test.Installed (comparison 
 abbrev pub flag_test : List Placed → OrFault Test
 flag_test ts = flag (part ts 1) >>? λ f. Ok (test.Flag f)
 
--- every text between quotation marks is a literal
+-- the literal of a token between quotation marks; each such text is a literal
 abbrev pub literal : Placed → OrFault (List ℕ)
 literal p = if is_literal (text_of p.token) then Ok (text_of p.token) else Err (out_of_range p)
 
@@ -67,7 +67,7 @@ attr_test ts =
     literal (part ts 3) >>? λ text.
     Ok (test.Attr a text)
 
--- an array with a quota
+-- the test `take`, whose array must have a quota
 abbrev pub take_test : AppShape → List Placed → OrFault Test
 take_test s ts =
     array s true (part ts 2) >>? λ a.

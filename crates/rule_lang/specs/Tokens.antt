@@ -54,7 +54,7 @@ abbrev pub word_token : Text → Option Keyword → Token
 word_token w (Some k) = token.Keyword k
 word_token w None = token.Name w
 
--- the word at the front of s, which has at most the bytes of a longest word
+-- the word at the front of s, which is cut to 32 bytes, since no word is longer
 abbrev pub word_of : Text → Piece
 word_of s =
     let n = prefix_len (is_in class.Name) s in

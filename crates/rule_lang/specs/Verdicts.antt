@@ -1,6 +1,6 @@
 -- The verdict on a text: the rule that its tokens spell, or the fault that counts. A text over
 -- 65536 bytes is L4 at line 1 before anything else. Next are the first place without a token (L1),
--- and the first token that no rule continues with (L2). Last is the first unknown name (L3) or
+-- and the first token with which no rule continues (L2). Last is the first unknown name (L3) or
 -- number out of range (L4).
 use Rattle.std.specs.Prelude.{◌≡◌, ◌⊎◌, ◌<◌, ◌≤◌, List, [], ◌∷◌, ◌++◌, length, Ok, Err}
 use Rattle.cells.specs.Arrays.{AppShape}
@@ -20,7 +20,7 @@ pub data IsVerdict (s : AppShape) (text : Text) : OrFault (List Statement) → T
   too_long : 65536 < length text → IsVerdict s text (Err (At 1 Range))
   no_token : {e : RuleFault} → length text ≤ 65536 → tokens_in text ≡ Err e
       → IsVerdict s text (Err e)
-  -- the tokens before it are the beginning of some rule, and with it they aren't
+  -- the tokens before p are the beginning of some rule, and those up to p aren't
   no_rule : (before after : List Placed) (p : Placed) → length text ≤ 65536
       → tokens_in text ≡ Ok (before ++ (p ∷ after)) → Begins before
       → (Begins (before ++ (p ∷ [])) → ⊥) → IsVerdict s text (Err (misplaced p.line))

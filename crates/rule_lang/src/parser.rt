@@ -19,7 +19,7 @@ pub const MOST_RULE: usize = 65536;
 ///
 /// - L4 at line 1: a text over 65536 bytes;
 /// - L1: the first place without a token;
-/// - L2: the first token that no rule continues with; the text's end is in its last line;
+/// - L2: the first token with which no rule continues; the text's end is in its last line;
 /// - L3 or L4: the first unknown name, or number out of range. A 33rd open `not` or parenthesis is
 ///   L4.
 ///

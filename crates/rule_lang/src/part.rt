@@ -67,7 +67,7 @@ pub fn out_of_range<'a>(placed: Placed<&'a str>) -> RuleFault
     }
 }
 
-/// A number up to 2 to the 64, less 1.
+/// A number up to 2^64 - 1.
 pub fn salt<'a>(placed: Placed<&'a str>) -> Result<u64, RuleFault>
     ensures { result ≡ parts.salt (placed_named placed.entry) }
 {

@@ -78,7 +78,7 @@ pub fn takes<'a>(want: Want, token: Token<&'a str>) -> bool
     }
 }
 
-/// The fault of a token that no rule continues with.
+/// The fault of a token with which no rule continues.
 pub fn misplaced<'a>(placed: Placed<&'a str>) -> RuleFault
     ensures { result ≡ phrases.misplaced placed.entry.line }
 {
@@ -193,8 +193,8 @@ fn behind_place<'t, 'a>(
     }
 }
 
-/// The tokens after a phrase of constant length; or L2 at the first token that doesn't belong to
-/// it.
+/// The tokens after a phrase, or L2 at the first token that doesn't belong to it. It recurses once
+/// for each place of the phrase.
 pub fn behind<'t, 'a>(
     wants: &[Want],
     tokens: &'t [Placed<&'a str>],

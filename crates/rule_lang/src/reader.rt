@@ -63,7 +63,7 @@ fn read_test<'a>(
     }
 }
 
-// Reads one phrase in place of a fact.
+// Reads one phrase when a fact is expected.
 fn read_fact<'t, 'a>(
     alloc: Global,
     shape: &Shape,

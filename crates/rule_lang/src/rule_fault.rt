@@ -13,7 +13,7 @@ use std::fmt;
 pub enum RuleFaultKind {
     /// No token begins at this character.
     Token,
-    /// No rule continues with this token.
+    /// A token with which no rule continues.
     Shape,
     /// An unknown array, flag or attribute, or an array with a quota in `count` or without one in
     /// `take`.

@@ -104,7 +104,7 @@ fn text_in(class: Class, s: &[u8], n: usize) -> &str
     }
 }
 
-// The word at the front of `s`, which has at most the bytes of a longest word.
+// The word at the front of `s`. The caller passes at most 32 bytes, since no word is longer.
 fn word_of<'a>(s: &'a [u8]) -> Piece<&'a str>
     ensures { piece_named result ≡ tokens.word_of s.now }
 {

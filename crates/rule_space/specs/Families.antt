@@ -40,8 +40,8 @@ abbrev pub is_place : Option ℕ → ℕ → Bool
 is_place (Some other) place = other == place
 is_place None place = false
 
--- the dimension at this place is in the family's group: of the lines of the version only the one
--- that the family names, and likewise of the texts
+-- the dimension at this place is in the family's group: of the version's lines only the one that
+-- the family names, and the same for texts
 abbrev pub is_member : Family → (place : ℕ) → Coordinate → Bool
 is_member f place coordinate.Version = is_version f.kind && is_place f.line place
 is_member f place (coordinate.Bucket salt modulus) = not (is_version f.kind)
@@ -89,7 +89,7 @@ cell_or None c = 0
 abbrev pub cells_by : List Dimension → (members : List ℕ) → Combination → List ℕ
 cells_by ds members c = map (λ m. cell_or (slice_get ds m) c) members
 
--- a version can have this cell of the line, or any number without a line, and this text
+-- a version can be in this cell of the line (without a line, have any number) and have this text
 abbrev pub version_may : (line : Option Dimension) → (text : Option (List ℕ)) → Combination → Bool
 version_may (Some d) text c =
     version_fits text c.known (begin_of d c.number) (slice_get d.starts (c.number + 1))

@@ -14,7 +14,7 @@ abbrev pub in_cell : (low : ℕ) → (high : Option ℕ) → ℕ → Bool
 in_cell low (Some high) n = nat_le low n && nat_lt n high
 in_cell low None n = nat_le low n
 
--- a text that is a version is known by its numbers, and one that isn't counts as 0
+-- a text that is a version is known, and has its number; any other isn't known, and counts as 0
 abbrev pub numbers_fit : Option (List ℕ) → (known : Bool) → (low : ℕ) → (high : Option ℕ) → Bool
 numbers_fit (Some v) known low high = known && in_cell low high (version_number v)
 numbers_fit None known low high = not known && (low == 0)

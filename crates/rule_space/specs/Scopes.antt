@@ -26,12 +26,12 @@ pub record Scope : Type 0 where
 abbrev pub scope_of : Bounds → Scope
 scope_of b = record { appid = b.appid.now; from_day = b.from_day; used = b.used.now }
 
--- the value that is given for a cell, by its array's name and its index, or another one
+-- the value given for a cell (by its array's name and its index), or else `value`
 abbrev pub value_or : (value : ℕ) → CellBound → (name : List ℕ) → (index : ℕ) → ℕ
 value_or value u name index =
     if (u.index == index) && bytes_eq u.array name then u.value else value
 
--- the last one counts
+-- the same for a list, of which the last value counts
 abbrev pub value_after : (value : ℕ) → List CellBound → (name : List ℕ) → (index : ℕ) → ℕ
 value_after value [] name index = value
 value_after value (u ∷ us) name index =

@@ -14,9 +14,9 @@ use std::time::{Clock, Instant};
 /// How long all these lines wait for places.
 const END_SECONDS: u64 = 4;
 
-/// Logs, if there is a log, that a server has ended: with H2 unless `is_known`, which says that
-/// each worker's watcher could be read. Then logs the last values of its counters, array after
-/// array, up to the first line that gets no place in time.
+/// Logs that a server has ended, if there is a log. The line has H2 unless `is_known`: each
+/// worker's watcher could be read. Then logs the last values of its counters, array after array, up
+/// to the first line that gets no place in time.
 pub(crate) fn note_end<H>(
     rt: &H,
     log: Option<&LogQueue>,

@@ -1,5 +1,5 @@
-//! Makes the cells and their passes: one seat that knows the accounts of all passes, a ghost token,
-//! is split into a seat for each.
+//! Makes the cells and their passes: one seat (a ghost token), which knows the accounts of all
+//! passes, is split into a seat for each.
 
 ghost use Rattle.std.specs.Prelude.{◌≡◌, ◌+◌, ◌<◌, ◌≤◌, ◌∷◌, [], All, length, IfOk, IfErr, OnOk};
 ghost use Rattle.cells.specs.Events.{AreZeros};

@@ -21,7 +21,7 @@ attributes c = attributes_of c.app c.request c.moment
 abbrev pub clients : Client → ℕ → Attributes
 clients c bucket = attributes (in_bucket c bucket)
 
--- both send the same, except for the cohort; and except for cohort and appid
+-- both send the same, except for the cohort; then, except for the cohort and the appid
 abbrev pub IsSameButCohort : Client → Client → Type 0
 IsSameButCohort c d = (bucket : ℕ) → in_bucket d bucket ≡ in_bucket c bucket
 

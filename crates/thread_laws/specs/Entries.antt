@@ -12,14 +12,14 @@ use Rattle.world.specs.declared.event.Event.TheVariants.{Start, Step, Finish, Sw
 abbrev pub entry_by : ℕ → CellEvent → Entry
 entry_by k e = record { pass = k; event = e }
 
--- the effect of an event of the world on them: only a Step has one, by its worker
+-- the events on counters of one event of the world: only a Step has any, by its worker
 abbrev pub entries_at : WorldState → Event → List Entry
 entries_at w (Step k) = map (entry_by k) (accesses_of w.cells (slice_get w.workers k))
 entries_at w (Start k attrs) = []
 entries_at w (Finish k) = []
 entries_at w (Swap rules) = []
 
--- and all events of a run of the world, in their order
+-- those of all events of a run of the world, in order
 abbrev pub entries_of : (w v : WorldState) (events : List Event) (answers : List Answer)
     → Plays w events answers v → List Entry
 entries_of w v [] [] plays = []

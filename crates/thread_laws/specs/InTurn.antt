@@ -14,7 +14,7 @@ pub record AreOfRuns (published : List Rules) (runs : List AppRun) (events : Lis
   pub each : All (IsWholeRun published) runs
   pub events_are : events ≡ events_in_turn runs
 
--- no runs have no events
+-- the empty list of events is that of no runs
 abbrev pub NoneAreOfRuns : Type 0
 NoneAreOfRuns = (published : List Rules) → AreOfRuns published [] []
 

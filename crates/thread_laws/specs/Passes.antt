@@ -35,7 +35,7 @@ pass_of_run [] k = 0
 pass_of_run (runs ∷ passes) k =
     if nat_lt k (length runs) then 0 else suc (pass_of_run passes (k - length runs))
 
--- a history of runs, as one of the passes that did them
+-- a history of runs as a history of passes: each run's number becomes that of its pass
 abbrev pub by_passes : {A : Type 0} → List (List A) → List Entry → List Entry
 by_passes runs history = map (λ x. entry_by (pass_of_run runs x.pass) x.event) history
 
@@ -43,7 +43,7 @@ by_passes runs history = map (λ x. entry_by (pass_of_run runs x.pass) x.event) 
 abbrev pub AreDoneInTurn : List Entry → List (List AppRun) → Type 0
 AreDoneInTurn history runs = (p : ℕ) → events_by p history ≡ events_in_turn (get_or runs p [])
 
--- the history, with each event by the run that made it, which is one of the event's pass
+-- each event of the history belongs to a run, which is one of the event's pass
 pub record IsOfRuns (history : List Entry) (runs : List (List AppRun)) : Type 0 where
   pub by_runs : List Entry
   pub same : by_passes runs by_runs ≡ history
@@ -56,8 +56,8 @@ PassesAreRuns = (history : List Entry) (runs : List (List AppRun))
 
 -- ---- one world for all passes
 
--- what each pass did: one, if it is in the list, only read, and each other one did its runs, one
--- after the other. Passes are numbered by their places in the list
+-- what each pass did: the pass `looker`, if it exists, only read, and each other one did its runs,
+-- one after the other. Passes are numbered by their places in the list
 pub record DidRuns (lists : List (List CellEvent)) (looker : ℕ)
     (runs : List (List AppRun)) : Type 0 where
   pub as_many : length runs ≡ length lists

@@ -48,8 +48,8 @@ ThreadsKeepQuotas =
 -- ---- all cells of arrays with quotas
 
 -- The only operations on the cell were loads and additions of 1. If the additions were fewer than
--- 2^64, its value is their number, and for each quota as many of them as it allows, or all, found
--- less
+-- 2^64, its value is their number, and for each quota min(quota, additions) of them found a smaller
+-- value
 pub record IsGranted (cell value : ℕ) (made : List CellEvent) : Type 0 where
   pub only : All (OnlyCountsAt cell) made
   pub exact : add_count cell made < 2 ^ 64 → CountsExactly cell value made

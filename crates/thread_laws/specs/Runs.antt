@@ -39,9 +39,9 @@ pub record AppRun : Type 0 where
   pub events : List CellEvent
   pub stage : Stage
 
--- it is of the program that the ruleset of its number has for the appid, which is attribute 0. It
--- gets to its stage from the opening state on its attributes. Texts of attributes are short, as
--- each `Attrs` keeps; a Start of the world requires it
+-- The run's program is the one that its ruleset has for the appid (attribute 0). It gets to its
+-- stage from the opening state on its attributes. Their texts are short, as each `Attrs` ensures
+-- and a Start of the world requires
 pub record IsRunUnder (published : List Rules) (run : AppRun) : Type 0 where
   pub offered : HasProgram published run.number (appid_of run.attributes) run.program
   pub texts_are_short : AreShort run.attributes.texts

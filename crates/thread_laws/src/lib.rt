@@ -23,8 +23,8 @@
 //
 // - Each entry of the published list keeps what the type `Ruleset` keeps (`IsRuleset`), since a
 //   Swap takes no other. The list isn't empty: a world opens under its first ruleset.
-// - Each run is of the program that the ruleset of its number has for attribute 0 of the run, since
-//   a Start looks up no other appid; and from the opening state, since a Start begins there.
+// - Each run's program is the one that its ruleset has for attribute 0 of the run, since a Start
+//   looks up no other appid. A run comes from the opening state, since a Start begins there.
 // - The history is legal from counters that are all 0, as a world's are when it opens. The events
 //   of a run occur in it in the run's order, since its worker makes them in no other.
 //
@@ -36,8 +36,8 @@
 // additions of 1, the quota is granted exactly (`shared_cells`, at the close of the cells). A run
 // does nothing else because its program was accepted. On a cell of its arrays with a quota it makes
 // no other step (V14), and it doesn't touch a cell outside its arrays. One law says this of all
-// that threads did, whose runs are those of one world, under any number of rulesets. Its premise is
-// about their programs.
+// that threads did under any number of rulesets, if their runs are those of one world. Its premise
+// is about their programs.
 //
 // The other law needs no premise about programs. A ruleset keeps that its programs were accepted
 // (`IsRuleset`), and each load takes their arrays from the server's directory, which only grows. So

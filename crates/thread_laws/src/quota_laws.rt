@@ -15,10 +15,10 @@ pub fn threads_keep_quotas()
     events_fit();
 }
 
-/// Law: each cell of each array with a quota is only counted, if all rulesets know only the arrays
-/// of one directory. In a directory, arrays share no cell, and one with a quota has cells of 64
-/// bits. As many additions as the quota allows, or all, find the value below it, if they are fewer
-/// than 2^64.
+/// Law: if all rulesets know only the arrays of one directory, each cell of each array with a quota
+/// is only counted. In a directory, arrays share no cell, and one with a quota has cells of 64
+/// bits. If there are fewer than 2^64 additions, min(quota, additions) of them find the value below
+/// the quota.
 // open: that the additions are fewer than 2^64, its one premise on numbers.
 pub fn threads_grant_quotas()
     ensures { ThreadsGrantQuotas }

@@ -13,7 +13,7 @@ use shared_cells::loads_can_go;
 /// their history is the place of its run in the list of runs, and that of its worker.
 pub fn one_world()
     // Take every published list of rulesets, every list of runs, and every legal history of their
-    // events. Each run is of the program that its ruleset of that list has for its app. A world
+    // events. Each run's program is the one that its ruleset of that list has for its app. A world
     // with a worker for each run starts each under its ruleset. It takes each to the same state, or
     // to its end with the same choice and count. Its events on counters are the history, in its
     // order and each by its run's worker, and it leaves the same values in the counters.
@@ -38,7 +38,7 @@ pub fn one_world()
 
 /// Law: what threads did is what one world does. Each pass made the events of runs, except one that
 /// only read the counters. The close of shared cells gives a history of the passes
-/// (`SharedCells::close`, `history`). Without these reads, it is that of a world that does these
+/// (`SharedCells::close`, `history`). Apart from these reads, it is that of a world that does these
 /// runs.
 // open: that passes did runs: the contracts of the calls that make them say it.
 pub fn threads_are_one_world()

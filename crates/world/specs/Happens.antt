@@ -72,14 +72,14 @@ pub record SwapsRules (w : WorldState) (rules : Rules) (number : ℕ) (v : World
   pub after : v ≡ with_ruleset w rules
   pub number_is : number ≡ newest v.rulesets
 
--- there is no worker of the event's number; a Swap has none
+-- there is no worker of the event's number; a Swap names none
 abbrev pub LacksWorker : WorldState → Event → Type 0
 LacksWorker w (Start k attrs) = length w.workers ≤ k
 LacksWorker w (Step k) = length w.workers ≤ k
 LacksWorker w (Finish k) = length w.workers ≤ k
 LacksWorker w (Swap rules) = ⊥
 
--- the worker is idle, and the newest ruleset has a program for the app, or none
+-- the worker is idle, and the newest ruleset has a program for the app (`CanStart`) or none
 pub record CanStart (w : WorldState) (k : ℕ) (a : Attributes) : Type 0 where
   pub idle : IsWorker w k Idle
   pub program : ShapedProgram
@@ -90,7 +90,7 @@ pub record HasNoApp (w : WorldState) (k : ℕ) (a : Attributes) : Type 0 where
   pub none : (program : ShapedProgram) → ¬ HasProgram w.rulesets (newest w.rulesets)
       (appid_of a) program
 
--- an event is refused only for its fault; if it has several, for the lowest
+-- an event is refused with this fault; if several apply, with the lowest
 abbrev pub IsRefusedEvent : WorldState → Event → WorldFault → Type 0
 IsRefusedEvent w event fault.NoWorker = LacksWorker w event
 IsRefusedEvent w (Start k attrs) fault.Busy = (x : Worker) × IsWorker w k x × ¬ IsIdle x

@@ -31,8 +31,8 @@ pub record IsOnTheWay (parts : Parts) (events : List Event) (u : WorldState) : T
 abbrev pub AllWorldsAreSafe : Parts → List Event → Type 0
 AllWorldsAreSafe parts events = (u : WorldState) → IsOnTheWay parts events u → IsSafeWorld u
 
--- the result of a Finish on the way is of its worker's own run. It has the number of a ruleset, and
--- 0 or the number of a release of the app with the run's appid there
+-- a Finish on the way returns the result of its worker's own run: the number of a ruleset, and 0 or
+-- the number of a release of the app with the run's appid there
 abbrev pub EachFinishIsOfItsRun : Parts → List Event → Type 0
 EachFinishIsOfItsRun parts events = (u v : WorldState) (event : Event) (answer : Answer)
     → IsOnTheWay parts events u → Happens u event answer v → IsOfItsRun u event answer

@@ -42,9 +42,9 @@ pub record IsLatestStart (k : ℕ) (events : List Event) (answers : List Answer)
 abbrev pub since : {A : Type 0} → ℕ → ℕ → List A → List A
 since start place xs = drop start (take place xs)
 
--- the number, the choice and the instructions are those of the latest Start's run. It is of the
--- program that the newest ruleset had for the app, on the Start's attributes, and on the replies
--- since
+-- the number, the choice and the instructions are those of the latest Start's run. The run has the
+-- program that the newest ruleset then had for the app, starts on the Start's attributes, and gets
+-- the replies since
 pub record IsOwnRun (w : WorldState) (k : ℕ) (events : List Event) (answers : List Answer)
     (place number choice instructions : ℕ) : Type 0 where
   pub start : ℕ
@@ -94,7 +94,7 @@ FinishesStartedRun = (w v : WorldState) (k place number choice instructions : �
     → IsFinished k events answers place number choice instructions
     → IsOwnRun w k events answers place number choice instructions
 
--- in a safe world this run chose, in time, 0 or a number up to the releases of its ruleset's app
+-- in a safe world this run chose, in time, 0 or the number of a release of its app in its ruleset
 abbrev pub ChoosesItsRelease : Type 0
 ChoosesItsRelease = (w : WorldState) (k place number choice instructions : ℕ)
     (events : List Event) (answers : List Answer)

@@ -15,7 +15,7 @@ use Rattle.world.specs.declared.event.Event.{Event}
 use Rattle.world.specs.declared.event.Event.TheVariants.{Finish}
 use Rattle.world.specs.declared.event.Effect.TheVariants as effect
 
--- a run is of the program that its ruleset has for the app. Its next step isn't a trap, it has done
+-- a run of the program that its ruleset has for the app. Its next step isn't a trap, it has done
 -- fewer instructions than the program has slots, and it ends well
 pub record IsSafeRun (w : WorldState) (number : ℕ) (program : ShapedProgram)
     (s : State) : Type 0 where
@@ -24,7 +24,7 @@ pub record IsSafeRun (w : WorldState) (number : ℕ) (program : ShapedProgram)
   pub short : s.count < length program.code
   pub ends : EndsWell program s
 
--- the same after its end. Its choice is 0, or a number up to the releases of its ruleset's app,
+-- such a run after its end. Its choice is 0 or the number of a release of the app in its ruleset,
 -- after at most as many instructions as the program has slots
 pub record IsSafeEnd (rulesets : List Rules) (number : ℕ) (program : ShapedProgram)
     (a : Attributes) (choice instructions : ℕ) : Type 0 where
@@ -50,8 +50,8 @@ pub record HasSafeEnd (w : WorldState) (k number choice instructions : ℕ) : Ty
   pub ended : IsWorker w k (Ended number program attributes choice instructions)
   pub safe : IsSafeEnd w.rulesets number program attributes choice instructions
 
--- the result of a Finish is of the worker's own run, which has ended. It has the number of a
--- ruleset, and none or a release of the app there
+-- a Finish returns the result of the worker's own run, which has ended: the number of a ruleset,
+-- and 0 or the number of a release of the app there
 abbrev pub IsOfItsRun : WorldState → Event → Answer → Type 0
 IsOfItsRun w (Finish k) (Ok (effect.Finished choice instructions number)) =
     HasSafeEnd w k number choice instructions

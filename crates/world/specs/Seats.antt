@@ -59,7 +59,7 @@ IsSoundSeat Empty = Unit {0}
 IsSoundSeat (Taken run number None) = GoesWell run
 IsSoundSeat (Taken run number (Some choice)) = EndedWithChoice run choice
 
--- a seat's run is of the program that its ruleset has for the app
+-- the program of a seat's run is the one that its ruleset has for the app
 abbrev pub SeatIsOffered : List Rules → Seat → Type 0
 SeatIsOffered rulesets Empty = Unit {0}
 SeatIsOffered rulesets (Taken run number choice) =
@@ -122,7 +122,7 @@ abbrev pub SeatReturns : Seat → Answer → Type 0
 SeatReturns seat (Ok e) = (x : Worker) → SeatStandsFor seat x → WorkerFinishes x (Ok e) Idle
 SeatReturns seat (Err e) = (x : Worker) → SeatStandsFor seat x → WorkerFinishes x (Err e) x
 
--- what stays true of a seat's run for all rulesets
+-- for any rulesets: if the run's program is its ruleset's program for the app, it stays so
 abbrev pub StaysOffered : Seat → Seat → Type 0
 StaysOffered before after = (rulesets : List Rules)
     → SeatIsOffered rulesets before → SeatIsOffered rulesets after

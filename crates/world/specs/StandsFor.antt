@@ -1,5 +1,4 @@
--- The parts in which a server's world is held, which worlds they represent, and what the type keeps
--- of them.
+-- The parts of a `World`, the worlds that they represent, and the type's invariant.
 use Rattle.std.specs.Prelude.{◌≡◌, ℕ, ◌<◌, All, List, length, map, slice_index_or}
 use Rattle.std.specs.Arc.{arc_value}
 use Rattle.std.specs.declared.alloc.Global.{Global}
@@ -15,7 +14,7 @@ pub record Parts : Type 0 where
   pub cells : List ℕ
   pub seats : List Seat
 
--- the parts in which it is held
+-- the parts of a `World`, from its fields
 abbrev pub parts_of : List (Arc Rules Global) → List ℕ → List Seat → Parts
 parts_of rulesets cells seats = record {
   rulesets = map (λ r. arc_value r) rulesets;
@@ -33,11 +32,11 @@ pub record WorldStandsFor (parts : Parts) (w : WorldState) : Type 0 where
   pub as_many : length parts.seats ≡ length w.workers
   pub each : (k : ℕ) → SeatStandsFor (seat_at parts k) (slice_index_or w.workers k Idle)
 
--- they represent the world in which a server begins
+-- these parts represent the world in which a server begins
 abbrev pub IsOpening : Parts → Rules → ℕ → Type 0
 IsOpening parts rules workers = WorldStandsFor parts (opening_world rules workers)
 
--- what the parts of a world keep
+-- the type's invariant
 pub record AreKept (parts : Parts) : Type 0 where
   pub ruled : 0 < length parts.rulesets
   pub sound : All IsRuleset parts.rulesets

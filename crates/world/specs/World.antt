@@ -8,8 +8,8 @@ use Rattle.bpf_semantics.specs.State.{State}
 use Rattle.bpf_semantics.specs.Program.{ShapedProgram}
 use Rattle.ruleset.specs.Rules.{Rules, AppRule, ListsApp}
 
--- a run is under the ruleset that was the newest when it started, and is in a state; one that ended
--- has its choice and the number of its instructions
+-- a run has the number of its ruleset, which was the newest when the run started, its program and
+-- its state; a run that has ended has its choice and the number of its instructions
 pub data Worker : Type 0 where
   Idle : Worker
   Running : (number : ℕ) → (program : ShapedProgram) → State → Worker
@@ -35,7 +35,7 @@ opening_world rules count = record {
 
 -- ---- rulesets
 
--- the ruleset of a number, from 1
+-- the ruleset with this number; they are numbered from 1
 abbrev pub ruleset_at : List Rules → ℕ → Option Rules
 ruleset_at rulesets zero = None
 ruleset_at rulesets (suc k) = slice_get rulesets k

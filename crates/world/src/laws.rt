@@ -13,8 +13,8 @@ pub fn takes_its_step()
     ensures { TakesItsStep }
 {}
 
-/// Law: a run is done after as many Steps as its program has slots. The result of one such Step is
-/// its end, which is the machine's result from the run's state.
+/// Law: a run is done after as many Steps as its program has slots. One of these Steps ends it,
+/// with the machine's result from the run's state.
 pub fn ends_in_time()
     ensures { EndsInTime }
 {

@@ -15,9 +15,9 @@ pub fn play(
     world: &mut World,
     events: &[Event],
 ) -> Result<Vec<Result<Effect, WorldFault>>, WorldFault>
-    // From every world that this one represented, with whatever counters, the events with their
-    // results are a run of the world. In it each run takes exactly the machine's steps on the
-    // shared counters. And `world` represents the world at the end.
+    // From every world that `world` represented, the events with their results are a run of the
+    // world. In it each run takes exactly the machine's steps on the shared counters. And `world`
+    // represents the world at the end.
     ensures run { IfOk result (λ answers. ArePlayed world.old events.now answers.items world.new) }
     // On the way no run traps, or takes more instructions than its program has slots,
     ensures safe { AllWorldsAreSafe world.old events.now }

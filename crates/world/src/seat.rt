@@ -1,4 +1,4 @@
-//! The seat of a worker: empty, or with a run. The contracts say what a step and a finish do for
+//! The seat of a worker: empty, or with a run. The contracts say what a step and a finish do to
 //! every worker that the seat represents.
 
 ghost use Rattle.std.specs.Prelude.{◌≡◌, IfErr, IsTrue, IsFalse};
@@ -34,8 +34,8 @@ impl Seat {
         }
     }
 
-    /// One instruction, with the reply of a counter if it accesses one. Returns E3 if no run
-    /// continues.
+    /// One instruction, with the reply of a counter if it accesses one. Returns E3 if the seat is
+    /// empty or its run has ended.
     pub fn step(&mut self, cells: &PlainCells, pass: &mut PlainPass) -> Result<Effect, WorldFault>
         requires { IsSoundSeat self.old }
         ensures same { IfErr result (λ e. self.new ≡ self.old) }

@@ -1,7 +1,7 @@
-//! A world: the rulesets of a server and the seats of its workers. The contract of each event is
-//! for every world of the definitions that this one represents. The type keeps that it represents
-//! at least one, and that each of its runs is of the program that the ruleset of its number has for
-//! its app.
+//! A world: the rulesets of a server and the seats of its workers. A `World` represents worlds of
+//! the definitions, and the contract of each event is about all of them. The type's invariant: it
+//! represents at least one, and each run's program is the one that the run's ruleset has for its
+//! app.
 
 ghost use Rattle.std.specs.Prelude.{◌≡◌, ◌<◌, ◌≤◌, slice_index};
 ghost use Rattle.std.specs.Prelude.{List, All, IfOk, IfErr, Some};
@@ -72,7 +72,7 @@ impl World {
         })
     }
 
-    /// Law: what the type keeps.
+    /// Law: the type's invariant.
     pub fn keeps(&self)
         // It represents at least one world.
         ensures stands { (w : WorldState) × WorldStandsFor self.now w }
@@ -97,8 +97,8 @@ impl World {
     }
 
     /// One event. A refused event changes nothing.
-    // open: whether an allocation fails (E6): so which of Started and E6 is the result if the
-    // worker is idle and the app exists, and which of Swapped and E6.
+    // open: whether an allocation fails (E6). So a Start of an idle worker for a known app has the
+    // result Started or E6, and a Swap has Swapped or E6.
     pub fn apply(&mut self, event: &Event) -> Result<Effect, WorldFault>
         ensures happens { IsApplied self.old event.now result self.new }
         ensures same { IfErr result (λ e. self.new ≡ self.old) }

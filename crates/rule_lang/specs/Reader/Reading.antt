@@ -82,7 +82,7 @@ abbrev pub unless_noted : Option RuleFault → Statement → Draft → Draft
 unless_noted None s d = with_statement s d
 unless_noted (Some e) s d = d
 
--- the condition ends; with a fault it has no steps
+-- the condition ends and becomes a statement, unless a fault is noted; its steps are removed
 abbrev pub with_when : (release : ℕ) → Draft → Draft
 with_when k d = unless_noted d.noted (When d.condition.steps k) (with_condition (emptied
     d.condition) d)
