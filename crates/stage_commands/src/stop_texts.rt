@@ -118,7 +118,7 @@ fn rule_reason(alloc: Global, file: &str, fault: &RuleFault) -> Stop {
 pub(crate) fn not_raised(alloc: Global, file: &str, fault: &RaiseFault) -> Stop {
     let what = match fault {
         RaiseFault::OutOfRange => "a rule has 0 to 10000 buckets, not more",
-        RaiseFault::NoThreshold => "it has no test bucket < N: undo a halt by stage back",
+        RaiseFault::NoThreshold => "it has no test bucket < N: put a rule with one in place",
         RaiseFault::SeveralThresholds => "it has several tests bucket < N: edit a copy, and put it",
         RaiseFault::NoDigits => "a comment is in its test bucket < N: edit a copy, and put it",
         RaiseFault::NoRule(fault) => return rule_reason(alloc, file, fault),
