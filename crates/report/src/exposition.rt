@@ -121,48 +121,43 @@ fn push_asks(text: &mut String, kind: MetricKind, report: &Report) -> Result<(),
 fn push_faults(text: &mut String, kind: MetricKind, report: &Report) -> Result<(), AllocError>
     ensures { OnOk result (Puts text.old text.new (specs.faults kind report.now)) }
 {
-    let help = "Requests that were refused.";
     push_metric(
         text,
         kind,
         "rollout_refusals",
-        help,
+        "Requests that were refused.",
         SampleLabels::Rule,
         &report.refusals,
     )?;
-    let help = "Asks for unknown apps.";
     push_metric(
         text,
         kind,
         "rollout_unknown_apps",
-        help,
+        "Asks for unknown apps.",
         SampleLabels::App,
         &report.unknown,
     )?;
-    let help = "Clients without a cohort.";
     push_metric(
         text,
         kind,
         "rollout_without_cohort",
-        help,
+        "Clients without a cohort.",
         SampleLabels::App,
         &report.without_cohort,
     )?;
-    let help = "Clients without a request id.";
     push_metric(
         text,
         kind,
         "rollout_without_request_id",
-        help,
+        "Clients without a request id.",
         SampleLabels::App,
         &report.without_id,
     )?;
-    let help = "Apps whose events are cut.";
     push_metric(
         text,
         kind,
         "rollout_cut_events",
-        help,
+        "Apps whose events are cut.",
         SampleLabels::App,
         &report.cut_events,
     )?;
