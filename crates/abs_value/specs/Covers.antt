@@ -148,7 +148,7 @@ pub record Covers (g : Returns) (e : AbsState) (s : State) : Type 0 where
   pub stack : CoversStack g e.stack s.stack
 
 -- an abstract state at the slot of s represents s, given the results of the calls before that slot
-pub record IsStoodFor (shape : AppShape) (e : AbsState) (s : State) : Type 0 where
+pub record IsRepresented (shape : AppShape) (e : AbsState) (s : State) : Type 0 where
   pub by : ℕ → Option ℕ
   pub before : AreBefore s.slot (record { shape = shape; by = by })
   pub covers : Covers (record { shape = shape; by = by }) e s

@@ -8,7 +8,7 @@ use Rattle.bpf_checks.specs.declared.refusal.Refusal.TheVariants as refusal
 use Rattle.cells.specs.Arrays.{AppShape}
 use Rattle.flow_check.specs.Fault.{HasOneVerdict, IsFlowFault}
 use Rattle.flow_check.specs.Flow.{IsAcceptedAs}
-use Rattle.flow_check.specs.declared.fault.FlowFault.TheVariants as flow
+use Rattle.flow_check.specs.declared.flow_fault.FlowFault.TheVariants as flow
 use Rattle.acceptance.specs.declared.program_fault.ProgramFault.{ProgramFault}
 use Rattle.acceptance.specs.declared.program_fault.ProgramFault.TheVariants.{Flow, Verify}
 

@@ -24,7 +24,7 @@ pub fn accept(alloc: Global, bytes: &[u8], shape: &Shape) -> Result<Verified, Pr
             return Err(ProgramFault::Flow(fault));
         }
     };
-    flow.keeps();
+    flow.invariant_law();
     match verify(alloc, flow, shape) {
         Ok(program) => Ok(program),
         Err(refusal) => Err(ProgramFault::Verify(refusal)),

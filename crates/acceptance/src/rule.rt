@@ -30,7 +30,7 @@ pub fn rule_program(alloc: Global, text: &[u8], shape: &Shape) -> Result<Verifie
     };
     match compile(alloc, &rule, shape) {
         Ok(program) => {
-            program.keeps();
+            program.invariant_law();
             Ok(program)
         }
         Err(fault) => Err(RuleTextFault::Compile(fault)),

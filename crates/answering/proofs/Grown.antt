@@ -10,7 +10,7 @@ use Rattle.attrs.specs.Bucket.{app_bucket}
 use Rattle.attrs.specs.Facts.{attributes_of}
 use Rattle.attrs.specs.declared.facts.AppFacts.{AppFacts}
 use Rattle.attrs.specs.declared.facts.RequestFacts.{RequestFacts}
-use Rattle.bpf_machine.specs.StandsFor.{Held, RunStandsFor, Runs}
+use Rattle.bpf_machine.specs.Represents.{Held, RunRepresents, Runs}
 use Rattle.bpf_verify.specs.Covers.{AreLawful}
 use Rattle.bpf_semantics.specs.Program.{ShapedProgram}
 use Rattle.bpf_semantics.specs.Run.{Ends}
@@ -18,7 +18,7 @@ use Rattle.bpf_semantics.specs.State.{opening}
 use Rattle.cells.specs.Grown.{Grows, GrowsByAppend}
 use Rattle.cells.specs.declared.event.CellEvent.{CellEvent}
 use Rattle.ruleset.specs.Rules.{AppRule, Rules, IsApp, ListsApp, app_of, appid_of}
-use Rattle.omaha_json.specs.Found.{FoundApp, found_app, found_apps, found_with, known_app}
+use Rattle.omaha_json.specs.Found.{FoundApp, found_app, found_apps, found_with, listed_app}
 use Rattle.answering.specs.Apps.{RunsApp, RunsApps, RunsFew, FindsApp, FindsApps}
 use Rattle.answering.specs.Apps.{no_updatecheck, unknown, ran, none, then}
 
@@ -61,7 +61,7 @@ module _ (rules : Rules) (facts : RequestFacts) where
       → found ≡ found_with known choice bucket → Some found ≡ found_app rules facts app choice
   found_is app choice known bucket found knows hashed is =
       ap Some (is ∙ ap (found_with known choice) hashed)
-      ∙ sym (ap (option_map (known_app facts app choice)) knows)
+      ∙ sym (ap (option_map (listed_app facts app choice)) knows)
 
   -- one app more
   found_snoc : (apps : List AppFacts) (choices : List (Option ℕ)) (app : AppFacts)
@@ -99,7 +99,7 @@ module _ (rules : Rules) (facts : RequestFacts) (moment : ℤ) where
   finds_none app knows = record {
     choice = None;
     runs = unknown knows;
-    found_is = sym (ap (option_map (known_app facts app None)) knows);
+    found_is = sym (ap (option_map (listed_app facts app None)) knows);
   }
 
   -- an app that requests no update
@@ -119,15 +119,15 @@ module _ {P : Type 0} (grew : P → CellEvent → P → Type 0) where
         → app.updatecheck ≡ true → app_of rules app.appid ≡ Some known
         → IsApp known → ListsApp rules app.appid known
         → run.program ≡ known.program
-        → RunStandsFor run (opening (attributes_of app facts moment))
+        → RunRepresents run (opening (attributes_of app facts moment))
         → Runs grew run p q choice count → count ≤ length run.program.code
         → choice ≤ run.program.shape.releases
         → Grows grew p q (RunsApp rules facts moment app (Some choice))
-    grows_ran p q app known run choice count asks found kept is same stands runs short few =
+    grows_ran p q app known run choice count asks found kept is same represents runs short few =
         let start = opening (attributes_of app facts moment) in
         let E : ShapedProgram → Type 0 = λ z. Ends z start runs.events choice count in
         let L : ShapedProgram → Type 0 = λ z. AreLawful z.shape runs.events in
-        let end = subst E same (runs.ends start stands) in
+        let end = subst E same (runs.ends start represents) in
         let brief = subst (λ (z : ShapedProgram). count ≤ length z.code) same short in
         let among = subst (λ (z : ShapedProgram). choice ≤ z.shape.releases) same few in
         record {

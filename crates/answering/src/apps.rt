@@ -5,7 +5,7 @@ ghost use Rattle.std.specs.Arc.{arc_value};
 ghost use Rattle.attrs.specs.Bucket.{hashed_bucket};
 ghost use Rattle.attrs.specs.Facts.{attributes_of};
 ghost use Rattle.bpf_semantics.specs.State.{opening};
-ghost use Rattle.bpf_machine.specs.StandsFor.{RunStandsFor};
+ghost use Rattle.bpf_machine.specs.Represents.{RunRepresents};
 ghost use Rattle.cells.specs.Grown.{Grows};
 ghost use Rattle.answering.specs.Apps.{FindsApp, FindsApps, RunsFew};
 
@@ -30,7 +30,7 @@ fn start(
 ) -> Result<Run, AllocError>
     requires { hashed ≡ hashed_bucket facts.now }
     ensures program { IfOk result (λ r. r.program ≡ arc_value program.now) }
-    ensures stands { IfOk result (λ r. RunStandsFor r
+    ensures represents { IfOk result (λ r. RunRepresents r
         (opening (attributes_of app.now facts.now moment.now))) }
     ensures going { IfOk result (λ r. r.is_done ≡ false) }
 {
@@ -72,7 +72,7 @@ fn run_app<'r, C: CellSteps>(
     if !told.updatecheck {
         return Ok(Some(FoundApp::new(known, bucket, None)));
     }
-    known.keeps();
+    known.invariant_law();
     let Ok(run) = start(turn.alloc, known.program(), app, facts, hashed, turn.moment) else {
         return Err(AllocError);
     };

@@ -11,10 +11,10 @@ use Rattle.load.specs.declared.sources.AppSources.{AppSources}
 use Rattle.manifest.specs.declared.app.ProgramSource.{ProgramSource}
 use Rattle.manifest.specs.declared.app.ProgramSource.TheVariants as source
 use Rattle.app_rules.specs.Read.{AreReadFrom, IsReadOf, nothing_read, next_read}
-use Rattle.app_rules.specs.Rules.{AreRulesKept, IsRuleKept, KnownRule, no_rule, next_rule}
+use Rattle.app_rules.specs.Rules.{AreRulesKept, IsRuleKept, OptionalRule, no_rule, next_rule}
 
 rule_from : (from : ProgramSource) (kept : Option KeptBytes) (shape : AppShape)
-    (program : ShapedProgram) (rule : KnownRule) → IsProgramKept from kept program
+    (program : ShapedProgram) (rule : OptionalRule) → IsProgramKept from kept program
     → program.shape ≡ shape
     → IsReadOf from kept shape rule → IsRuleKept from kept program rule
 rule_from (source.Program file) kept shape program rule is same read = read
@@ -25,7 +25,7 @@ rule_from (source.Rule file) (Some (Whole v)) shape program rule is same read = 
   read is.rule (subst (λ (s : AppShape). IsTextOf v.items s is.rule) same is.text),
 )
 
-pub rules_in : {apps : List AppSources} {programs : List ShapedProgram} {rules : List KnownRule}
+pub rules_in : {apps : List AppSources} {programs : List ShapedProgram} {rules : List OptionalRule}
     → AreJudged apps programs → AreReadFrom apps rules → AreRulesKept apps programs rules
 rules_in no_program nothing_read = no_rule
 rules_in (next_program {app} {program} judged others) (next_read {rule} read more) =

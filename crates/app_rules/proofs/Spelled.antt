@@ -13,7 +13,7 @@ use Rattle.rule_lang.specs.declared.rule.Statement.{Statement}
 use Rattle.load.specs.declared.sources.AppSources.{AppSources}
 use Rattle.app_rules.specs.Read.{AreReadFrom, IsReadFrom, IsRuleOfText}
 use Rattle.app_rules.specs.Read.{nothing_read, next_read}
-use Rattle.app_rules.specs.Rules.{KnownRule}
+use Rattle.app_rules.specs.Rules.{OptionalRule}
 
 abbrev rule_or : List Statement → OrFault (List Statement) → List Statement
 rule_or other (Ok rule) = rule
@@ -39,7 +39,7 @@ pub no_rule : (s : AppShape) (text : List ℕ) (line : ℕ) (kind : RuleFaultKin
 no_rule s text line kind one is spelled other =
     none_of s text line kind spelled (one s text) is other.spelled
 
-pub same_text : (s : AppShape) (text bytes : List ℕ) (rule : KnownRule) → text ≡ bytes
+pub same_text : (s : AppShape) (text bytes : List ℕ) (rule : OptionalRule) → text ≡ bytes
     → IsRuleOfText text s rule → IsRuleOfText bytes s rule
 same_text s text bytes rule same is = subst (λ (t : List ℕ). IsRuleOfText t s rule) same is
 
@@ -48,21 +48,21 @@ no_text s bytes not_text spelled other = absurd (not_text other.utf8)
 
 -- ---- the rules of apps, one more app
 
-pub read_more : (all left behind : List AppSources) (rules more : List KnownRule)
-    (app : AppSources) (rule : KnownRule)
-    → ((rest : List KnownRule) → AreReadFrom left rest → AreReadFrom all (rules ++ rest))
+pub read_more : (all left behind : List AppSources) (rules more : List OptionalRule)
+    (app : AppSources) (rule : OptionalRule)
+    → ((rest : List OptionalRule) → AreReadFrom left rest → AreReadFrom all (rules ++ rest))
     → left ≡ app ∷ behind → more ≡ rules ++ rule ∷ [] → IsReadFrom app rule
-    → (rest : List KnownRule) → AreReadFrom behind rest → AreReadFrom all (more ++ rest)
+    → (rest : List OptionalRule) → AreReadFrom behind rest → AreReadFrom all (more ++ rest)
 read_more all left behind rules more app rule so_far is pushed read rest others =
     subst (AreReadFrom all)
     (sym (append_assoc rules (rule ∷ []) rest)
-    ∙ ap (λ (l : List KnownRule). l ++ rest) (sym pushed))
+    ∙ ap (λ (l : List OptionalRule). l ++ rest) (sym pushed))
     (so_far (rule ∷ rest)
     (subst (λ (l : List AppSources). AreReadFrom l (rule ∷ rest)) (sym is)
     (next_read read others)))
 
-pub read_all : (all left : List AppSources) (rules : List KnownRule)
-    → ((rest : List KnownRule) → AreReadFrom left rest → AreReadFrom all (rules ++ rest))
+pub read_all : (all left : List AppSources) (rules : List OptionalRule)
+    → ((rest : List OptionalRule) → AreReadFrom left rest → AreReadFrom all (rules ++ rest))
     → length left < 1 → AreReadFrom all rules
 read_all all [] rules so_far few =
     subst (AreReadFrom all) (append-nil rules) (so_far [] nothing_read)

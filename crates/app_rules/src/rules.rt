@@ -61,7 +61,7 @@ fn rule_kept(
     kept: &Option<KeptBytes>,
     shape: &Shape,
 ) -> Result<Option<Rule>, AllocError>
-    ensures { IfOk result (specs.IsReadOfKept kept.now shape.now) }
+    ensures { IfOk result (specs.IsReadOfBytes kept.now shape.now) }
 {
     match kept {
         None => Ok(None),

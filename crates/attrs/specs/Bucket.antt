@@ -18,8 +18,8 @@ four_digits n =
     last_digit (n / 1000) ∷ last_digit (n / 100) ∷ last_digit (n / 10) ∷ last_digit n ∷ []
 
 -- the cohort in the reply to an app in a bucket
-abbrev pub told_cohort : ℕ → List ℕ
-told_cohort bucket = codes "b:" ++ four_digits bucket
+abbrev pub cohort_of_bucket : ℕ → List ℕ
+cohort_of_bucket bucket = codes "b:" ++ four_digits bucket
 
 -- `b:` and four more bytes
 abbrev pub is_bucket_cohort : List ℕ → Bool
@@ -38,11 +38,11 @@ text_or [] other = other
 text_or (first ∷ rest) other = first ∷ rest
 
 -- the request's id, or its session's if that is empty or absent, or the empty text
-abbrev pub asker : RequestFacts → List ℕ
-asker request = text_or (unwrap_or request.requestid []) (unwrap_or request.sessionid [])
+abbrev pub requester_id : RequestFacts → List ℕ
+requester_id request = text_or (unwrap_or request.requestid []) (unwrap_or request.sessionid [])
 
 abbrev pub hashed_bucket : RequestFacts → ℕ
-hashed_bucket request = fnv1a (asker request) % 10000
+hashed_bucket request = fnv1a (requester_id request) % 10000
 
 abbrev pub app_bucket : AppFacts → RequestFacts → ℕ
 app_bucket app request = unwrap_or (named_bucket app) (hashed_bucket request)

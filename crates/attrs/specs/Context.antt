@@ -53,8 +53,8 @@ abbrev pub seconds_offset : ℕ
 seconds_offset = 28
 
 -- from the offset on, the context has a field's bytes
-abbrev pub StandsAt : Context → ℕ → List ℕ → Type 0
-StandsAt c offset field = take (length field) (drop offset (context_bytes c)) ≡ field
+abbrev pub IsAt : Context → ℕ → List ℕ → Type 0
+IsAt c offset field = take (length field) (drop offset (context_bytes c)) ≡ field
 
 -- the flags; a context has their sum
 abbrev pub version_known : ℕ

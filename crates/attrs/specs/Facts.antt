@@ -30,15 +30,15 @@ known_flags app =
     + flag (is_some (known_day app.installdate)) installdate_known
 
 -- what the app requests
-abbrev pub asked_flags : AppFacts → ℕ
-asked_flags app = flag app.updatecheck updatecheck + flag app.ping ping + flag app.event event
+abbrev pub requested_flags : AppFacts → ℕ
+requested_flags app = flag app.updatecheck updatecheck + flag app.ping ping + flag app.event event
 
 -- an app that names no bucket is in its request's hashed one
 abbrev pub context_in : (app : AppFacts) (hashed : ℕ) (moment : ℤ) → Context
 context_in app hashed moment = record {
   version = unwrap_or (app_version app) (replicate 4 0);
   bucket = unwrap_or (named_bucket app) hashed;
-  flags = known_flags app + asked_flags app;
+  flags = known_flags app + requested_flags app;
   install_day = unwrap_or (known_day app.installdate) unknown_day;
   today = elapsed_days moment;
   seconds = elapsed_seconds moment;

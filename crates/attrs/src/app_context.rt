@@ -26,7 +26,7 @@ pub(crate) fn context_in(app: &AppFacts, hashed: Bucket, moment: Moment) -> Cont
     Context {
         version: version.unwrap_or([0; 4]),
         bucket: named.unwrap_or(hashed).number(),
-        flags: known + asked_flags(app),
+        flags: known + requested_flags(app),
         install_day: installed.unwrap_or(Context::UNKNOWN_DAY),
         today: elapsed.days,
         seconds: elapsed.seconds,
@@ -69,8 +69,8 @@ fn known_day(installdate: Option<u64>) -> Option<u32>
 }
 
 // A sum of the flags of what the app requests.
-fn asked_flags(app: &AppFacts) -> u8
-    ensures value { result ≡ specs.asked_flags app.now }
+fn requested_flags(app: &AppFacts) -> u8
+    ensures value { result ≡ specs.requested_flags app.now }
     ensures limit { result ≤ 14 }
 {
     flag(app.updatecheck, Context::UPDATECHECK)

@@ -152,11 +152,11 @@ impl Attrs {
 
     /// The type's invariant: the context is in its ranges, and no text is over 1024 bytes.
     #[tactic(auto, using(crate::proofs::ShortTexts::all_are_short))]
-    pub fn keeps(&self)
+    pub fn invariant_law(&self)
         ensures context { HasContextRanges self.now.context }
         ensures texts { AreShort self.now.texts }
     {
-        self.context.keeps();
+        self.context.invariant_law();
     }
 
     /// The text of a number, which is empty if no attribute has the number.

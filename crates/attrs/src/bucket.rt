@@ -74,8 +74,8 @@ fn last_digit(number: u16) -> u8
 
 /// Law: an app that sends back the cohort of its reply, `b:` and its bucket's digits, stays in that
 /// bucket.
-pub fn cohort_keeps_bucket()
-    ensures { (n : ℕ) → n < 10000 → specs.cohort_bucket (specs.told_cohort n) ≡ Some n }
+pub fn cohort_preserves_bucket()
+    ensures { (n : ℕ) → n < 10000 → specs.cohort_bucket (specs.cohort_of_bucket n) ≡ Some n }
 {}
 
 /// The bucket of an app of a request whose hashed bucket is known.
@@ -91,7 +91,7 @@ pub fn named_or_hashed(app: &AppFacts, hashed: Bucket) -> Bucket
 pub fn hashed_bucket(request: &RequestFacts) -> Bucket
     ensures { result ≡ specs.hashed_bucket request.now }
 {
-    let hash = fnv1a(asker(request).as_bytes());
+    let hash = fnv1a(requester_id(request).as_bytes());
     Bucket::new((hash % Bucket::COUNT as u64) as u16)
 }
 
@@ -116,8 +116,8 @@ pub fn cohort_bucket(cohort: &str) -> Option<Bucket>
 }
 
 // The request's id, or its session's if that is empty or absent.
-fn asker(request: &RequestFacts) -> &str
-    ensures { result.now ≡ specs.asker request.now }
+fn requester_id(request: &RequestFacts) -> &str
+    ensures { result.now ≡ specs.requester_id request.now }
 {
     match lent(&request.requestid) {
         Some(id) if !id.is_empty() => id,

@@ -55,7 +55,7 @@ impl Context {
     ghost use Rattle.attrs.specs.Context.{version_known, updatecheck, ping, event};
     ghost use Rattle.attrs.specs.Context.{cohort_known, installdate_known, unknown_day};
     ghost use Rattle.attrs.specs.Context.{bucket_offset, flags_offset, install_day_offset};
-    ghost use Rattle.attrs.specs.Context.{today_offset, seconds_offset, StandsAt};
+    ghost use Rattle.attrs.specs.Context.{today_offset, seconds_offset, IsAt};
     ghost use Rattle.attrs.specs.Context as specs;
     ghost use Rattle.std.specs.Int.{w8, w16, w32, to_le_bytes};
 
@@ -108,18 +108,18 @@ impl Context {
 
     /// Law: each field is at its offset in the bytes, little-endian.
     #[tactic(auto, unfolding(crate::specs::Context::context_bytes))]
-    pub fn fields_stand()
-        ensures bucket { (c : specs.Context) → StandsAt c bucket_offset (to_le_bytes w16 c.bucket) }
-        ensures flags { (c : specs.Context) → StandsAt c flags_offset (to_le_bytes w8 c.flags) }
+    pub fn fields_are_at_offsets()
+        ensures bucket { (c : specs.Context) → IsAt c bucket_offset (to_le_bytes w16 c.bucket) }
+        ensures flags { (c : specs.Context) → IsAt c flags_offset (to_le_bytes w8 c.flags) }
         ensures install_day { (c : specs.Context)
-            → StandsAt c install_day_offset (to_le_bytes w32 c.install_day) }
-        ensures today { (c : specs.Context) → StandsAt c today_offset (to_le_bytes w32 c.today) }
+            → IsAt c install_day_offset (to_le_bytes w32 c.install_day) }
+        ensures today { (c : specs.Context) → IsAt c today_offset (to_le_bytes w32 c.today) }
         ensures seconds { (c : specs.Context)
-            → StandsAt c seconds_offset (to_le_bytes w32 c.seconds) }
+            → IsAt c seconds_offset (to_le_bytes w32 c.seconds) }
     {}
 
     /// Law: the type's invariant, and the range of each other number.
-    pub fn keeps(&self)
+    pub fn invariant_law(&self)
         ensures { HasContextRanges self.now }
     {
         let [_first, _second, _third, _fourth] = self.version;

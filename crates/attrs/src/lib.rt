@@ -20,7 +20,7 @@ mod vocabulary;
 
 pub use attributes::{AttrFault, Attrs};
 pub use bucket::{
-    Bucket, cohort_bucket, cohort_keeps_bucket, four_digits, hashed_bucket, named_or_hashed,
+    Bucket, cohort_bucket, cohort_preserves_bucket, four_digits, hashed_bucket, named_or_hashed,
 };
 pub use context::Context;
 pub use facts::{AppFacts, RequestFacts};

@@ -4,9 +4,9 @@ use Rattle.acceptance.specs.Program.{IsProgramOf, RefusesProgram}
 use Rattle.bpf_insn.specs.Program.{Program}
 use Rattle.bpf_semantics.specs.Program.{shaped}
 use Rattle.cells.specs.Arrays.{AppShape}
-use Rattle.bench.specs.declared.fault.BenchFault.{BenchFault}
-use Rattle.bench.specs.declared.fault.BenchFault.TheVariants.{Memory, Output}
-use Rattle.bench.specs.declared.fault.BenchFault.TheVariants as fault
+use Rattle.bench.specs.declared.bench_fault.BenchFault.{BenchFault}
+use Rattle.bench.specs.declared.bench_fault.BenchFault.TheVariants.{Memory, Output}
+use Rattle.bench.specs.declared.bench_fault.BenchFault.TheVariants as fault
 
 -- every program is checked for an app of 64 releases, and no array
 abbrev pub bench_shape : AppShape

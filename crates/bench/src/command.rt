@@ -3,8 +3,8 @@
 ghost use Rattle.std.specs.Prelude.{◌≡◌, ◌≤◌};
 ghost use Rattle.std.specs.IoError.{error_kind};
 
+use crate::bench_fault::BenchFault;
 use crate::benchmark::{Benchmark, ProgramSize, benchmark_of};
-use crate::fault::BenchFault;
 use crate::judge::{verified, verify_times};
 use crate::pattern::Pattern;
 use crate::program::program;

@@ -4,7 +4,7 @@ ghost use Rattle.std.specs.Prelude.{◌≡◌, ◌<◌, IfOk, IfErr, OnOk};
 ghost use Rattle.acceptance.specs.Program.{IsProgramOf};
 ghost use Rattle.bench.specs.Judged.{AreAccepted, IsBenchFault, bench_shape};
 
-use crate::fault::BenchFault;
+use crate::bench_fault::BenchFault;
 use acceptance::accept;
 use bpf_verify::Verified;
 use cells::Shape;

@@ -3,10 +3,10 @@
 //! It reads no clock: `bench/run` times whole processes from outside.
 #![tactic(auto)]
 
+mod bench_fault;
 mod benchmark;
 mod blocks;
 mod command;
-mod fault;
 mod fnv;
 mod judge;
 mod pattern;

@@ -3,7 +3,7 @@
 ghost use Rattle.std.specs.Prelude.{◌≡◌, ◌<◌, ◌≤◌, map, length, IfOk};
 ghost use Rattle.bench.specs.Runs.{AreApps, AreRuns, IsBenchApp, RunsOnce};
 
-use crate::fault::BenchFault;
+use crate::bench_fault::BenchFault;
 use crate::fnv::hash_more;
 use attrs::{Attrs, fnv1a};
 use bpf_machine::Run;
@@ -59,7 +59,7 @@ fn run_once(
     ensures short { IfOk result (λ c. c.1 ≤ 4096) }
 {
     let accepted: &Verified = program;
-    accepted.keeps();
+    accepted.invariant_law();
     let program = Arc::try_clone(program)?;
     let app = Arc::try_clone(app)?;
     Ok(Run::start(program, app).run(cells, pass))

@@ -26,7 +26,7 @@ pub(crate) struct ReplyTally {
 /// Makes one reply with reused buffers, and writes it over an earlier reply.
 fn answer_once<C: CellSteps>(
     turn: &Turn<'_, C>,
-    room: &mut AnswerBuffers,
+    buffers: &mut AnswerBuffers,
     input: &[u8],
     mut written: Vec<u8>,
     pass: &mut C::Pass,
@@ -43,7 +43,7 @@ fn answer_once<C: CellSteps>(
     let mut writer = Counted::new(written);
     let sent = answer_in(
         turn,
-        room,
+        buffers,
         &mut reader,
         &mut writer,
         pass,
@@ -83,11 +83,11 @@ pub(crate) fn answer_times<C: CellSteps>(
         cells,
         moment: &MOMENT,
     };
-    let mut room = AnswerBuffers::new(alloc);
+    let mut buffers = AnswerBuffers::new(alloc);
     let mut reply = Vec::new(alloc);
     let mut bytes = 0u64;
     for n in 0..times {
-        reply = answer_once(&turn, &mut room, input, reply, pass, watcher)?;
+        reply = answer_once(&turn, &mut buffers, input, reply, pass, watcher)?;
         bytes = sum(bytes, reply.len())?;
     }
     Ok(ReplyTally {

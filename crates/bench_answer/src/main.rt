@@ -13,7 +13,7 @@ mod work;
 
 use crate::answers::{ReplyTally, answer_under};
 use crate::publishing::watched;
-use crate::quotas::told;
+use crate::quotas::run_task;
 use crate::requests::{WORKED, of_apps, post};
 use crate::work::{watching_of, work_of};
 use anyhow::{Context, Result};
@@ -47,7 +47,7 @@ fn line_of<H: Threads + Wait + Sync>(
     times: u32,
 ) -> Result<String> {
     if let Some(work) = work_of(word) {
-        return told(rt, alloc, work, times);
+        return run_task(rt, alloc, work, times);
     }
     if let Some(watching) = watching_of(word) {
         return watched(rt, alloc, watching, times);

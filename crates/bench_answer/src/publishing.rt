@@ -24,10 +24,10 @@ pub(crate) fn watched<H: Threads + Wait + Sync>(
     times: u32,
 ) -> Result<String> {
     let mut publisher = Publisher::new(rt, alloc, without_apps(alloc)?, MOST)?;
-    let seen = done(rt, alloc, &mut publisher, watching, times);
+    let received = done(rt, alloc, &mut publisher, watching, times);
     let generation = publisher.generation();
     publisher.close(rt);
-    Ok(format!(in alloc; "seen={} generation={generation}", seen?)?)
+    Ok(format!(in alloc; "seen={} generation={generation}", received?)?)
 }
 
 fn sum(counts: &[u64]) -> u64 {
@@ -40,16 +40,16 @@ fn sum(counts: &[u64]) -> u64 {
 
 // Reads `times` times, or until `stop` is set, and returns the number of reads that got a ruleset.
 fn look(watcher: &mut Watcher, times: u32, stop: &AtomicBool) -> u64 {
-    let mut seen = 0u64;
+    let mut received = 0u64;
     for _ in 0..times {
         if watcher.current().is_ok() {
-            seen = seen.saturating_add(1);
+            received = received.saturating_add(1);
         }
         if stop.load(Ordering::Relaxed) {
             break;
         }
     }
-    seen
+    received
 }
 
 // As above for all watchers, each in a thread of its own.
@@ -59,12 +59,12 @@ fn look_all<H: Threads + Sync>(
     times: u32,
     stop: &AtomicBool,
 ) -> Result<u64, AllocError> {
-    let seen = map_vec(
+    let received = map_vec(
         rt,
         watchers,
         &|mut watcher: Watcher| { look(&mut watcher, times, stop) },
     )?;
-    Ok(sum(&seen))
+    Ok(sum(&received))
 }
 
 // Installs a ruleset `times` times, and then stops the readers.
@@ -116,13 +116,13 @@ fn done<H: Threads + Wait + Sync>(
     match watching.kind {
         WatchKind::Looks => Ok(look_all(rt, looking, times, &stop)?),
         WatchKind::Installs => {
-            let (seen, installed) = join(
+            let (received, installed) = join(
                 rt,
                 || look_all(rt, looking, PATIENCE, &stop),
                 || install_all(rt, publisher, &rules, times, &stop),
             );
             installed?;
-            Ok(seen?)
+            Ok(received?)
         }
     }
 }

@@ -26,7 +26,7 @@ struct Total {
 }
 
 /// Has each of 1 to 64 workers do its task `times` times, and returns the line to print.
-pub(crate) fn told<H: Threads + Wait + Sync>(
+pub(crate) fn run_task<H: Threads + Wait + Sync>(
     rt: &H,
     alloc: Global,
     work: Work,

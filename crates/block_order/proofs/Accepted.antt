@@ -52,7 +52,7 @@ module _ (p : Program) (s : ℕ) where
       let l = lands k ((s + 1) ∷ []) forward h in (
         record {
           moved = JumpIf bits condition left right k;
-          stands = is;
+          moved_is = is;
           same = (k, refl);
           target = l.0;
           landed = l.1;

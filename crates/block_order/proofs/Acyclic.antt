@@ -9,8 +9,8 @@ use Rattle.bpf_insn.specs.declared.operand.Distance.{Distance}
 use Rattle.bpf_insn.specs.declared.insn.Insn.{Insn}
 use Rattle.bpf_insn.specs.declared.insn.Insn.TheVariants.{Jump, JumpIf, Exit}
 use Rattle.bpf_insn.specs.Program.{Program, ◌>>=◌, at, landing, slots_moved}
-use Rattle.flow_check.specs.declared.fault.FlowRule.TheVariants.{BackJump, Outside}
-use Rattle.flow_check.specs.declared.fault.FlowRule.TheVariants.{InsideWide, FallsOff}
+use Rattle.flow_check.specs.declared.flow_fault.FlowRule.TheVariants.{BackJump, Outside}
+use Rattle.flow_check.specs.declared.flow_fault.FlowRule.TheVariants.{InsideWide, FallsOff}
 use Rattle.flow_check.specs.Edges.{jump_of, target_of, next_of, next_target, successors}
 use Rattle.flow_check.specs.Flow.{IsFlow}
 use Rattle.block_order.specs.Order.{Places, LeadsOnto, GoesOnAt, IsKeptAs, IsNoJump}
@@ -39,8 +39,8 @@ module _ (q : Program) (flow : IsFlow q) where
 
   onto : (t u : ℕ) → LeadsOnto q t u → t ≤ u
   onto t u (inl same) = omega (arith, same)
-  onto t u (inr (d, stands, lands)) =
-      let lt : t < u = forward t u (Jump d) stands refl lands in omega (arith, lt)
+  onto t u (inr (d, moved_is, lands)) =
+      let lt : t < u = forward t u (Jump d) moved_is refl lands in omega (arith, lt)
 
 -- ---- one edge of the old program
 
@@ -75,7 +75,7 @@ module _ (places : Places) (p q : Program) (order : IsOrderOf places p q) (flow 
       let jumps : IsSome (jump_of k.0.moved) =
       subst (λ i. IsSome (jump_of i)) (sym k.0.same.1) refl in
       let lt : t < k.0.place =
-      forward q flow t k.0.place k.0.moved k.0.stands jumps k.0.lands in
+      forward q flow t k.0.place k.0.moved k.0.moved_is jumps k.0.lands in
       record {
         place = k.0.place;
         placed = subst (λ (n : ℕ). places n ≡ Some k.0.place)
@@ -185,8 +185,8 @@ module _ (places : Places) (p q : Program) (order : IsOrderOf places p q) (flow 
 
   -- ---- only onto instructions
 
-  stands : (u t : ℕ) → places u ≡ Some t → u < length p
-  stands u t placed = let k = order.kept u t placed in at_within p u k.0 k.1
+  moved_is : (u t : ℕ) → places u ≡ Some t → u < length p
+  moved_is u t placed = let k = order.kept u t placed in at_within p u k.0 k.1
 
   no_below : (s t : ℕ) (i : Insn) → IsKeptAs places q s t i → IsSome (jump_of i)
       → target_of s i ≡ None → ⊥
@@ -202,7 +202,7 @@ module _ (places : Places) (p q : Program) (order : IsOrderOf places p q) (flow 
   within s from Outside (i, t, is, lands, ends) =
       let b = onward 0 0 order.start s from in
       let l = leads_on s t i is (lands_among s t i lands) b.0 b.1 in
-      let lt : t < length p = stands t l.place l.placed in
+      let lt : t < length p = moved_is t l.place l.placed in
       let none : ⊥ = omega (arith, lt, ends) in none
   within s from InsideWide (i, t, is, lands, half) =
       let b = onward 0 0 order.start s from in
@@ -212,7 +212,7 @@ module _ (places : Places) (p q : Program) (order : IsOrderOf places p q) (flow 
   within s from FallsOff (i, is, on, ends) =
       let b = onward 0 0 order.start s from in
       let l = leads_on s (next_of s i) i is (next_among s i on) b.0 b.1 in
-      let lt : next_of s i < length p = stands (next_of s i) l.place l.placed in
+      let lt : next_of s i < length p = moved_is (next_of s i) l.place l.placed in
       let none : ⊥ = omega (arith, lt, ends) in none
   within s from rule stray = absurd stray
 

@@ -6,16 +6,16 @@ use Rattle.cells.specs.declared.event.CellEvent.{CellEvent}
 use Rattle.cells.specs.declared.event.CellOp.{CellOp}
 use Rattle.bpf_semantics.specs.Program.{ShapedProgram}
 use Rattle.bpf_semantics.specs.State.{State}
-use Rattle.bpf_semantics.specs.Outcome.{Outcome, Going, Asks, Done, Trap}
+use Rattle.bpf_semantics.specs.Outcome.{Outcome, Going, Operates, Done, Trap}
 use Rattle.bpf_semantics.specs.Step.{step}
-use Rattle.bpf_semantics.specs.Run.{Ends, last, more, asked, Traps, now, later, replied}
+use Rattle.bpf_semantics.specs.Run.{Ends, last, more, operated, Traps, now, later, replied}
 
 -- ---- outcomes
 
 -- both steps have the same outcome, in related states
 abbrev pub Matches : (State → State → Type 0) → Outcome → Outcome → Type 0
 Matches R (Going t) (Going t') = R t t'
-Matches R (Asks c op next) (Asks c' op' next') =
+Matches R (Operates c op next) (Operates c' op' next') =
     (c ≡ c') × (op ≡ op') × ((r : ℕ) → R (next r) (next' r))
 Matches R (Done n) (Done n') = n ≡ n'
 Matches R Trap Trap = Unit {0}
@@ -33,7 +33,8 @@ Turned R t t' = R t' t
 module _ (R : State → State → Type 0) where
   pub matches_turned : (o o' : Outcome) → Matches R o o' → Matches (Turned R) o' o
   matches_turned (Going t) (Going t') same = same
-  matches_turned (Asks c op next) (Asks c' op' next') same = (sym same.0, sym same.1, same.2)
+  matches_turned (Operates c op next) (Operates c' op' next') same =
+      (sym same.0, sym same.1, same.2)
   matches_turned (Done n) (Done n') same = sym same
   matches_turned Trap Trap same = tt
   matches_turned o o' same = absurd same
@@ -51,11 +52,12 @@ module _ (R : State → State → Type 0) where
   going_is t (Going t') same = (t', refl, same)
   going_is t o same = absurd same
 
-  asks_is : (c : ℕ) (op : CellOp) (next : ℕ → State) (o : Outcome) → Matches R (Asks c op next) o
-      → (next' : ℕ → State) × (o ≡ Asks c op next') × ((r : ℕ) → R (next r) (next' r))
-  asks_is c op next (Asks c' op' next') same = (
+  asks_is : (c : ℕ) (op : CellOp) (next : ℕ → State) (o : Outcome)
+      → Matches R (Operates c op next) o
+      → (next' : ℕ → State) × (o ≡ Operates c op next') × ((r : ℕ) → R (next r) (next' r))
+  asks_is c op next (Operates c' op' next') same = (
     next',
-    ap (λ x. Asks x op' next') (sym same.0) ∙ ap (λ x. Asks c x next') (sym same.1),
+    ap (λ x. Operates x op' next') (sym same.0) ∙ ap (λ x. Operates c x next') (sym same.1),
     same.2,
   )
   asks_is c op next o same = absurd same
@@ -109,12 +111,12 @@ module _ (p q : ShapedProgram) (R : State → State → Type 0) where
           | inr a ↦ let m = going_is R t (step q k.0) a in
               let rest = ends_so r m.0 m.2 in (rest.0, more m.1 rest.1)
         ])
-    ends_so {s} {choice} (asked {next} {e = d} {es} e r) s' related =
+    ends_so {s} {choice} (operated {next} {e = d} {es} e r) s' related =
         let k = keeps s s' related in
         end_behind (d ∷ es) choice k.1 (elim (subst (λ o. Keeps o k.0) e k.2) [
           | inl a ↦ absurd a
           | inr a ↦ let m = asks_is R d.cell d.op next (step q k.0) a in
-              let rest = ends_so r (m.0 d.reply) (m.2 d.reply) in (rest.0, asked m.1 rest.1)
+              let rest = ends_so r (m.0 d.reply) (m.2 d.reply) in (rest.0, operated m.1 rest.1)
         ])
 
     pub traps_so : {s : State} {es : List CellEvent} {count : ℕ} → Traps p s es count

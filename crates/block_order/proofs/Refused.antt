@@ -2,12 +2,13 @@
 use Rattle.std.proofs.Common.{◌≡◌, ℕ, ◌<◌, Bool, List, Some, refl, arith, inl, inr}
 use Rattle.bpf_insn.specs.declared.insn.Insn.{Insn}
 use Rattle.bpf_insn.specs.Program.{Program, at}
-use Rattle.flow_check.specs.declared.fault.FlowRule.{FlowRule}
-use Rattle.flow_check.specs.declared.fault.FlowRule.TheVariants.{BackJump, Outside}
-use Rattle.flow_check.specs.declared.fault.FlowRule.TheVariants.{InsideWide, FallsOff}
-use Rattle.flow_check.specs.declared.fault.FlowRule.TheVariants.{Empty, TooLong, Insn as NoInsn}
-use Rattle.flow_check.specs.declared.fault.FlowFault.{FlowFault}
-use Rattle.flow_check.specs.declared.fault.FlowFault.TheVariants.{Rule, Memory}
+use Rattle.flow_check.specs.declared.flow_fault.FlowRule.{FlowRule}
+use Rattle.flow_check.specs.declared.flow_fault.FlowRule.TheVariants.{BackJump, Outside}
+use Rattle.flow_check.specs.declared.flow_fault.FlowRule.TheVariants.{InsideWide, FallsOff}
+use Rattle.flow_check.specs.declared.flow_fault.FlowRule.TheVariants.{Empty, TooLong}
+use Rattle.flow_check.specs.declared.flow_fault.FlowRule.TheVariants.{Insn as NoInsn}
+use Rattle.flow_check.specs.declared.flow_fault.FlowFault.{FlowFault}
+use Rattle.flow_check.specs.declared.flow_fault.FlowFault.TheVariants.{Rule, Memory}
 use Rattle.flow_check.specs.Fault.{IsFlowFault, IsOfReading, IsRead}
 use Rattle.flow_check.specs.Sweep.{IsMarked}
 use Rattle.block_order.specs.Reach.{ReachedFrom, AreReachedFrom}

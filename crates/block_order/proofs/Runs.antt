@@ -21,7 +21,7 @@ use Rattle.bpf_semantics.specs.State.{State, opening}
 use Rattle.bpf_semantics.specs.Reads.{register, operand, both, only, loaded}
 use Rattle.bpf_semantics.specs.Calls.{helper_result}
 use Rattle.bpf_semantics.specs.Counters.{load_cell}
-use Rattle.bpf_semantics.specs.Outcome.{Going, moved_to, jump_to, ask, write}
+use Rattle.bpf_semantics.specs.Outcome.{Going, moved_to, jump_to, operate, write}
 use Rattle.bpf_semantics.specs.Step.{step, act, act_at}
 use Rattle.flow_check.specs.Edges.{target_of}
 use Rattle.block_order.specs.Order.{Places, IsJump, LeadsOnto, GoesOnAt, IsKeptAs, IsOrderOf}
@@ -56,7 +56,7 @@ module _ (places : Places) (q : Program) (shape : AppShape) where
   kept_step s u m (End order size dst) lacks k = rw k.0 (write_follows places q s u m 1 k.1 dst _)
   kept_step s u m (Jump distance) lacks k = absurd lacks
   kept_step s u m (JumpIf bits condition left right offset) lacks k =
-      rw (k.0.stands ∙ ap Some k.0.same.1, operand_same s u m bits right)
+      rw (k.0.moved_is ∙ ap Some k.0.same.1, operand_same s u m bits right)
       (branch_follows places q s u m offset k.0.same.0 k.0.target k.0.place k.0.landed
       (ap (target_of u) (sym k.0.same.1) ∙ k.0.lands) k.0.placed k.1
       (both (holds bits condition) (register s left) (operand s bits right)))
@@ -65,7 +65,7 @@ module _ (places : Places) (q : Program) (shape : AppShape) where
   kept_step s u m Exit lacks k = rw k (finish_follows places q s u m (s.registers 0))
   kept_step s u m (Load kind dst src offset) lacks k =
       rw k.0 (reach_follows places q (load_cell kind (register s src) offset)
-      (λ c. ask s c cell.Load (Some dst)) (λ c. ask (set s u m) c cell.Load (Some dst))
+      (λ c. operate s c cell.Load (Some dst)) (λ c. operate (set s u m) c cell.Load (Some dst))
       (write s 1 dst (loaded s kind (register s src) offset))
       (write (set s u m) 1 dst (loaded s kind (register s src) offset))
       (λ c. ask_follows places q s u m k.1 c cell.Load (Some dst))

@@ -19,9 +19,9 @@ use Rattle.bpf_insn.specs.Program.{◌>>=◌, Program, landing}
 use Rattle.bpf_semantics.specs.Memory.{address_of, is_in_stack, stack_start, cell_at}
 use Rattle.bpf_semantics.specs.State.{State, with_bytes, with_register}
 use Rattle.bpf_semantics.specs.Reads.{byte_count, register, operand}
-use Rattle.bpf_semantics.specs.Outcome.{Outcome, Asks, Trap, needed, write, branch}
-use Rattle.bpf_semantics.specs.Outcome.{finish, jump_to, go_to, moved, moved_to, ask, answer}
-use Rattle.bpf_semantics.specs.Counters.{reach, store_cell, store_asks, atomic_asks}
+use Rattle.bpf_semantics.specs.Outcome.{Outcome, Operates, Trap, needed, write, branch}
+use Rattle.bpf_semantics.specs.Outcome.{finish, jump_to, go_to, moved, moved_to, operate, answer}
+use Rattle.bpf_semantics.specs.Counters.{reach, store_cell, store_operates, atomic_operates}
 use Rattle.bpf_semantics.specs.Counters.{atomic_count, cell_op, fetched, expected, cut}
 use Rattle.bpf_semantics.specs.Calls.{result_by, known_result, helper_result}
 use Rattle.bpf_semantics.specs.declared.helpers.Helper.{Helper}
@@ -99,16 +99,16 @@ module _ (places : Places) (q : Program) where
       answer_follows (Some n) = (v + 1, m + 1, refl, on)
 
       pub ask_follows : (c : ℕ) (op : CellOp) (dst : Option Reg)
-          → Follows (ask s c op dst) (ask (set s v m) c op dst)
+          → Follows (operate s c op dst) (operate (set s v m) c op dst)
       ask_follows c op None = (refl, refl, λ r. (v + 1, m + 1, refl, on))
       ask_follows c op (Some dst) =
           either (number_of dst == 10) Trap Trap
-          (Asks c op (λ r. moved_to (with_register s (number_of dst) r) (s.slot + 1)))
-          (Asks c op (λ r. moved_to (with_register (set s v m) (number_of dst) r) (v + 1))) tt
+          (Operates c op (λ r. moved_to (with_register s (number_of dst) r) (s.slot + 1)))
+          (Operates c op (λ r. moved_to (with_register (set s v m) (number_of dst) r) (v + 1))) tt
           (refl, refl, λ r. (v + 1, m + 1, refl, on))
 
       pub store_asks_follows : (size : Size) (o : Option ℕ) (c : ℕ)
-          → Follows (store_asks s size o c) (store_asks (set s v m) size o c)
+          → Follows (store_operates s size o c) (store_operates (set s v m) size o c)
       store_asks_follows size None c = tt
       store_asks_follows size (Some n) c = ask_follows c (cell.Store (cut (byte_count size) n)) None
 
@@ -123,19 +123,19 @@ module _ (places : Places) (q : Program) where
           → Follows (store s size base offset value) (store (set s v m) size base offset value)
       store_follows size None offset value = tt
       store_follows size (Some b) offset None =
-          reach_follows (store_cell size (Some b) offset) (store_asks s size None)
-          (store_asks (set s v m) size None) Trap Trap (store_asks_follows size None) tt
+          reach_follows (store_cell size (Some b) offset) (store_operates s size None)
+          (store_operates (set s v m) size None) Trap Trap (store_asks_follows size None) tt
       store_follows size (Some b) offset (Some n) =
-          reach_follows (store_cell size (Some b) offset) (store_asks s size (Some n))
-          (store_asks (set s v m) size (Some n)) _ _ (store_asks_follows size (Some n))
+          reach_follows (store_cell size (Some b) offset) (store_operates s size (Some n))
+          (store_operates (set s v m) size (Some n)) _ _ (store_asks_follows size (Some n))
           (moved_follows (is_in_stack (address_of b offset) (byte_count size)) (record s {
             stack = with_bytes s.stack (address_of b offset - stack_start) (byte_count size) n;
           }) refl)
 
       atomic_operands : (op : AtomicOp) (size : AtomicSize) (src : Reg) (c : ℕ) (o p : Option ℕ)
-          → Follows (needed (o >>= λ r0. p >>= λ n. Some (ask s c
+          → Follows (needed (o >>= λ r0. p >>= λ n. Some (operate s c
           (cell_op op (cut (atomic_count size) r0) (cut (atomic_count size) n)) (fetched op src))))
-          (needed (o >>= λ r0. p >>= λ n. Some (ask (set s v m) c
+          (needed (o >>= λ r0. p >>= λ n. Some (operate (set s v m) c
           (cell_op op (cut (atomic_count size) r0) (cut (atomic_count size) n)) (fetched op src))))
       atomic_operands op size src c None p = tt
       atomic_operands op size src c (Some r0) None = tt
@@ -144,28 +144,28 @@ module _ (places : Places) (q : Program) where
 
       atomic_cell : (op : AtomicOp) (size : AtomicSize) (src : Reg) (o : Option ℕ)
           → Follows (needed (o >>= λ c. expected op s >>= λ r0. register s src >>= λ n.
-          Some (ask s c (cell_op op (cut (atomic_count size) r0) (cut (atomic_count size) n))
+          Some (operate s c (cell_op op (cut (atomic_count size) r0) (cut (atomic_count size) n))
           (fetched op src))))
           (needed (o >>= λ c. expected op (set s v m) >>= λ r0. register s src >>= λ n.
-          Some (ask (set s v m) c
+          Some (operate (set s v m) c
           (cell_op op (cut (atomic_count size) r0) (cut (atomic_count size) n)) (fetched op src))))
       atomic_cell op size src None = tt
       atomic_cell op size src (Some c) = rw (expected_same s v m op)
           (atomic_operands op size src c (expected op s) (register s src))
 
       pub atomic_follows : (op : AtomicOp) (size : AtomicSize) (dst src : Reg) (offset : ℤ)
-          → Follows (needed (atomic_asks s op size dst src offset))
-          (needed (atomic_asks (set s v m) op size dst src offset))
+          → Follows (needed (atomic_operates s op size dst src offset))
+          (needed (atomic_operates (set s v m) op size dst src offset))
       atomic_follows op size dst src offset = on_base (register s dst)
         where
           on_base : (o : Option ℕ)
               → Follows (needed (o >>= λ base. cell_at (address_of base offset) (atomic_count size)
-              >>= λ c. expected op s >>= λ r0. register s src >>= λ n. Some (ask s c
+              >>= λ c. expected op s >>= λ r0. register s src >>= λ n. Some (operate s c
               (cell_op op (cut (atomic_count size) r0) (cut (atomic_count size) n))
               (fetched op src))))
               (needed (o >>= λ base. cell_at (address_of base offset) (atomic_count size)
               >>= λ c. expected op (set s v m) >>= λ r0. register s src >>= λ n.
-              Some (ask (set s v m) c
+              Some (operate (set s v m) c
               (cell_op op (cut (atomic_count size) r0) (cut (atomic_count size) n))
               (fetched op src))))
           on_base None = tt

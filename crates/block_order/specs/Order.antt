@@ -41,7 +41,7 @@ IsSameJump i j = ⊥
 -- the conditional jump of slot s is at slot t, and lands on the new slot of its target
 pub record IsJumpKept (places : Places) (q : Program) (s t : ℕ) (i : Insn) : Type 0 where
   pub moved : Insn
-  pub stands : at q t ≡ Some moved
+  pub moved_is : at q t ≡ Some moved
   pub same : IsSameJump i moved
   pub target : ℕ
   pub landed : target_of s i ≡ Some target

@@ -3,12 +3,12 @@
 use Rattle.std.specs.Prelude.{◌≡◌, ℕ, ◌<◌, ◌≤◌, ◌⊎◌, List, length, Some, None, IsSome}
 use Rattle.bpf_insn.specs.declared.insn.Insn.{Insn}
 use Rattle.bpf_insn.specs.Program.{Program, at}
-use Rattle.flow_check.specs.declared.fault.FlowRule.{FlowRule}
-use Rattle.flow_check.specs.declared.fault.FlowRule.TheVariants.{BackJump, Outside, InsideWide}
-use Rattle.flow_check.specs.declared.fault.FlowRule.TheVariants.{FallsOff, Empty, TooLong}
-use Rattle.flow_check.specs.declared.fault.FlowRule.TheVariants.{Insn as NoInsn}
-use Rattle.flow_check.specs.declared.fault.FlowFault.{FlowFault}
-use Rattle.flow_check.specs.declared.fault.FlowFault.TheVariants.{Rule, Memory}
+use Rattle.flow_check.specs.declared.flow_fault.FlowRule.{FlowRule}
+use Rattle.flow_check.specs.declared.flow_fault.FlowRule.TheVariants.{BackJump, Outside, InsideWide}
+use Rattle.flow_check.specs.declared.flow_fault.FlowRule.TheVariants.{FallsOff, Empty, TooLong}
+use Rattle.flow_check.specs.declared.flow_fault.FlowRule.TheVariants.{Insn as NoInsn}
+use Rattle.flow_check.specs.declared.flow_fault.FlowFault.{FlowFault}
+use Rattle.flow_check.specs.declared.flow_fault.FlowFault.TheVariants.{Rule, Memory}
 use Rattle.flow_check.specs.Edges.{jump_of, target_of, IsOutside, IsInsideWide, IsFallingOff}
 use Rattle.flow_check.specs.Fault.{IsFlowFault, IsRead, rule_number}
 use Rattle.block_order.specs.Reach.{ReachedFrom}

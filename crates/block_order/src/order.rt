@@ -129,7 +129,7 @@ fn copied(alloc: Global, bytes: &[u8], flow: &Flow) -> Result<Vec<u8>, AllocErro
     ensures program { IfOk result (λ v. IsOrdered bytes.now v.items) }
     ensures same { IfOk result (λ v. v.items ≡ bytes.now) }
 {
-    flow.keeps();
+    flow.invariant_law();
     let copy = Vec::from_slice(alloc, bytes)?;
     Ok(copy)
 }

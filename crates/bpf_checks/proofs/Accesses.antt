@@ -21,7 +21,7 @@ use Rattle.abs_value.specs.declared.state.AbsState.{AbsState}
 use Rattle.abs_value.specs.Numbers.{single}
 use Rattle.abs_value.specs.Values.{is_unusable}
 use Rattle.abs_value.specs.States.{value_of, with_value}
-use Rattle.abs_value.specs.Covers.{IsWord, Includes, IsStoodFor}
+use Rattle.abs_value.specs.Covers.{IsWord, Includes, IsRepresented}
 use Rattle.bpf_checks.specs.Reads.{load_access, store_access}
 use Rattle.bpf_checks.specs.Memory.{lies_in, is_outside, changes_context, is_no_address}
 use Rattle.bpf_checks.specs.Memory.{reaches_quota, stack_place, meets_unset}
@@ -37,7 +37,7 @@ use Rattle.bpf_checks.proofs.Regions.{context_load_safe, stack_load_safe, stack_
 -- ---- loads
 
 load_by : (given : Given) (shape : AppShape) (e : AbsState) (s : State) (kind : LoadKind)
-    (dst base : Reg) (offset : ℤ) (a : Abs) (x : ℕ) (h : IsStoodFor shape e s)
+    (dst base : Reg) (offset : ℤ) (a : Abs) (x : ℕ) (h : IsRepresented shape e s)
     → IsShape shape → HasWords s → FitsSigned w16 offset
     → (number_of dst == 10) ≡ false → is_unusable a ≡ false
     → meets_unset e a offset (load_count kind) ≡ false
@@ -66,7 +66,7 @@ load_by given shape e s kind dst base offset (Cell origin) x h fits w f frame u 
 
 pub load_safe : (given : Given) (shape : AppShape) (e : AbsState) (s : State) (kind : LoadKind)
     (dst src : Reg) (offset : ℤ) → IsShape shape → FitsSigned w16 offset → HasWords s
-    → IsStoodFor shape e s → Passes shape e (Load kind dst src offset)
+    → IsRepresented shape e s → Passes shape e (Load kind dst src offset)
     → IsSafe shape (edges shape s.slot e (Load kind dst src offset))
     (act shape s (Load kind dst src offset))
 unfolding edges
@@ -85,7 +85,7 @@ and_true true h = absurd cc
 and_true false h = refl
 
 store_by : (given : Given) (shape : AppShape) (e : AbsState) (s : State) (size : Size) (base : Reg)
-    (offset : ℤ) (a v : Abs) (x y : ℕ) (h : IsStoodFor shape e s)
+    (offset : ℤ) (a v : Abs) (x y : ℕ) (h : IsRepresented shape e s)
     → IsShape shape → FitsSigned w16 offset → is_unusable a ≡ false
     → is_outside shape (store_access size base offset) a ≡ false
     → changes_context (store_access size base offset) a ≡ false
@@ -114,7 +114,7 @@ store_by given shape e s size base offset
 
 pub store_imm_safe : (given : Given) (shape : AppShape) (e : AbsState) (s : State) (size : Size)
     (dst : Reg) (offset imm : ℤ) → IsShape shape → FitsSigned w16 offset → FitsSigned w32 imm
-    → IsStoodFor shape e s → Passes shape e (StoreImm size dst offset imm)
+    → IsRepresented shape e s → Passes shape e (StoreImm size dst offset imm)
     → IsSafe shape (edges shape s.slot e (StoreImm size dst offset imm))
     (act shape s (StoreImm size dst offset imm))
 unfolding edges
@@ -131,7 +131,7 @@ store_imm_safe given shape e s size dst offset imm fits f g h ok =
 
 pub store_safe : (given : Given) (shape : AppShape) (e : AbsState) (s : State) (size : Size)
     (dst src : Reg) (offset : ℤ) → IsShape shape → FitsSigned w16 offset → HasWords s
-    → IsStoodFor shape e s → Passes shape e (Store size dst src offset)
+    → IsRepresented shape e s → Passes shape e (Store size dst src offset)
     → IsSafe shape (edges shape s.slot e (Store size dst src offset))
     (act shape s (Store size dst src offset))
 unfolding edges

@@ -16,7 +16,7 @@ use Rattle.cells.specs.Arrays.{AppShape, IsShape}
 use Rattle.cells.specs.Events.{width, CanReply}
 use Rattle.bpf_semantics.specs.State.{State}
 use Rattle.bpf_semantics.specs.Reads.{register}
-use Rattle.bpf_semantics.specs.Outcome.{ask}
+use Rattle.bpf_semantics.specs.Outcome.{operate}
 use Rattle.bpf_semantics.specs.Counters.{cut, atomic_count, cell_op, expected, fetched}
 use Rattle.bpf_semantics.specs.Step.{act}
 use Rattle.abs_value.specs.declared.origin.Origin.{Origin}
@@ -26,7 +26,7 @@ use Rattle.abs_value.specs.declared.value.Abs.TheVariants.{Stk, Map, MayCell, Ce
 use Rattle.abs_value.specs.declared.state.AbsState.{AbsState}
 use Rattle.abs_value.specs.Values.{is_unusable}
 use Rattle.abs_value.specs.States.{value_of}
-use Rattle.abs_value.specs.Covers.{Returns, Includes, IsStoodFor}
+use Rattle.abs_value.specs.Covers.{Returns, Includes, IsRepresented}
 use Rattle.bpf_checks.specs.Arrays.{has_quota}
 use Rattle.bpf_checks.specs.Memory.{changes_context, is_no_address}
 use Rattle.bpf_checks.specs.Memory.{exchanges_stack, reaches_quota, is_outside}
@@ -98,7 +98,7 @@ record Operands (op : AtomicOp) (s : State) (src : Reg) (g : Returns) (v : Abs) 
   compared_is : expected op s ≡ Some compared
 
 operands_there : (given : Given) (shape : AppShape) (e : AbsState) (s : State) (op : AtomicOp)
-    (dst src : Reg) (h : IsStoodFor shape e s)
+    (dst src : Reg) (h : IsRepresented shape e s)
     → (list_any (λ r. is_unusable (value_of e r)) (dst ∷ src ∷ compared_register op) || false)
     ≡ false
     → Operands op s src (answers h) (value_of e src)
@@ -176,15 +176,16 @@ lawful shape g e op size dst src offset origin number r0 x place is quota h =
 -- ---- the step
 
 into : (given : Given) (shape : AppShape) (e : AbsState) (s : State) (c : ℕ) (op : CellOp)
-    (r : Option Reg) (v : Abs) (h : IsStoodFor shape e s) → is_frame r ≡ false → IsLawful shape c op
+    (r : Option Reg) (v : Abs) (h : IsRepresented shape e s) → is_frame r ≡ false
+    → IsLawful shape c op
     → ((reply : ℕ) → CanReply c op reply → Includes (answers h) v reply)
-    → IsSafe shape (edge_to (s.slot + 1) (with_fetched e r v) ∷ []) (ask s c op r)
+    → IsSafe shape (edge_to (s.slot + 1) (with_fetched e r v) ∷ []) (operate s c op r)
 into given shape e s c op None v h frame lawful inc = ask_safe given shape e s c op h lawful
 into given shape e s c op (Some r) v h frame lawful inc =
     fetch_safe given shape e s c op r v h frame lawful inc
 
 pub atomic_safe : (given : Given) (shape : AppShape) (e : AbsState) (s : State) (op : AtomicOp)
-    (size : AtomicSize) (dst src : Reg) (offset : ℤ) → IsStoodFor shape e s → IsShape shape
+    (size : AtomicSize) (dst src : Reg) (offset : ℤ) → IsRepresented shape e s → IsShape shape
     → Passes shape e (Atomic op size dst src offset)
     → IsSafe shape (edges shape s.slot e (Atomic op size dst src offset))
     (act shape s (Atomic op size dst src offset))

@@ -33,7 +33,7 @@ use Rattle.abs_value.specs.Values.{is_unusable, is_number}
 use Rattle.abs_value.specs.Stack.{has_unset}
 use Rattle.abs_value.specs.States.{value_of}
 use Rattle.abs_value.specs.Lookups.{called}
-use Rattle.abs_value.specs.Covers.{Returns, Includes, answering, IsStoodFor}
+use Rattle.abs_value.specs.Covers.{Returns, Includes, answering, IsRepresented}
 use Rattle.bpf_checks.specs.Memory.{text_unset}
 use Rattle.bpf_checks.specs.Reads.{arguments}
 use Rattle.bpf_checks.specs.Rules.{compares_unset, is_map, is_stack_text, takes}
@@ -98,7 +98,7 @@ or_true true b h = refl
 or_true false b h = h
 
 text_at : (given : Given) (shape : AppShape) (e : AbsState) (s : State) (place n number : ℕ)
-    (h : IsStoodFor shape e s) → HasWords s → n ≤ 64 → place + n ≤ stack_size
+    (h : IsRepresented shape e s) → HasWords s → n ≤ 64 → place + n ≤ stack_size
     → has_unset e.stack (pos place) n ≡ false
     → IsSome (compared s number (stack_start + place) n)
 text_at given shape e s place n number h words short within set =
@@ -111,7 +111,7 @@ text_at given shape e s place n number h words short within set =
     (given.bytes (answers h) e s place n within words h.covers set))
 
 text_there : (given : Given) (shape : AppShape) (e : AbsState) (s : State) (v w : Abs)
-    (number address n : ℕ) (h : IsStoodFor shape e s) → HasWords s → is_stack_text v w ≡ true
+    (number address n : ℕ) (h : IsRepresented shape e s) → HasWords s → is_stack_text v w ≡ true
     → text_unset e v w ≡ false → Includes (answers h) v address → Includes (answers h) w n
     → IsSome (compared s number address n)
 text_there given shape e s (Stk place) (Num m) number address n h words is set at length =
@@ -139,7 +139,7 @@ record Asked (e : AbsState) (prototype : Option Prototype) : Type 0 where
   taken : takes e prototype ≡ true
 
 lookup_gives : (given : Given) (shape : AppShape) (e : AbsState) (s : State)
-    (h : IsStoodFor shape e s) → Asked e (Some OfMap)
+    (h : IsRepresented shape e s) → Asked e (Some OfMap)
     → IsSome (s.registers 1 >>= λ map. s.registers 2 >>= λ key. lookup shape map key)
 lookup_gives given shape e s h asked =
     let usable =
@@ -151,7 +151,7 @@ lookup_gives given shape e s h asked =
     (looked_up (answers h) (value_of e R1) map.number key.number taken.0 map.included)
 
 text_gives : (given : Given) (shape : AppShape) (e : AbsState) (s : State)
-    (h : IsStoodFor shape e s) → HasWords s → Asked e (Some OfText)
+    (h : IsRepresented shape e s) → HasWords s → Asked e (Some OfText)
     → IsSome (s.registers 1 >>= λ number. s.registers 2 >>= λ address. s.registers 3 >>= λ k.
     compared s number address k)
 text_gives given shape e s h words asked =
@@ -168,7 +168,7 @@ text_gives given shape e s h words asked =
     count.number h words taken.1 usable.3 address.included count.included)
 
 only_gives : (given : Given) (shape : AppShape) (e : AbsState) (s : State) (f : ℕ
-    → ℕ) (h : IsStoodFor shape e s) → (is_unusable (value_of e R1) || false || false) ≡ false
+    → ℕ) (h : IsRepresented shape e s) → (is_unusable (value_of e R1) || false || false) ≡ false
     → IsSome (only f (s.registers 1))
 only_gives given shape e s f h u =
     let usable = one_usable (is_unusable (value_of e R1)) false u in
@@ -176,7 +176,7 @@ only_gives given shape e s f h u =
     rw number.is refl
 
 result_gives : (given : Given) (shape : AppShape) (e : AbsState) (s : State) (f : ℕ → ℕ)
-    (prototype : Prototype) (h : IsStoodFor shape e s) → HasWords s → Asked e (Some prototype)
+    (prototype : Prototype) (h : IsRepresented shape e s) → HasWords s → Asked e (Some prototype)
     → IsSome (result_by shape s f prototype)
 result_gives given shape e s f OfMap h words asked = lookup_gives given shape e s h asked
 result_gives given shape e s f OfText h words asked = text_gives given shape e s h words asked
@@ -184,7 +184,7 @@ result_gives given shape e s f (OfNumber most) h words asked =
     only_gives given shape e s f h asked.usable
 
 helper_gives : (given : Given) (shape : AppShape) (e : AbsState) (s : State) (number : ℤ)
-    (h : IsStoodFor shape e s) → HasWords s → Asked e (called_prototype number)
+    (h : IsRepresented shape e s) → HasWords s → Asked e (called_prototype number)
     → IsSome (helper_result shape s number)
 helper_gives given shape e s number h words asked = by_helper (helper_of number) asked
   where
@@ -198,7 +198,7 @@ helper_gives given shape e s number h words asked = by_helper (helper_of number)
 -- ---- the step
 
 pub call_safe : (given : Given) (shape : AppShape) (e : AbsState) (s : State) (helper : ℤ)
-    → IsStoodFor shape e s → HasWords s → Passes shape e (Call helper)
+    → IsRepresented shape e s → HasWords s → Passes shape e (Call helper)
     → IsSafe shape (edges shape s.slot e (Call helper)) (act shape s (Call helper))
 unfolding edges
 call_safe given shape e s helper h words ok =
@@ -211,7 +211,7 @@ call_safe given shape e s helper h words ok =
     gives (helper_result shape s helper) (helper_gives given shape e s helper h words asked) in
     let x = given_result.result in
     let after = given.calls (answers h) e s helper x words h.before h.covers given_result.is in
-    let stands : IsStoodFor shape (called e helper s.slot)
+    let represents : IsRepresented shape (called e helper s.slot)
     (moved_to (with_result s x) (s.slot + 1)) = record {
       by = (answering (answers h) s.slot x).by;
       before = given.answering (answers h) s.slot (s.slot + 1) x (omega arith) h.before;
@@ -219,4 +219,4 @@ call_safe given shape e s helper h words ok =
           (with_result s x) (s.slot + 1) after;
     } in
     rw given_result.is
-    (leads shape (called e helper s.slot) (moved_to (with_result s x) (s.slot + 1)) stands)
+    (leads shape (called e helper s.slot) (moved_to (with_result s x) (s.slot + 1)) represents)

@@ -21,7 +21,7 @@ use Rattle.abs_value.specs.declared.value.Abs.TheVariants.{Cell}
 use Rattle.abs_value.specs.declared.state.AbsState.{AbsState}
 use Rattle.abs_value.specs.Values.{is_unusable, loaded_value}
 use Rattle.abs_value.specs.States.{value_of, with_value}
-use Rattle.abs_value.specs.Covers.{Returns, Includes, IsCell, IsStoodFor}
+use Rattle.abs_value.specs.Covers.{Returns, Includes, IsCell, IsRepresented}
 use Rattle.abs_value.specs.Laws.{IsThere}
 use Rattle.bpf_checks.specs.declared.access.Access.{Access}
 use Rattle.bpf_checks.specs.Arrays.{origin_bits, has_quota}
@@ -66,7 +66,7 @@ whole_cell g a origin x shaped is inside =
 
 -- the value of a register that isn't unusable
 pub there : (given : Given) (shape : AppShape) (e : AbsState) (s : State) (r : Reg)
-    (h : IsStoodFor shape e s) → is_unusable (value_of e r) ≡ false
+    (h : IsRepresented shape e s) → is_unusable (value_of e r) ≡ false
     → IsThere (answers h) (value_of e r) (register s r)
 there given shape e s r h u = given.registers (answers h) e s (number_of r) h.covers u
 
@@ -126,7 +126,7 @@ reply_included given g kind c reply sign wide fits =
     by_kind kind sign fits = absurd cc
 
 pub cell_load_safe : (given : Given) (shape : AppShape) (e : AbsState) (s : State) (kind : LoadKind)
-    (dst base : Reg) (offset : ℤ) (origin : Origin) (x : ℕ) (h : IsStoodFor shape e s)
+    (dst base : Reg) (offset : ℤ) (origin : Origin) (x : ℕ) (h : IsRepresented shape e s)
     → IsShape shape → IsCell (answers h) origin x
     → is_outside shape (load_access kind base offset) (Cell origin) ≡ false
     → (number_of dst == 10) ≡ false
@@ -143,7 +143,8 @@ cell_load_safe given shape e s kind dst base offset origin x h shaped is inside 
 -- ---- stores
 
 pub cell_store_safe : (given : Given) (shape : AppShape) (e : AbsState) (s : State) (size : Size)
-    (base : Reg) (offset : ℤ) (origin : Origin) (x v : ℕ) (h : IsStoodFor shape e s) → IsShape shape
+    (base : Reg) (offset : ℤ) (origin : Origin) (x v : ℕ) (h : IsRepresented shape e s)
+    → IsShape shape
     → IsCell (answers h) origin x
     → is_outside shape (store_access size base offset) (Cell origin) ≡ false
     → has_quota shape origin ≡ false

@@ -27,7 +27,7 @@ use Rattle.abs_value.specs.declared.state.AbsState.{AbsState}
 use Rattle.abs_value.specs.Values.{is_unusable, alu_value, copied_value}
 use Rattle.abs_value.specs.Values.{negated_value, extended_value, reordered_value}
 use Rattle.abs_value.specs.States.{value_of, operand_value}
-use Rattle.abs_value.specs.Covers.{IsWord, FitsImm, IsStoodFor}
+use Rattle.abs_value.specs.Covers.{IsWord, FitsImm, IsRepresented}
 use Rattle.abs_value.specs.Laws.{IsThere}
 use Rattle.bpf_checks.specs.Reads.{operand_register}
 use Rattle.bpf_checks.specs.Transfer.{edges}
@@ -66,7 +66,7 @@ operand_word s bits (Register r) x f w is = w.registers (number_of r) x is
 -- ---- the forms
 
 pub alu_safe : (given : Given) (shape : AppShape) (e : AbsState) (s : State) (bits : Bits)
-    (op : AluOp) (dst : Reg) (src : Operand) → FitsImm src → HasWords s → IsStoodFor shape e s
+    (op : AluOp) (dst : Reg) (src : Operand) → FitsImm src → HasWords s → IsRepresented shape e s
     → Passes shape e (Alu bits op dst src)
     → IsSafe shape (edges shape s.slot e (Alu bits op dst src)) (act shape s (Alu bits op dst src))
 unfolding edges
@@ -85,7 +85,7 @@ alu_safe given shape e s bits op dst src f w h ok =
     (operand_word s bits src b.number f w b.is) a.included b.included)
 
 pub mov_safe : (given : Given) (shape : AppShape) (e : AbsState) (s : State) (bits : Bits)
-    (dst : Reg) (src : Operand) → FitsImm src → IsStoodFor shape e s
+    (dst : Reg) (src : Operand) → FitsImm src → IsRepresented shape e s
     → Passes shape e (Mov bits dst src)
     → IsSafe shape (edges shape s.slot e (Mov bits dst src)) (act shape s (Mov bits dst src))
 unfolding edges
@@ -99,13 +99,13 @@ mov_safe given shape e s bits dst src f h ok =
 
 -- the only register that is read
 pub alone_there : (given : Given) (shape : AppShape) (e : AbsState) (s : State) (r : Reg)
-    (h : IsStoodFor shape e s) → ((is_unusable (value_of e r) || false) || false) ≡ false
+    (h : IsRepresented shape e s) → ((is_unusable (value_of e r) || false) || false) ≡ false
     → IsThere (answers h) (value_of e r) (register s r)
 alone_there given shape e s r h u = given.registers (answers h) e s (number_of r) h.covers
     (false_or _ false (false_or _ false u).0).0
 
 pub movsx_safe : (given : Given) (shape : AppShape) (e : AbsState) (s : State)
-    (extension : Extension) (dst src : Reg) → IsStoodFor shape e s
+    (extension : Extension) (dst src : Reg) → IsRepresented shape e s
     → Passes shape e (MovSx extension dst src)
     → IsSafe shape (edges shape s.slot e (MovSx extension dst src))
     (act shape s (MovSx extension dst src))
@@ -118,7 +118,7 @@ movsx_safe given shape e s extension dst src h ok =
     (given.extensions (answers h) extension (value_of e src) a.number a.included)
 
 pub neg_safe : (given : Given) (shape : AppShape) (e : AbsState) (s : State) (bits : Bits)
-    (dst : Reg) → HasWords s → IsStoodFor shape e s → Passes shape e (Neg bits dst)
+    (dst : Reg) → HasWords s → IsRepresented shape e s → Passes shape e (Neg bits dst)
     → IsSafe shape (edges shape s.slot e (Neg bits dst)) (act shape s (Neg bits dst))
 unfolding edges
 neg_safe given shape e s bits dst w h ok =
@@ -129,7 +129,7 @@ neg_safe given shape e s bits dst w h ok =
     (value_of e dst) a.number (w.registers (number_of dst) a.number a.is) a.included)
 
 pub end_safe : (given : Given) (shape : AppShape) (e : AbsState) (s : State) (order : ByteOrder)
-    (size : EndSize) (dst : Reg) → IsStoodFor shape e s → Passes shape e (End order size dst)
+    (size : EndSize) (dst : Reg) → IsRepresented shape e s → Passes shape e (End order size dst)
     → IsSafe shape (edges shape s.slot e (End order size dst)) (act shape s (End order size dst))
 unfolding edges
 end_safe given shape e s order size dst h ok =

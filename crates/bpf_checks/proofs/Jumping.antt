@@ -25,7 +25,7 @@ use Rattle.abs_value.specs.declared.state.AbsState.{AbsState}
 use Rattle.abs_value.specs.Values.{is_unusable}
 use Rattle.abs_value.specs.States.{value_of}
 use Rattle.abs_value.specs.Lookups.{refined_state}
-use Rattle.abs_value.specs.Covers.{Returns, FitsImm, Includes, Covers, IsStoodFor}
+use Rattle.abs_value.specs.Covers.{Returns, FitsImm, Includes, Covers, IsRepresented}
 use Rattle.abs_value.specs.Laws.{CoversOn}
 use Rattle.bpf_checks.specs.Reads.{operand_register}
 use Rattle.bpf_checks.specs.Rules.{is_choice}
@@ -40,35 +40,36 @@ use Rattle.bpf_checks.proofs.Computing.{both_there, operand_usable, alone_there}
 
 -- the abstract state also represents the state at a later slot
 at_later : (given : Given) (shape : AppShape) (e f : AbsState) (s : State) (slot : ℕ)
-    (h : IsStoodFor shape e s) → s.slot ≤ slot → Covers (answers h) f s
-    → IsStoodFor shape f (moved_to s slot)
+    (h : IsRepresented shape e s) → s.slot ≤ slot → Covers (answers h) f s
+    → IsRepresented shape f (moved_to s slot)
 at_later given shape e f s slot h le covers = stands_later given shape h.by s.slot f
     (moved_to s slot) le h.before (moved_covers (answers h) f s slot covers)
 
 jump_to_safe : (given : Given) (shape : AppShape) (e : AbsState) (s : State) (z : ℤ)
-    → pos 0 ≤ℤ z → IsStoodFor shape e s
+    → pos 0 ≤ℤ z → IsRepresented shape e s
     → IsSafe shape (edge (landing s.slot z) (Some e) ++ []) (jump_to s (landing s.slot z))
 jump_to_safe given shape e s (pos n) forward h = leads shape e (moved_to s (s.slot + 1 + n))
     (at_later given shape e e s (s.slot + 1 + n) h (omega arith) h.covers)
 jump_to_safe given shape e s (negsuc n) forward h = absurd (grind (arith, ints))
 
 pub jump_safe : (given : Given) (shape : AppShape) (e : AbsState) (s : State) (distance : Distance)
-    → pos 0 ≤ℤ slots_moved distance → IsStoodFor shape e s
+    → pos 0 ≤ℤ slots_moved distance → IsRepresented shape e s
     → IsSafe shape (edges shape s.slot e (Jump distance)) (act shape s (Jump distance))
 unfolding edges
 jump_safe given shape e s distance forward h =
     jump_to_safe given shape e s (slots_moved distance) forward h
 
-first_leads : (shape : AppShape) (e : AbsState) (es : List Edge) (t : State) → IsStoodFor shape e t
+first_leads : (shape : AppShape) (e : AbsState) (es : List Edge) (t : State)
+    → IsRepresented shape e t
     → Leads shape (edge_to t.slot e ∷ es) t
-first_leads shape e es t h = record { entry = e; along = (0, omega arith, refl); stands = h }
+first_leads shape e es t h = record { entry = e; along = (0, omega arith, refl); represents = h }
 
-second_leads : (shape : AppShape) (e : AbsState) (d : Edge) (t : State) → IsStoodFor shape e t
+second_leads : (shape : AppShape) (e : AbsState) (d : Edge) (t : State) → IsRepresented shape e t
     → Leads shape (d ∷ edge_to t.slot e ∷ []) t
-second_leads shape e d t h = record { entry = e; along = (1, omega arith, refl); stands = h }
+second_leads shape e d t h = record { entry = e; along = (1, omega arith, refl); represents = h }
 
 branch_safe : (given : Given) (shape : AppShape) (e : AbsState) (s : State) (offset : ℤ)
-    (j n : Option AbsState) (w : Option Bool) (t : Bool) (h : IsStoodFor shape e s)
+    (j n : Option AbsState) (w : Option Bool) (t : Bool) (h : IsRepresented shape e s)
     → pos 0 ≤ℤ offset → w ≡ Some t
     → (t ≡ true → CoversOn (answers h) j s) → (t ≡ false → CoversOn (answers h) n s)
     → IsSafe shape (edge (landing s.slot offset) j ++ edge (Some (s.slot + 1)) n)
@@ -92,7 +93,7 @@ not_taken false h = refl
 
 pub jump_if_safe : (given : Given) (shape : AppShape) (e : AbsState) (s : State) (bits : Bits)
     (condition : Condition) (left : Reg) (right : Operand) (offset : ℤ) → pos 0 ≤ℤ offset
-    → FitsImm right → IsStoodFor shape e s
+    → FitsImm right → IsRepresented shape e s
     → Passes shape e (JumpIf bits condition left right offset)
     → IsSafe shape (edges shape s.slot e (JumpIf bits condition left right offset))
     (act shape s (JumpIf bits condition left right offset))
@@ -125,7 +126,8 @@ finish_safe : (shape : AppShape) (w : Option ℕ) (x : ℕ) → w ≡ Some x →
     → IsSafe shape [] (finish w)
 finish_safe shape w x is le = rw is le
 
-pub exit_safe : (given : Given) (shape : AppShape) (e : AbsState) (s : State) → IsStoodFor shape e s
+pub exit_safe : (given : Given) (shape : AppShape) (e : AbsState) (s : State)
+    → IsRepresented shape e s
     → Passes shape e Exit → IsSafe shape (edges shape s.slot e Exit) (act shape s Exit)
 unfolding edges
 exit_safe given shape e s h ok =

@@ -27,7 +27,7 @@ use Rattle.abs_value.specs.Order.{HasOrderedEnds, IsStateInOrder, ResultsInOrder
 use Rattle.abs_value.specs.Order.{NegationsInOrder, ExtensionsInOrder, ReorderingsInOrder}
 use Rattle.abs_value.specs.Order.{LoadedInOrder, OperandsInOrder, WritesInOrder}
 use Rattle.abs_value.specs.Order.{StoresInOrder, LoadsInOrder, RefinedInOrder, CalledInOrder}
-use Rattle.bpf_checks.specs.Arrays.{cell_behind, fixed_cell, wide_abs}
+use Rattle.bpf_checks.specs.Arrays.{cell_after, fixed_cell, wide_abs}
 use Rattle.bpf_checks.specs.Memory.{stack_place}
 use Rattle.bpf_checks.specs.Transfer.{loaded_at, stored_at, fetched_value}
 use Rattle.bpf_checks.specs.Transfer.{with_fetched, after, jumping, going_on}
@@ -73,9 +73,9 @@ cell_in_order None = tt
 cell_in_order (Some c) = tt
 
 cells_in_order : (n : ℕ) (o : Option CellArray)
-    → HasOrderedEnds (or_unusable (o >>= λ a. option_map fixed_cell (cell_behind a n)))
+    → HasOrderedEnds (or_unusable (o >>= λ a. option_map fixed_cell (cell_after a n)))
 cells_in_order n None = tt
-cells_in_order n (Some a) = cell_in_order (cell_behind a n)
+cells_in_order n (Some a) = cell_in_order (cell_after a n)
 
 wide_in_order : (shape : AppShape) (value : WideValue)
     → HasOrderedEnds (or_unusable (wide_abs shape value))

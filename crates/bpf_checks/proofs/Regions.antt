@@ -27,7 +27,7 @@ use Rattle.abs_value.specs.declared.state.AbsState.{AbsState}
 use Rattle.abs_value.specs.Values.{loaded_value}
 use Rattle.abs_value.specs.Stack.{has_unset, loaded_from}
 use Rattle.abs_value.specs.States.{with_value, with_stored}
-use Rattle.abs_value.specs.Covers.{IsWord, Includes, IsInContext, IsStoodFor}
+use Rattle.abs_value.specs.Covers.{IsWord, Includes, IsInContext, IsRepresented}
 use Rattle.abs_value.specs.Laws.{CoversAfter}
 use Rattle.bpf_checks.specs.Memory.{lies_in, stack_place}
 use Rattle.bpf_checks.specs.Transfer.{edge_to, loaded_at, stored_at}
@@ -91,7 +91,7 @@ at_place place offset n h l = rw h (ap (λ (z : ℤ). Some (unsigned_abs z)) l.i
 -- ---- loads
 
 load_reads : (given : Given) (shape : AppShape) (e : AbsState) (s : State) (kind : LoadKind)
-    (dst : Reg) (offset : ℤ) (v : Abs) (x number : ℕ) (h : IsStoodFor shape e s)
+    (dst : Reg) (offset : ℤ) (v : Abs) (x number : ℕ) (h : IsRepresented shape e s)
     → (number_of dst == 10) ≡ false → address_of x offset < cell_start
     → read_at s (address_of x offset) (load_count kind) ≡ Some number
     → Includes (answers h) v (filled kind number) → IsSafe shape
@@ -101,7 +101,7 @@ load_reads given shape e s kind dst offset v x number h frame low is inc =
     (loaded s kind (Some x) offset) (filled kind number) h frame (rw is refl) inc)
 
 pub context_load_safe : (given : Given) (shape : AppShape) (e : AbsState) (s : State)
-    (kind : LoadKind) (dst : Reg) (offset : ℤ) (from : Places) (x : ℕ) (h : IsStoodFor shape e s)
+    (kind : LoadKind) (dst : Reg) (offset : ℤ) (from : Places) (x : ℕ) (h : IsRepresented shape e s)
     → FitsSigned w16 offset → (number_of dst == 10) ≡ false
     → lies_in context_size from.lo from.hi offset (load_count kind) ≡ true → IsInContext from x
     → IsSafe shape (edge_to (s.slot + 1) (with_value e dst (loaded_value kind)) ∷ [])
@@ -113,7 +113,7 @@ context_load_safe given shape e s kind dst offset from x h f frame inside inc =
     (omega (arith, at.1)) r.is (given.loaded (answers h) kind r.number r.small)
 
 pub stack_load_safe : (given : Given) (shape : AppShape) (e : AbsState) (s : State)
-    (kind : LoadKind) (dst : Reg) (offset : ℤ) (place x : ℕ) (h : IsStoodFor shape e s)
+    (kind : LoadKind) (dst : Reg) (offset : ℤ) (place x : ℕ) (h : IsRepresented shape e s)
     → HasWords s → FitsSigned w16 offset → (number_of dst == 10) ≡ false
     → lies_in stack_size place place offset (load_count kind) ≡ true
     → has_unset e.stack (pos place +ℤ offset) (load_count kind) ≡ false → x ≡ stack_start + place
@@ -147,7 +147,7 @@ same_slot s t address n v h =
     slot_of (is_in_stack address n) s t (with_bytes s.stack (address - stack_start) n v) h
 
 moved_safe : (given : Given) (shape : AppShape) (e f : AbsState) (s : State) (o : Option State)
-    (h : IsStoodFor shape e s) → ((t : State) → o ≡ Some t → t.slot ≡ s.slot)
+    (h : IsRepresented shape e s) → ((t : State) → o ≡ Some t → t.slot ≡ s.slot)
     → CoversAfter (answers h) f o
     → IsSafe shape (edge_to (s.slot + 1) f ∷ []) (moved o)
 moved_safe given shape e f s None h same covers = absurd covers
@@ -156,7 +156,8 @@ moved_safe given shape e f s (Some t) h same covers =
     (leads_on given shape e f s t 1 h (same t refl) covers)
 
 pub stack_store_safe : (given : Given) (shape : AppShape) (e : AbsState) (s : State) (size : Size)
-    (offset : ℤ) (place x : ℕ) (a : Abs) (v : ℕ) (h : IsStoodFor shape e s) → FitsSigned w16 offset
+    (offset : ℤ) (place x : ℕ) (a : Abs) (v : ℕ) (h : IsRepresented shape e s)
+    → FitsSigned w16 offset
     → lies_in stack_size place place offset (byte_count size) ≡ true → x ≡ stack_start + place
     → IsWord v → Includes (answers h) a v
     → IsSafe shape (edge_to (s.slot + 1)

@@ -12,12 +12,13 @@ use Rattle.cells.specs.Arrays.{AppShape, IsShape}
 use Rattle.bpf_semantics.specs.State.{State, HasWords}
 use Rattle.bpf_semantics.specs.Step.{act}
 use Rattle.abs_value.specs.declared.state.AbsState.{AbsState}
-use Rattle.abs_value.specs.Covers.{IsStoodFor}
+use Rattle.abs_value.specs.Covers.{IsRepresented}
 use Rattle.abs_value.specs.Laws.{CoversFirst, CoversSecond, CoversOpening}
 use Rattle.flow_check.specs.Edges.{JumpsForward}
 use Rattle.bpf_checks.specs.Transfer.{edges}
-use Rattle.bpf_checks.specs.Sound.{IsSafe, EveryStepIsSafe, FirstStands, SecondStands}
-use Rattle.bpf_checks.specs.Sound.{OpeningStands}
+use Rattle.bpf_checks.specs.Sound.{IsSafe, EveryStepIsSafe, JoinRepresentsFirst}
+use Rattle.bpf_checks.specs.Sound.{JoinRepresentsSecond}
+use Rattle.bpf_checks.specs.Sound.{OpeningIsRepresented}
 use Rattle.bpf_checks.proofs.Given.{Given}
 use Rattle.bpf_checks.proofs.Passes.{Passes, passes}
 use Rattle.bpf_checks.proofs.Outcomes.{answers}
@@ -34,7 +35,7 @@ fits_imm (Imm k) f = f
 fits_imm (Register r) f = tt
 
 step_safe : (given : Given) (shape : AppShape) (e : AbsState) (s : State) (i : Insn) → IsShape shape
-    → IsEncodable i → JumpsForward i → HasWords s → IsStoodFor shape e s → Passes shape e i
+    → IsEncodable i → JumpsForward i → HasWords s → IsRepresented shape e s → Passes shape e i
     → IsSafe shape (edges shape s.slot e i) (act shape s i)
 step_safe given shape e s (Alu bits op dst src) fits f forward w h ok =
     alu_safe given shape e s bits op dst src (fits_imm src f.first.imm) w h ok
@@ -71,15 +72,15 @@ steps_safe given shape e s i fits f forward w h ok =
 
 -- ---- joins, and the start of a run
 
-pub first_stands : CoversFirst → FirstStands
+pub first_stands : CoversFirst → JoinRepresentsFirst
 first_stands law shape e f s h =
     record { by = h.by; before = h.before; covers = law (answers h) e f s h.covers }
 
-pub second_stands : CoversSecond → SecondStands
+pub second_stands : CoversSecond → JoinRepresentsSecond
 second_stands law shape e f s h =
     record { by = h.by; before = h.before; covers = law (answers h) e f s h.covers }
 
-pub opening_stands : CoversOpening → OpeningStands
+pub opening_stands : CoversOpening → OpeningIsRepresented
 opening_stands law shape a = record {
   by = λ call. None;
   before = λ call le. refl;

@@ -20,8 +20,8 @@ use Rattle.abs_value.specs.declared.value.Abs.{Abs}
 use Rattle.abs_value.specs.declared.value.Abs.TheVariants.{Map}
 use Rattle.abs_value.specs.declared.state.AbsState.{AbsState}
 use Rattle.abs_value.specs.Values.{or_unusable}
-use Rattle.abs_value.specs.Covers.{Returns, Includes, IsStoodFor}
-use Rattle.bpf_checks.specs.Arrays.{cell_behind, fixed_cell, wide_abs}
+use Rattle.abs_value.specs.Covers.{Returns, Includes, IsRepresented}
+use Rattle.bpf_checks.specs.Arrays.{cell_after, fixed_cell, wide_abs}
 use Rattle.bpf_checks.specs.Sound.{IsSafe}
 use Rattle.bpf_insn.specs.Spelling.{IsWideNumber}
 use Rattle.bpf_checks.specs.Transfer.{edges}
@@ -58,8 +58,8 @@ address_is : (base n : ℕ) → base + n / 8 < 8192 → n % 8 ≡ 0
 address_is base n lt whole = omega (arith, lt, whole)
 
 behind : (g : Returns) (i n : ℕ) (a : CellArray) → IsArray a → slice_get g.shape.arrays i ≡ Some a
-    → is_none (option_map fixed_cell (cell_behind a n)) ≡ false
-    → Loads g (option_map fixed_cell (cell_behind a n))
+    → is_none (option_map fixed_cell (cell_after a n)) ≡ false
+    → Loads g (option_map fixed_cell (cell_after a n))
     (Some (address_of (cell_address a.base) (pos n)))
 behind g i n a array e known = elim (cases_Bool ((n % 8 == 0) && nat_lt (n / 8) a.length)) [
   | inl is ↦
@@ -81,8 +81,8 @@ behind g i n a array e known = elim (cases_Bool ((n % 8 == 0) && nat_lt (n / 8) 
 
 cell_loads : (g : Returns) (i n : ℕ) (o : Option CellArray)
     → IsShape g.shape → slice_get g.shape.arrays i ≡ o
-    → is_none (o >>= λ a. option_map fixed_cell (cell_behind a n)) ≡ false
-    → Loads g (o >>= λ a. option_map fixed_cell (cell_behind a n))
+    → is_none (o >>= λ a. option_map fixed_cell (cell_after a n)) ≡ false
+    → Loads g (o >>= λ a. option_map fixed_cell (cell_after a n))
     (o >>= λ a. Some (address_of (cell_address a.base) (pos n)))
 cell_loads g i n None shaped e known = absurd cc
 cell_loads g i n (Some a) shaped e known = behind g i n a (array_is g.shape i a shaped e) e known
@@ -104,7 +104,7 @@ wide_loads given g (wide.Cell (pos i) (negsuc n)) w shaped known = absurd cc
 wide_loads given g (wide.Cell (negsuc i) offset) w shaped known = absurd cc
 
 pub wide_safe : (given : Given) (shape : AppShape) (e : AbsState) (s : State) (dst : Reg)
-    (value : WideValue) → IsWideNumber value → IsStoodFor shape e s → IsShape shape
+    (value : WideValue) → IsWideNumber value → IsRepresented shape e s → IsShape shape
     → Passes shape e (Wide dst value)
     → IsSafe shape (edges shape s.slot e (Wide dst value)) (act shape s (Wide dst value))
 unfolding edges

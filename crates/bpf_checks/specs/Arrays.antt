@@ -20,8 +20,8 @@ use Rattle.abs_value.specs.Numbers.{single}
 -- ---- wide loads
 
 -- the cell n bytes after the array's first cell; each cell has 8 bytes of addresses
-abbrev pub cell_behind : CellArray → ℕ → Option ℕ
-cell_behind a n =
+abbrev pub cell_after : CellArray → ℕ → Option ℕ
+cell_after a n =
     if (n % 8 == 0) && nat_lt (n / 8) a.length then Some (a.base + n / 8) else None
 
 abbrev pub fixed_cell : ℕ → Abs
@@ -32,7 +32,7 @@ abbrev pub wide_abs : AppShape → WideValue → Option Abs
 wide_abs shape (wide.Number n) = Some (Num (single n))
 wide_abs shape (wide.Map (pos i)) = slice_get shape.arrays i >>= λ a. Some (Map i)
 wide_abs shape (wide.Cell (pos i) (pos n)) =
-    slice_get shape.arrays i >>= λ a. option_map fixed_cell (cell_behind a n)
+    slice_get shape.arrays i >>= λ a. option_map fixed_cell (cell_after a n)
 wide_abs shape value = None
 
 -- ---- cells

@@ -10,12 +10,12 @@ use Rattle.cells.specs.declared.event.CellOp.TheVariants.{Load, Add}
 use Rattle.cells.specs.Arrays.{AppShape, IsShape, HasCell}
 use Rattle.cells.specs.Events.{CanReply}
 use Rattle.bpf_semantics.specs.State.{State, HasWords, opening}
-use Rattle.bpf_semantics.specs.Outcome.{Outcome, Going, Asks, Done, Trap}
+use Rattle.bpf_semantics.specs.Outcome.{Outcome, Going, Operates, Done, Trap}
 use Rattle.bpf_semantics.specs.Step.{act}
 use Rattle.flow_check.specs.Edges.{JumpsForward}
 use Rattle.abs_value.specs.declared.state.AbsState.{AbsState}
 use Rattle.abs_value.specs.States.{opening_state, join_states}
-use Rattle.abs_value.specs.Covers.{IsStoodFor}
+use Rattle.abs_value.specs.Covers.{IsRepresented}
 use Rattle.abs_value.specs.Order.{IsStateInOrder}
 use Rattle.bpf_checks.specs.Rules.{first_rule}
 use Rattle.bpf_checks.specs.Transfer.{Edge, edge_to, edges, jumping, going_on}
@@ -42,12 +42,12 @@ pub record IsLawful (shape : AppShape) (cell : ℕ) (op : CellOp) : Type 0 where
 pub record Leads (shape : AppShape) (edges : List Edge) (t : State) : Type 0 where
   pub entry : AbsState
   pub along : Contains edges (edge_to t.slot entry)
-  pub stands : IsStoodFor shape entry t
+  pub represents : IsRepresented shape entry t
 
 -- also for each reply that fits the cell
 abbrev pub IsSafe : AppShape → List Edge → Outcome → Type 0
 IsSafe shape edges (Going t) = Leads shape edges t
-IsSafe shape edges (Asks cell op next) =
+IsSafe shape edges (Operates cell op next) =
     IsLawful shape cell op
     × ((reply : ℕ) → CanReply cell op reply → Leads shape edges (next reply))
 IsSafe shape edges (Done n) = n ≤ shape.releases
@@ -59,22 +59,23 @@ IsSafe shape edges Trap = ⊥
 abbrev pub EveryStepIsSafe : Type 0
 EveryStepIsSafe =
     (shape : AppShape) (e : AbsState) (s : State) (i : Insn)
-    → IsShape shape → IsEncodable i → JumpsForward i → HasWords s → IsStoodFor shape e s
+    → IsShape shape → IsEncodable i → JumpsForward i → HasWords s → IsRepresented shape e s
     → first_rule shape e i ≡ None → IsSafe shape (edges shape s.slot e i) (act shape s i)
 
 -- a join represents all that either side represents
-abbrev pub FirstStands : Type 0
-FirstStands =
+abbrev pub JoinRepresentsFirst : Type 0
+JoinRepresentsFirst =
     (shape : AppShape) (e f : AbsState) (s : State)
-    → IsStoodFor shape e s → IsStoodFor shape (join_states e f) s
+    → IsRepresented shape e s → IsRepresented shape (join_states e f) s
 
-abbrev pub SecondStands : Type 0
-SecondStands =
+abbrev pub JoinRepresentsSecond : Type 0
+JoinRepresentsSecond =
     (shape : AppShape) (e f : AbsState) (s : State)
-    → IsStoodFor shape f s → IsStoodFor shape (join_states e f) s
+    → IsRepresented shape f s → IsRepresented shape (join_states e f) s
 
-abbrev pub OpeningStands : Type 0
-OpeningStands = (shape : AppShape) (a : Attributes) → IsStoodFor shape opening_state (opening a)
+abbrev pub OpeningIsRepresented : Type 0
+OpeningIsRepresented = (shape : AppShape) (a : Attributes) → IsRepresented shape opening_state
+    (opening a)
 
 -- ends that are in order stay in order
 abbrev pub JumpingInOrder : Type 0

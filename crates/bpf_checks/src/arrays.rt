@@ -10,9 +10,9 @@ use bpf_insn::WideValue;
 use cells::{CellArray, CellNo, CellWidth, Shape};
 
 /// The cell at a byte offset from the array's first cell, if it belongs to the array.
-fn cell_behind(array: &CellArray, offset: u32) -> Option<u16>
+fn cell_after(array: &CellArray, offset: u32) -> Option<u16>
     requires { array.now.base + array.now.length ≤ 8192 }
-    ensures { result ≡ arrays.cell_behind array.now offset }
+    ensures { result ≡ arrays.cell_after array.now offset }
 {
     if offset % 8 == 0 && offset / 8 < array.length as u32 {
         Some(array.base + (offset / 8) as u16)
@@ -33,9 +33,9 @@ pub fn wide(shape: &Shape, value: WideValue) -> Option<Abs>
             Some(Abs::Map { index })
         }
         WideValue::Cell { array, offset } => {
-            shape.keeps();
+            shape.invariant_law();
             let array = shape.arrays().get(usize::try_from(array).ok()?)?;
-            let cell = cell_behind(array, u32::try_from(offset).ok()?)?;
+            let cell = cell_after(array, u32::try_from(offset).ok()?)?;
             Some(Abs::Cell(Origin::Fixed(cell)))
         }
     }

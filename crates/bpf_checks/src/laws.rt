@@ -27,10 +27,10 @@ pub fn steps_are_safe()
 
 /// Law: a join represents all states that either side represents, and the opening state represents
 /// the start of a run.
-pub fn states_are_stood_for()
-    ensures first { sound.FirstStands }
-    ensures second { sound.SecondStands }
-    ensures opening { sound.OpeningStands }
+pub fn states_are_represented()
+    ensures first { sound.JoinRepresentsFirst }
+    ensures second { sound.JoinRepresentsSecond }
+    ensures opening { sound.OpeningIsRepresented }
 {
     joins_cover();
     registers_cover();

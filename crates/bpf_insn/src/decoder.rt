@@ -9,10 +9,10 @@ ghost use Rattle.bpf_insn.specs.Spelling.{width_of, HasFields, Spells, IsLeastFa
 ghost use Rattle.bpf_insn.specs.Halves.{IsOfRow, IsOnlySpelling, SpellsOrHasFault};
 
 use crate::build::{common_fault, insn_in, wide_in};
-use crate::fault::is_second_half;
 use crate::fields::{Fields, InsnFault};
 use crate::form::Form;
 use crate::insn::{Insn, Width};
+use crate::insn_fault::is_second_half;
 use crate::layout::split_fields;
 use crate::opcode::form_at;
 

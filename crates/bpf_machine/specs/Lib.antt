@@ -1,4 +1,4 @@
 pub mod Words
 pub mod Next
 pub mod Advance
-pub mod StandsFor
+pub mod Represents

@@ -49,7 +49,7 @@ fn narrow(size: AtomicSize, value: u64) -> u64
 }
 
 #[inline]
-pub fn ask_counter(
+pub fn operate_on_counter(
     words: &Words,
     op: AtomicOp,
     size: AtomicSize,

@@ -20,9 +20,10 @@ use Rattle.bpf_semantics.specs.Program.{ShapedProgram}
 use Rattle.bpf_semantics.specs.Memory.{address_of, is_in_stack, stack_start, cell_at}
 use Rattle.bpf_semantics.specs.State.{State, with_bytes, with_register}
 use Rattle.bpf_semantics.specs.Reads.{byte_count, register}
-use Rattle.bpf_semantics.specs.Outcome.{Outcome, Asks, Trap, needed, write, branch, finish}
-use Rattle.bpf_semantics.specs.Outcome.{jump_to, go_to, moved, moved_to, ask, answer}
-use Rattle.bpf_semantics.specs.Counters.{reach, load_cell, store_cell, store_asks, atomic_asks}
+use Rattle.bpf_semantics.specs.Outcome.{Outcome, Operates, Trap, needed, write, branch, finish}
+use Rattle.bpf_semantics.specs.Outcome.{jump_to, go_to, moved, moved_to, operate, answer}
+use Rattle.bpf_semantics.specs.Counters.{reach, load_cell, store_cell, store_operates}
+use Rattle.bpf_semantics.specs.Counters.{atomic_operates}
 use Rattle.bpf_semantics.specs.Counters.{atomic_count, cell_op, fetched, expected, cut}
 use Rattle.bpf_semantics.specs.Step.{act, act_at, step, store}
 use Rattle.bpf_semantics.specs.Laws.{IsNext}
@@ -56,11 +57,11 @@ answer_next : (s : State) (o : Option ℕ) → IsNext s (answer s o)
 answer_next s None = tt
 answer_next s (Some v) = record { count = refl; attributes = refl }
 
-ask_next : (s : State) (c : ℕ) (op : CellOp) (dst : Option Reg) → IsNext s (ask s c op dst)
+ask_next : (s : State) (c : ℕ) (op : CellOp) (dst : Option Reg) → IsNext s (operate s c op dst)
 ask_next s c op None = λ reply. record { count = refl; attributes = refl }
 ask_next s c op (Some dst) =
     either s (number_of dst == 10) Trap
-    (Asks c op (λ reply. moved_to (with_register s (number_of dst) reply) (s.slot + 1))) tt
+    (Operates c op (λ reply. moved_to (with_register s (number_of dst) reply) (s.slot + 1))) tt
     (λ reply. record { count = refl; attributes = refl })
 
 reach_next : (s : State) (o : Option ℕ) (counter : ℕ → Outcome) (memory : Outcome)
@@ -75,7 +76,7 @@ moved_next s t true count attributes =
 moved_next s t false count attributes = tt
 
 store_asks_next : (s : State) (size : Size) (o : Option ℕ) (c : ℕ)
-    → IsNext s (store_asks s size o c)
+    → IsNext s (store_operates s size o c)
 store_asks_next s size None c = tt
 store_asks_next s size (Some v) c = ask_next s c (cell.Store (cut (byte_count size) v)) None
 
@@ -83,18 +84,19 @@ store_next : (s : State) (size : Size) (base : Option ℕ) (offset : ℤ) (value
     → IsNext s (store s size base offset value)
 store_next s size None offset value = tt
 store_next s size (Some b) offset None = reach_next s (store_cell size (Some b) offset)
-    (store_asks s size None) Trap (store_asks_next s size None) tt
+    (store_operates s size None) Trap (store_asks_next s size None) tt
 store_next s size (Some b) offset (Some v) = reach_next s (store_cell size (Some b) offset)
-    (store_asks s size (Some v)) _ (store_asks_next s size (Some v))
+    (store_operates s size (Some v)) _ (store_asks_next s size (Some v))
     (moved_next s (record s {
       stack = with_bytes s.stack (address_of b offset - stack_start) (byte_count size) v;
     }) (is_in_stack (address_of b offset) (byte_count size)) refl refl)
 
 atomic_next : (s : State) (op : AtomicOp) (size : AtomicSize) (dst src : Reg) (offset : ℤ)
-    → IsNext s (needed (atomic_asks s op size dst src offset))
+    → IsNext s (needed (atomic_operates s op size dst src offset))
 atomic_next s op size dst src offset = on_base (register s dst)
   where
-    on_operands : (c : ℕ) (o q : Option ℕ) → IsNext s (needed (o >>= λ r0. q >>= λ v. Some (ask s c
+    on_operands : (c : ℕ) (o q : Option ℕ)
+        → IsNext s (needed (o >>= λ r0. q >>= λ v. Some (operate s c
         (cell_op op (cut (atomic_count size) r0) (cut (atomic_count size) v)) (fetched op src))))
     on_operands c None q = tt
     on_operands c (Some r0) None = tt
@@ -102,14 +104,15 @@ atomic_next s op size dst src offset = on_base (register s dst)
         (cell_op op (cut (atomic_count size) r0) (cut (atomic_count size) v)) (fetched op src)
 
     on_cell : (o : Option ℕ)
-        → IsNext s (needed (o >>= λ c. expected op s >>= λ r0. register s src >>= λ v. Some (ask s c
+        → IsNext s (needed
+        (o >>= λ c. expected op s >>= λ r0. register s src >>= λ v. Some (operate s c
         (cell_op op (cut (atomic_count size) r0) (cut (atomic_count size) v)) (fetched op src))))
     on_cell None = tt
     on_cell (Some c) = on_operands c (expected op s) (register s src)
 
     on_base : (o : Option ℕ)
         → IsNext s (needed (o >>= λ base. cell_at (address_of base offset) (atomic_count size)
-        >>= λ c. expected op s >>= λ r0. register s src >>= λ v. Some (ask s c
+        >>= λ c. expected op s >>= λ r0. register s src >>= λ v. Some (operate s c
         (cell_op op (cut (atomic_count size) r0) (cut (atomic_count size) v)) (fetched op src))))
     on_base None = tt
     on_base (Some base) = on_cell (cell_at (address_of base offset) (atomic_count size))

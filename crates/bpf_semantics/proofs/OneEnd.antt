@@ -5,8 +5,8 @@ use Rattle.cells.specs.declared.event.CellEvent.{CellEvent}
 use Rattle.cells.specs.Events.{event}
 use Rattle.bpf_semantics.specs.Program.{ShapedProgram}
 use Rattle.bpf_semantics.specs.State.{State}
-use Rattle.bpf_semantics.specs.Outcome.{Outcome, Going, Asks, Done, Trap}
-use Rattle.bpf_semantics.specs.Run.{Ends, last, more, asked, Traps, now}
+use Rattle.bpf_semantics.specs.Outcome.{Outcome, Going, Operates, Done, Trap}
+use Rattle.bpf_semantics.specs.Run.{Ends, last, more, operated, Traps, now}
 use Rattle.bpf_semantics.specs.Run.{later, replied, replies, IsSameEnd}
 
 abbrev choice_of : Outcome → ℕ
@@ -18,15 +18,15 @@ state_of s (Going t) = t
 state_of s outcome = s
 
 abbrev cell_of : Outcome → ℕ
-cell_of (Asks cell op next) = cell
+cell_of (Operates cell op next) = cell
 cell_of outcome = 0
 
 abbrev op_of : CellOp → Outcome → CellOp
-op_of other (Asks cell op next) = op
+op_of other (Operates cell op next) = op
 op_of other outcome = other
 
 abbrev next_of : (ℕ → State) → Outcome → ℕ → State
-next_of other (Asks cell op next) = next
+next_of other (Operates cell op next) = next
 next_of other outcome = other
 
 abbrev head_of : List ℕ → ℕ
@@ -40,13 +40,13 @@ tail_of (x ∷ xs) = xs
 -- the kind of an outcome: two outcomes of one step have one kind
 data Kind : Type 0 where
   goes : Kind
-  asks : Kind
+  operates : Kind
   ends : Kind
   traps : Kind
 
 abbrev kind_of : Outcome → Kind
 kind_of (Going t) = goes
-kind_of (Asks cell op next) = asks
+kind_of (Operates cell op next) = operates
 kind_of (Done choice) = ends
 kind_of Trap = traps
 
@@ -66,15 +66,16 @@ pub one_end : {p : ShapedProgram} {s : State} {es : List CellEvent} {choice coun
 one_end es' choice' count' same (last e q) (last e' q') =
     record { same_events = refl; same_choice = ap choice_of (sym e ∙ e'); same_count = q ∙ sym q' }
 one_end es' choice' count' same (last e q) (more e' r') = differs _ _ _ e e' (λ k. absurd cc)
-one_end es' choice' count' same (last e q) (asked e' r') = absurd cc
+one_end es' choice' count' same (last e q) (operated e' r') = absurd cc
 one_end es' choice' count' same (more e r) (last e' q') = differs _ _ _ e e' (λ k. absurd cc)
 one_end {p} {s} es' choice' count' same (more e r) (more e' r') =
     one_end es' choice' count' same r
     (subst (λ u. Ends p u es' choice' count') (ap (state_of s) (sym e' ∙ e)) r')
-one_end es' choice' count' same (more e r) (asked e' r') = differs _ _ _ e e' (λ k. absurd cc)
-one_end es' choice' count' same (asked e r) (last e' q') = absurd cc
-one_end es' choice' count' same (asked e r) (more e' r') = differs _ _ _ e e' (λ k. absurd cc)
-one_end {p} {s} _ choice' count' same (asked {next} {e = d} {es} e r) (asked {next = next'} {e = d'}
+one_end es' choice' count' same (more e r) (operated e' r') = differs _ _ _ e e' (λ k. absurd cc)
+one_end es' choice' count' same (operated e r) (last e' q') = absurd cc
+one_end es' choice' count' same (operated e r) (more e' r') = differs _ _ _ e e' (λ k. absurd cc)
+one_end {p} {s} _ choice' count' same (operated {next} {e = d} {es} e r)
+    (operated {next = next'} {e = d'}
     {es = es'} e' r') =
     let reply : d.reply ≡ d'.reply = ap head_of same in
     let after : next' d'.reply ≡ next d.reply =
@@ -98,9 +99,9 @@ no_trap es' count' same (more e r) (now e' q') = differs _ _ _ e e' (λ k. absur
 no_trap {p} {s} es' count' same (more e r) (later e' r') =
     no_trap es' count' same r (subst (λ u. Traps p u es' count') (ap (state_of s) (sym e' ∙ e)) r')
 no_trap es' count' same (more e r) (replied e' r') = differs _ _ _ e e' (λ k. absurd cc)
-no_trap es' count' same (asked e r) (now e' q') = absurd cc
-no_trap es' count' same (asked e r) (later e' r') = differs _ _ _ e e' (λ k. absurd cc)
-no_trap {p} {s} _ count' same (asked {next} {e = d} {es} e r) (replied {next = next'} {e = d'}
+no_trap es' count' same (operated e r) (now e' q') = absurd cc
+no_trap es' count' same (operated e r) (later e' r') = differs _ _ _ e e' (λ k. absurd cc)
+no_trap {p} {s} _ count' same (operated {next} {e = d} {es} e r) (replied {next = next'} {e = d'}
     {es = es'} e' r') =
     let reply : d.reply ≡ d'.reply = ap head_of same in
     let after : next' d'.reply ≡ next d.reply =

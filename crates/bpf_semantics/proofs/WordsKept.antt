@@ -33,9 +33,10 @@ use Rattle.bpf_semantics.specs.State.{State, HasWords, read_at, with_bytes}
 use Rattle.bpf_semantics.specs.State.{with_register, with_result}
 use Rattle.bpf_semantics.specs.Reads.{register, operand, both, only}
 use Rattle.bpf_semantics.specs.Reads.{byte_count, load_count, filled, loaded}
-use Rattle.bpf_semantics.specs.Outcome.{Outcome, Asks, Trap, needed, write, branch, finish}
-use Rattle.bpf_semantics.specs.Outcome.{jump_to, go_to, moved, moved_to, ask, answer}
-use Rattle.bpf_semantics.specs.Counters.{reach, load_cell, store_cell, store_asks, atomic_asks}
+use Rattle.bpf_semantics.specs.Outcome.{Outcome, Operates, Trap, needed, write, branch, finish}
+use Rattle.bpf_semantics.specs.Outcome.{jump_to, go_to, moved, moved_to, operate, answer}
+use Rattle.bpf_semantics.specs.Counters.{reach, load_cell, store_cell, store_operates}
+use Rattle.bpf_semantics.specs.Counters.{atomic_operates}
 use Rattle.bpf_semantics.specs.Counters.{atomic_count, cell_op, fetched, expected, cut}
 use Rattle.bpf_semantics.specs.Calls.{wide_value, helper_result}
 use Rattle.bpf_semantics.specs.Step.{act, act_at, store}
@@ -142,10 +143,10 @@ reply_word c (cell.Swap x) reply h = below_limit c reply h
 reply_word c (cell.CompareExchange x y) reply h = below_limit c reply h
 
 ask_words : (s : State) (c : ℕ) (op : CellOp) (dst : Option Reg) → HasWords s
-    → GivesWords (ask s c op dst)
+    → GivesWords (operate s c op dst)
 ask_words s c op None h = λ reply fits. moves s (s.slot + 1) h
 ask_words s c op (Some dst) h = either (number_of dst == 10) Trap
-    (Asks c op (λ reply. moved_to (with_register s (number_of dst) reply) (s.slot + 1))) tt
+    (Operates c op (λ reply. moved_to (with_register s (number_of dst) reply) (s.slot + 1))) tt
     (λ reply fits. moves (with_register s (number_of dst) reply) (s.slot + 1)
     (sets s (number_of dst) reply (reply_word c op reply fits) h))
 
@@ -155,15 +156,16 @@ reach_words None counter memory at_cell else_memory = else_memory
 reach_words (Some c) counter memory at_cell else_memory = at_cell c
 
 store_asks_words : (s : State) (size : Size) (o : Option ℕ) (c : ℕ) → HasWords s
-    → GivesWords (store_asks s size o c)
+    → GivesWords (store_operates s size o c)
 store_asks_words s size None c h = tt
 store_asks_words s size (Some v) c h = ask_words s c (cell.Store (cut (byte_count size) v)) None h
 
 atomic_words : (s : State) (op : AtomicOp) (size : AtomicSize) (dst src : Reg) (offset : ℤ)
-    → HasWords s → GivesWords (needed (atomic_asks s op size dst src offset))
+    → HasWords s → GivesWords (needed (atomic_operates s op size dst src offset))
 atomic_words s op size dst src offset h = on_base (register s dst)
   where
-    on_operands : (c : ℕ) (o q : Option ℕ) → GivesWords (needed (o >>= λ r0. q >>= λ v. Some (ask s
+    on_operands : (c : ℕ) (o q : Option ℕ)
+        → GivesWords (needed (o >>= λ r0. q >>= λ v. Some (operate s
         c (cell_op op (cut (atomic_count size) r0) (cut (atomic_count size) v)) (fetched op src))))
     on_operands c None q = tt
     on_operands c (Some r0) None = tt
@@ -171,14 +173,15 @@ atomic_words s op size dst src offset h = on_base (register s dst)
         (cell_op op (cut (atomic_count size) r0) (cut (atomic_count size) v)) (fetched op src) h
 
     on_cell : (o : Option ℕ)
-        → GivesWords (needed (o >>= λ c. expected op s >>= λ r0. register s src >>= λ v. Some (ask s
+        → GivesWords
+        (needed (o >>= λ c. expected op s >>= λ r0. register s src >>= λ v. Some (operate s
         c (cell_op op (cut (atomic_count size) r0) (cut (atomic_count size) v)) (fetched op src))))
     on_cell None = tt
     on_cell (Some c) = on_operands c (expected op s) (register s src)
 
     on_base : (o : Option ℕ)
         → GivesWords (needed (o >>= λ base. cell_at (address_of base offset) (atomic_count size)
-        >>= λ c. expected op s >>= λ r0. register s src >>= λ v. Some (ask s c
+        >>= λ c. expected op s >>= λ r0. register s src >>= λ v. Some (operate s c
         (cell_op op (cut (atomic_count size) r0) (cut (atomic_count size) v)) (fetched op src))))
     on_base None = tt
     on_base (Some base) = on_cell (cell_at (address_of base offset) (atomic_count size))
@@ -201,9 +204,9 @@ store_words : (s : State) (size : Size) (base : Option ℕ) (offset : ℤ) (valu
     → HasWords s → GivesWords (store s size base offset value)
 store_words s size None offset value h = tt
 store_words s size (Some b) offset None h = reach_words (store_cell size (Some b) offset)
-    (store_asks s size None) Trap (λ c. store_asks_words s size None c h) tt
+    (store_operates s size None) Trap (λ c. store_asks_words s size None c h) tt
 store_words s size (Some b) offset (Some v) h = reach_words (store_cell size (Some b) offset)
-    (store_asks s size (Some v)) _ (λ c. store_asks_words s size (Some v) c h)
+    (store_operates s size (Some v)) _ (λ c. store_asks_words s size (Some v) c h)
     (moved_words (record s {
       stack = with_bytes s.stack (address_of b offset - stack_start) (byte_count size) v;
     }) (is_in_stack (address_of b offset) (byte_count size))
@@ -248,7 +251,7 @@ act_words fit shape s (Call helper) shaped e h =
 act_words fit shape s Exit shaped e h =
     finish_words (s.registers 0) (set_word (s.registers 0) (h.registers 0))
 act_words fit shape s (Load kind dst src offset) shaped e h =
-    reach_words (load_cell kind (register s src) offset) (λ c. ask s c cell.Load (Some dst))
+    reach_words (load_cell kind (register s src) offset) (λ c. operate s c cell.Load (Some dst))
     (write s 1 dst (loaded s kind (register s src) offset))
     (λ c. ask_words s c cell.Load (Some dst) h) (write_words s 1 dst
     (loaded s kind (register s src) offset) h (loaded_words s kind (register s src) offset h))

@@ -18,9 +18,9 @@ use Rattle.bpf_insn.specs.Spelling.{IsEncodable, encoding, width_of, slots_of}
 use Rattle.bpf_insn.specs.Program.{encodings, layout, slots, slots_moved}
 use Rattle.bpf_text.specs.declared.argument.Argument as arguments
 use Rattle.bpf_text.specs.declared.argument.Argument.TheVariants as argument
-use Rattle.bpf_text.specs.declared.fault.AsmFault.{AsmFault}
-use Rattle.bpf_text.specs.declared.fault.AsmFaultKind.{AsmFaultKind}
-use Rattle.bpf_text.specs.declared.fault.AsmFaultKind.TheVariants as kind
+use Rattle.bpf_text.specs.declared.text_fault.AsmFault.{AsmFault}
+use Rattle.bpf_text.specs.declared.text_fault.AsmFaultKind.{AsmFaultKind}
+use Rattle.bpf_text.specs.declared.text_fault.AsmFaultKind.TheVariants as kind
 use Rattle.bpf_text.specs.declared.operand.Given.TheVariants.{Argument}
 use Rattle.bpf_text.specs.declared.three.UpToThree.{UpToThree}
 use Rattle.bpf_text.specs.Arguments.{mnemonic_of, arguments_of}
@@ -30,7 +30,7 @@ use Rattle.bpf_text.specs.Assembly.{bytes_onto, bytes_of_placed, onto_bytes, unl
 use Rattle.bpf_text.specs.Assembly.{label_slot, assembly_of, assembly_of_lines, Assembles}
 use Rattle.bpf_text.specs.Lines.{Line, lines_in, read_line}
 use Rattle.bpf_text.specs.Listing.{Lists, listing_of, line_of, register_text}
-use Rattle.bpf_text.specs.Listing.{with_sign, argument_text, text_behind}
+use Rattle.bpf_text.specs.Listing.{with_sign, argument_text, text_after}
 use Rattle.bpf_text.specs.Results.{◌>>?◌, in_turn}
 use Rattle.bpf_text.specs.Statements.{insn_of}
 use Rattle.bpf_text.specs.Tables.{tables}
@@ -104,7 +104,7 @@ plain_argument (argument.Memory r k) h =
     refl
 
 plain_behind : (divider : List ℕ) (o : Option arguments.Argument)
-    → is_plain divider ≡ true → HasShortOption o → is_plain (text_behind divider o) ≡ true
+    → is_plain divider ≡ true → HasShortOption o → is_plain (text_after divider o) ≡ true
 plain_behind divider None d h = refl
 plain_behind divider (Some a) d h = plain_append divider (argument_text a) d (plain_argument a h)
 
@@ -114,12 +114,12 @@ plain_line i p =
     let short = are_short i p in
     plain_append (word_of (mnemonic_of i)) (arguments_text a)
     (plain_word (word_of (mnemonic_of i)) (is_named (mnemonic_of i)).is_text)
-    (plain_append (text_behind (codes " ") a.first)
-    (text_behind (codes ", ") a.second ++ (text_behind (codes ", ") a.third ++ []))
+    (plain_append (text_after (codes " ") a.first)
+    (text_after (codes ", ") a.second ++ (text_after (codes ", ") a.third ++ []))
     (plain_behind (codes " ") a.first refl short.first)
-    (plain_append (text_behind (codes ", ") a.second) (text_behind (codes ", ") a.third ++ [])
+    (plain_append (text_after (codes ", ") a.second) (text_after (codes ", ") a.third ++ [])
     (plain_behind (codes ", ") a.second refl short.second)
-    (plain_append (text_behind (codes ", ") a.third) []
+    (plain_append (text_after (codes ", ") a.third) []
     (plain_behind (codes ", ") a.third refl short.third) refl)))
 
 -- ---- its lines

@@ -10,8 +10,8 @@ use Rattle.bpf_insn.specs.declared.insn.Width.{Width}
 use Rattle.bpf_insn.specs.declared.fields.InsnFault.{InsnFault}
 use Rattle.bpf_insn.specs.Spelling.{IsEncodable, IsLeastFault, Spells, encoding, width_of, slots_of}
 use Rattle.bpf_insn.specs.Program.{encodings, layout, slots}
-use Rattle.bpf_text.specs.declared.fault.ListFault.{ListFault}
-use Rattle.bpf_text.specs.declared.fault.ListFault.TheVariants as list_fault
+use Rattle.bpf_text.specs.declared.text_fault.ListFault.{ListFault}
+use Rattle.bpf_text.specs.declared.text_fault.ListFault.TheVariants as list_fault
 use Rattle.bpf_text.specs.Listing.{HasOneListing, IsListing, listing_of}
 use Rattle.bpf_text.proofs.Reading.{length-slots, length-encoding, length-encodings}
 use Rattle.bpf_text.proofs.Successes.{same_some}

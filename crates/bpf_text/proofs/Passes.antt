@@ -3,8 +3,8 @@ use Rattle.std.proofs.Common.{◌≡◌, ℕ, ◌+◌, List, [], ◌∷◌, ◌+
 use Rattle.std.proofs.Common.{Result, Ok, Err, IfOk, IfErr, inl, inr, sym, ap, ◌∙◌, append_assoc}
 use Rattle.std.specs.Str.Lines.{lines}
 use Rattle.std.specs.Vec.{vec_items}
-use Rattle.bpf_text.specs.declared.fault.AsmFault.{AsmFault}
-use Rattle.bpf_text.specs.declared.fault.AsmFaultKind.{AsmFaultKind}
+use Rattle.bpf_text.specs.declared.text_fault.AsmFault.{AsmFault}
+use Rattle.bpf_text.specs.declared.text_fault.AsmFaultKind.{AsmFaultKind}
 use Rattle.bpf_text.specs.declared.scan.Reading as code
 use Rattle.bpf_text.specs.Assembly.{first_fault, fault_or, bytes_of_placed}
 use Rattle.bpf_text.specs.Assembly.{placed, label_slot, unless_fault, assembly_of}

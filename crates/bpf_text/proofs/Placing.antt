@@ -7,8 +7,8 @@ use Rattle.std.proofs.lemmas.Slice.Eq.{bytes_eq-Decides}
 use Rattle.std.specs.Bool.{Decides}
 use Rattle.std.specs.Str.{bytes_eq}
 use Rattle.std.specs.Vec.{vec_items}
-use Rattle.bpf_text.specs.declared.fault.AsmFaultKind.{AsmFaultKind}
-use Rattle.bpf_text.specs.declared.fault.AsmFaultKind.TheVariants as kind
+use Rattle.bpf_text.specs.declared.text_fault.AsmFaultKind.{AsmFaultKind}
+use Rattle.bpf_text.specs.declared.text_fault.AsmFaultKind.TheVariants as kind
 use Rattle.bpf_text.specs.declared.scan.Reading as code
 use Rattle.bpf_text.specs.Labels.{slot_at, labels_after}
 use Rattle.bpf_text.specs.Lines.{Line, Body}

@@ -8,7 +8,7 @@ use Rattle.bpf_insn.specs.declared.insn.Insn.TheVariants as insn
 use Rattle.bpf_insn.specs.Program.{◌>>=◌}
 use Rattle.bpf_text.specs.declared.argument.Argument as arguments
 use Rattle.bpf_text.specs.declared.argument.Argument.TheVariants as argument
-use Rattle.bpf_text.specs.declared.fault.AsmFaultKind.{AsmFaultKind}
+use Rattle.bpf_text.specs.declared.text_fault.AsmFaultKind.{AsmFaultKind}
 use Rattle.bpf_text.specs.declared.item.Item.{Item}
 use Rattle.bpf_text.specs.declared.operand.Given.TheVariants.{Argument}
 use Rattle.bpf_text.specs.declared.signature.OperandKind.{OperandKind}

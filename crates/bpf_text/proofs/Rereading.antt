@@ -15,7 +15,7 @@ use Rattle.bpf_text.specs.Arguments.{mnemonic_of, arguments_of}
 use Rattle.bpf_text.specs.Items.{Items, Tokens, items_of}
 use Rattle.bpf_text.specs.Lines.{AsmStatement, Line, Body, body_of}
 use Rattle.bpf_text.specs.Lines.{split_label, line_if_tokens, read_line}
-use Rattle.bpf_text.specs.Listing.{argument_text, text_behind, bare_line, line_of}
+use Rattle.bpf_text.specs.Listing.{argument_text, text_after, bare_line, line_of}
 use Rattle.bpf_text.specs.Operands.{items_as}
 use Rattle.bpf_text.specs.Signatures.{kinds_of}
 use Rattle.bpf_text.specs.Tables.{tables}
@@ -32,8 +32,8 @@ use Rattle.bpf_text.proofs.ReadAgain.{shape_of, behind, at_front, tokens_of_argu
 -- ---- the line's text, grouped from its end
 
 abbrev pub arguments_text : UpToThree arguments.Argument → List ℕ
-arguments_text a = text_behind (codes " ") a.first
-    ++ (text_behind (codes ", ") a.second ++ (text_behind (codes ", ") a.third ++ []))
+arguments_text a = text_after (codes " ") a.first
+    ++ (text_after (codes ", ") a.second ++ (text_after (codes ", ") a.third ++ []))
 
 abbrev pub line_text : Insn → List ℕ
 line_text i = word_of (mnemonic_of i) ++ arguments_text (arguments_of i)
@@ -45,9 +45,9 @@ regroup w a b c =
 
 pub bare_is : (i : Insn) → bare_line i ≡ line_text i
 bare_is i =
-    regroup (word_of (mnemonic_of i)) (text_behind (codes " ") ((arguments_of i).first))
-    (text_behind (codes ", ") ((arguments_of i).second))
-    (text_behind (codes ", ") ((arguments_of i).third))
+    regroup (word_of (mnemonic_of i)) (text_after (codes " ") ((arguments_of i).first))
+    (text_after (codes ", ") ((arguments_of i).second))
+    (text_after (codes ", ") ((arguments_of i).third))
 
 pub line_ends : (i : Insn) → line_of i ≡ line_text i ++ (10 ∷ [])
 line_ends i = ap (λ (t : List ℕ). t ++ (10 ∷ [])) (bare_is i)
@@ -83,7 +83,7 @@ comma_onto a (Some ts) = refl
 
 comma_tokens : (o : Option arguments.Argument) (rest : List ℕ)
     → HasShortOption o → word_goes_on rest ≡ false
-    → tokens_of (text_behind (codes ", ") o ++ rest) ≡ option_map (behind o) (tokens_of rest)
+    → tokens_of (text_after (codes ", ") o ++ rest) ≡ option_map (behind o) (tokens_of rest)
 comma_tokens None rest short ends = same_option (tokens_of rest)
 comma_tokens (Some a) rest short ends =
     comma_token (32 ∷ (argument_text a ++ rest))
@@ -91,25 +91,25 @@ comma_tokens (Some a) rest short ends =
 
 space_tokens : (o : Option arguments.Argument) (rest : List ℕ)
     → HasShortOption o → word_goes_on rest ≡ false
-    → tokens_of (text_behind (codes " ") o ++ rest) ≡ option_map (at_front o) (tokens_of rest)
+    → tokens_of (text_after (codes " ") o ++ rest) ≡ option_map (at_front o) (tokens_of rest)
 space_tokens None rest short ends = same_option (tokens_of rest)
 space_tokens (Some a) rest short ends = argument_tokens a rest short ends
 
 comma_ends : (o : Option arguments.Argument) (rest : List ℕ) → word_goes_on rest ≡ false
-    → word_goes_on (text_behind (codes ", ") o ++ rest) ≡ false
+    → word_goes_on (text_after (codes ", ") o ++ rest) ≡ false
 comma_ends None rest h = h
 comma_ends (Some a) rest h = refl
 
 space_ends : (o : Option arguments.Argument) (rest : List ℕ) → word_goes_on rest ≡ false
-    → word_goes_on (text_behind (codes " ") o ++ rest) ≡ false
+    → word_goes_on (text_after (codes " ") o ++ rest) ≡ false
 space_ends None rest h = h
 space_ends (Some a) rest h = refl
 
 arguments_tokens : (a : UpToThree arguments.Argument) → AreShort a
     → tokens_of (arguments_text a) ≡ Some (tokens_of_arguments a)
 arguments_tokens a short =
-    let last = text_behind (codes ", ") a.third ++ [] in
-    let more = text_behind (codes ", ") a.second ++ last in
+    let last = text_after (codes ", ") a.third ++ [] in
+    let more = text_after (codes ", ") a.second ++ last in
     let last_ends = comma_ends a.third [] refl in
     let more_ends = comma_ends a.second last last_ends in
     space_tokens a.first more short.first more_ends
@@ -120,8 +120,8 @@ arguments_tokens a short =
 line_tokens : (m : Mnemonic) (a : UpToThree arguments.Argument) → AreShort a
     → tokens_of (word_of m ++ arguments_text a) ≡ Some (Word (word_of m) ∷ tokens_of_arguments a)
 line_tokens m a short =
-    let last = text_behind (codes ", ") a.third ++ [] in
-    let more = text_behind (codes ", ") a.second ++ last in
+    let last = text_after (codes ", ") a.third ++ [] in
+    let more = text_after (codes ", ") a.second ++ last in
     let ends = space_ends a.first more (comma_ends a.second last (comma_ends a.third [] refl)) in
     word_token (word_of m) (arguments_text a) (is_named m).is_text ends
     ∙ ap (front (Word (word_of m))) (arguments_tokens a short)

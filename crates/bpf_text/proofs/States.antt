@@ -7,7 +7,7 @@ use Rattle.bpf_insn.specs.declared.reg.Reg.{Reg}
 use Rattle.bpf_insn.specs.declared.operand.Distance.TheVariants.{Short, Long}
 use Rattle.bpf_text.specs.declared.argument.Argument.{Argument}
 use Rattle.bpf_text.specs.declared.argument.Argument.TheVariants as argument
-use Rattle.bpf_text.specs.declared.fault.AsmFaultKind.TheVariants as fault
+use Rattle.bpf_text.specs.declared.text_fault.AsmFaultKind.TheVariants as fault
 use Rattle.bpf_text.specs.declared.item.Item.{Item}
 use Rattle.bpf_text.specs.declared.item.Item.TheVariants as item
 use Rattle.bpf_text.specs.declared.operand.Given.{Given}

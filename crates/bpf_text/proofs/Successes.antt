@@ -2,8 +2,8 @@
 use Rattle.std.proofs.Common.{◌≡◌, Option, Some, None, option_map, Ok, Err}
 use Rattle.std.proofs.Common.{Bool, true, false, ◌||◌, if◌then◌else◌, refl, ap}
 use Rattle.std.specs.Prelude.{ok_or}
-use Rattle.bpf_text.specs.declared.fault.AsmFaultKind.{AsmFaultKind}
-use Rattle.bpf_text.specs.declared.fault.AsmFaultKind.TheVariants as fault
+use Rattle.bpf_text.specs.declared.text_fault.AsmFaultKind.{AsmFaultKind}
+use Rattle.bpf_text.specs.declared.text_fault.AsmFaultKind.TheVariants as fault
 use Rattle.bpf_text.specs.declared.operand.Given.{Given}
 use Rattle.bpf_text.specs.declared.three.UpToThree.{UpToThree}
 use Rattle.bpf_text.specs.Operands.{is_other_kind, all_given}

@@ -2,12 +2,12 @@
 use Rattle.std.specs.Prelude.{ℕ, List, ◌++◌, codes}
 use Rattle.std.specs.Fmt.{decimal}
 use Rattle.bpf_insn.specs.Faults.{fault_text}
-use Rattle.bpf_text.specs.declared.fault.AsmFaultKind.{AsmFaultKind}
-use Rattle.bpf_text.specs.declared.fault.AsmFaultKind.TheVariants as kind
-use Rattle.bpf_text.specs.declared.fault.AsmFault.{AsmFault}
-use Rattle.bpf_text.specs.declared.fault.AsmFault.TheVariants.{At, Memory}
-use Rattle.bpf_text.specs.declared.fault.ListFault.{ListFault}
-use Rattle.bpf_text.specs.declared.fault.ListFault.TheVariants as list_fault
+use Rattle.bpf_text.specs.declared.text_fault.AsmFaultKind.{AsmFaultKind}
+use Rattle.bpf_text.specs.declared.text_fault.AsmFaultKind.TheVariants as kind
+use Rattle.bpf_text.specs.declared.text_fault.AsmFault.{AsmFault}
+use Rattle.bpf_text.specs.declared.text_fault.AsmFault.TheVariants.{At, Memory}
+use Rattle.bpf_text.specs.declared.text_fault.ListFault.{ListFault}
+use Rattle.bpf_text.specs.declared.text_fault.ListFault.TheVariants as list_fault
 
 -- ---- a text that doesn't assemble
 

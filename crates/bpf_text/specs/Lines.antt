@@ -1,7 +1,7 @@
 -- The content of a line: an optional label, and an optional statement or a fault instead.
 use Rattle.std.specs.Prelude.{List, [], ◌∷◌, ℕ, map, Option, Some, None, ok_or, Ok, Err}
 use Rattle.std.specs.Str.Lines.{lines}
-use Rattle.bpf_text.specs.declared.fault.AsmFaultKind.TheVariants as fault
+use Rattle.bpf_text.specs.declared.text_fault.AsmFaultKind.TheVariants as fault
 use Rattle.bpf_text.specs.declared.line.Line as the_line
 use Rattle.bpf_text.specs.declared.line.AsmStatement as the_statement
 use Rattle.bpf_text.specs.declared.token.AsmToken.TheVariants.{Word, Colon}

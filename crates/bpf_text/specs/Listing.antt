@@ -12,8 +12,8 @@ use Rattle.bpf_insn.specs.declared.insn.Insn.{Insn}
 use Rattle.bpf_insn.specs.declared.fields.InsnFault.{InsnFault}
 use Rattle.bpf_insn.specs.Spelling.{IsEncodable, IsLeastFault, Spells, width_of, slots_of}
 use Rattle.bpf_insn.specs.Program.{encodings, layout, slots_moved}
-use Rattle.bpf_text.specs.declared.fault.ListFault.{ListFault}
-use Rattle.bpf_text.specs.declared.fault.ListFault.TheVariants as list_fault
+use Rattle.bpf_text.specs.declared.text_fault.ListFault.{ListFault}
+use Rattle.bpf_text.specs.declared.text_fault.ListFault.TheVariants as list_fault
 use Rattle.bpf_text.specs.declared.argument.Argument.{Argument}
 use Rattle.bpf_text.specs.declared.argument.Argument.TheVariants.{Register, Imm, Number}
 use Rattle.bpf_text.specs.declared.argument.Argument.TheVariants.{Memory, Distance}
@@ -46,17 +46,17 @@ argument_text (Memory r k) = codes "[" ++ register_text r ++ with_sign k ++ code
 argument_text (Distance distance) = with_sign (slots_moved distance)
 
 -- the divider and the argument, if there is one
-abbrev pub text_behind : List ℕ → Option Argument → List ℕ
-text_behind divider None = []
-text_behind divider (Some a) = divider ++ argument_text a
+abbrev pub text_after : List ℕ → Option Argument → List ℕ
+text_after divider None = []
+text_after divider (Some a) = divider ++ argument_text a
 
 -- the line of an instruction, without the line feed that ends it
 abbrev pub bare_line : Insn → List ℕ
 bare_line i =
     word_of (mnemonic_of i)
-    ++ text_behind (codes " ") ((arguments_of i).first)
-    ++ text_behind (codes ", ") ((arguments_of i).second)
-    ++ text_behind (codes ", ") ((arguments_of i).third)
+    ++ text_after (codes " ") ((arguments_of i).first)
+    ++ text_after (codes ", ") ((arguments_of i).second)
+    ++ text_after (codes ", ") ((arguments_of i).third)
 
 -- the line of an instruction
 abbrev pub line_of : Insn → List ℕ

@@ -4,7 +4,7 @@ use Rattle.std.specs.Prelude.{Option, Some, None, option_map, Ok, Err}
 use Rattle.std.specs.Prelude.{Bool, true, false, not, ◌||◌, if◌then◌else◌}
 use Rattle.bpf_insn.specs.declared.reg.Reg.{Reg}
 use Rattle.bpf_insn.specs.declared.operand.Distance.TheVariants.{Short, Long}
-use Rattle.bpf_text.specs.declared.fault.AsmFaultKind.TheVariants as fault
+use Rattle.bpf_text.specs.declared.text_fault.AsmFaultKind.TheVariants as fault
 use Rattle.bpf_text.specs.declared.token.Sign.{Sign}
 use Rattle.bpf_text.specs.declared.token.Sign.TheVariants.{Absent, Plus}
 use Rattle.bpf_text.specs.declared.token.Figure.{Figure}

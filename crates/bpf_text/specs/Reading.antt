@@ -2,8 +2,8 @@
 use Rattle.std.specs.Prelude.{◌≡◌, ℕ, ◌+◌, ◌≤◌, ◌⊎◌, List, [], ◌∷◌, ◌++◌}
 use Rattle.std.specs.Prelude.{length, map, Some, None, Err}
 use Rattle.std.specs.Vec.{vec_items}
-use Rattle.bpf_text.specs.declared.fault.AsmFault.{AsmFault}
-use Rattle.bpf_text.specs.declared.fault.AsmFault.TheVariants.{At, Memory}
+use Rattle.bpf_text.specs.declared.text_fault.AsmFault.{AsmFault}
+use Rattle.bpf_text.specs.declared.text_fault.AsmFault.TheVariants.{At, Memory}
 use Rattle.bpf_text.specs.declared.scan.Reading as reader
 use Rattle.bpf_text.specs.Assembly.{BytesOrFault, slots_in, label_slot, line_fault, first_fault}
 use Rattle.bpf_text.specs.Assembly.{placed, placed_body, bytes_of_placed, assembly_of}

@@ -1,6 +1,6 @@
 -- Steps that may fail, in sequence.
 use Rattle.std.specs.Prelude.{Option, Result, Ok, Err}
-use Rattle.bpf_text.specs.declared.fault.AsmFaultKind.{AsmFaultKind}
+use Rattle.bpf_text.specs.declared.text_fault.AsmFaultKind.{AsmFaultKind}
 use Rattle.bpf_text.specs.declared.three.UpToThree.{UpToThree}
 
 abbrev pub OrAsmFault : Type 0 → Type 0

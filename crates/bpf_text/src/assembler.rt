@@ -28,12 +28,12 @@ ghost use Rattle.bpf_text.specs.Tables.{tables};
 ghost use Rattle.bpf_text.specs.Three.{map_three};
 
 use crate::argument::Argument;
-use crate::fault::{AsmFault, AsmFaultKind};
 use crate::label::{Labels, label_slot};
 use crate::line::{read_line, split_line};
 use crate::operand::Given;
 use crate::scan::{PlacedStatement, Reading, add_line};
 use crate::statement::insn_of;
+use crate::text_fault::{AsmFault, AsmFaultKind};
 use crate::three::UpToThree;
 use bpf_insn::{Distance, Insn, encode};
 use std::alloc::{AllocError, Global};

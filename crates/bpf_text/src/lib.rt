@@ -8,11 +8,10 @@
 
 mod argument;
 mod assembler;
-mod fault;
 mod insn_line;
 mod item;
 mod label;
-mod law;
+mod laws;
 mod line;
 mod lister;
 mod mnemonic;
@@ -21,13 +20,14 @@ mod range;
 mod scan;
 mod signature;
 mod statement;
+mod text_fault;
 mod three;
 mod token;
 mod vocabulary;
 
 pub use assembler::assemble;
-pub use fault::{AsmFault, AsmFaultKind, ListFault};
 pub use insn_line::line_of;
-pub use law::{kinds_agree, one_assembly, one_listing, reads_as_stated, remarks_are_skipped};
+pub use laws::{kinds_agree, one_assembly, one_listing, reads_as_stated, remarks_are_skipped};
 pub use lister::{listing, push_bare_line};
+pub use text_fault::{AsmFault, AsmFaultKind, ListFault};
 pub use vocabulary::REGISTERS;

@@ -14,11 +14,11 @@ ghost use Rattle.bpf_text.specs.Names.{tokens_named, body_named, split_named, li
 ghost use Rattle.bpf_text.specs.Tables.{tables};
 ghost use Rattle.bpf_text.specs.declared.token.AsmToken.TheVariants.{Word};
 
-use crate::fault::AsmFaultKind;
 use crate::item::items_of;
 use crate::mnemonic::Mnemonic;
 use crate::operand::{Given, items_as};
 use crate::signature::kinds_of;
+use crate::text_fault::AsmFaultKind;
 use crate::three::UpToThree;
 use crate::token::{AsmToken, read_tokens};
 use crate::vocabulary::mnemonic_named;

@@ -8,7 +8,7 @@ ghost use Rattle.bpf_text.specs.Listing.{
   register_text,
   with_sign,
   argument_text,
-  text_behind,
+  text_after,
   bare_line,
   line_of,
   Lists,
@@ -20,8 +20,8 @@ ghost use Rattle.bpf_text.specs.Assembly.{AssemblesAgain};
 ghost use Rattle.bpf_text.specs.Words.{word_of};
 
 use crate::argument::{Argument, arguments_of, mnemonic_of};
-use crate::fault::ListFault;
 use crate::mnemonic::Mnemonic;
+use crate::text_fault::ListFault;
 use bpf_insn::{Distance, Insn, Reg, Width, decode_at};
 use std::alloc::{AllocError, Global};
 use std::fmt::Write;
@@ -90,7 +90,7 @@ fn push_behind(
     divider: &str,
     argument: Option<Argument>,
 ) -> Result<(), AllocError>
-    ensures { OnOk result (Appends out.old out.new (text_behind divider.now argument)) }
+    ensures { OnOk result (Appends out.old out.new (text_after divider.now argument)) }
 {
     if let Some(argument) = argument {
         out.push_str(divider)?;

@@ -28,10 +28,10 @@ ghost use Rattle.bpf_text.specs.Names.{
 ghost use Rattle.bpf_text.specs.Tables.{tables};
 
 use crate::argument::Argument;
-use crate::fault::AsmFaultKind;
 use crate::item::{Item, Items};
 use crate::range::{imm_of, long_of, short_of, wide_of};
 use crate::signature::OperandKind;
+use crate::text_fault::AsmFaultKind;
 use crate::three::UpToThree;
 use crate::token::{Figure, Sign};
 use crate::vocabulary::register_named;

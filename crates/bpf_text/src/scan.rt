@@ -26,10 +26,10 @@ ghost use Rattle.bpf_text.specs.Labels.{slot_at, AddsLabel};
 ghost use Rattle.bpf_text.specs.Names.{name_of, body_named, line_named};
 ghost use Rattle.bpf_text.specs.Reading.{AddsBody, ReadsOn, IsLineFault};
 
-use crate::fault::{AsmFault, AsmFaultKind};
 use crate::label::{Labels, add_label, label_slot};
 use crate::line::{AsmStatement, Line};
 use crate::mnemonic::Mnemonic;
+use crate::text_fault::{AsmFault, AsmFaultKind};
 use bpf_insn::MOST_SLOTS;
 use std::alloc::AllocError;
 

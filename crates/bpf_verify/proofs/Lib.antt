@@ -6,7 +6,7 @@ pub mod Places
 pub mod Joining
 pub mod Swept
 pub mod Visits
-pub mod Laws
+pub mod Verdicts
 pub mod Incoming
 pub mod Sound
 pub mod Whole

@@ -2,7 +2,7 @@
 use Rattle.std.specs.Prelude.{◌≡◌, ℕ, ◌+◌, ◌<◌, ◌≤◌, List, All, length, Some, IsSome}
 use Rattle.bpf_insn.specs.Program.{at}
 use Rattle.bpf_semantics.specs.State.{State, HasWords}
-use Rattle.bpf_semantics.specs.Outcome.{Outcome, Going, Asks, Done, Trap}
+use Rattle.bpf_semantics.specs.Outcome.{Outcome, Going, Operates, Done, Trap}
 use Rattle.bpf_semantics.specs.Step.{step}
 use Rattle.bpf_semantics.specs.Program.{ShapedProgram}
 use Rattle.bpf_semantics.specs.Run.{Ends}
@@ -11,7 +11,7 @@ use Rattle.cells.specs.Events.{CanReply}
 use Rattle.cells.specs.declared.event.CellEvent.{CellEvent}
 use Rattle.cells.specs.declared.event.CellOp.{CellOp}
 use Rattle.abs_value.specs.declared.state.AbsState.{AbsState}
-use Rattle.abs_value.specs.Covers.{IsStoodFor}
+use Rattle.abs_value.specs.Covers.{IsRepresented}
 use Rattle.bpf_checks.specs.Sound.{IsLawful}
 use Rattle.bpf_verify.specs.Accepted.{entry_of}
 
@@ -20,7 +20,7 @@ use Rattle.bpf_verify.specs.Accepted.{entry_of}
 pub record IsCovered (p : ShapedProgram) (s : State) : Type 0 where
   pub entry : AbsState
   pub entry_is : entry_of p s.slot ≡ Some entry
-  pub stands : IsStoodFor p.shape entry s
+  pub represents : IsRepresented p.shape entry s
   pub words : HasWords s
   pub place : IsSome (at p.code s.slot)
 
@@ -29,7 +29,7 @@ pub record IsCovered (p : ShapedProgram) (s : State) : Type 0 where
 -- state
 abbrev pub IsSafeOutcome : ShapedProgram → State → Outcome → Type 0
 IsSafeOutcome p s (Going t) = (s.slot < t.slot) × IsCovered p t
-IsSafeOutcome p s (Asks cell op next) =
+IsSafeOutcome p s (Operates cell op next) =
     IsLawful p.shape cell op
     × ((reply : ℕ) → CanReply cell op reply
     → (s.slot < (next reply).slot) × IsCovered p (next reply))
@@ -42,7 +42,8 @@ pub data EndsWell (p : ShapedProgram) : State → Type 0 where
   ends : {s : State} {choice : ℕ} → step p s ≡ Done choice → choice ≤ p.shape.releases
       → s.count + 1 ≤ length p.code → EndsWell p s
   goes : {s t : State} → step p s ≡ Going t → EndsWell p t → EndsWell p s
-  asks : {s : State} {cell : ℕ} {op : CellOp} {next : ℕ → State} → step p s ≡ Asks cell op next
+  operates : {s : State} {cell : ℕ} {op : CellOp} {next : ℕ → State} → step p s
+      ≡ Operates cell op next
       → ((reply : ℕ) → CanReply cell op reply → EndsWell p (next reply)) → EndsWell p s
 
 -- a step from a covered state is safe, and the whole run ends

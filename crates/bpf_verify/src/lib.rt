@@ -26,7 +26,7 @@
 // rules exclude every trap.
 
 mod entries;
-mod law;
+mod laws;
 mod pool;
 mod sweep;
 mod table;
@@ -35,7 +35,7 @@ mod walk;
 
 pub use bpf_checks::{Refusal, VerifierRule};
 pub use cells::Shape;
-pub use law::{ends_are_in_order, one_verdict};
+pub use laws::{ends_are_in_order, one_verdict};
 pub use table::table_is_enough;
 pub use verified::{Verified, verify, verify_counted};
 pub use walk::{Walk, end_is_accepted};

@@ -33,7 +33,7 @@ pub fn judge(
     ensures exact { IfErr result (λ r. IsPeakBefore (shaped flow.now shape.now) r
         (entries.now.waiting.most + 1)) }
 {
-    flow.keeps();
+    flow.invariant_law();
     if !entries.is_live {
         return Ok(());
     }
@@ -58,7 +58,7 @@ pub fn carry_on(
         (AreSwept flow.now shape.now (next_of slot insn.now) entries.new) }
     ensures most { OnErr result (entries.new.waiting.most ≡ entries.old.waiting.most) }
 {
-    flow.keeps();
+    flow.invariant_law();
     if !entries.is_live {
         return Ok(());
     }
@@ -98,7 +98,7 @@ pub fn sweep(entries: &mut Entries, flow: &Flow, shape: &Shape) -> Result<(), Re
     ensures exact { IsPeak (shaped flow.now shape.now) result (entries.new.waiting.most + 1) }
     ensures most { entries.new.waiting.most ≤ greatest_ahead flow.now }
 {
-    flow.keeps();
+    flow.invariant_law();
     let mut slot = 0;
     while slot < flow.len() {
         let insn = flow.insn(slot);

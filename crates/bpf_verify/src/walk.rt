@@ -31,7 +31,7 @@ impl Walk {
     pub fn start(alloc: Global, flow: &Flow) -> Result<Walk, AllocError>
         ensures { IfOk result (λ w. (shape : AppShape) → IsWalkBefore flow.now shape 0 w) }
     {
-        flow.keeps();
+        flow.invariant_law();
         let Ok(entries) = Entries::opening(alloc, flow.len()) else {
             return Err(AllocError);
         };

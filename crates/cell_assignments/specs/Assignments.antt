@@ -12,8 +12,8 @@ pub record Assignment : Type 0 where
   pub value : ℕ
 
 -- the text has such a byte
-abbrev pub stands : (ℕ → Bool) → List ℕ → Bool
-stands is_it text = nat_lt (position_or_len is_it text) (length text)
+abbrev pub has_byte : (ℕ → Bool) → List ℕ → Bool
+has_byte is_it text = nat_lt (position_or_len is_it text) (length text)
 
 abbrev pub is_opening : ℕ → Bool
 is_opening b = b == byte "["
@@ -40,14 +40,14 @@ ended array behind index value =
 -- the rest after the name and `[`
 abbrev pub indexed : (array rest : List ℕ) → (value : Option ℕ) → Option Assignment
 indexed array rest value =
-    if stands is_closing rest
+    if has_byte is_closing rest
     then ended array (after_first is_closing rest)
     (decimal_within 0 65535 (before_first is_closing rest)) value else None
 
 -- NAME[INDEX]
 abbrev pub valued : (cell : List ℕ) → (value : Option ℕ) → Option Assignment
 valued cell value =
-    if stands is_opening cell
+    if has_byte is_opening cell
     then indexed (before_first is_opening cell) (after_first is_opening cell) value else None
 
 -- a value of 64 bits
@@ -57,13 +57,13 @@ value_in digits = decimal_within 0 (2 ^ 64 - 1) digits
 -- NAME[INDEX]=VALUE
 abbrev pub assigned : List ℕ → Option Assignment
 assigned text =
-    if stands is_equals text
+    if has_byte is_equals text
     then valued (before_first is_equals text) (value_in (after_first is_equals text)) else None
 
 -- NAME[INDEX] VALUE
 abbrev pub listed : List ℕ → Option Assignment
 listed text =
-    if stands is_blank text
+    if has_byte is_blank text
     then valued (before_first is_blank text) (value_in (after_first is_blank text)) else None
 
 -- the cells in lines; other lines are skipped

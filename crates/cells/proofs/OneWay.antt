@@ -4,8 +4,8 @@ use Rattle.std.proofs.Common.{sym, ◌∙◌, ap, subst, arith, refl}
 use Rattle.std.specs.Prelude.{Some, slice_get, Contains}
 use Rattle.std.proofs.lemmas.Option.{slice_get-get_or, same_Some}
 use Rattle.cells.specs.declared.array.CellArray.{CellArray}
-use Rattle.cells.specs.declared.fault.CellsFault.{CellsFault}
-use Rattle.cells.specs.declared.fault.CellsFault.TheVariants.{CellsFull, Redefined, Memory}
+use Rattle.cells.specs.declared.cells_fault.CellsFault.{CellsFault}
+use Rattle.cells.specs.declared.cells_fault.CellsFault.TheVariants.{CellsFull, Redefined, Memory}
 use Rattle.cells.specs.Directory.{Declaration, IsDeclaration, IsNew, IsAsDeclared, Declares}
 use Rattle.cells.specs.Directory.{IsRefusedDeclaration, HasDistinctNames, IsDirectory}
 use Rattle.cells.specs.Directory.Declares.{again, anew}

@@ -1,8 +1,8 @@
 -- A declaration has one result.
 use Rattle.std.specs.Prelude.{◌≡◌, ◌≢◌, ℕ, List}
 use Rattle.cells.specs.declared.array.CellArray.{CellArray}
-use Rattle.cells.specs.declared.fault.CellsFault.{CellsFault}
-use Rattle.cells.specs.declared.fault.CellsFault.TheVariants.{Memory}
+use Rattle.cells.specs.declared.cells_fault.CellsFault.{CellsFault}
+use Rattle.cells.specs.declared.cells_fault.CellsFault.TheVariants.{Memory}
 use Rattle.cells.specs.Directory.{Declaration, IsDeclaration, Declares, IsRefusedDeclaration}
 use Rattle.cells.specs.Directory.{HasDistinctNames, IsDirectory}
 

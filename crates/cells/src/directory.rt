@@ -7,7 +7,7 @@ ghost use Rattle.cells.specs.Directory.{declaration, IsDeclaration, IsDirectory,
 ghost use Rattle.cells.specs.Directory.{HasValues, IsNew, Declares, IsRefusedDeclaration};
 
 use crate::array::{ArrayName, ArrayNo, CellArray, CellWidth, copies, first_cell};
-use crate::fault::CellsFault;
+use crate::cells_fault::CellsFault;
 use std::alloc::{AllocError, Global};
 use std::marker::Model;
 

@@ -5,20 +5,20 @@
 #![tactic(auto)]
 
 mod array;
+mod cells_fault;
 mod directory;
 mod event;
-mod fault;
-mod law;
+mod laws;
 mod plain;
 mod shape;
 mod steps;
 mod widths;
 
 pub use array::{ArrayName, ArrayNo, CellArray, CellWidth};
+pub use cells_fault::CellsFault;
 pub use directory::Directory;
 pub use event::{CellEvent, CellNo, CellOp};
-pub use fault::CellsFault;
-pub use law::{arrays_lie_apart, arrays_stay, declares_one_way};
+pub use laws::{arrays_lie_apart, arrays_stay, declares_one_way};
 pub use plain::{PlainCells, PlainPass};
 pub use shape::Shape;
 pub use steps::{CellSteps, growth};

@@ -5,8 +5,8 @@ ghost use Rattle.std.specs.Prelude.{◌≡◌, ◌%◌, ◌<◌, slice_index, If
 ghost use Rattle.cells.specs.Events.{limit, after, reply_of, event, CanReply, IsEvent};
 ghost use Rattle.cells.specs.Events.{AreCells, AreZeros};
 
+use crate::cells_fault::CellsFault;
 use crate::event::{CellNo, CellOp};
-use crate::fault::CellsFault;
 use crate::steps::CellSteps;
 use std::alloc::{AllocError, Global};
 use std::marker::Model;
@@ -46,7 +46,7 @@ impl PlainCells {
 
 impl PlainPass {
     /// Law: the type's invariant.
-    pub fn keeps(&self)
+    pub fn invariant_law(&self)
         ensures { AreCells self.now }
     {
         let _values = &self.values;

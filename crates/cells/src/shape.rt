@@ -4,8 +4,8 @@ ghost use Rattle.std.specs.Prelude.{◌≡◌, ◌<◌, ◌≤◌, [], length, I
 ghost use Rattle.cells.specs.Arrays.{AreNumbered, IsShape};
 
 use crate::array::{ArrayNo, CellArray, copies};
+use crate::cells_fault::CellsFault;
 use crate::directory::Directory;
-use crate::fault::CellsFault;
 use std::alloc::{AllocError, Global};
 use std::marker::Model;
 
@@ -94,7 +94,7 @@ impl Shape {
     }
 
     /// Law: the type's invariant.
-    pub fn keeps(&self)
+    pub fn invariant_law(&self)
         ensures { IsShape self.now }
     {
         let _arrays = &self.arrays;

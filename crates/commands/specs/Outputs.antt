@@ -6,7 +6,7 @@ use Rattle.std.specs.String.{string_bytes}
 use Rattle.bounded_files.specs.Files.{KnownFiles}
 use Rattle.load.specs.Loaded.{IsLoadedFrom}
 use Rattle.load.specs.Made.{IsMadeFrom}
-use Rattle.operator.specs.Done.{IsAskRefusal, IsDoneAs}
+use Rattle.operator.specs.Done.{IsRequestRefusal, IsDoneAs}
 use Rattle.operator_request.specs.declared.request.OperatorRequest.TheVariants as sent
 use Rattle.program_tools.specs.Assembly.{IsAssembledFrom, IsAssemblyRefusal}
 use Rattle.program_tools.specs.Assembly.{IsListedFrom, IsListingRefusal}
@@ -51,10 +51,10 @@ module _ (known : KnownFiles) where
   IsRefused (command.Replay manifest script) fault =
       IsReplayRefusal known manifest.now script.now fault
   IsRefused (command.Run run) (Program fault) = IsRunRefusal known run.path.now run.shape fault
-  IsRefused (command.Send request port) (Ask fault) = IsAskRefusal request fault
+  IsRefused (command.Send request port) (Ask fault) = IsRequestRefusal request fault
   IsRefused (command.Serve manifest plan) (Serving fault) =
       RefusesToServe known manifest.now fault
-  IsRefused (command.StopAndWait port) (Ask fault) = IsAskRefusal sent.Stop fault
+  IsRefused (command.StopAndWait port) (Ask fault) = IsRequestRefusal sent.Stop fault
   IsRefused (command.Verify path shape) (Program fault) =
       IsProgramRefusal known path.now shape fault
   IsRefused command fault = ⊥

@@ -8,7 +8,7 @@ use Rattle.commands.specs.declared.command_fault.Fault.{Fault}
 use Rattle.commands.specs.declared.command_fault.Fault.TheVariants as fault
 use Rattle.program_tools.specs.Texts as program
 use Rattle.bounded_files.specs.Texts.{resource_text}
-use Rattle.operator.specs.Texts.{ask_text}
+use Rattle.operator.specs.Texts.{request_fault_text}
 use Rattle.replay.specs.Texts.{replay_fault_text}
 use Rattle.ruleset.specs.Texts.{line}
 use Rattle.serving.specs.Texts.{cause_of, serving_text}
@@ -38,4 +38,4 @@ fault_text (fault.Resource fault) = resource_text fault
 fault_text (fault.Program fault) = program.fault_text fault
 fault_text (fault.Replay fault) = replay_fault_text fault
 fault_text (fault.Serving fault) = serving_text fault
-fault_text (fault.Ask fault) = ask_text fault
+fault_text (fault.Ask fault) = request_fault_text fault

@@ -35,14 +35,15 @@ one_more all k x are within d_is declares =
 
 grown : {d : Declaration} {old new : List CellArray} {n : ℕ} → Declares d old n new
     → (n < length new) × (length old ≤ length new)
-grown {d} {old} (again {n} {a} stands declared) = (slice_get_within old n a stands, omega arith)
+grown {d} {old} (again {n} {a} declaration_is declared) =
+    (slice_get_within old n a declaration_is, omega arith)
 grown {d} {old} (anew is_new room) =
     let longer = length-append old (next_array d old ∷ []) in
     (omega (arith, longer), omega (arith, longer))
 
 begins : {d : Declaration} {old new : List CellArray} {n : ℕ} → Declares d old n new
     → IsPrefix old new
-begins {old = old} (again stands declared) = ([], append-nil old)
+begins {old = old} (again declaration_is declared) = ([], append-nil old)
 begins {d = d} {old = old} (anew is_new room) = (next_array d old ∷ [], refl)
 
 begins_on : (u v w : List CellArray) → IsPrefix u v → IsPrefix v w → IsPrefix u w

@@ -5,8 +5,8 @@ use Rattle.std.specs.Prelude.{Some, slice_get}
 use Rattle.std.proofs.lemmas.Option.{same_Some, none-some}
 use Rattle.cells.specs.declared.array.ArrayNo.{ArrayNo}
 use Rattle.cells.specs.declared.array.CellArray.{CellArray}
-use Rattle.cells.specs.declared.fault.CellsFault.{CellsFault}
-use Rattle.cells.specs.declared.fault.CellsFault.TheVariants.{Memory}
+use Rattle.cells.specs.declared.cells_fault.CellsFault.{CellsFault}
+use Rattle.cells.specs.declared.cells_fault.CellsFault.TheVariants.{Memory}
 use Rattle.cells.specs.Directory.{Declaration, Declares, IsRefusedDeclaration, HasDistinctNames}
 use Rattle.cells.specs.OneWay.{DeclareOneWay, KeepsNames}
 use Rattle.declarations.specs.Order.{AreDeclared, IsRefusedArray}
@@ -48,7 +48,7 @@ pub record IsRefusedAfter (old : List CellArray) (ds : List Declaration) (before
   pub new : List CellArray
   pub declared : AreDeclared old (take before ds) numbers new
   pub d : Declaration
-  pub stands : slice_get ds before ≡ Some d
+  pub declaration_is : slice_get ds before ≡ Some d
   pub refused : IsRefusedDeclaration d new fault
 
 after_of : {old new : List CellArray} {ds : List Declaration} {number : ℕ} {e : CellsFault}
@@ -58,14 +58,15 @@ after_of {new = new} r = record {
   new = new;
   declared = r.declared;
   d = r.d;
-  stands = r.stands;
+  declaration_is = r.declaration_is;
   refused = r.refused;
 }
 
 first_refused : (d : Declaration) (ds : List Declaration) (old : List CellArray) (e : CellsFault)
     → IsRefusedAfter old (d ∷ ds) zero e → IsRefusedDeclaration d old e
 first_refused d ds old e r =
-    subst (λ (x : Declaration). IsRefusedDeclaration x old e) (sym (same_Some d r.d r.stands))
+    subst (λ (x : Declaration). IsRefusedDeclaration x old e)
+    (sym (same_Some d r.d r.declaration_is))
     (subst (λ (l : List CellArray). IsRefusedDeclaration r.d l e) (nothing_new r.declared).1
     r.refused)
 
@@ -100,7 +101,7 @@ module _ (declare : DeclareOneWay) (keep : KeepsNames) where
         declared = subst (λ (l : List CellArray). AreDeclared l (take k ds) one.others r.new)
             same.1 one.rest;
         d = r.d;
-        stands = r.stands;
+        declaration_is = r.declaration_is;
         refused = r.refused;
       }
 
@@ -108,7 +109,7 @@ module _ (declare : DeclareOneWay) (keep : KeepsNames) where
   not_refused : (ds : List Declaration) (before : ℕ) (old new : List CellArray)
       (numbers : List ArrayNo) (e : CellsFault) → HasDistinctNames old
       → AreDeclared old ds numbers new → IsRefusedAfter old ds before e → e ≡ Memory
-  not_refused [] before old new numbers e apart are r = absurd (none-some _ r.stands)
+  not_refused [] before old new numbers e apart are r = absurd (none-some _ r.declaration_is)
   not_refused (d ∷ ds) zero old new numbers e apart are r =
       (declare d old apart).either _ _ e (rest_of are).first (first_refused d ds old e r)
   not_refused (d ∷ ds) (suc k) old new numbers e apart are r =
@@ -119,7 +120,7 @@ module _ (declare : DeclareOneWay) (keep : KeepsNames) where
   same_refusal : (ds : List Declaration) (j k : ℕ) (old : List CellArray) (e f : CellsFault)
       → HasDistinctNames old → e ≢ Memory → f ≢ Memory → IsRefusedAfter old ds j e
       → IsRefusedAfter old ds k f → (j ≡ k) × (e ≡ f)
-  same_refusal [] j k old e f apart known also r q = absurd (none-some _ r.stands)
+  same_refusal [] j k old e f apart known also r q = absurd (none-some _ r.declaration_is)
   same_refusal (d ∷ ds) zero zero old e f apart known also r q = (
     refl,
     (declare d old apart).fault e f (first_refused d ds old e r)

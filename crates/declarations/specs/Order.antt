@@ -2,7 +2,7 @@
 use Rattle.std.specs.Prelude.{◌≡◌, ℕ, ◌+◌, List, [], ◌∷◌, ◌++◌, take, slice_get, Some}
 use Rattle.cells.specs.declared.array.ArrayNo.{ArrayNo}
 use Rattle.cells.specs.declared.array.CellArray.{CellArray}
-use Rattle.cells.specs.declared.fault.CellsFault.{CellsFault}
+use Rattle.cells.specs.declared.cells_fault.CellsFault.{CellsFault}
 use Rattle.cells.specs.Directory.{Declaration, Declares, IsRefusedDeclaration}
 
 -- these declarations give arrays with these numbers, and this directory after them
@@ -22,7 +22,7 @@ pub record IsRefusedArray (old : List CellArray) (ds : List Declaration) (number
   pub numbers : List ArrayNo
   pub declared : AreDeclared old (take before ds) numbers new
   pub d : Declaration
-  pub stands : slice_get ds before ≡ Some d
+  pub declaration_is : slice_get ds before ≡ Some d
   pub refused : IsRefusedDeclaration d new fault
 
 -- one more declaration gives one more number

@@ -78,7 +78,7 @@ impl ArrayDeclaration {
     }
 
     /// Law: the invariant of a declaration.
-    pub fn keeps(&self)
+    pub fn invariant_law(&self)
         ensures { IsDeclaration self.now }
     {
         let _width = self.width;

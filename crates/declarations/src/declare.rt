@@ -57,7 +57,7 @@ fn declare_next(
     ensures same { OnErr result (directory.new ≡ directory.old) }
 {
     numbers.reserve(1)?;
-    declaration.keeps();
+    declaration.invariant_law();
     let number = directory.declare(
         alloc,
         declaration.name(),

@@ -8,8 +8,8 @@ use Rattle.load.specs.declared.load_fault.LoadFault.{LoadFault}
 use Rattle.cells.specs.Directory.{Declaration, Declares, IsRefusedDeclaration, declaration}
 use Rattle.cells.specs.declared.array.CellArray.{CellArray}
 use Rattle.cells.specs.declared.array.CellWidth.{CellWidth}
-use Rattle.cells.specs.declared.fault.CellsFault.{CellsFault}
-use Rattle.cells.specs.declared.fault.CellsFault.TheVariants.{Memory}
+use Rattle.cells.specs.declared.cells_fault.CellsFault.{CellsFault}
+use Rattle.cells.specs.declared.cells_fault.CellsFault.TheVariants.{Memory}
 
 -- an array of these values is declared
 pub declared_by : {d : Declaration} {name : List ℕ} {width : CellWidth} {length : ℕ}

@@ -6,7 +6,7 @@ use Rattle.std.proofs.lemmas.List.Elements.{All-append, All-cons, All-nil}
 use Rattle.cells.specs.Directory.{Declaration}
 use Rattle.diagnosis.specs.Further.{AreFurther}
 use Rattle.diagnosis.specs.Lines.{fault_lines}
-use Rattle.diagnosis.specs.Reported.{AreFaultReports, IsFaultReport, TellsFurther}
+use Rattle.diagnosis.specs.Reported.{AreFaultReports, IsFaultReport, ReportsFurther}
 use Rattle.diagnosis.specs.declared.refused.FaultReport.{FaultReport}
 use Rattle.load.specs.declared.load_fault.LoadFault.{LoadFault}
 use Rattle.load.specs.declared.sources.AppSources.{AppSources}
@@ -75,7 +75,7 @@ module _ (parsed : Parsed) (arrays : List Declaration) (apps : List AppSources) 
       (reported : List FaultReport)
       (count left_out : ℕ) → AreFurther parsed arrays apps fault faults → few ≡ take 9 faults
       → AreFaultReports arrays apps few reported → count ≡ length faults → left_out ≡ count - 9
-      → TellsFurther parsed arrays apps fault reported left_out
+      → ReportsFurther parsed arrays apps fault reported left_out
   nine_reported fault faults few reported count left_out further few_are lines count_is
       left_out_is =
       record {

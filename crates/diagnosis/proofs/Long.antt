@@ -8,11 +8,11 @@ use Rattle.manifest.specs.declared.manifest_fault.ManifestFault.TheVariants.{Tom
 use Rattle.manifest.specs.declared.manifest_fault.TomlFault.TheVariants.{TooLong}
 use Rattle.manifest.specs.declared.refused.Parsed.TheVariants.{Nothing}
 use Rattle.diagnosis.specs.Check.{FailsIfLong, no_file}
-use Rattle.diagnosis.specs.Reported.{TellsRefused}
+use Rattle.diagnosis.specs.Reported.{ReportsRefused}
 use Rattle.diagnosis.specs.declared.refused.Refused.{Refused}
 
 pub fails_if_long : (r : Refused) → r.fault ≡ Manifest (Toml TooLong)
-    → TellsRefused Nothing [] [] 0 r → FailsIfLong r
+    → ReportsRefused Nothing [] [] 0 r → FailsIfLong r
 fails_if_long r is reported known bytes long = record {
   refused = subst (λ (f : LoadFault). IsLoadFault known [] bytes f) (sym is) (of_bytes long);
   parsed = Nothing;

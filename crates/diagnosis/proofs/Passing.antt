@@ -3,7 +3,7 @@ use Rattle.std.proofs.Common.{◌≡◌, ℕ, List, [], ◌++◌, length, string
 use Rattle.std.proofs.Common.{refl, sym, Result, Ok, Err, IfOk, IfErr, Some, inl, inr}
 use Rattle.diagnosis.specs.Check.{FailsApps, FailsCheck, PassesApps, PassesCheck, files, no_file}
 use Rattle.diagnosis.specs.Texts.{accepted_text}
-use Rattle.diagnosis.specs.Reported.{TellsRefused}
+use Rattle.diagnosis.specs.Reported.{ReportsRefused}
 use Rattle.diagnosis.specs.ArrayWarnings.{array_warnings}
 use Rattle.diagnosis.specs.Warned.{WarnsOfApps}
 use Rattle.diagnosis.specs.declared.accepted.CheckedManifest.{CheckedManifest}
@@ -109,7 +109,8 @@ module _ (known : KnownFiles) (bytes : List ℕ) (g : Sources) (is : AreSources 
   }
 
 pub fails_early : (known : KnownFiles) (bytes : List ℕ) (u : SourcesRefusal) (r : Refused)
-    → IsSourcesRefusal [] bytes u → r.fault ≡ u.fault → TellsRefused u.parsed u.arrays.items [] 0 r
+    → IsSourcesRefusal [] bytes u → r.fault ≡ u.fault
+    → ReportsRefused u.parsed u.arrays.items [] 0 r
     → FailsCheck known bytes r
 fails_early known bytes u r h is reported = record {
   refused = subst (λ (f : LoadFault). IsLoadFault known [] bytes f) (sym is) (h.fault_is known);
@@ -127,7 +128,7 @@ fails_early known bytes u r h is reported = record {
 -- the fault of the first app without a program, and the report on it
 pub fails_by : (g : Sources) (lent : List AppSources) (fault : LoadFault) (r : Refused)
     → RefusesFirst lent fault → lent ≡ g.apps.items → r.fault ≡ fault
-    → TellsRefused Nothing g.arrays.items g.apps.items g.unread r → FailsApps g r
+    → ReportsRefused Nothing g.arrays.items g.apps.items g.unread r → FailsApps g r
 fails_by g lent fault r refuses same is reported = record {
   refused = subst (λ (f : LoadFault). RefusesFirst g.apps.items f) (sym is)
       (subst (λ (l : List AppSources). RefusesFirst l fault) same refuses);

@@ -4,7 +4,7 @@ use Rattle.std.specs.Prelude.{◌≡◌, ◌<◌, ℕ, List, [], length, string_
 use Rattle.bpf_semantics.specs.Program.{ShapedProgram}
 use Rattle.cells.specs.Directory.{Declaration}
 use Rattle.diagnosis.specs.Texts.{accepted_text}
-use Rattle.diagnosis.specs.Reported.{TellsRefused}
+use Rattle.diagnosis.specs.Reported.{ReportsRefused}
 use Rattle.diagnosis.specs.Warned.{WarnsOf}
 use Rattle.diagnosis.specs.declared.accepted.CheckedManifest.{CheckedManifest}
 use Rattle.diagnosis.specs.declared.refused.Refused.{Refused}
@@ -37,7 +37,7 @@ pub record PassesApps (bytes : List ℕ) (g : Sources) (reported : CheckedManife
 -- the apps whose files aren't read
 pub record FailsApps (g : Sources) (r : Refused) : Type 0 where
   pub refused : RefusesFirst g.apps.items r.fault
-  pub reported : TellsRefused Nothing g.arrays.items g.apps.items g.unread r
+  pub reported : ReportsRefused Nothing g.arrays.items g.apps.items g.unread r
 
 -- ---- the manifest
 
@@ -72,7 +72,7 @@ module _ (known : KnownFiles) (bytes : List ℕ) where
     pub apps : List AppSources
     pub unread : ℕ
     pub read_until : IsReadUntil r.fault arrays apps unread
-    pub reported : TellsRefused parsed arrays apps unread r
+    pub reported : ReportsRefused parsed arrays apps unread r
 
 -- every manifest of more than 1048576 bytes fails like this, whatever its files give
 abbrev pub FailsIfLong : Refused → Type 0

@@ -1,8 +1,8 @@
 -- Where and why a manifest is refused.
 use Rattle.std.specs.Prelude.{◌≡◌, ℕ, ◌-◌, List, [], ◌++◌, codes, slice_get, Some}
 use Rattle.cells.specs.Directory.{Declaration}
-use Rattle.cells.specs.declared.fault.CellsFault.{CellsFault}
-use Rattle.cells.specs.declared.fault.CellsFault.TheVariants as cells
+use Rattle.cells.specs.declared.cells_fault.CellsFault.{CellsFault}
+use Rattle.cells.specs.declared.cells_fault.CellsFault.TheVariants as cells
 use Rattle.diagnosis.specs.Advice.{advice}
 use Rattle.diagnosis.specs.declared.shown.Place.{Place}
 use Rattle.diagnosis.specs.declared.shown.Place.TheVariants.{Whole, Slot, Refused}
@@ -20,7 +20,7 @@ use Rattle.acceptance.specs.declared.program_fault.ProgramFault.{ProgramFault}
 use Rattle.acceptance.specs.declared.program_fault.ProgramFault.TheVariants.{Flow, Verify}
 use Rattle.acceptance.specs.declared.program_fault.RuleTextFault.{RuleTextFault}
 use Rattle.acceptance.specs.declared.program_fault.RuleTextFault.TheVariants.{Text}
-use Rattle.flow_check.specs.declared.fault.FlowFault.TheVariants as flow
+use Rattle.flow_check.specs.declared.flow_fault.FlowFault.TheVariants as flow
 use Rattle.rule_lang.specs.declared.rule_fault.RuleFault.TheVariants as rule
 use Rattle.manifest.specs.Texts.{schema_error_text, duplicate_text}
 use Rattle.manifest.specs.declared.manifest_fault.ManifestFault.{ManifestFault}
@@ -39,7 +39,8 @@ tables_line =
 -- it
 abbrev pub IsTomlReason : TomlFault → List ℕ → Type 0
 IsTomlReason toml.TooLong text = text ≡ line (codes "more than 1048576 bytes")
-IsTomlReason toml.Text text = (said : List ℕ) × (text ≡ printed_lines said ++ tables_line)
+IsTomlReason toml.Text text = (error_text : List ℕ)
+    × (text ≡ printed_lines error_text ++ tables_line)
 
 abbrev pub IsManifestReason : ManifestFault → List ℕ → Type 0
 IsManifestReason (unread.Toml fault) text = IsTomlReason fault text

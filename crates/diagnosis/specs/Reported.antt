@@ -16,11 +16,11 @@ most_further = 9
 
 module _ (arrays : List Declaration) (apps : List AppSources) where
   -- where and why, or nothing if out of memory
-  abbrev pub TellsReason : LoadFault → List ℕ → Type 0
-  TellsReason fault reason = (reason ≡ []) ⊎ IsReason arrays apps fault reason
+  abbrev pub IsReasonOrEmpty : LoadFault → List ℕ → Type 0
+  IsReasonOrEmpty fault reason = (reason ≡ []) ⊎ IsReason arrays apps fault reason
 
   abbrev pub IsFaultReport : FaultReport → Type 0
-  IsFaultReport reported = TellsReason reported.fault (string_bytes reported.reason)
+  IsFaultReport reported = IsReasonOrEmpty reported.fault (string_bytes reported.reason)
 
   -- these faults, in order
   pub record AreFaultReports (faults : List LoadFault) (reported : List FaultReport) : Type 0 where
@@ -29,7 +29,8 @@ module _ (arrays : List Declaration) (apps : List AppSources) where
 
 module _ (parsed : Parsed) (arrays : List Declaration) (apps : List AppSources) where
   -- the first nine of the further faults, and how many more there are
-  pub record TellsFurther (fault : LoadFault) (reported : List FaultReport) (left_out : ℕ) : Type 0
+  pub record ReportsFurther (fault : LoadFault) (reported : List FaultReport) (left_out : ℕ)
+      : Type 0
     where
       pub faults : List LoadFault
       pub further : AreFurther parsed arrays apps fault faults
@@ -37,14 +38,14 @@ module _ (parsed : Parsed) (arrays : List Declaration) (apps : List AppSources) 
       pub left_out_is : left_out ≡ length faults - most_further
 
   -- those, or none if out of memory
-  abbrev pub TellsOthers : LoadFault → List FaultReport → ℕ → Type 0
-  TellsOthers fault reported left_out =
-      ((reported ≡ []) × (left_out ≡ 0)) ⊎ TellsFurther fault reported left_out
+  abbrev pub ReportsOthers : LoadFault → List FaultReport → ℕ → Type 0
+  ReportsOthers fault reported left_out =
+      ((reported ≡ []) × (left_out ≡ 0)) ⊎ ReportsFurther fault reported left_out
 
   -- the whole report, if after these apps there are `unread` ones whose files aren't read
-  pub record TellsRefused (unread : ℕ) (r : Refused) : Type 0 where
-    pub own : TellsReason arrays apps r.fault (string_bytes r.own)
-    pub further : TellsOthers r.fault r.further.items r.left_out
+  pub record ReportsRefused (unread : ℕ) (r : Refused) : Type 0 where
+    pub own : IsReasonOrEmpty arrays apps r.fault (string_bytes r.own)
+    pub further : ReportsOthers r.fault r.further.items r.left_out
     pub read_is : r.read ≡ length apps
     pub unread_is : r.unread ≡ unread
     pub lines : AreRefusalLines (string_bytes r.own) r.further.items r.left_out r.read r.unread

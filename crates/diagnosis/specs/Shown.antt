@@ -98,7 +98,7 @@ IsKeptShown s place (Some (Longer v count is_text)) text =
 
 -- the file of an app is in the manifest's folder, by its name and with no symbolic link in its path
 abbrev pub lies_inside : AppSources → Bool
-lies_inside app = is_inside (file_of app.entry.source) && not app.behind_link
+lies_inside app = is_inside (file_of app.entry.source) && not app.through_link
 
 -- the file is inside, and its place is shown; or nothing is: the file is outside, memory ran out,
 -- or there is no such place

@@ -37,12 +37,12 @@ abbrev pub file_line : ℕ → ProgramSource → List ℕ
 file_line number source = line (codes "app[" ++ decimal number ++ codes "]." ++ source_key source
     ++ codes ": " ++ printed (file_of source))
 
-unfoldable pub unread_said : List ℕ
-unread_said = codes "no file is read: those before that are too long have more than 64 MiB"
+unfoldable pub unread_text : List ℕ
+unread_text = codes "no file is read: those before that are too long have more than 64 MiB"
 
 -- the number of the last app whose file is read, if there are apps after it
 abbrev pub unread_line : ℕ → List ℕ
-unread_line number = line (codes "behind app " ++ decimal number ++ codes " " ++ unread_said)
+unread_line number = line (codes "behind app " ++ decimal number ++ codes " " ++ unread_text)
 
 unfoldable pub passes_cells : List ℕ
 passes_cells = codes "passes the 4096 cells that all arrays of a width have"

@@ -6,8 +6,8 @@ use Rattle.load.specs.declared.load_fault.LoadFault.TheVariants.{Cells}
 use Rattle.cells.specs.Directory.{Declaration, Declares, IsRefusedDeclaration}
 use Rattle.cells.specs.declared.array.ArrayNo.{ArrayNo}
 use Rattle.cells.specs.declared.array.CellArray.{CellArray}
-use Rattle.cells.specs.declared.fault.CellsFault.{CellsFault}
-use Rattle.cells.specs.declared.fault.CellsFault.TheVariants as cells
+use Rattle.cells.specs.declared.cells_fault.CellsFault.{CellsFault}
+use Rattle.cells.specs.declared.cells_fault.CellsFault.TheVariants as cells
 use Rattle.declarations.specs.Order.{AreDeclared}
 
 -- the fault of the array with this number, if it has one

@@ -7,7 +7,7 @@ ghost use Rattle.diagnosis.specs.Texts.{accepted_text, array_line, printed_app_l
 ghost use Rattle.load.specs.Sources.{HasItsReleases};
 ghost use Rattle.load.specs.Judged.{AreJudged};
 
-use crate::warned::{tell_warnings, warnings_of_apps};
+use crate::warned::{warning_text, warnings_of_apps};
 use bpf_verify::Verified;
 use declarations::ArrayDeclaration;
 use load::{Sources, judged_digest, supply};
@@ -35,7 +35,7 @@ pub struct CheckedManifest {
 }
 
 /// The lines of its arrays and apps, the warnings, and the digest.
-pub(crate) fn tell_accepted(
+pub(crate) fn report_accepted(
     alloc: Global,
     manifest: &[u8],
     sources: Sources,
@@ -55,8 +55,8 @@ pub(crate) fn tell_accepted(
         unread: _unread,
     } = sources;
     let apps = supply(alloc, collected_apps, programs)?;
-    let text = tell_loaded(alloc, arrays.as_slice(), apps.as_slice())?;
-    let warnings = tell_warnings(
+    let text = accepted_lines(alloc, arrays.as_slice(), apps.as_slice())?;
+    let warnings = warning_text(
         alloc,
         directory.arrays(),
         apps.as_slice(),
@@ -71,7 +71,7 @@ pub(crate) fn tell_accepted(
     })
 }
 
-fn tell_loaded(
+fn accepted_lines(
     alloc: Global,
     arrays: &[ArrayDeclaration],
     apps: &[App],
@@ -79,21 +79,21 @@ fn tell_loaded(
     ensures { IfOk result (λ text. string_bytes text ≡ accepted_text arrays.now apps.now) }
 {
     let mut text = String::new(alloc);
-    tell_arrays(&mut text, arrays)?;
+    report_arrays(&mut text, arrays)?;
     push_app_lines(&mut text, apps)?;
     Ok(text)
 }
 
-fn tell_arrays(text: &mut String, arrays: &[ArrayDeclaration]) -> Result<(), AllocError>
+fn report_arrays(text: &mut String, arrays: &[ArrayDeclaration]) -> Result<(), AllocError>
     ensures { OnOk result (Puts text.old text.new (flat_map array_line arrays.now)) }
 {
     for array in arrays {
-        tell_array(text, array)?;
+        push_array_line(text, array)?;
     }
     Ok(())
 }
 
-fn tell_array(text: &mut String, array: &ArrayDeclaration) -> Result<(), AllocError>
+fn push_array_line(text: &mut String, array: &ArrayDeclaration) -> Result<(), AllocError>
     ensures { OnOk result (Puts text.old text.new (array_line array.now)) }
 {
     writeln!(text, "array {array}")
@@ -103,12 +103,12 @@ fn push_app_lines(text: &mut String, apps: &[App]) -> Result<(), AllocError>
     ensures { OnOk result (Puts text.old text.new (flat_map printed_app_line apps.now)) }
 {
     for app in apps {
-        tell_app(text, app)?;
+        push_app_line(text, app)?;
     }
     Ok(())
 }
 
-fn tell_app(text: &mut String, app: &App) -> Result<(), AllocError>
+fn push_app_line(text: &mut String, app: &App) -> Result<(), AllocError>
     ensures { OnOk result (Puts text.old text.new (printed_app_line app.now)) }
 {
     let program: &Verified = app.program();

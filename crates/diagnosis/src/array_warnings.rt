@@ -67,7 +67,7 @@ fn app_names(number: usize, app: &App) -> bool
 
 // The warning on an array that the app `first` uses, if one of these apps also uses it. They are
 // numbered from `app`.
-fn tell_shared(
+fn report_shared_array(
     warnings: &mut Vec<Warning>,
     number: usize,
     first: usize,
@@ -93,7 +93,7 @@ fn tell_shared(
 }
 
 // The warning on an array, by the apps that use it.
-fn tell_array(warnings: &mut Vec<Warning>, number: usize, apps: &[App]) -> Result<(), AllocError>
+fn report_array(warnings: &mut Vec<Warning>, number: usize, apps: &[App]) -> Result<(), AllocError>
     requires { number < 2 ^ 63 }
     ensures { OnOk result (warnings.new.items ≡ warnings.old.items
         ++ specs.array_warning number (specs.users_from 1 number apps.now)) }
@@ -102,7 +102,7 @@ fn tell_array(warnings: &mut Vec<Warning>, number: usize, apps: &[App]) -> Resul
     let mut left = apps;
     while let [user, others @ ..] = left {
         if app_names(number, user) {
-            return tell_shared(warnings, number, app, app + 1, others);
+            return report_shared_array(warnings, number, app, app + 1, others);
         }
         app += 1;
         left = others;
@@ -113,7 +113,7 @@ fn tell_array(warnings: &mut Vec<Warning>, number: usize, apps: &[App]) -> Resul
 
 /// Adds a warning for each array that no program of these apps uses, and for each that several use.
 /// Arrays and apps are numbered from 1.
-pub(crate) fn tell_arrays(
+pub(crate) fn report_arrays(
     warnings: &mut Vec<Warning>,
     arrays: &[CellArray],
     apps: &[App],
@@ -124,7 +124,7 @@ pub(crate) fn tell_arrays(
     let mut number = 0;
     let mut left = arrays;
     while let [_, others @ ..] = left {
-        tell_array(warnings, number, apps)?;
+        report_array(warnings, number, apps)?;
         number += 1;
         left = others;
     }

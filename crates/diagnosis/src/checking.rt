@@ -3,12 +3,12 @@
 ghost use Rattle.std.specs.Prelude.{◌≡◌, [], length, All, IfOk, IfErr};
 ghost use Rattle.diagnosis.specs.Check.{FailsApps, FailsCheck, FailsIfLong, PassesApps};
 ghost use Rattle.diagnosis.specs.Check.{PassesCheck};
-ghost use Rattle.diagnosis.specs.Reported.{TellsRefused};
+ghost use Rattle.diagnosis.specs.Reported.{ReportsRefused};
 ghost use Rattle.load.specs.Sources.{HasItsReleases};
 ghost use Rattle.load.specs.declared.sources.Sources.{Sources};
 
-use crate::accepted::{CheckedManifest, tell_accepted};
-use crate::refusal_report::tell_refused;
+use crate::accepted::{CheckedManifest, report_accepted};
+use crate::refusal_report::report_refused;
 use crate::refused::Refused;
 use cells::Directory;
 use load::{Files, LoadFault, Sources, SourcesRefusal, collect_sources, judge, sources_are_loaded};
@@ -27,7 +27,7 @@ use std::alloc::Global;
 /// Then, for each app, there is one if its appid has an unprintable character. There is one for
 /// each release whose version (as four numbers) a later release also has, or whose codebase doesn't
 /// end in `/`, or begins with neither `https://` nor `http://`. The warnings on the app's rule come
-/// last (`tell_rule` of `warnings`).
+/// last (`push_rule_warnings` of `warnings`).
 ///
 /// For a refused manifest the reason begins with the path of a member and what is expected there;
 /// in the path, the tables of a list are numbered from 1:
@@ -39,7 +39,7 @@ use std::alloc::Global;
 /// - M3: `array q stands twice` or `app x stands twice`.
 /// - M4 to M6: `app[1].rule: x.rule`, the name of the file as the manifest has it. If M6 has a
 ///   line, it is followed by what is there and what is expected, such as `line 2, column 9: ..`,
-///   and below it the line and a caret (`tell_rule_fault` of `rule_diagnosis`). If that isn't
+///   and below it the line and a caret (`rule_fault_message` of `rule_diagnosis`). If that isn't
 ///   available, only the line follows, such as `line 2: count q[0];`, or the message that the file
 ///   isn't UTF-8 text. If M5 has a slot at which an instruction begins, the instruction follows as
 ///   it is listed: `slot 1: exit`; if the verifier refuses it, also the sentence of
@@ -94,7 +94,7 @@ fn check_apps(alloc: Global, manifest: &[u8], sources: Sources) -> Result<Checke
     let read = sources.apps.len();
     let unread = sources.unread;
     match judge(alloc, sources.apps.as_slice()) {
-        Ok(programs) => match tell_accepted(alloc, manifest, sources, programs) {
+        Ok(programs) => match report_accepted(alloc, manifest, sources, programs) {
             Ok(reported) => Ok(reported),
             Err(_) => Err(out_of_memory(alloc, read, unread)),
         },
@@ -104,12 +104,12 @@ fn check_apps(alloc: Global, manifest: &[u8], sources: Sources) -> Result<Checke
 
 fn refuse_sources(alloc: Global, sources: &Sources, fault: LoadFault) -> Refused
     ensures fault { result.fault ≡ fault }
-    ensures reported { TellsRefused Parsed.Nothing sources.now.arrays.items sources.now.apps.items
+    ensures reported { ReportsRefused Parsed.Nothing sources.now.arrays.items sources.now.apps.items
         sources.now.unread result }
 {
     let arrays = sources.arrays.as_slice();
     let apps = sources.apps.as_slice();
-    tell_refused(
+    report_refused(
         alloc,
         &Parsed::Nothing,
         false,
@@ -122,7 +122,7 @@ fn refuse_sources(alloc: Global, sources: &Sources, fault: LoadFault) -> Refused
 
 fn refuse_without_sources(alloc: Global, is_link: bool, refused_sources: SourcesRefusal) -> Refused
     ensures fault { result.fault ≡ refused_sources.fault }
-    ensures reported { TellsRefused refused_sources.parsed refused_sources.arrays.items [] 0
+    ensures reported { ReportsRefused refused_sources.parsed refused_sources.arrays.items [] 0
         result }
 {
     let SourcesRefusal {
@@ -130,7 +130,7 @@ fn refuse_without_sources(alloc: Global, is_link: bool, refused_sources: Sources
         arrays,
         parsed,
     } = refused_sources;
-    tell_refused(alloc, &parsed, is_link, arrays.as_slice(), &[], 0, fault)
+    report_refused(alloc, &parsed, is_link, arrays.as_slice(), &[], 0, fault)
 }
 
 fn out_of_memory(alloc: Global, read: usize, unread: usize) -> Refused
@@ -155,5 +155,5 @@ pub fn too_long(alloc: Global) -> Refused
     ensures { FailsIfLong result }
 {
     let fault = LoadFault::Manifest(ManifestFault::Toml(TomlFault::TooLong));
-    tell_refused(alloc, &Parsed::Nothing, false, &[], &[], 0, fault)
+    report_refused(alloc, &Parsed::Nothing, false, &[], &[], 0, fault)
 }

@@ -17,7 +17,7 @@ use std::fmt::Write;
 
 /// The name of the file of the app with this number, and the place in it; None if an allocation
 /// fails.
-pub(crate) fn tell_file(
+pub(crate) fn file_reason(
     alloc: Global,
     apps: &[AppSources],
     number: usize,
@@ -28,14 +28,14 @@ pub(crate) fn tell_file(
     let Some(app) = apps.get(number.saturating_sub(1)) else {
         return None;
     };
-    tell_app(alloc, number, place, app)
+    app_file_reason(alloc, number, place, app)
 }
 
-fn tell_app(alloc: Global, number: usize, place: Place, app: &AppSources) -> Option<String>
+fn app_file_reason(alloc: Global, number: usize, place: Place, app: &AppSources) -> Option<String>
     ensures { IfSome result (λ text. IsReported number place app.now (string_bytes text)) }
 {
     let mut text = String::new(alloc);
-    let Ok(()) = tell_name(&mut text, number, app.entry.source()) else {
+    let Ok(()) = push_file_line(&mut text, number, app.entry.source()) else {
         return None;
     };
     let shown = show_inside(alloc, place, app);
@@ -45,7 +45,7 @@ fn tell_app(alloc: Global, number: usize, place: Place, app: &AppSources) -> Opt
     }
 }
 
-fn tell_name(text: &mut String, app: usize, source: &ProgramSource) -> Result<(), AllocError>
+fn push_file_line(text: &mut String, app: usize, source: &ProgramSource) -> Result<(), AllocError>
     ensures { OnOk result (Puts text.old text.new (file_line app source.now)) }
 {
     let key = key_of(source);
@@ -82,5 +82,5 @@ fn show_inside(alloc: Global, place: Place, app: &AppSources) -> String
 fn lies_inside(app: &AppSources) -> bool
     ensures { result ≡ specs.lies_inside app.now }
 {
-    is_inside(file_of(app.entry.source())) && !app.behind_link
+    is_inside(file_of(app.entry.source())) && !app.through_link
 }

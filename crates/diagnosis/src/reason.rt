@@ -12,7 +12,7 @@ ghost use Rattle.manifest.specs.Texts.{schema_error_text};
 ghost use Rattle.ruleset.specs.Texts.{line};
 
 use crate::advice::advice;
-use crate::file::tell_file;
+use crate::file::file_reason;
 use crate::shown::Place;
 use acceptance::{ProgramFault, RuleTextFault};
 use bpf_verify::Refusal;
@@ -39,13 +39,13 @@ pub(crate) fn reason_of(
     ensures { (string_bytes result ≡ [])
         ⊎ IsReason arrays.now apps.now fault.now (string_bytes result) }
 {
-    match tell_reason(alloc, parsed, is_link, arrays, apps, fault) {
+    match reason_text(alloc, parsed, is_link, arrays, apps, fault) {
         Some(text) => text,
         None => String::new(alloc),
     }
 }
 
-fn tell_reason(
+fn reason_text(
     alloc: Global,
     parsed: &Parsed,
     is_link: bool,
@@ -57,17 +57,17 @@ fn tell_reason(
         IsReason arrays.now apps.now fault.now (string_bytes text)) }
 {
     match fault {
-        LoadFault::Manifest(fault) => tell_manifest(alloc, parsed, is_link, fault),
-        LoadFault::File { app } => tell_file(alloc, apps, *app, Place::Whole),
-        LoadFault::Program { app, fault } => tell_file(alloc, apps, *app, slot_of(fault)),
-        LoadFault::Rule { app, fault } => tell_file(alloc, apps, *app, rule_place(fault)),
-        LoadFault::Cells { array, fault } => tell_cells_fault(alloc, arrays, *array, *fault),
+        LoadFault::Manifest(fault) => manifest_reason(alloc, parsed, is_link, fault),
+        LoadFault::File { app } => file_reason(alloc, apps, *app, Place::Whole),
+        LoadFault::Program { app, fault } => file_reason(alloc, apps, *app, slot_of(fault)),
+        LoadFault::Rule { app, fault } => file_reason(alloc, apps, *app, rule_place(fault)),
+        LoadFault::Cells { array, fault } => cells_fault_reason(alloc, arrays, *array, *fault),
         LoadFault::Memory => None,
     }
 }
 
 // What is wrong with a manifest itself.
-fn tell_manifest(
+fn manifest_reason(
     alloc: Global,
     parsed: &Parsed,
     is_link: bool,
@@ -76,14 +76,14 @@ fn tell_manifest(
     ensures { IfSome result (λ text. IsManifestReason fault.now (string_bytes text)) }
 {
     match fault {
-        ManifestFault::Toml(fault) => tell_toml(alloc, parsed, is_link, *fault),
-        ManifestFault::Field(schema_error) => tell_schema_error(alloc, schema_error),
+        ManifestFault::Toml(fault) => toml_reason(alloc, parsed, is_link, *fault),
+        ManifestFault::Field(schema_error) => schema_error_reason(alloc, schema_error),
         ManifestFault::Duplicate(duplicate) => format!(in alloc; "{duplicate} stands twice\n").ok(),
         ManifestFault::Memory => None,
     }
 }
 
-fn tell_schema_error(alloc: Global, schema_error: &SchemaError) -> Option<String>
+fn schema_error_reason(alloc: Global, schema_error: &SchemaError) -> Option<String>
     ensures { IfSome result (λ text.
         string_bytes text ≡ line (schema_error_text schema_error.now) ++ advice schema_error.now) }
 {
@@ -105,35 +105,35 @@ fn push_schema_error(text: &mut String, schema_error: &SchemaError) -> Result<()
 
 // That there are too many bytes, or the error of the TOML reader, which has its own line ends. That
 // error quotes the manifest, so it is left out if the manifest is a symbolic link.
-fn tell_toml(alloc: Global, parsed: &Parsed, is_link: bool, fault: TomlFault) -> Option<String>
+fn toml_reason(alloc: Global, parsed: &Parsed, is_link: bool, fault: TomlFault) -> Option<String>
     ensures { IfSome result (λ text. IsTomlReason fault (string_bytes text)) }
 {
     match fault {
         TomlFault::TooLong => format!(in alloc; "more than 1048576 bytes\n").ok(),
         TomlFault::Text if is_link => with_tables(alloc, ""),
-        TomlFault::Text => tell_error(alloc, parsed),
+        TomlFault::Text => parse_error_reason(alloc, parsed),
     }
 }
 
-fn tell_error(alloc: Global, parsed: &Parsed) -> Option<String>
+fn parse_error_reason(alloc: Global, parsed: &Parsed) -> Option<String>
     ensures { IfSome result (λ text. IsTomlReason TomlFault.Text (string_bytes text)) }
 {
     let Parsed::Error(error) = parsed else {
         return None;
     };
-    let Ok(said) = format!(in alloc; "{error}") else {
+    let Ok(error_text) = format!(in alloc; "{error}") else {
         return None;
     };
-    with_tables(alloc, said.as_str())
+    with_tables(alloc, error_text.as_str())
 }
 
 // The error keeps its line ends and quotes the manifest, so each line is printed as untrusted text.
-fn with_tables(alloc: Global, said: &str) -> Option<String>
+fn with_tables(alloc: Global, error_text: &str) -> Option<String>
     ensures { IfSome result (λ text. IsTomlReason TomlFault.Text (string_bytes text)) }
 {
-    let said = PrintedLines(said);
+    let error_text = PrintedLines(error_text);
     let tables = tables();
-    format!(in alloc; "{said}{tables}").ok()
+    format!(in alloc; "{error_text}{tables}").ok()
 }
 
 // How the tables of a manifest begin: for a list that begins otherwise, the TOML reader mostly
@@ -167,7 +167,7 @@ fn rule_place(fault: &RuleTextFault) -> Place
     }
 }
 
-fn tell_cells_fault(
+fn cells_fault_reason(
     alloc: Global,
     arrays: &[ArrayDeclaration],
     number: usize,
@@ -177,14 +177,14 @@ fn tell_cells_fault(
         IsCellsReason arrays.now number fault (string_bytes text)) }
 {
     match fault {
-        CellsFault::CellsFull => tell_array(alloc, arrays, number),
+        CellsFault::CellsFull => full_array_reason(alloc, arrays, number),
         CellsFault::Redefined => None,
         CellsFault::Memory => None,
     }
 }
 
 // The array with this number, for which too few cells are left.
-fn tell_array(alloc: Global, arrays: &[ArrayDeclaration], number: usize) -> Option<String>
+fn full_array_reason(alloc: Global, arrays: &[ArrayDeclaration], number: usize) -> Option<String>
     ensures { IfSome result (λ text.
         IsCellsReason arrays.now number CellsFault.CellsFull (string_bytes text)) }
 {
@@ -192,13 +192,13 @@ fn tell_array(alloc: Global, arrays: &[ArrayDeclaration], number: usize) -> Opti
         return None;
     };
     let mut text = String::new(alloc);
-    match tell_cells(&mut text, number, array.name()) {
+    match push_array_reason(&mut text, number, array.name()) {
         Ok(()) => Some(text),
         Err(_) => None,
     }
 }
 
-fn tell_cells(text: &mut String, number: usize, name: &str) -> Result<(), AllocError>
+fn push_array_reason(text: &mut String, number: usize, name: &str) -> Result<(), AllocError>
     ensures { OnOk result (Puts text.old text.new (cells_line number name.now)) }
 {
     let passes = passes_cells();

@@ -99,19 +99,19 @@ fn push_unread(text: &mut String, read: usize, unread: usize) -> Result<(), Allo
     if unread == 0 {
         return Ok(());
     }
-    push_unread_behind(text, read)
+    push_unread_rest(text, read)
 }
 
-fn push_unread_behind(text: &mut String, app: usize) -> Result<(), AllocError>
+fn push_unread_rest(text: &mut String, app: usize) -> Result<(), AllocError>
     ensures { OnOk result (Puts text.old text.new (texts.unread_line app)) }
 {
-    let said = unread_said();
+    let said = unread_text();
     writeln!(text, "behind app {app} {said}")
 }
 
-#[tactic(auto, unfolding(crate::specs::Texts::unread_said))]
-fn unread_said() -> &'static str
-    ensures { result.now ≡ texts.unread_said }
+#[tactic(auto, unfolding(crate::specs::Texts::unread_text))]
+fn unread_text() -> &'static str
+    ensures { result.now ≡ texts.unread_text }
 {
     "no file is read: those before that are too long have more than 64 MiB"
 }

@@ -2,9 +2,9 @@
 
 ghost use Rattle.std.specs.Prelude.{◌≡◌, IfOk, IfSome};
 ghost use Rattle.diagnosis.specs.Further.{AreFurther};
-ghost use Rattle.diagnosis.specs.Reported.{AreFaultReports, IsFaultReport, TellsFurther};
-ghost use Rattle.diagnosis.specs.Reported.{TellsOthers};
-ghost use Rattle.diagnosis.specs.Reported.{TellsRefused};
+ghost use Rattle.diagnosis.specs.Reported.{AreFaultReports, IsFaultReport, ReportsFurther};
+ghost use Rattle.diagnosis.specs.Reported.{ReportsOthers};
+ghost use Rattle.diagnosis.specs.Reported.{ReportsRefused};
 
 use crate::later_faults::faults_after;
 use crate::others::{other_duplicates, other_schema_errors};
@@ -28,7 +28,7 @@ struct FurtherFaults {
 
 /// Where and why a manifest is refused, from what its bytes were parsed as and what was gathered,
 /// and its further faults; either is left out if out of memory.
-pub(crate) fn tell_refused(
+pub(crate) fn report_refused(
     alloc: Global,
     parsed: &Parsed,
     is_link: bool,
@@ -38,10 +38,10 @@ pub(crate) fn tell_refused(
     fault: LoadFault,
 ) -> Refused
     ensures fault { result.fault ≡ fault }
-    ensures reported { TellsRefused parsed.now arrays.now apps.now unread result }
+    ensures reported { ReportsRefused parsed.now arrays.now apps.now unread result }
 {
     let own = reason_of(alloc, parsed, is_link, arrays, apps, &fault);
-    let FurtherFaults { reported, left_out } = tell_others(
+    let FurtherFaults { reported, left_out } = report_others(
         alloc, parsed, is_link, arrays, apps, &fault,
     );
     let read = apps.len();
@@ -64,7 +64,7 @@ pub(crate) fn tell_refused(
     }
 }
 
-fn tell_others(
+fn report_others(
     alloc: Global,
     parsed: &Parsed,
     is_link: bool,
@@ -72,10 +72,10 @@ fn tell_others(
     apps: &[AppSources],
     fault: &LoadFault,
 ) -> FurtherFaults
-    ensures { TellsOthers parsed.now arrays.now apps.now fault.now result.reported.items
+    ensures { ReportsOthers parsed.now arrays.now apps.now fault.now result.reported.items
         result.left_out }
 {
-    match tell_further(alloc, parsed, is_link, arrays, apps, fault) {
+    match report_further(alloc, parsed, is_link, arrays, apps, fault) {
         Ok(further) => further,
         Err(_) => FurtherFaults {
             reported: Vec::new(alloc),
@@ -84,7 +84,7 @@ fn tell_others(
     }
 }
 
-fn tell_further(
+fn report_further(
     alloc: Global,
     parsed: &Parsed,
     is_link: bool,
@@ -92,7 +92,7 @@ fn tell_further(
     apps: &[AppSources],
     fault: &LoadFault,
 ) -> Result<FurtherFaults, AllocError>
-    ensures { IfOk result (λ further. TellsFurther parsed.now arrays.now apps.now fault.now
+    ensures { IfOk result (λ further. ReportsFurther parsed.now arrays.now apps.now fault.now
         further.reported.items further.left_out) }
 {
     let Some(found) = further_faults(alloc, parsed, arrays, apps, fault) else {
@@ -101,7 +101,7 @@ fn tell_further(
     let mut faults = found;
     let left_out = faults.len().saturating_sub(MOST_FURTHER);
     faults.truncate(MOST_FURTHER);
-    let reported = tell_faults(alloc, parsed, is_link, arrays, apps, faults)?;
+    let reported = report_faults(alloc, parsed, is_link, arrays, apps, faults)?;
     Ok(FurtherFaults { reported, left_out })
 }
 
@@ -128,7 +128,7 @@ fn further_faults(
     }
 }
 
-fn tell_faults(
+fn report_faults(
     alloc: Global,
     parsed: &Parsed,
     is_link: bool,
@@ -140,13 +140,13 @@ fn tell_faults(
 {
     let mut all = Vec::new(alloc);
     for fault in faults {
-        let reported = tell_fault(alloc, parsed, is_link, arrays, apps, fault);
+        let reported = report_fault(alloc, parsed, is_link, arrays, apps, fault);
         all.push(reported)?;
     }
     Ok(all)
 }
 
-fn tell_fault(
+fn report_fault(
     alloc: Global,
     parsed: &Parsed,
     is_link: bool,

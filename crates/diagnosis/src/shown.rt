@@ -13,7 +13,7 @@ use cells::Shape;
 use explain::refused_place;
 use flow_check::Flow;
 use printing::PrintedLines;
-use rule_diagnosis::{line_text, rule_too_long, tell_rule_fault};
+use rule_diagnosis::{line_text, rule_fault_message, rule_too_long};
 use rule_lang::RuleFaultKind;
 use std::alloc::Global;
 use std::str;
@@ -162,7 +162,7 @@ fn with_sentence(
     let Ok(flow) = Flow::check(alloc, bytes) else {
         return None;
     };
-    flow.keeps();
+    flow.invariant_law();
     let Ok(Some(place)) = refused_place(alloc, &flow, shape) else {
         return None;
     };
@@ -220,7 +220,7 @@ fn show_text(
     ensures { IfSome result (λ shown.
         IsTextShown shape.now line kind text.now (string_bytes shown)) }
 {
-    match tell_rule_fault(alloc, text, shape, line, kind) {
+    match rule_fault_message(alloc, text, shape, line, kind) {
         Some(reported) => Some(reported),
         None => show_line(alloc, line, text),
     }

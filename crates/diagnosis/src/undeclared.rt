@@ -82,7 +82,7 @@ fn judge_array(
 ) -> Result<Option<CellsFault>, AllocError>
     ensures { IfOk result (JudgesArray array.now directory.old directory.new) }
 {
-    array.keeps();
+    array.invariant_law();
     match directory.declare(
         alloc,
         array.name(),

@@ -5,8 +5,8 @@ ghost use Rattle.diagnosis.specs.ArrayWarnings.{array_warnings};
 ghost use Rattle.diagnosis.specs.Warned.{WarnsOfApps};
 ghost use Rattle.warnings.specs.RuleWarnings.{whole_budget};
 
-use crate::array_warnings::tell_arrays;
-use crate::warned_app::tell_app;
+use crate::array_warnings::report_arrays;
+use crate::warned_app::report_app;
 use cells::CellArray;
 use load::AppSources;
 use ruleset::App;
@@ -18,7 +18,7 @@ use warnings::Warning;
 const BUDGET: u64 = 10000;
 
 /// The warnings on arrays, followed by those on apps.
-pub(crate) fn tell_warnings(
+pub(crate) fn warning_text(
     alloc: Global,
     arrays: &[CellArray],
     apps: &[App],
@@ -28,7 +28,7 @@ pub(crate) fn tell_warnings(
         warnings.items ≡ array_warnings 0 arrays.now apps.now ++ reported.now) }
 {
     let mut warnings = Vec::new(alloc);
-    tell_arrays(&mut warnings, arrays, apps)?;
+    report_arrays(&mut warnings, arrays, apps)?;
     warnings.extend_from_slice(reported)?;
     Ok(warnings)
 }
@@ -45,7 +45,7 @@ pub(crate) fn warnings_of_apps(
     let mut budget = BUDGET;
     let mut left = apps;
     while let [app, others @ ..] = left {
-        budget = tell_app(alloc, &mut warnings, number, budget, app)?;
+        budget = report_app(alloc, &mut warnings, number, budget, app)?;
         number += 1;
         left = others;
     }

@@ -9,11 +9,13 @@ use manifest::{AppEntry, ProgramSource};
 use rule_lang::parse;
 use std::alloc::{AllocError, Global};
 use std::str;
-use warnings::{EvaluatedRule, Warning, tell_appid, tell_releases, tell_rule};
+use warnings::{
+    EvaluatedRule, Warning, push_appid_warning, push_release_warnings, push_rule_warnings,
+};
 
 /// Adds the warnings on an accepted app: on its appid, its releases, and its rule, if it has one.
 /// Returns the budget that is left.
-pub(crate) fn tell_app(
+pub(crate) fn report_app(
     alloc: Global,
     warnings: &mut Vec<Warning>,
     number: usize,
@@ -22,18 +24,18 @@ pub(crate) fn tell_app(
 ) -> Result<u64, AllocError>
     ensures { IfOk result (AddsApp number budget app.now warnings.old.items warnings.new.items) }
 {
-    tell_entry(warnings, number, &app.entry)?;
+    report_entry(warnings, number, &app.entry)?;
     match app.entry.source() {
         ProgramSource::Program(_) => Ok(budget),
         ProgramSource::Rule(_) => {
-            let left = tell_text(alloc, warnings, number, budget, app)?;
+            let left = report_rule_text(alloc, warnings, number, budget, app)?;
             Ok(left)
         }
     }
 }
 
 #[tactic(auto, unfolding(crate::specs::Warned::app_warnings))]
-fn tell_entry(
+fn report_entry(
     warnings: &mut Vec<Warning>,
     number: usize,
     entry: &AppEntry,
@@ -41,12 +43,12 @@ fn tell_entry(
     ensures { OnOk result
         (warnings.new.items ≡ warnings.old.items ++ app_warnings number entry.now) }
 {
-    tell_appid(warnings, number, entry.appid())?;
-    tell_releases(warnings, number, entry.releases())
+    push_appid_warning(warnings, number, entry.appid())?;
+    push_release_warnings(warnings, number, entry.releases())
 }
 
 // The rule text of an accepted app is kept whole; otherwise there would be no warnings on it.
-fn tell_text(
+fn report_rule_text(
     alloc: Global,
     warnings: &mut Vec<Warning>,
     number: usize,
@@ -70,6 +72,6 @@ fn tell_text(
         app.entry.releases(),
         rule.statements(),
     );
-    let left = tell_rule(alloc, warnings, number, &evaluated, budget)?;
+    let left = push_rule_warnings(alloc, warnings, number, &evaluated, budget)?;
     Ok(left)
 }

@@ -9,7 +9,7 @@ use Rattle.std.proofs.lemmas.List.{get_or-map, length-map, reverse-append}
 use Rattle.std.proofs.lemmas.List.Elements.{All-cons, All-nil}
 use Rattle.attrs.specs.Attributes.{Attributes}
 use Rattle.cells.specs.Arrays.{AppShape}
-use Rattle.rule_lang.specs.Meaning.{Behaviour, allows, asks_then, decide, decide_one, test_holds}
+use Rattle.rule_lang.specs.Meaning.{Behaviour, allows, add_one_then, decide, decide_one, test_holds}
 use Rattle.rule_lang.specs.Trees.{Tree, Leaf, Negated, Both, Either, trees_from}
 use Rattle.rule_lang.specs.declared.condition.Step.{Step}
 use Rattle.rule_lang.specs.declared.condition.Step.TheVariants as step
@@ -63,7 +63,7 @@ module _ (x : Scope) (ds : List Dimension) (lines : All (IsLine x) ds) where
           })
           (All-nil (IsTable ds));
       means = λ s a g within met unmet.
-          ap (λ (o : Option ℕ). asks_then o
+          ap (λ (o : Option ℕ). add_one_then o
           (λ reply. if test_holds a s reply test then met else unmet)) (h.against.against.no_cell s)
           ∙ ap (λ (b : Bool). if b then met else unmet) (truth_is s a g within);
     }

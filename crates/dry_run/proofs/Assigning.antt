@@ -10,33 +10,35 @@ use Rattle.cell_assignments.specs.Assignments.{Assignment}
 use Rattle.dry_run.specs.Counters.{AreAssigned}
 use Rattle.dry_run.specs.IgnoredLines.{app_notes_in, request_note_in}
 use Rattle.dry_run.specs.OnCounters.{IsUnanswered}
-use Rattle.dry_run.specs.Why.{ExplainsRequest, TellsWhy}
-use Rattle.dry_run.specs.declared.fault.DryRunFault.TheVariants as fault
+use Rattle.dry_run.specs.Why.{ExplainsRequest, IsWhyText}
+use Rattle.dry_run.specs.declared.dry_run_fault.DryRunFault.TheVariants as fault
 use Rattle.dry_run.specs.declared.why_files.OpenedWhy.{OpenedWhy}
 
 -- the body was read as this request
 abbrev ReadsAs : (body : List ℕ) → Result Request OmahaFault → Type 0
 ReadsAs body read = read ≢ Err Memory → read ≡ request_in body
 
-pub told_why : (o : OpenedWhy) (moment : ℤ) (served words : List Assignment)
+pub why_text_is : (o : OpenedWhy) (moment : ℤ) (served words : List Assignment)
     (arrays : List CellArray)
     (counters : List ℕ) (request : Request) (front : List ℕ) (notes : List (List ℕ))
     (left text : List ℕ) → arrays ≡ o.directory → AreAssigned arrays served words counters
     → ReadsAs o.body.items (Ok request) → front ≡ request_note_in o.body.items
     → notes ≡ app_notes_in o.body.items
-    → ExplainsRequest o.rules o.known_rules.items request.facts moment front notes counters
+    → ExplainsRequest o.rules o.optional_rules.items request.facts moment front notes counters
     request.apps left text
-    → TellsWhy o moment served words text
-told_why o moment served words arrays counters request front notes left text same set read fronted
-    noted told =
-    let N : List (List ℕ) → Type 0 = λ n. ExplainsRequest o.rules o.known_rules.items request.facts
+    → IsWhyText o moment served words text
+why_text_is o moment served words arrays counters request front notes left text same set
+    read fronted
+    noted shown_text =
+    let N : List (List ℕ) → Type 0 = λ n. ExplainsRequest o.rules o.optional_rules.items
+    request.facts
     moment front n counters request.apps left text in
-    let all = subst N noted told in
+    let all = subst N noted shown_text in
     record {
       counters = counters;
       set = subst (λ (a : List CellArray). AreAssigned a served words counters) same set;
       request = request;
-      asked = sym (read (λ e. cc));
+      requested = sym (read (λ e. cc));
       choices = all.1.0;
       left = left;
       lines = all.0;

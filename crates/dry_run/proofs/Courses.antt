@@ -7,8 +7,8 @@ use Rattle.cells.specs.declared.event.CellOp.{CellOp}
 use Rattle.cells.specs.declared.event.CellEvent.{CellEvent}
 use Rattle.bpf_semantics.specs.Program.{ShapedProgram}
 use Rattle.bpf_semantics.specs.State.{State}
-use Rattle.bpf_semantics.specs.Outcome.{Outcome, Going, Asks, Done, Trap}
-use Rattle.bpf_semantics.specs.Run.{Ends, last, more, asked}
+use Rattle.bpf_semantics.specs.Outcome.{Outcome, Going, Operates, Done, Trap}
+use Rattle.bpf_semantics.specs.Run.{Ends, last, more, operated}
 
 -- ---- events
 
@@ -50,26 +50,26 @@ state_of s (Going t) = t
 state_of s outcome = s
 
 abbrev pub cell_of : Outcome → ℕ
-cell_of (Asks cell op next) = cell
+cell_of (Operates cell op next) = cell
 cell_of outcome = 0
 
 abbrev pub op_of : CellOp → Outcome → CellOp
-op_of other (Asks cell op next) = op
+op_of other (Operates cell op next) = op
 op_of other outcome = other
 
 abbrev pub next_of : (ℕ → State) → Outcome → ℕ → State
-next_of other (Asks cell op next) = next
+next_of other (Operates cell op next) = next
 next_of other outcome = other
 
 pub data Kind : Type 0 where
   goes : Kind
-  asks : Kind
+  operates : Kind
   ends : Kind
   traps : Kind
 
 abbrev pub kind_of : Outcome → Kind
 kind_of (Going t) = goes
-kind_of (Asks cell op next) = asks
+kind_of (Operates cell op next) = operates
 kind_of (Done choice) = ends
 kind_of Trap = traps
 
@@ -91,21 +91,21 @@ one_course es' choice' count' old new new' (last e q) (last e' q') g g' =
     record { choices = ap choice_of (sym e ∙ e'); values = g ∙ sym g' }
 one_course es' choice' count' old new new' (last e q) (more e' r') g g' =
     differs _ _ _ e e' (λ k. absurd cc)
-one_course es' choice' count' old new new' (last e q) (asked e' r') g g' =
+one_course es' choice' count' old new new' (last e q) (operated e' r') g g' =
     differs _ _ _ e e' (λ k. absurd cc)
 one_course es' choice' count' old new new' (more e r) (last e' q') g g' =
     differs _ _ _ e e' (λ k. absurd cc)
 one_course {p} {s} es' choice' count' old new new' (more e r) (more e' r') g g' =
     one_course es' choice' count' old new new' r
     (subst (λ u. Ends p u es' choice' count') (ap (state_of s) (sym e' ∙ e)) r') g g'
-one_course es' choice' count' old new new' (more e r) (asked e' r') g g' =
+one_course es' choice' count' old new new' (more e r) (operated e' r') g g' =
     differs _ _ _ e e' (λ k. absurd cc)
-one_course es' choice' count' old new new' (asked e r) (last e' q') g g' =
+one_course es' choice' count' old new new' (operated e r) (last e' q') g g' =
     differs _ _ _ e e' (λ k. absurd cc)
-one_course es' choice' count' old new new' (asked e r) (more e' r') g g' =
+one_course es' choice' count' old new new' (operated e r) (more e' r') g g' =
     differs _ _ _ e e' (λ k. absurd cc)
-one_course {p} {s} _ choice' count' old new new' (asked {next} {e = d} {es} e r)
-    (asked {next = next'} {e = d'} {es = es'} e' r') g g' =
+one_course {p} {s} _ choice' count' old new new' (operated {next} {e = d} {es} e r)
+    (operated {next = next'} {e = d'} {es = es'} e' r') g g' =
     let both = same_event old g.0 g'.0 d d' (ap cell_of (sym e ∙ e'))
     (ap (op_of d.op) (sym e ∙ e')) g.1 g'.1 in
     let following : next' d'.reply ≡ next d.reply =

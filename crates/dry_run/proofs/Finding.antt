@@ -39,8 +39,8 @@ module _ (rules : Rules) (moment : ℤ) (body old new : List ℕ) where
       → request_in body ≡ Ok request
       → IfOk r (λ text. RepliesOn rules moment request old text.items new)
       → IfErr r (λ fault. fault ≡ Memory) → IsFoundReply rules moment body old new r
-  of_request request (Ok text) asked replies memory = (request, asked, replies)
-  of_request {A} request (Err fault) asked replies memory =
+  of_request request (Ok text) requested replies memory = (request, requested, replies)
+  of_request {A} request (Err fault) requested replies memory =
       let E : OmahaFault → Result (Vec ℕ A) OmahaFault = λ f. Err f in
       subst (λ (f : OmahaFault). IsFoundReply rules moment body old new (E f)) (sym memory) tt
 

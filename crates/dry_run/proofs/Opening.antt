@@ -1,6 +1,6 @@
 -- Files give no ruleset or no body; and a manifest's files give the rules of its apps.
 use Rattle.std.proofs.Common.{◌≡◌, ◌∙◌, ℕ, List, [], Option, Some, None, ap, sym, subst}
-use Rattle.app_rules.specs.Rules.{AreRulesKept, AreRulesOf, IsRuleKept, KnownRule}
+use Rattle.app_rules.specs.Rules.{AreRulesKept, AreRulesOf, IsRuleKept, OptionalRule}
 use Rattle.app_rules.specs.Rules.{no_rule, next_rule}
 use Rattle.bounded_files.specs.Files.{KnownFiles, Gives, regular_files}
 use Rattle.bounded_files.specs.declared.resource_fault.ResourceFault.TheVariants.{File}
@@ -9,7 +9,7 @@ use Rattle.bpf_semantics.specs.Program.{ShapedProgram}
 use Rattle.cells.specs.declared.array.CellArray.{CellArray}
 use Rattle.load.specs.Sources.{AreSources}
 use Rattle.load.specs.Judged.{apps_of}
-use Rattle.load.specs.Folder.{known_beside}
+use Rattle.load.specs.Folder.{files_beside}
 use Rattle.load.specs.Loaded.{IsLoadedFrom}
 use Rattle.load.specs.Made.{SourcesAreMade, IsMadeFrom, IsMadeOf}
 use Rattle.load.specs.declared.sources.Sources.{Sources}
@@ -24,8 +24,8 @@ use Rattle.dry_run.specs.Files.{IsBodyFault, IsBodyIn, ComesToRuleset, IsOpenFau
 use Rattle.dry_run.specs.Meanings.{AreOpenedWhy, HasMeaning, HaveMeanings}
 use Rattle.dry_run.specs.Meanings.{IsLoadedWhy, OpensTheSame, made_in}
 use Rattle.dry_run.specs.Meanings.{no_meaning, next_meaning}
-use Rattle.dry_run.specs.declared.fault.DryRunFault.{DryRunFault}
-use Rattle.dry_run.specs.declared.fault.DryRunFault.TheVariants as fault
+use Rattle.dry_run.specs.declared.dry_run_fault.DryRunFault.{DryRunFault}
+use Rattle.dry_run.specs.declared.dry_run_fault.DryRunFault.TheVariants as fault
 use Rattle.dry_run.specs.declared.why_files.OpenedWhy.{OpenedWhy}
 
 body_fault : (known : KnownFiles) (manifest request : List ℕ) (why : DryRunFault)
@@ -52,12 +52,12 @@ load_of : (known : KnownFiles) (path : List ℕ) (made : LoadedRuleset) → Sour
 load_of known path made makes from = record {
   bytes = from.bytes;
   given = from.given;
-  loaded = (makes (known_beside known path) [] from.bytes from.sources from.are_sources).made made
+  loaded = (makes (files_beside known path) [] from.bytes from.sources from.are_sources).made made
       from.made_of;
 }
 
 pub no_body_why : (known : KnownFiles) (manifest request : List ℕ) (made : LoadedRuleset)
-    (rules : List KnownRule) (why : DryRunFault) → SourcesAreMade
+    (rules : List OptionalRule) (why : DryRunFault) → SourcesAreMade
     → IsLoadedWhy known manifest made rules → IsBodyFault known request why
     → IsOpenFault known manifest request why
 no_body_why known manifest request made rules why makes is wanting =
@@ -74,7 +74,7 @@ opens_the_same makes known manifest request o is = record {
 -- ---- what they mean
 
 has_meaning : (from : ProgramSource) (kept : Option KeptBytes) (program : ShapedProgram)
-    (rule : KnownRule) → IsRuleKept from kept program rule → HasMeaning program rule
+    (rule : OptionalRule) → IsRuleKept from kept program rule → HasMeaning program rule
 has_meaning (source.Program file) kept program rule is = subst (HasMeaning program) (sym is) tt
 has_meaning (source.Rule file) None program rule is = absurd is
 has_meaning (source.Rule file) (Some (Longer v count is_text)) program rule is = absurd is
@@ -82,7 +82,7 @@ has_meaning (source.Rule file) (Some (Whole v)) program rule is =
     subst (HasMeaning program) (sym is.1) is.0.means
 
 pub have_meanings : {apps : List AppSources} {programs : List ShapedProgram}
-    {rules : List KnownRule} → AreRulesKept apps programs rules
+    {rules : List OptionalRule} → AreRulesKept apps programs rules
     → HaveMeanings (apps_of apps programs) rules
 have_meanings no_rule = no_meaning
 have_meanings (next_rule {app} {program} {rule} is more) =
@@ -91,8 +91,8 @@ have_meanings (next_rule {app} {program} {rule} is more) =
 -- ---- a load
 
 pub loaded : (known : KnownFiles) (path bytes : List ℕ) (g : Sources) (made : LoadedRuleset)
-    (rules : List KnownRule) → Gives (regular_files known) path (Some bytes)
-    → AreSources (known_beside known path) [] bytes g → IsMadeOf bytes g made
+    (rules : List OptionalRule) → Gives (regular_files known) path (Some bytes)
+    → AreSources (files_beside known path) [] bytes g → IsMadeOf bytes g made
     → AreRulesOf g.apps.items rules → IsLoadedWhy known path made rules
 loaded known path bytes g made rules given is of read = record {
   made_from = record {
@@ -108,7 +108,7 @@ loaded known path bytes g made rules given is of read = record {
 -- the parts of what is opened
 pub opened_why : (known : KnownFiles) (manifest request : List ℕ) (made : LoadedRuleset)
     (o : OpenedWhy) → o.rules ≡ made.rules → o.directory ≡ made.directory
-    → o.digest ≡ made.digest → IsLoadedWhy known manifest made o.known_rules.items
+    → o.digest ≡ made.digest → IsLoadedWhy known manifest made o.optional_rules.items
     → IsBodyIn known request o.body.items → AreOpenedWhy known manifest request o
 opened_why known manifest request made o rules arrays digest is read = record {
   loaded = record {
@@ -132,7 +132,7 @@ opened_why known manifest request made o rules arrays digest is read = record {
 }
 
 pub loaded_meanings : (bytes : List ℕ) (g : Sources) (made : LoadedRuleset)
-    (rules : List KnownRule) → IsMadeOf bytes g made → AreRulesOf g.apps.items rules
+    (rules : List OptionalRule) → IsMadeOf bytes g made → AreRulesOf g.apps.items rules
     → HaveMeanings made.rules.apps rules
 loaded_meanings bytes g made rules of read =
     subst (λ (apps : List AppRule). HaveMeanings apps rules) (sym of.apps_are)

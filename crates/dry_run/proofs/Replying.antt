@@ -13,11 +13,11 @@ use Rattle.cells.specs.declared.event.CellEvent.{CellEvent}
 use Rattle.omaha_json.specs.Reply.{reply_text}
 use Rattle.ruleset.specs.Rules.{Rules}
 use Rattle.cell_assignments.specs.Assignments.{Assignment}
-use Rattle.dry_run.specs.Counters.{AreAssigned, with_cells, with_known}
-use Rattle.app_rules.specs.Rules.{KnownRule}
+use Rattle.dry_run.specs.Counters.{AreAssigned, with_cells, with_declared}
+use Rattle.app_rules.specs.Rules.{OptionalRule}
 use Rattle.dry_run.specs.Reply.{RepliesToBodyOn}
-use Rattle.dry_run.specs.Why.{ExplainsApp, ExplainsApps, TellsTheReply}
-use Rattle.dry_run.specs.Why.{not_known, not_asked, was_run, no_reason, next_reason}
+use Rattle.dry_run.specs.Why.{ExplainsApp, ExplainsApps, ExplainsReply}
+use Rattle.dry_run.specs.Why.{unlisted, not_requested, was_run, no_reason, next_reason}
 use Rattle.dry_run.proofs.Requests.{one_reply_to_body}
 
 -- ---- the given counters are the same
@@ -33,7 +33,8 @@ list_or other None = other
 same_counters : (arrays : List CellArray) (served words : List Assignment) (c d : List ℕ)
     → AreAssigned arrays served words c → AreAssigned arrays served words d → c ≡ d
 same_counters arrays served words c d x y =
-    let W : List ℕ → Option (List ℕ) = λ z. with_cells arrays (with_known arrays z served) words in
+    let W : List ℕ → Option (List ℕ) = λ z. with_cells arrays (with_declared arrays z served)
+    words in
     ap (list_or c) (sym x.set ∙ ap W (same_zeros 8192 x.zeros y.zeros x.opens y.opens) ∙ y.set)
 
 -- ---- the runs
@@ -43,21 +44,22 @@ joined : (a b : List CellEvent) (p m q : List ℕ) → GrewBy IsEvent p a m → 
 joined [] b p m q g h = subst (λ (x : List ℕ). GrewBy IsEvent x b q) g h
 joined (e ∷ es) b p m q g h = (g.0, g.1, joined es b g.0 m q g.2 h)
 
-module _ (rules : Rules) (known_rules : List KnownRule) (facts : RequestFacts) (moment : ℤ) where
+module _ (rules : Rules) (optional_rules : List OptionalRule) (facts : RequestFacts)
+    (moment : ℤ) where
   pub record OneRuns (app : AppFacts) (choice : Option ℕ) (old new : List ℕ) : Type 0 where
     pub events : List CellEvent
     pub runs : RunsApp rules facts moment app choice events
     pub grown : GrewBy IsEvent old events new
 
   one_runs : {app : AppFacts} {note old : List ℕ} {choice : Option ℕ} {new text : List ℕ}
-      → ExplainsApp rules known_rules facts moment app note old choice new text
+      → ExplainsApp rules optional_rules facts moment app note old choice new text
       → OneRuns app choice old new
-  one_runs (not_known found is) = record { events = []; runs = unknown found; grown = refl }
-  one_runs (not_asked known found asks is) =
+  one_runs (unlisted found is) = record { events = []; runs = unknown found; grown = refl }
+  one_runs (not_requested known found asks is) =
       record { events = []; runs = no_updatecheck asks; grown = refl }
-  one_runs (was_run told) =
-      let run = told.course_is.run in
-      record { events = run.events; runs = told.runs; grown = run.grown }
+  one_runs (was_run shown_text) =
+      let run = shown_text.course_is.run in
+      record { events = run.events; runs = shown_text.runs; grown = run.grown }
 
   pub record AllRun (apps : List AppFacts) (choices : List (Option ℕ)) (old new : List ℕ)
       : Type 0 where
@@ -67,7 +69,7 @@ module _ (rules : Rules) (known_rules : List KnownRule) (facts : RequestFacts) (
 
   pub all_run : {notes : List (List ℕ)} {old : List ℕ} {apps : List AppFacts}
       {choices : List (Option ℕ)} {new text : List ℕ}
-      → ExplainsApps rules known_rules facts moment notes old apps choices new text
+      → ExplainsApps rules optional_rules facts moment notes old apps choices new text
       → AllRun apps choices old new
   all_run no_reason = record { events = []; runs = none; grown = refl }
   all_run {old} (next_reason {between} {new} before here) =
@@ -79,22 +81,24 @@ module _ (rules : Rules) (known_rules : List KnownRule) (facts : RequestFacts) (
         grown = joined first.events one.events old between new first.grown one.grown;
       }
 
-pub tells_the_reply : TellsTheReply
-tells_the_reply o moment served words text reply told replied =
-    let runs = all_run o.rules o.known_rules.items told.request.facts moment told.reasons in
-    let mine : RepliesToBodyOn o.rules moment o.body.items told.counters
-    (reply_text told.request o.rules told.choices moment) told.left = (
-      told.request,
-      told.asked,
+pub explains_reply : ExplainsReply
+explains_reply o moment served words text reply shown_text replied =
+    let runs = all_run o.rules o.optional_rules.items shown_text.request.facts moment
+    shown_text.reasons in
+    let mine : RepliesToBodyOn o.rules moment o.body.items shown_text.counters
+    (reply_text shown_text.request o.rules shown_text.choices moment) shown_text.left = (
+      shown_text.request,
+      shown_text.requested,
       record {
         events = runs.events;
         legal = runs.grown;
-        replies = record { choices = told.choices; runs = runs.runs; text_is = refl };
+        replies = record { choices = shown_text.choices; runs = runs.runs; text_is = refl };
       },
     ) in
     let same =
-    same_counters o.directory served words replied.counters told.counters replied.set told.set in
-    (one_reply_to_body o.rules moment o.body.items told.counters reply
-    (reply_text told.request o.rules told.choices moment) replied.left told.left
+    same_counters o.directory served words replied.counters shown_text.counters replied.set
+    shown_text.set in
+    (one_reply_to_body o.rules moment o.body.items shown_text.counters reply
+    (reply_text shown_text.request o.rules shown_text.choices moment) replied.left shown_text.left
     (subst (λ (c : List ℕ). RepliesToBodyOn o.rules moment o.body.items c reply replied.left) same
     replied.replies) mine).0

@@ -10,22 +10,22 @@ use Rattle.attrs.specs.declared.facts.AppFacts.{AppFacts}
 use Rattle.attrs.specs.declared.facts.RequestFacts.{RequestFacts}
 use Rattle.answering.specs.Apps.{RunsApp, ran}
 use Rattle.bpf_semantics.specs.Program.{ShapedProgram}
-use Rattle.bpf_semantics.specs.Run.{Ends, last, more, asked}
+use Rattle.bpf_semantics.specs.Run.{Ends, last, more, operated}
 use Rattle.bpf_semantics.specs.State.{State, opening}
 use Rattle.bpf_verify.specs.Covers.{HasPossibleReply, IsCovered}
-use Rattle.bpf_verify.specs.Covers.{EndsWell, RunsAreLawful, RunsEndWell, ends, goes, asks}
+use Rattle.bpf_verify.specs.Covers.{EndsWell, RunsAreLawful, RunsEndWell, ends, goes, operates}
 use Rattle.cells.specs.Arrays.{AppShape}
 use Rattle.cells.specs.Events.{CanReply}
 use Rattle.cells.specs.declared.event.CellEvent.{CellEvent}
 use Rattle.cells.specs.declared.event.CellOp.{CellOp}
-use Rattle.reasons.specs.RuleLines.{TellsRule}
+use Rattle.reasons.specs.RuleLines.{ExplainsRule}
 use Rattle.rule_compile.specs.Means.{Means}
 use Rattle.rule_lang.specs.declared.rule.Statement.{Statement}
 use Rattle.ruleset.specs.Rules.{AppRule, Rules, IsApp, ListsApp, app_of, appid_of}
 use Rattle.trace.specs.Trace.{IsTraced}
 use Rattle.trace.specs.declared.jump.Jump.{Jump}
 use Rattle.dry_run.specs.AppLines.{program_line}
-use Rattle.dry_run.specs.Courses.{TellsCourse, WholeRun}
+use Rattle.dry_run.specs.Courses.{ExplainsCourse, WholeRun}
 use Rattle.dry_run.proofs.Courses.{differs, choice_of, state_of, cell_of, op_of, next_of}
 
 -- ---- a run that ends well is short and chooses among the releases
@@ -42,14 +42,14 @@ brief {p} (ends e among short) fits (last e' q) = record {
   among = subst (λ (n : ℕ). n ≤ p.shape.releases) (ap choice_of (sym e ∙ e')) among;
 }
 brief (ends e among short) fits (more e' r) = differs _ _ _ e e' (λ k. absurd cc)
-brief (ends e among short) fits (asked e' r) = differs _ _ _ e e' (λ k. absurd cc)
+brief (ends e among short) fits (operated e' r) = differs _ _ _ e e' (λ k. absurd cc)
 brief (goes e w) fits (last e' q) = differs _ _ _ e e' (λ k. absurd cc)
 brief {p} {s} (goes e w) fits (more e' r) =
     brief (subst (EndsWell p) (ap (state_of s) (sym e ∙ e')) w) fits r
-brief (goes e w) fits (asked e' r) = differs _ _ _ e e' (λ k. absurd cc)
-brief (asks e w) fits (last e' q) = differs _ _ _ e e' (λ k. absurd cc)
-brief (asks e w) fits (more e' r) = differs _ _ _ e e' (λ k. absurd cc)
-brief {p} (asks {cell} {op} {next} e w) fits (asked {e = d} {es} e' r) =
+brief (goes e w) fits (operated e' r) = differs _ _ _ e e' (λ k. absurd cc)
+brief (operates e w) fits (last e' q) = differs _ _ _ e e' (λ k. absurd cc)
+brief (operates e w) fits (more e' r) = differs _ _ _ e e' (λ k. absurd cc)
+brief {p} (operates {cell} {op} {next} e w) fits (operated {e = d} {es} e' r) =
     let same = sym e ∙ e' in
     let first = All-head HasPossibleReply d es fits in
     let by_op : CanReply d.cell op d.reply =
@@ -66,15 +66,15 @@ pub by_meaning : (p : ShapedProgram) (a : Attributes) (rule : List Statement)
     → shape ≡ p.shape → before ≡ [] → ((b : Attributes) → Means b rule p)
     → HasContextRanges a.context → AreShort a.texts
     → ((b : Attributes) → AreShort b.texts → IsCovered p (opening b)) → RunsEndWell p
-    → RunsAreLawful p → TellsRule a shape rule old before text choice new
-    → TellsCourse p (Some rule) a old choice new text
+    → RunsAreLawful p → ExplainsRule a shape rule old before text choice new
+    → ExplainsCourse p (Some rule) a old choice new text
 by_meaning p a rule old choice new text shape before same fresh means ranges short opens well
     lawful given =
-    let behind : TellsRule a shape rule old [] text choice new =
-    subst (λ (b : List ℕ). TellsRule a shape rule old b text choice new) fresh given in
-    let told : TellsRule a p.shape rule old [] text choice new =
-    subst (λ (s : AppShape). TellsRule a s rule old [] text choice new) same behind in
-    let m = told.meant in
+    let behind : ExplainsRule a shape rule old [] text choice new =
+    subst (λ (b : List ℕ). ExplainsRule a shape rule old b text choice new) fresh given in
+    let shown_text : ExplainsRule a p.shape rule old [] text choice new =
+    subst (λ (s : AppShape). ExplainsRule a s rule old [] text choice new) same behind in
+    let m = shown_text.meant in
     let run = means a ranges m.events choice m.trace in
     let covered = opens a short in
     let few = brief (well (opening a) covered (omega arith)) m.fits run.1 in
@@ -89,14 +89,14 @@ by_meaning p a rule old choice new text shape before same fresh means ranges sho
         fits = m.fits;
         lawful = lawful (opening a) m.events choice run.0 covered m.fits run.1;
       };
-      text_is = told;
+      text_is = shown_text;
     }
 
 pub by_trace : (p : ShapedProgram) (a held : Attributes) (old new : List ℕ) (choice count : ℕ)
     (steps text : List ℕ) (jump : Option Jump) → held ≡ a
     → IsTraced p (opening held) old new choice count steps jump → count ≤ length p.code
     → choice ≤ p.shape.releases → text ≡ program_line (length p.code) count jump
-    → TellsCourse p None a old choice new text
+    → ExplainsCourse p None a old choice new text
 by_trace p a held old new choice count steps text jump same traced short among is =
     let run : IsTraced p (opening a) old new choice count steps jump =
     subst (λ (b : Attributes). IsTraced p (opening b) old new choice count steps jump) same traced

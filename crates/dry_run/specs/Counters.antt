@@ -17,7 +17,7 @@ cell_in index None = None
 
 -- the given cell, if the arrays have it
 abbrev pub assigned_cell : List CellArray → Assignment → Option ℕ
-assigned_cell arrays told = cell_in told.index (array_named told.array arrays)
+assigned_cell arrays assignment = cell_in assignment.index (array_named assignment.array arrays)
 
 -- the counters with a cell set to a value, if the value fits
 abbrev pub with_value : (counters : List ℕ) → (value cell : ℕ) → Option (List ℕ)
@@ -26,21 +26,21 @@ with_value counters value cell =
 
 -- the counters with one given cell set
 abbrev pub with_cell : List CellArray → (counters : List ℕ) → Assignment → Option (List ℕ)
-with_cell arrays counters told =
-    option_and_then (with_value counters told.value) (assigned_cell arrays told)
+with_cell arrays counters assignment =
+    option_and_then (with_value counters assignment.value) (assigned_cell arrays assignment)
 
 -- the counters with all given cells set; the last value of a cell wins. None if a cell doesn't
 -- exist or its value doesn't fit
 abbrev pub with_cells : List CellArray → (counters : List ℕ) → List Assignment → Option (List ℕ)
 with_cells arrays counters [] = Some counters
-with_cells arrays counters (told ∷ more) =
-    option_and_then (λ set. with_cells arrays set more) (with_cell arrays counters told)
+with_cells arrays counters (assignment ∷ more) =
+    option_and_then (λ set. with_cells arrays set more) (with_cell arrays counters assignment)
 
 -- the counters with those given cells set that exist and whose values fit
-abbrev pub with_known : List CellArray → (counters : List ℕ) → List Assignment → List ℕ
-with_known arrays counters [] = counters
-with_known arrays counters (told ∷ more) =
-    with_known arrays (unwrap_or (with_cell arrays counters told) counters) more
+abbrev pub with_declared : List CellArray → (counters : List ℕ) → List Assignment → List ℕ
+with_declared arrays counters [] = counters
+with_declared arrays counters (assignment ∷ more) =
+    with_declared arrays (unwrap_or (with_cell arrays counters assignment) counters) more
 
 -- counters that are 0, except for those that a server gave, as far as they exist, and then for
 -- those that the command line gave
@@ -49,4 +49,4 @@ pub record AreAssigned (arrays : List CellArray) (served words : List Assignment
     : Type 0 where
   pub zeros : List ℕ
   pub opens : AreZeros 8192 zeros
-  pub set : with_cells arrays (with_known arrays zeros served) words ≡ Some counters
+  pub set : with_cells arrays (with_declared arrays zeros served) words ≡ Some counters

@@ -8,10 +8,10 @@ use Rattle.bpf_verify.specs.Covers.{AreLawful, HasPossibleReply}
 use Rattle.cells.specs.Events.{IsEvent}
 use Rattle.cells.specs.Grown.{GrewBy}
 use Rattle.cells.specs.declared.event.CellEvent.{CellEvent}
-use Rattle.reasons.specs.RuleLines.{TellsRule}
+use Rattle.reasons.specs.RuleLines.{ExplainsRule}
 use Rattle.trace.specs.Jumps.{last_jump_of}
 use Rattle.dry_run.specs.AppLines.{program_line}
-use Rattle.app_rules.specs.Rules.{KnownRule}
+use Rattle.app_rules.specs.Rules.{OptionalRule}
 
 -- from its first instruction to its end, on counters with the values `old`, each of which replies
 -- with its value; it leaves them the values `new`. It takes at most as many instructions as the
@@ -28,17 +28,18 @@ pub record WholeRun (program : ShapedProgram) (a : Attributes) (old : List ℕ) 
 
 -- how it makes its choice: by the lines of the program's rule, which means this choice and these
 -- values. If the program isn't a rule's, the text has `count` and the last jump
-abbrev pub IsCourse : (a : Attributes) (program : ShapedProgram) → KnownRule → (old : List ℕ)
+abbrev pub IsCourse : (a : Attributes) (program : ShapedProgram) → OptionalRule → (old : List ℕ)
     → (choice count : ℕ) → (new : List ℕ) → WholeRun program a old choice count new
     → (text : List ℕ) → Type 0
 IsCourse a program (Some rule) old choice count new run text =
-    TellsRule a program.shape rule old [] text choice new
+    ExplainsRule a program.shape rule old [] text choice new
 IsCourse a program None old choice count new run text =
     text ≡ program_line (length program.code) count
     (last_jump_of program (opening a) run.events choice count run.ends)
 
 -- the explanation of a run
-pub record TellsCourse (program : ShapedProgram) (rule : KnownRule) (a : Attributes) (old : List ℕ)
+pub record ExplainsCourse (program : ShapedProgram) (rule : OptionalRule) (a : Attributes)
+    (old : List ℕ)
     (choice : ℕ) (new text : List ℕ) : Type 0 where
   pub count : ℕ
   pub run : WholeRun program a old choice count new

@@ -8,8 +8,8 @@ use Rattle.bounded_files.specs.declared.resource_fault.ResourceFault.TheVariants
 use Rattle.cells.specs.declared.array.CellArray.{CellArray}
 use Rattle.load.specs.Loaded.{IsLoadedFrom, RefusesPath}
 use Rattle.ruleset.specs.Rules.{Rules}
-use Rattle.dry_run.specs.declared.fault.DryRunFault.{DryRunFault}
-use Rattle.dry_run.specs.declared.fault.DryRunFault.TheVariants as fault
+use Rattle.dry_run.specs.declared.dry_run_fault.DryRunFault.{DryRunFault}
+use Rattle.dry_run.specs.declared.dry_run_fault.DryRunFault.TheVariants as fault
 
 -- the most bytes of a body: 1 MiB
 abbrev pub most_body : ℕ

@@ -114,15 +114,15 @@ MembersAreNoted = (request app : Data) (facts : AppFacts) (moment : ℤ) → app
 -- ---- a body
 
 -- the facts of a request are those of these members, and its lines are theirs
-pub record IsWritten (request : Option Data) (asked : Request) : Type 0 where
+pub record IsWritten (request : Option Data) (requested : Request) : Type 0 where
   pub written : Data
   pub apps : Items
-  pub facts_are : asked.facts ≡ request_facts written
+  pub facts_are : requested.facts ≡ request_facts written
   pub note_is : request_note_of request ≡ request_note written
-  pub apps_are : all_facts apps ≡ Some asked.apps
+  pub apps_are : all_facts apps ≡ Some requested.apps
   pub notes_are : app_notes_of request ≡ notes_of apps
 
 -- the lines are those of exactly the members from which a body's request is read
 abbrev pub ReadMembersAreExplained : Type 0
-ReadMembersAreExplained = (body : List ℕ) (asked : Request) → request_in body ≡ Ok asked
-    → IsWritten (request_written body) asked
+ReadMembersAreExplained = (body : List ℕ) (requested : Request) → request_in body ≡ Ok requested
+    → IsWritten (request_written body) requested

@@ -7,10 +7,10 @@ use Rattle.omaha_json.specs.Request.{request_in}
 use Rattle.omaha_json.specs.declared.omaha_fault.OmahaFault.TheVariants as omaha
 use Rattle.ruleset.specs.Rules.{Rules}
 use Rattle.cell_assignments.specs.Assignments.{Assignment}
-use Rattle.dry_run.specs.Counters.{AreAssigned, with_cells, with_known}
+use Rattle.dry_run.specs.Counters.{AreAssigned, with_cells, with_declared}
 use Rattle.dry_run.specs.Reply.{RepliesToBodyOn}
-use Rattle.dry_run.specs.declared.fault.DryRunFault.{DryRunFault}
-use Rattle.dry_run.specs.declared.fault.DryRunFault.TheVariants as fault
+use Rattle.dry_run.specs.declared.dry_run_fault.DryRunFault.{DryRunFault}
+use Rattle.dry_run.specs.declared.dry_run_fault.DryRunFault.TheVariants as fault
 
 -- the reply to a body, at a moment, on the counters that a server and the command line gave
 pub record RepliesOnCounters (rules : Rules) (arrays : List CellArray) (body : List ℕ) (moment : ℤ)
@@ -24,7 +24,7 @@ pub record RepliesOnCounters (rules : Rules) (arrays : List CellArray) (body : L
 pub record AreUnassignable (arrays : List CellArray) (served words : List Assignment) : Type 0 where
   pub zeros : List ℕ
   pub opens : AreZeros 8192 zeros
-  pub unset : with_cells arrays (with_known arrays zeros served) words ≡ None
+  pub unset : with_cells arrays (with_declared arrays zeros served) words ≡ None
 
 abbrev pub IsUnassignable : List CellArray → (served words : List Assignment) → DryRunFault → Type 0
 IsUnassignable arrays served words fault.Cell = AreUnassignable arrays served words

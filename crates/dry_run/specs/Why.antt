@@ -13,30 +13,32 @@ use Rattle.ruleset.specs.Rules.{AppRule, Rules, app_of}
 use Rattle.cell_assignments.specs.Assignments.{Assignment}
 use Rattle.dry_run.specs.AppLines.{head_line, offer_line, unasked_line, unknown_line}
 use Rattle.dry_run.specs.Counters.{AreAssigned}
-use Rattle.dry_run.specs.Courses.{TellsCourse}
+use Rattle.dry_run.specs.Courses.{ExplainsCourse}
 use Rattle.dry_run.specs.IgnoredLines.{app_notes_in, request_note_in}
-use Rattle.app_rules.specs.Rules.{KnownRule}
-use Rattle.dry_run.specs.Meanings.{known_rule_of}
+use Rattle.app_rules.specs.Rules.{OptionalRule}
+use Rattle.dry_run.specs.Meanings.{optional_rule_of}
 use Rattle.dry_run.specs.OnCounters.{RepliesOnCounters}
 use Rattle.dry_run.specs.declared.why_files.OpenedWhy.{OpenedWhy}
 
 -- the lines of an app that the ruleset runs, with some choice
-pub record RunIsExplained (known : AppRule) (rule : KnownRule) (app : AppFacts) (a : Attributes)
+pub record RunIsExplained (known : AppRule) (rule : OptionalRule) (app : AppFacts) (a : Attributes)
     (note old new text : List ℕ) : Type 0 where
   pub choice : ℕ
   pub course : List ℕ
-  pub course_is : TellsCourse known.program rule a old choice new course
+  pub course_is : ExplainsCourse known.program rule a old choice new course
   pub text_is : text ≡ head_line app a.context ++ course ++ offer_line known.releases choice
       ++ note
 
-module _ (rules : Rules) (known_rules : List KnownRule) (facts : RequestFacts) (moment : ℤ) where
+module _ (rules : Rules) (optional_rules : List OptionalRule) (facts : RequestFacts)
+    (moment : ℤ) where
   -- the lines of an app that the ruleset runs, for the run by which the app is answered
-  pub record TellsRun (app : AppFacts) (note old : List ℕ) (choice : ℕ) (new text : List ℕ)
+  pub record ExplainsRun (app : AppFacts) (note old : List ℕ) (choice : ℕ) (new text : List ℕ)
       : Type 0 where
     pub known : AppRule
     pub found : app_of rules app.appid ≡ Some known
     pub course : List ℕ
-    pub course_is : TellsCourse known.program (known_rule_of rules.apps known_rules app.appid)
+    pub course_is
+        : ExplainsCourse known.program (optional_rule_of rules.apps optional_rules app.appid)
         (attributes_of app facts moment) old choice new course
     pub runs : RunsApp rules facts moment app (Some choice) course_is.run.events
     pub text_is : text ≡ head_line app (context_of app facts moment) ++ course
@@ -46,15 +48,15 @@ module _ (rules : Rules) (known_rules : List KnownRule) (facts : RequestFacts) (
   pub data ExplainsApp (app : AppFacts) (note old : List ℕ) : Option ℕ → (new text : List ℕ)
       → Type 0 where
     -- the ruleset doesn't know it
-    not_known : {text : List ℕ} → app_of rules app.appid ≡ None
+    unlisted : {text : List ℕ} → app_of rules app.appid ≡ None
         → text ≡ unknown_line app.appid ++ note → ExplainsApp app note old None old text
     -- the ruleset knows it, and the app requests no update
-    not_asked : {text : List ℕ} (known : AppRule) → app_of rules app.appid ≡ Some known
+    not_requested : {text : List ℕ} (known : AppRule) → app_of rules app.appid ≡ Some known
         → app.updatecheck ≡ false
         → text ≡ head_line app (context_of app facts moment) ++ unasked_line ++ note
         → ExplainsApp app note old None old text
     -- the ruleset runs it
-    was_run : {choice : ℕ} {new text : List ℕ} → TellsRun app note old choice new text
+    was_run : {choice : ℕ} {new text : List ℕ} → ExplainsRun app note old choice new text
         → ExplainsApp app note old (Some choice) new text
 
   -- app after app, each with the note at its place
@@ -86,22 +88,22 @@ module _ (rules : Rules) (known_rules : List KnownRule) (facts : RequestFacts) (
 
 -- the explanation of the request that a body is, at a moment, on the counters that a server and the
 -- command line gave
-pub record TellsWhy (o : OpenedWhy) (moment : ℤ) (served words : List Assignment) (text : List ℕ)
+pub record IsWhyText (o : OpenedWhy) (moment : ℤ) (served words : List Assignment) (text : List ℕ)
     : Type 0 where
   pub counters : List ℕ
   pub set : AreAssigned o.directory served words counters
   pub request : Request
-  pub asked : request_in o.body.items ≡ Ok request
+  pub requested : request_in o.body.items ≡ Ok request
   pub choices : List (Option ℕ)
   pub left : List ℕ
   pub lines : List ℕ
-  pub reasons : ExplainsApps o.rules o.known_rules.items request.facts moment
+  pub reasons : ExplainsApps o.rules o.optional_rules.items request.facts moment
       (app_notes_in o.body.items) counters request.apps choices left lines
   pub text_is : text ≡ request_note_in o.body.items ++ lines
 
 -- the choices in the explanation are those of the reply
-abbrev pub TellsTheReply : Type 0
-TellsTheReply = (o : OpenedWhy) (moment : ℤ) (served words : List Assignment) (text reply : List ℕ)
-    (told : TellsWhy o moment served words text)
+abbrev pub ExplainsReply : Type 0
+ExplainsReply = (o : OpenedWhy) (moment : ℤ) (served words : List Assignment) (text reply : List ℕ)
+    (shown_text : IsWhyText o moment served words text)
     → RepliesOnCounters o.rules o.directory o.body.items moment served words reply
-    → reply ≡ reply_text told.request o.rules told.choices moment
+    → reply ≡ reply_text shown_text.request o.rules shown_text.choices moment

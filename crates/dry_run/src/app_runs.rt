@@ -10,7 +10,7 @@ use crate::app_lines::push_program;
 use attrs::Attrs;
 use bpf_verify::Verified;
 use cells::PlainPass;
-use reasons::tell_rule;
+use reasons::explain_rule;
 use rule_lang::Rule;
 use std::alloc::{AllocError, Global};
 use std::sync::Arc;
@@ -24,7 +24,7 @@ pub(crate) struct ExplainedChoice {
 }
 
 /// How a program makes its choice.
-pub(crate) fn tell_course(
+pub(crate) fn explain_course(
     alloc: Global,
     program: &Arc<Verified>,
     rule: Option<&Rule>,
@@ -32,19 +32,19 @@ pub(crate) fn tell_course(
     counters: &mut PlainPass,
 ) -> Result<ExplainedChoice, AllocError>
     requires { HasMeaning (arc_value program.now) (option_copied rule) }
-    ensures { IfOk result (λ c. specs.TellsCourse (arc_value program.now)
+    ensures { IfOk result (λ c. specs.ExplainsCourse (arc_value program.now)
         (option_copied rule.entry) attrs counters.old c.choice counters.new
         (string_bytes c.text)) }
 {
     match rule {
-        Some(rule) => tell_meaning(alloc, program, rule, &attrs, counters),
-        None => tell_run(alloc, program, attrs, counters),
+        Some(rule) => explain_meaning(alloc, program, rule, &attrs, counters),
+        None => explain_run(alloc, program, attrs, counters),
     }
 }
 
 // By its rule.
 #[tactic(auto, using(crate::proofs::WholeRuns::by_meaning))]
-fn tell_meaning(
+fn explain_meaning(
     alloc: Global,
     program: &Verified,
     rule: &Rule,
@@ -52,25 +52,25 @@ fn tell_meaning(
     counters: &mut PlainPass,
 ) -> Result<ExplainedChoice, AllocError>
     requires { HasMeaning program.now (Some rule.now) }
-    ensures { IfOk result (λ c. specs.TellsCourse program.now (Some rule.now) attrs.now
+    ensures { IfOk result (λ c. specs.ExplainsCourse program.now (Some rule.now) attrs.now
         counters.old c.choice counters.new (string_bytes c.text)) }
 {
-    program.keeps();
-    attrs.keeps();
+    program.invariant_law();
+    attrs.invariant_law();
     let mut text = String::new(alloc);
-    let choice = tell_rule(alloc, &mut text, attrs, program.shape(), rule, counters)?;
+    let choice = explain_rule(alloc, &mut text, attrs, program.shape(), rule, counters)?;
     Ok(ExplainedChoice { choice, text })
 }
 
 // By a run; the lines have the number of its steps and its last jump.
 #[tactic(auto, using(crate::proofs::WholeRuns::by_trace))]
-fn tell_run(
+fn explain_run(
     alloc: Global,
     program: &Verified,
     attrs: Attrs,
     counters: &mut PlainPass,
 ) -> Result<ExplainedChoice, AllocError>
-    ensures { IfOk result (λ c. specs.TellsCourse program.now None attrs counters.old c.choice
+    ensures { IfOk result (λ c. specs.ExplainsCourse program.now None attrs counters.old c.choice
         counters.new (string_bytes c.text)) }
 {
     let Ok(attrs) = Arc::new(alloc, attrs) else {

@@ -31,14 +31,14 @@ pub(crate) fn zero_counters(alloc: Global) -> Result<PlainPass, AllocError>
 pub(crate) fn set_cells(
     arrays: &[CellArray],
     counters: &mut PlainPass,
-    told: &[CellAssignment<'_>],
+    assignments: &[CellAssignment<'_>],
 ) -> bool
     ensures set { result ≡ true
-        → specs.with_cells arrays.now counters.old told.now ≡ Some counters.new }
+        → specs.with_cells arrays.now counters.old assignments.now ≡ Some counters.new }
     ensures unset { result ≡ false
-        → specs.with_cells arrays.now counters.old told.now ≡ None }
+        → specs.with_cells arrays.now counters.old assignments.now ≡ None }
 {
-    for cell in told {
+    for cell in assignments {
         if !set_cell(arrays, counters, cell) {
             return false;
         }
@@ -47,23 +47,27 @@ pub(crate) fn set_cells(
 }
 
 /// Sets those cells that the arrays have and whose values fit.
-pub(crate) fn set_known(arrays: &[CellArray], counters: &mut PlainPass, told: &[CellAssignment<'_>])
-    ensures { counters.new ≡ specs.with_known arrays.now counters.old told.now }
+pub(crate) fn set_declared(
+    arrays: &[CellArray],
+    counters: &mut PlainPass,
+    assignments: &[CellAssignment<'_>],
+)
+    ensures { counters.new ≡ specs.with_declared arrays.now counters.old assignments.now }
 {
-    for cell in told {
+    for cell in assignments {
         let _is_set = set_cell(arrays, counters, cell);
     }
 }
 
 // Sets one cell, if the arrays have it and the value fits.
-fn set_cell(arrays: &[CellArray], counters: &mut PlainPass, told: &CellAssignment<'_>) -> bool
+fn set_cell(arrays: &[CellArray], counters: &mut PlainPass, assignment: &CellAssignment<'_>) -> bool
     ensures set { result ≡ true
-        → specs.with_cell arrays.now counters.old told.now ≡ Some counters.new }
-    ensures unset { result ≡ false → specs.with_cell arrays.now counters.old told.now ≡ None }
+        → specs.with_cell arrays.now counters.old assignment.now ≡ Some counters.new }
+    ensures unset { result ≡ false → specs.with_cell arrays.now counters.old assignment.now ≡ None }
     ensures same { result ≡ false → counters.new ≡ counters.old }
 {
-    match cell_in(told.index(), array_named(arrays, told.array())) {
-        Some(cell) => put(counters, cell, told.value()),
+    match cell_in(assignment.index(), array_named(arrays, assignment.array())) {
+        Some(cell) => put(counters, cell, assignment.value()),
         None => false,
     }
 }

@@ -4,7 +4,7 @@ ghost use Rattle.std.specs.Prelude.{◌≡◌, [], IfOk, IfErr};
 ghost use Rattle.load.specs.Loaded.{LoadsFrom};
 ghost use Rattle.dry_run.specs.Files as specs;
 
-use crate::fault::DryRunFault;
+use crate::dry_run_fault::DryRunFault;
 use bounded_files::Disk;
 use cells::Directory;
 use load::{PathFault, load_path};

@@ -17,11 +17,11 @@
 mod app_lines;
 mod app_runs;
 mod counters;
-mod fault;
+mod dry_run_fault;
 mod files;
 mod ignored;
 mod ignored_lines;
-mod law;
+mod laws;
 mod length_lines;
 mod member_kinds;
 mod on_counters;
@@ -29,11 +29,11 @@ mod reply;
 mod why;
 mod why_files;
 
-pub use fault::DryRunFault;
+pub use dry_run_fault::DryRunFault;
 pub use files::{Opened, open_files};
-pub use law::{
-    has_one_reply, notes_are_so, opens_the_same, refuses_alike, sends_replies, sends_what_is_found,
-    tells_the_reply,
+pub use laws::{
+    explains_reply, has_one_reply, notes_are_so, opens_the_same, refuses_alike, sends_replies,
+    sends_what_is_found,
 };
 pub use on_counters::reply_on_counters;
 pub use why::why_on_counters;

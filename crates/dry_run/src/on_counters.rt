@@ -4,8 +4,8 @@ ghost use Rattle.std.specs.Prelude.{IfOk, IfErr};
 ghost use Rattle.dry_run.specs.Counters.{AreAssigned};
 ghost use Rattle.dry_run.specs.OnCounters as specs;
 
-use crate::counters::{set_cells, set_known, zero_counters};
-use crate::fault::DryRunFault;
+use crate::counters::{set_cells, set_declared, zero_counters};
+use crate::dry_run_fault::DryRunFault;
 use crate::files::Opened;
 use crate::reply::find_reply;
 use attrs::Moment;
@@ -45,13 +45,14 @@ pub(crate) fn assigned_counters(
     served: &[CellAssignment<'_>],
     words: &[CellAssignment<'_>],
 ) -> Result<PlainPass, DryRunFault>
-    ensures told { IfOk result (λ counters. AreAssigned arrays.now served.now words.now counters) }
+    ensures shown_text { IfOk result
+        (λ counters. AreAssigned arrays.now served.now words.now counters) }
     ensures fault { IfErr result (specs.IsUnassignable arrays.now served.now words.now) }
 {
     let Ok(mut counters) = zero_counters(alloc) else {
         return Err(DryRunFault::Resource(ResourceFault::Memory));
     };
-    set_known(arrays, &mut counters, served);
+    set_declared(arrays, &mut counters, served);
     if set_cells(arrays, &mut counters, words) {
         Ok(counters)
     } else {

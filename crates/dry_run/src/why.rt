@@ -4,13 +4,13 @@ ghost use Rattle.std.specs.Prelude.{◌≡◌, ◌++◌, Option, IfOk, IfErr, ma
 ghost use Rattle.std.specs.Prelude.{option_copied};
 ghost use Rattle.attrs.specs.Facts.{attributes_of};
 ghost use Rattle.dry_run.specs.AppLines as lines;
-ghost use Rattle.dry_run.specs.Meanings.{HasMeaning, HaveMeanings, known_rule_of};
+ghost use Rattle.dry_run.specs.Meanings.{HasMeaning, HaveMeanings, optional_rule_of};
 ghost use Rattle.dry_run.specs.OnCounters.{IsUnanswered};
 ghost use Rattle.dry_run.specs.Why as specs;
 
 use crate::app_lines::{push_head, push_offer, push_unknown};
-use crate::app_runs::{ExplainedChoice, tell_course};
-use crate::fault::DryRunFault;
+use crate::app_runs::{ExplainedChoice, explain_course};
+use crate::dry_run_fault::DryRunFault;
 use crate::ignored::{Notes, note_at, notes_in};
 use crate::on_counters::assigned_counters;
 use crate::why_files::OpenedWhy;
@@ -29,10 +29,10 @@ use std::alloc::{AllocError, Global};
 /// may count as absent only as an attribute. Returns B7 if the manifest lacks a cell of `words`, or
 /// a value doesn't fit; then O1 to O4. Returns B4 or O5 if an allocation fails.
 ///
-/// That an app's lines are those of its rule depends on `known_rules`, which `open_why` gives: an
-/// app that has none in it is explained as a program.
+/// That an app's lines are those of its rule depends on `optional_rules`, which `open_why` gives:
+/// an app that has none in it is explained as a program.
 // open: whether an allocation fails (B4, O5).
-#[tactic(auto, using(crate::proofs::Assigning::told_why, crate::proofs::Assigning::unread))]
+#[tactic(auto, using(crate::proofs::Assigning::why_text_is, crate::proofs::Assigning::unread))]
 pub fn why_on_counters(
     alloc: Global,
     why: &OpenedWhy,
@@ -40,9 +40,9 @@ pub fn why_on_counters(
     served: &[CellAssignment<'_>],
     words: &[CellAssignment<'_>],
 ) -> Result<String, DryRunFault>
-    requires { HaveMeanings why.now.rules.apps why.now.known_rules.items }
-    ensures told { IfOk result (λ text.
-        specs.TellsWhy why.now moment.now served.now words.now (string_bytes text)) }
+    requires { HaveMeanings why.now.rules.apps why.now.optional_rules.items }
+    ensures shown_text { IfOk result (λ text.
+        specs.IsWhyText why.now moment.now served.now words.now (string_bytes text)) }
     ensures fault { IfErr result
         (IsUnanswered why.now.directory why.now.body.items served.now words.now) }
 {
@@ -70,8 +70,8 @@ fn explain_request(
     notes: Notes,
     counters: &mut PlainPass,
 ) -> Result<String, AllocError>
-    requires { HaveMeanings why.now.rules.apps why.now.known_rules.items }
-    ensures { IfOk result (λ text. specs.ExplainsRequest why.now.rules why.now.known_rules.items
+    requires { HaveMeanings why.now.rules.apps why.now.optional_rules.items }
+    ensures { IfOk result (λ text. specs.ExplainsRequest why.now.rules why.now.optional_rules.items
         request.now.facts moment.now (string_bytes notes.request)
         (map string_bytes notes.apps.items) counters.old request.now.apps counters.new
         (string_bytes text)) }
@@ -86,7 +86,7 @@ fn explain_request(
     Ok(text)
 }
 
-#[tactic(auto, using(crate::proofs::Explaining::none_yet, crate::proofs::Explaining::all_told))]
+#[tactic(auto, using(crate::proofs::Explaining::none_yet, crate::proofs::Explaining::all_shown))]
 fn explain_apps(
     alloc: Global,
     why: &OpenedWhy,
@@ -95,8 +95,8 @@ fn explain_apps(
     notes: &[String],
     counters: &mut PlainPass,
 ) -> Result<String, AllocError>
-    requires { HaveMeanings why.now.rules.apps why.now.known_rules.items }
-    ensures { IfOk result (λ text. specs.ExplainsAll why.now.rules why.now.known_rules.items
+    requires { HaveMeanings why.now.rules.apps why.now.optional_rules.items }
+    ensures { IfOk result (λ text. specs.ExplainsAll why.now.rules why.now.optional_rules.items
         request.now.facts moment.now (map string_bytes notes.now) counters.old request.now.apps
         counters.new (string_bytes text)) }
 {
@@ -123,26 +123,26 @@ fn explain_app(
     note: &str,
     counters: &mut PlainPass,
 ) -> Result<String, AllocError>
-    requires { HaveMeanings why.now.rules.apps why.now.known_rules.items }
-    ensures { IfOk result (λ text. specs.ExplainsOne why.now.rules why.now.known_rules.items
+    requires { HaveMeanings why.now.rules.apps why.now.optional_rules.items }
+    ensures { IfOk result (λ text. specs.ExplainsOne why.now.rules why.now.optional_rules.items
         facts.now moment.now app.now note.now counters.old counters.new (string_bytes text)) }
 {
     let appid = app.appid();
-    let said = app.facts();
+    let stated = app.facts();
     let Some(known) = why.rules.find(appid) else {
         let text = unknown_app(alloc, appid, note)?;
         return Ok(text);
     };
-    let Ok(attrs) = attrs_of(alloc, said, facts, moment) else {
+    let Ok(attrs) = attrs_of(alloc, stated, facts, moment) else {
         return Err(AllocError);
     };
-    if !said.updatecheck {
-        let text = unasked_app(alloc, said, attrs.context(), note)?;
+    if !stated.updatecheck {
+        let text = unasked_app(alloc, stated, attrs.context(), note)?;
         return Ok(text);
     }
-    known.keeps();
-    let rule = rule_of(why.rules.apps(), &why.known_rules, appid);
-    let text = run_app(alloc, known, rule, said, attrs, note, counters)?;
+    known.invariant_law();
+    let rule = rule_of(why.rules.apps(), &why.optional_rules, appid);
+    let text = run_app(alloc, known, rule, stated, attrs, note, counters)?;
     Ok(text)
 }
 
@@ -206,7 +206,7 @@ fn run_app(
     let ExplainedChoice {
         choice,
         text: course,
-    } = tell_course(alloc, known.program(), rule, attrs, counters)?;
+    } = explain_course(alloc, known.program(), rule, attrs, counters)?;
     text.push_str(course.as_str())?;
     push_offer(&mut text, known.releases(), choice)?;
     text.push_str(note)?;
@@ -215,19 +215,19 @@ fn run_app(
 
 // The rule of the first app with an appid.
 fn rule_of<'a>(apps: &[App], rules: &'a [Option<Rule>], appid: &str) -> Option<&'a Rule>
-    ensures { option_copied result ≡ known_rule_of apps.now rules.now appid.now }
+    ensures { option_copied result ≡ optional_rule_of apps.now rules.now appid.now }
 {
     let mut left = apps;
     let mut others = rules;
-    while let [app, apps_behind @ ..] = left {
-        let [rule, rules_behind @ ..] = others else {
+    while let [app, later_apps @ ..] = left {
+        let [rule, later_rules @ ..] = others else {
             return None;
         };
         if app.appid() == appid {
             return lent(rule);
         }
-        left = apps_behind;
-        others = rules_behind;
+        left = later_apps;
+        others = later_rules;
     }
     None
 }

@@ -5,7 +5,7 @@ ghost use Rattle.load.specs.Loaded.{RefusesPath};
 ghost use Rattle.dry_run.specs.Files.{IsOpenFault};
 ghost use Rattle.dry_run.specs.Meanings as specs;
 
-use crate::fault::DryRunFault;
+use crate::dry_run_fault::DryRunFault;
 use crate::files::read_body;
 use app_rules::read_rules;
 use bounded_files::{Disk, ResourceFault};
@@ -26,14 +26,14 @@ pub struct OpenedWhy {
     pub directory: Directory,
     pub digest: [u8; 32],
     pub body: Vec<u8>,
-    pub known_rules: Vec<Option<Rule>>,
+    pub optional_rules: Vec<Option<Rule>>,
 }
 
 /// A ruleset that was loaded, and the rule of each app.
 #[derive(Drop)]
 struct LoadedWhy {
     made: LoadedRuleset,
-    known_rules: Vec<Option<Rule>>,
+    optional_rules: Vec<Option<Rule>>,
 }
 
 /// Opens what `open_files` opens, with the same faults. Each file is read once, and the text of a
@@ -48,11 +48,14 @@ pub fn open_why<D: Disk>(
 ) -> Result<OpenedWhy, DryRunFault>
     ensures opened { IfOk result
         (specs.AreOpenedWhy (D.known disk.now) manifest.now request.now) }
-    ensures meanings { IfOk result (λ o. specs.HaveMeanings o.rules.apps o.known_rules.items) }
+    ensures meanings { IfOk result (λ o. specs.HaveMeanings o.rules.apps o.optional_rules.items) }
     ensures fault { IfErr result (IsOpenFault (D.known disk.now) manifest.now request.now) }
 {
     sources_are_made();
-    let LoadedWhy { made, known_rules } = match load_why(alloc, disk, manifest) {
+    let LoadedWhy {
+        made,
+        optional_rules,
+    } = match load_why(alloc, disk, manifest) {
         Ok(loaded) => loaded,
         Err(fault) => return Err(DryRunFault::Manifest(fault)),
     };
@@ -67,7 +70,7 @@ pub fn open_why<D: Disk>(
             directory,
             digest,
             body,
-            known_rules,
+            optional_rules,
         }),
         Err(fault) => Err(fault),
     }
@@ -77,9 +80,9 @@ pub fn open_why<D: Disk>(
 #[tactic(auto, using(crate::proofs::Opening::loaded_meanings))]
 fn load_why<D: Disk>(alloc: Global, disk: &D, path: &str) -> Result<LoadedWhy, PathFault>
     ensures loaded { IfOk result (λ l.
-        specs.IsLoadedWhy (D.known disk.now) path.now l.made l.known_rules.items) }
+        specs.IsLoadedWhy (D.known disk.now) path.now l.made l.optional_rules.items) }
     ensures meanings { IfOk result (λ l.
-        specs.HaveMeanings l.made.rules.apps l.known_rules.items) }
+        specs.HaveMeanings l.made.rules.apps l.optional_rules.items) }
     ensures fault { IfErr result (RefusesPath (D.known disk.now) path.now []) }
 {
     sources_are_loaded();
@@ -94,11 +97,14 @@ fn load_why<D: Disk>(alloc: Global, disk: &D, path: &str) -> Result<LoadedWhy, P
         Ok(sources) => sources,
         Err(SourcesRefusal { fault, .. }) => return Err(PathFault::Load(fault)),
     };
-    let Ok(known_rules) = read_rules(alloc, &sources.apps) else {
+    let Ok(optional_rules) = read_rules(alloc, &sources.apps) else {
         return Err(PathFault::Resource(ResourceFault::Memory));
     };
     match make_ruleset(alloc, &bytes, sources) {
-        Ok(made) => Ok(LoadedWhy { made, known_rules }),
+        Ok(made) => Ok(LoadedWhy {
+            made,
+            optional_rules,
+        }),
         Err(fault) => Err(PathFault::Load(fault)),
     }
 }

@@ -32,7 +32,7 @@ use Rattle.bpf_semantics.specs.Reads.{load_count}
 use Rattle.explain.specs.declared.reads.ReadRegisters.{ReadRegisters}
 use Rattle.explain.specs.declared.way.Way.{Way}
 use Rattle.explain.specs.Values as values
-use Rattle.explain.specs.Known as known
+use Rattle.explain.specs.RegisterTexts as known
 
 pub record IsPlain (text : List ℕ) : Type 0 where
   pub plain : list_all (λ c. nat_le 32 c) text ≡ true
@@ -98,8 +98,9 @@ lowest_plain a (suc j) = both (bit_plain a j) (lowest_plain a j)
 
 pub number_plain : (a : Number) → IsPlain (values.number_text a)
 number_plain a = both (range_plain a.range.lo a.range.hi)
-    (either (values.telling_bits a 64 == 0) (word [] refl)
-    (both (word (codes " bits ") refl) (lowest_plain a (8 * ((values.telling_bits a 64 + 7) / 8)))))
+    (either (values.bits_beyond_range a 64 == 0) (word [] refl)
+    (both (word (codes " bits ") refl)
+    (lowest_plain a (8 * ((values.bits_beyond_range a 64 + 7) / 8)))))
 
 -- ---- registers and memory, in the instruction's form
 

@@ -13,14 +13,14 @@ use Rattle.explain.specs.RefusedPlace.{IsRefusedPlace}
 pub is_refused_place : (p : ShapedProgram) (s : ℕ) (e : AbsState) (i : Insn) (rule : VerifierRule)
     (text : List ℕ) → entry_of p s ≡ Some e → at p.code s ≡ Some i → IsRefusedAt p s rule
     → text ≡ cited_rule p.shape e i rule → IsRefusedPlace p s text
-is_refused_place p s e i rule text entry there refused told =
+is_refused_place p s e i rule text entry there refused so_far =
     let f = refused.fails in
     let same : e ≡ f.entry = same_Some e f.entry (sym entry ∙ f.entry_is) in
     let insn : i ≡ f.insn = same_Some i f.insn (sym there ∙ f.insn_is) in
     record {
       rule = rule;
       refused = refused;
-      text_is = told
+      text_is = so_far
           ∙ ap (λ (x : AbsState). cited_rule p.shape x i rule) same
           ∙ ap (λ (j : Insn). cited_rule p.shape f.entry j rule) insn;
     }

@@ -19,7 +19,7 @@ use Rattle.bpf_semantics.specs.Program.{ShapedProgram}
 use Rattle.flow_check.specs.Edges.{next_of}
 use Rattle.flow_check.specs.Flow.{program_bytes}
 use Rattle.explain.specs.declared.way.Way.{Way}
-use Rattle.explain.specs.Known.{all_registers}
+use Rattle.explain.specs.RegisterTexts.{all_registers}
 use Rattle.explain.specs.Lines as specs
 use Rattle.explain.specs.Lines.{IsExplained, lines_from, remark_at, way_on}
 use Rattle.explain.specs.Reads.{read_registers}

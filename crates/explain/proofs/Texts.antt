@@ -28,10 +28,10 @@ bare_gathered o line =
     ∙ ap (λ (u : List ℕ). o ++ (u ++ (10 ∷ []))) (sym (append-nil line))
 
 -- one more part
-pub told_further : (o one rest new whole : List ℕ) → new ≡ o ++ one → o ++ (one ++ rest) ≡ whole
+pub further_text : (o one rest new whole : List ℕ) → new ≡ o ++ one → o ++ (one ++ rest) ≡ whole
     → new ++ rest ≡ whole
-told_further o one rest new whole grown is =
+further_text o one rest new whole grown is =
     ap (λ (t : List ℕ). t ++ rest) grown ∙ append_assoc o one rest ∙ is
 
-pub told_to_end : (o whole : List ℕ) → o ++ [] ≡ whole → o ≡ whole
-told_to_end o whole is = sym (append-nil o) ∙ is
+pub whole_text : (o whole : List ℕ) → o ++ [] ≡ whole → o ≡ whole
+whole_text o whole is = sym (append-nil o) ∙ is

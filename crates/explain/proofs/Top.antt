@@ -2,22 +2,22 @@
 use Rattle.std.proofs.Common.{◌≡◌, ℕ, zero, suc, ◌-◌, ◌<◌, ◌≤◌, List, ◌++◌}
 use Rattle.std.proofs.Common.{true, false, refl, ap, ◌∙◌, append_assoc, arith}
 use Rattle.abs_value.specs.declared.number.Number.{Number}
-use Rattle.explain.specs.Values.{says_more, telling_bits, bit_text, lowest_bits}
+use Rattle.explain.specs.Values.{adds_to_range, bits_beyond_range, bit_text, lowest_bits}
 use native.Mathlib.Numerals.{unary_clauses}
 
 -- it is the one below k
-pub here : (a : Number) (k : ℕ) → 0 < k → says_more a (k - 1) ≡ true → telling_bits a k ≡ k
+pub here : (a : Number) (k : ℕ) → 0 < k → adds_to_range a (k - 1) ≡ true → bits_beyond_range a k ≡ k
 here a zero lt e = absurd (omega (arith, lt))
-here a (suc j) lt e = let t : says_more a j ≡ true = simp unary_clauses at e in rw t refl
+here a (suc j) lt e = let t : adds_to_range a j ≡ true = simp unary_clauses at e in rw t refl
 
-pub next : (a : Number) (k : ℕ) → 0 < k → says_more a (k - 1) ≡ false
-    → telling_bits a k ≡ telling_bits a (k - 1)
+pub next : (a : Number) (k : ℕ) → 0 < k → adds_to_range a (k - 1) ≡ false
+    → bits_beyond_range a k ≡ bits_beyond_range a (k - 1)
 next a zero lt e = absurd (omega (arith, lt))
 next a (suc j) lt e =
-    let t : says_more a j ≡ false = simp unary_clauses at e in
+    let t : adds_to_range a j ≡ false = simp unary_clauses at e in
     simp unary_clauses (rw t refl)
 
-pub last : (a : Number) (k : ℕ) → k ≤ 0 → telling_bits a k ≡ 0
+pub last : (a : Number) (k : ℕ) → k ≤ 0 → bits_beyond_range a k ≡ 0
 last a zero le = refl
 last a (suc k) le = absurd (omega (arith, le))
 

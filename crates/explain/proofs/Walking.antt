@@ -24,7 +24,8 @@ use Rattle.bpf_checks.specs.declared.refusal.VerifierRule.{VerifierRule}
 use Rattle.cells.specs.Arrays.{AppShape}
 use Rattle.explain.specs.declared.way.Way.{Way}
 use Rattle.explain.specs.Lines.{remark_at, way_on, way_from, way_unless, way_past_entry}
-use Rattle.explain.specs.Lines.{comment, line_with, lines_from, IsExplained, WalkParts, TellsOn}
+use Rattle.explain.specs.Lines.{comment, line_with, lines_from, IsExplained, WalkParts}
+use Rattle.explain.specs.Lines.{ExplainsUpTo}
 use Rattle.explain.specs.Way.{still, way_past}
 
 -- ---- a list of instructions and its slots
@@ -36,9 +37,9 @@ layout-append (i ∷ xs) ys =
     ∙ sym (append_assoc (slots i) (layout xs) (layout ys))
 
 -- the next list begins at the end of a list
-at_behind : (xs ys : Program) → at (xs ++ ys) (length xs) ≡ at ys 0
-at_behind [] ys = refl
-at_behind (x ∷ xs) ys = at_behind xs ys
+at_after : (xs ys : Program) → at (xs ++ ys) (length xs) ≡ at ys 0
+at_after [] ys = refl
+at_after (x ∷ xs) ys = at_after xs ys
 
 at_front : (i : Insn) (q : Program) → at (slots i ++ q) 0 ≡ Some i
 at_front (Wide dst value) q = refl
@@ -60,7 +61,7 @@ module _ (code : Program) (slot : ℕ) (parts : WalkParts code slot) where
   at_rest =
       ap (λ (q : Program). at q slot) (parts.code_is ∙ layout-append parts.front parts.rest)
       ∙ ap (at (layout parts.front ++ layout parts.rest)) parts.slot_is
-      ∙ at_behind (layout parts.front) (layout parts.rest)
+      ∙ at_after (layout parts.front) (layout parts.rest)
 
   len_is : length code ≡ slot + length (layout parts.rest)
   len_is =
@@ -108,16 +109,17 @@ first_parts code is = record { front = []; rest = is.0; code_is = is.1; slot_is 
 
 -- ---- the text
 
-pub tells_first : (p : ShapedProgram) → IsLayout p.code → TellsOn p (Some still) 0 []
+pub explains_first : (p : ShapedProgram) → IsLayout p.code → ExplainsUpTo p (Some still) 0 []
 unfolding first_parts
-tells_first p is = record { parts = first_parts p.code is; text_is = refl }
+explains_first p is = record { parts = first_parts p.code is; text_is = refl }
 
-pub tells_next : (p : ShapedProgram) (way : Option Way) (slot : ℕ) (i : Insn) (text more : List ℕ)
-    → TellsOn p way slot text → at p.code slot ≡ Some i
+pub explains_next : (p : ShapedProgram) (way : Option Way) (slot : ℕ) (i : Insn)
+    (text more : List ℕ)
+    → ExplainsUpTo p way slot text → at p.code slot ≡ Some i
     → more ≡ text ++ (bare_line i ++ remark_at p way slot i ++ codes "\n")
-    → TellsOn p (way_on p way slot i) (next_of slot i) more
+    → ExplainsUpTo p (way_on p way slot i) (next_of slot i) more
 unfolding parts_next rest_at
-tells_next p way slot i text more t e grown =
+explains_next p way slot i text more t e grown =
     let r = rest_at p.code slot t.parts i e in
     let line = bare_line i ++ remark_at p way slot i ++ codes "\n" in
     let later = remarked_listing (lines_from p (way_on p way slot i) (next_of slot i) r.0) in
@@ -132,9 +134,9 @@ tells_next p way slot i text more t e grown =
           ∙ sym (append_snoc t.parts.front i r.0));
     }
 
-pub tells_whole : (p : ShapedProgram) (way : Option Way) (slot : ℕ) (text : List ℕ)
-    → TellsOn p way slot text → length p.code ≤ slot → IsExplained p text
-tells_whole p way slot text t le = whole t.parts.rest refl
+pub explains_whole : (p : ShapedProgram) (way : Option Way) (slot : ℕ) (text : List ℕ)
+    → ExplainsUpTo p way slot text → length p.code ≤ slot → IsExplained p text
+explains_whole p way slot text t le = whole t.parts.rest refl
   where
     whole : (is : List Insn) → t.parts.rest ≡ is → IsExplained p text
     whole [] e = record {

@@ -1,7 +1,7 @@
 pub mod Values
 pub mod Reads
 pub mod Way
-pub mod Known
+pub mod RegisterTexts
 pub mod Requirements
 pub mod Sentences
 pub mod Lines

@@ -17,20 +17,20 @@ use Rattle.bpf_checks.specs.declared.refusal.VerifierRule.{VerifierRule}
 use Rattle.bpf_checks.specs.declared.refusal.Refusal.{Refusal}
 use Rattle.bpf_checks.specs.declared.refusal.Refusal.TheVariants as refusal
 use Rattle.explain.specs.declared.way.Way.{Way}
-use Rattle.explain.specs.Known.{registers_text, all_registers, stack_text}
+use Rattle.explain.specs.RegisterTexts.{registers_text, all_registers, stack_text}
 use Rattle.explain.specs.Reads.{read_registers}
 use Rattle.explain.specs.Sentences.{refusal_text}
 use Rattle.explain.specs.Way.{still, way_past}
 
 -- ---- one place
 
-abbrev pub known_text : AppShape → AbsState → Insn → Way → List ℕ
-known_text shape e i way =
+abbrev pub state_text : AppShape → AbsState → Insn → Way → List ℕ
+state_text shape e i way =
     registers_text shape e (read_registers i) way true all_registers ++ stack_text shape e i
 
 -- what is known before the instruction; or why it is refused, if a rule fails
 abbrev pub shown_text : AppShape → AbsState → Insn → Way → Option VerifierRule → List ℕ
-shown_text shape e i way None = known_text shape e i way
+shown_text shape e i way None = state_text shape e i way
 shown_text shape e i way (Some rule) = refusal_text shape e i rule
 
 abbrev pub shown_of_insn : AppShape → AbsState → Insn → Way → List ℕ
@@ -108,7 +108,8 @@ pub record WalkParts (code : Program) (slot : ℕ) : Type 0 where
   pub slot_is : slot ≡ length (layout front)
 
 -- the text so far, with the lines from the slot on, is the whole
-pub record TellsOn (p : ShapedProgram) (way : Option Way) (slot : ℕ) (text : List ℕ) : Type 0 where
+pub record ExplainsUpTo (p : ShapedProgram) (way : Option Way) (slot : ℕ) (text : List ℕ)
+    : Type 0 where
   pub parts : WalkParts p.code slot
   pub text_is :
       text ++ remarked_listing (lines_from p way slot parts.rest)

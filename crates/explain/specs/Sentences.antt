@@ -31,7 +31,7 @@ use Rattle.explain.specs.declared.reads.ReadRegisters.{ReadRegisters}
 use Rattle.explain.specs.declared.reads.TouchedMemory.{TouchedMemory}
 use Rattle.explain.specs.Requirements.{requirement_of, unset_byte, no_cell_at, cell_requirement}
 use Rattle.explain.specs.Requirements.{lookup_takes, attr_is_takes, past_top}
-use Rattle.explain.specs.Known.{register_word, memory_text}
+use Rattle.explain.specs.RegisterTexts.{register_word, memory_text}
 use Rattle.explain.specs.Reads.{first_such, read_registers, touched}
 use Rattle.explain.specs.Values.{number_text, value_text}
 

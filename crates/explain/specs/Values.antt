@@ -26,17 +26,17 @@ range_text lo hi =
     else decimal lo ++ codes " to " ++ decimal hi
 
 -- all numbers of the range have the same bits from the j-th on
-abbrev pub range_tells : Number → ℕ → Bool
-range_tells a j = a.range.lo / 2 ^ j == a.range.hi / 2 ^ j
+abbrev pub range_fixes : Number → ℕ → Bool
+range_fixes a j = a.range.lo / 2 ^ j == a.range.hi / 2 ^ j
 
 -- the j-th bit is known and doesn't follow from the range
-abbrev pub says_more : Number → ℕ → Bool
-says_more a j = (bit_at (unknown a.bits) j == 0) && not (range_tells a j)
+abbrev pub adds_to_range : Number → ℕ → Bool
+adds_to_range a j = (bit_at (unknown a.bits) j == 0) && not (range_fixes a j)
 
 -- the place after the highest bit below k that says more than the range; 0 if there is none
-abbrev pub telling_bits : Number → ℕ → ℕ
-telling_bits a zero = 0
-telling_bits a (suc j) = if says_more a j then suc j else telling_bits a j
+abbrev pub bits_beyond_range : Number → ℕ → ℕ
+bits_beyond_range a zero = 0
+bits_beyond_range a (suc j) = if adds_to_range a j then suc j else bits_beyond_range a j
 
 abbrev pub bit_text : Number → ℕ → List ℕ
 bit_text a j =
@@ -54,7 +54,7 @@ bits_text a n = if n == 0 then [] else codes " bits " ++ lowest_bits a (8 * ((n 
 
 -- the range of a number, and the bits of its low bytes if one says more
 abbrev pub number_text : Number → List ℕ
-number_text a = range_text a.range.lo a.range.hi ++ bits_text a (telling_bits a 64)
+number_text a = range_text a.range.lo a.range.hi ++ bits_text a (bits_beyond_range a 64)
 
 -- ---- arrays and counters, by name if there is one
 

@@ -35,7 +35,7 @@ pub fn push_found(text: &mut String, shape: &Shape, lookup: Lookup) -> Result<()
 pub fn push_counter(text: &mut String, shape: &Shape, cell: u16) -> Result<(), AllocError>
     ensures { OnOk result (Appends text.old text.new (specs.counter_text shape.now cell)) }
 {
-    shape.keeps();
+    shape.invariant_law();
     match array_of(shape.arrays(), cell) {
         Some(array) => {
             let name = array.name.as_str();
@@ -68,7 +68,7 @@ fn holds_cell(array: &CellArray, cell: u16) -> bool
 
 /// Law: the names of arrays are names.
 #[tactic(auto, using(crate::proofs::Naming::one_name_more))]
-pub fn keep_names(arrays: &[CellArray])
+pub fn have_names(arrays: &[CellArray])
     ensures { specs.HaveNames arrays.now }
 {
     let mut left = arrays;

@@ -8,9 +8,9 @@ use abs_value::Number;
 use std::alloc::AllocError;
 
 // Whether the bit is known and doesn't follow from the range.
-fn says_more(number: Number, bit: u32) -> bool
+fn adds_to_range(number: Number, bit: u32) -> bool
     requires { bit < 64 }
-    ensures { result ≡ specs.says_more number bit }
+    ensures { result ≡ specs.adds_to_range number bit }
 {
     let unknown = number.bits.has ^ number.bits.may_have;
     (unknown >> bit) % 2 == 0 && number.range.lo >> bit != number.range.hi >> bit
@@ -18,13 +18,13 @@ fn says_more(number: Number, bit: u32) -> bool
 
 // How many bits there are up to the highest one that says more.
 #[tactic(auto, using(crate::proofs::Top::here, crate::proofs::Top::next, crate::proofs::Top::last))]
-fn telling_bits(number: Number) -> u32
-    ensures bits { result ≡ specs.telling_bits number 64 }
+fn bits_beyond_range(number: Number) -> u32
+    ensures bits { result ≡ specs.bits_beyond_range number 64 }
     ensures most { result ≤ 64 }
 {
     let mut left = 64;
     while left > 0 {
-        if says_more(number, left - 1) {
+        if adds_to_range(number, left - 1) {
             return left;
         }
         left -= 1;
@@ -74,7 +74,7 @@ fn push_up_to(text: &mut String, number: Number, count: u32) -> Result<(), Alloc
 /// range.
 pub fn push_bits(text: &mut String, number: Number) -> Result<(), AllocError>
     ensures { OnOk result (Appends text.old text.new
-        (specs.bits_text number (specs.telling_bits number 64))) }
+        (specs.bits_text number (specs.bits_beyond_range number 64))) }
 {
-    push_up_to(text, number, telling_bits(number))
+    push_up_to(text, number, bits_beyond_range(number))
 }

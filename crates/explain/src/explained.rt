@@ -8,10 +8,10 @@ ghost use Rattle.bpf_semantics.specs.Program.{shaped};
 ghost use Rattle.bpf_verify.specs.Walk.{IsWalkBefore};
 ghost use Rattle.flow_check.specs.Flow.{program_bytes};
 ghost use Rattle.cells.specs.Arrays.{AppShape};
-ghost use Rattle.explain.specs.Lines.{IsExplained, IsFinding, WalkParts, TellsOn};
+ghost use Rattle.explain.specs.Lines.{IsExplained, IsFinding, WalkParts, ExplainsUpTo};
 ghost use Rattle.explain.specs.Lines as specs;
 
-use crate::arrays::keep_names;
+use crate::arrays::have_names;
 use crate::insn_line::push_line;
 use crate::way::Way;
 use abs_value::AbsState;
@@ -43,10 +43,10 @@ fn way_past(shape: &Shape, slot: usize, entry: Option<&AbsState>, insn: &Insn) -
 fn push_rest(text: &mut String, flow: &Flow, slot: usize) -> Result<(), AllocError>
     requires { WalkParts flow.now slot }
     ensures { OnOk result ((shape : AppShape)
-        → TellsOn (shaped flow.now shape) None slot (string_bytes text.old)
+        → ExplainsUpTo (shaped flow.now shape) None slot (string_bytes text.old)
         → IsExplained (shaped flow.now shape) (string_bytes text.new)) }
 {
-    flow.keeps();
+    flow.invariant_law();
     let mut slot = slot;
     while slot < flow.len() {
         let insn = flow.insn(slot);
@@ -65,13 +65,13 @@ fn tell(alloc: Global, flow: &Flow, shape: &Shape) -> Result<Explained, AllocErr
 {
     let mut walk = Walk::start(alloc, flow)?;
     // By one call: at each `?` its many parts would be dropped one by one.
-    let told = tell_walk(alloc, flow, shape, &mut walk);
+    let lines = explain_walk(alloc, flow, shape, &mut walk);
     drop(walk);
-    told
+    lines
 }
 
 // The same, for a walk at its beginning.
-fn tell_walk(
+fn explain_walk(
     alloc: Global,
     flow: &Flow,
     shape: &Shape,
@@ -82,7 +82,7 @@ fn tell_walk(
         (λ x. IsExplained (shaped flow.now shape.now) (string_bytes x.text)) }
     ensures verdict { IfOk result (λ x. IsFinding flow.now shape.now x.refusal) }
 {
-    flow.keeps();
+    flow.invariant_law();
     let mut text = String::new(alloc);
     let mut way = Way::still();
     let mut slot = 0;
@@ -119,9 +119,9 @@ pub fn explain(alloc: Global, flow: &Flow, shape: &Shape) -> Result<Explained, A
     ensures assembles { IfOk result
         (λ x. Assembles (string_bytes x.text) (Ok (program_bytes flow.now))) }
 {
-    flow.keeps();
+    flow.invariant_law();
     remarks_are_skipped();
-    keep_names(shape.arrays());
+    have_names(shape.arrays());
     let explained = tell(alloc, flow, shape)?;
     Ok(explained)
 }

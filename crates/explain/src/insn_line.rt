@@ -4,8 +4,8 @@ ghost use Rattle.std.specs.Prelude.{◌<◌, OnOk, option_copied};
 ghost use Rattle.bpf_text.specs.Listing.{Appends};
 ghost use Rattle.explain.specs.Lines as specs;
 
-use crate::known::{push_registers, push_stack};
 use crate::reads::ReadRegisters;
+use crate::register_texts::{push_registers, push_stack};
 use crate::sentence::push_refusal;
 use crate::way::Way;
 use abs_value::AbsState;
@@ -19,7 +19,7 @@ use std::fmt::Write;
 /// The column of comments, in characters from the beginning of a line.
 const COLUMN: usize = 22;
 
-fn push_known(
+fn push_state(
     text: &mut String,
     shape: &Shape,
     e: &AbsState,
@@ -27,7 +27,7 @@ fn push_known(
     way: &Way,
 ) -> Result<(), AllocError>
     ensures { OnOk result (Appends text.old text.new
-        (specs.known_text shape.now e.now insn way.now)) }
+        (specs.state_text shape.now e.now insn way.now)) }
 {
     push_registers(text, shape, e, &ReadRegisters::of(insn), way)?;
     push_stack(text, shape, e, insn)?;
@@ -45,7 +45,7 @@ fn push_shown(
         (specs.shown_of_insn shape.now e.now insn.now way.now)) }
 {
     match first_rule(shape, e, insn) {
-        None => push_known(text, shape, e, *insn, way),
+        None => push_state(text, shape, e, *insn, way),
         Some(rule) => push_refusal(text, shape, e, *insn, rule),
     }
 }

@@ -6,7 +6,7 @@ ghost use Rattle.std.specs.Int.{w64, cast_signed};
 ghost use Rattle.bpf_text.specs.Listing.{Appends};
 ghost use Rattle.explain.specs.Sentences as specs;
 
-use crate::known::{push_memory, push_register};
+use crate::register_texts::{push_memory, push_register};
 use crate::requirements::{requirement, unset_byte};
 use crate::values::push_value;
 use abs_value::{Abs, AbsState};

@@ -26,7 +26,7 @@ pub struct RefusedPlace {
 }
 
 // The refused place has an entry, so the sentence is missing only if out of memory.
-fn tell_place(
+fn explain_refusal(
     alloc: Global,
     flow: &Flow,
     shape: &Shape,
@@ -38,8 +38,8 @@ fn tell_place(
     requires refused { IsRefusal flow.now shape.now refusal }
     requires insn { at flow.now place.0 ≡ Some place.1.now }
     requires entry { option_copied entry ≡ entry_of (shaped flow.now shape.now) place.0 }
-    ensures { IfOk result (λ told.
-        IsRefusedPlace (shaped flow.now shape.now) told.slot (string_bytes told.sentence)) }
+    ensures { IfOk result (λ spot.
+        IsRefusedPlace (shaped flow.now shape.now) spot.slot (string_bytes spot.sentence)) }
 {
     let (Some(e), Refusal::Rule { slot, rule }) = (entry, refusal) else {
         return Err(AllocError);
@@ -56,8 +56,8 @@ pub fn refused_place(
     flow: &Flow,
     shape: &Shape,
 ) -> Result<Option<RefusedPlace>, AllocError>
-    ensures refused { IfOk result (λ found. IfSome found (λ told.
-        IsRefusedPlace (shaped flow.now shape.now) told.slot (string_bytes told.sentence))) }
+    ensures refused { IfOk result (λ found. IfSome found (λ spot.
+        IsRefusedPlace (shaped flow.now shape.now) spot.slot (string_bytes spot.sentence))) }
     ensures accepted { result ≡ Ok None → IsAccepted flow.now shape.now }
 {
     let mut walk = Walk::start(alloc, flow)?;
@@ -75,18 +75,18 @@ fn first_refused(
     walk: &mut Walk,
 ) -> Result<Option<RefusedPlace>, AllocError>
     requires { IsWalkBefore flow.now shape.now 0 walk.old }
-    ensures refused { IfOk result (λ found. IfSome found (λ told.
-        IsRefusedPlace (shaped flow.now shape.now) told.slot (string_bytes told.sentence))) }
+    ensures refused { IfOk result (λ found. IfSome found (λ spot.
+        IsRefusedPlace (shaped flow.now shape.now) spot.slot (string_bytes spot.sentence))) }
     ensures accepted { result ≡ Ok None → IsAccepted flow.now shape.now }
 {
-    flow.keeps();
+    flow.invariant_law();
     let mut slot = 0;
     while slot < flow.len() {
         let insn = flow.insn(slot);
         walk.arrive(slot)?;
         if let Err(refusal) = walk.judge(flow, shape, slot, insn) {
-            let told = tell_place(alloc, flow, shape, (slot, insn), walk.entry(), refusal)?;
-            return Ok(Some(told));
+            let spot = explain_refusal(alloc, flow, shape, (slot, insn), walk.entry(), refusal)?;
+            return Ok(Some(spot));
         }
         walk.carry_on(flow, shape, slot, insn)?;
         slot += insn.width().slots();

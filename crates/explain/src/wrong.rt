@@ -4,9 +4,9 @@ ghost use Rattle.std.specs.Prelude.{◌≡◌, OnOk, option_copied};
 ghost use Rattle.bpf_text.specs.Listing.{Appends};
 ghost use Rattle.explain.specs.Sentences as specs;
 
-use crate::known::{push_memory, push_register};
 use crate::operands::push_register_is;
 use crate::reads::{TouchedMemory, touched};
+use crate::register_texts::{push_memory, push_register};
 use crate::requirements::{cell_requirement, no_cell_at, requirement};
 use abs_value::{Abs, AbsState};
 use bpf_insn::{AtomicOp, Insn, Reg, WideValue};

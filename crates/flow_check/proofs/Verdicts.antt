@@ -3,11 +3,11 @@ use Rattle.std.proofs.Common.{◌≡◌, ℕ, ◌*◌, ◌<◌, ◌≤◌, List,
 use Rattle.std.proofs.Common.{if◌then◌else◌, refl, sym, ap, subst, ◌∙◌, arith}
 use Rattle.bpf_insn.specs.declared.fields.InsnFault.{InsnFault}
 use Rattle.bpf_insn.specs.Program.{Program}
-use Rattle.flow_check.specs.declared.fault.FlowRule.{FlowRule}
-use Rattle.flow_check.specs.declared.fault.FlowRule.TheVariants.{BackJump, Outside, InsideWide}
-use Rattle.flow_check.specs.declared.fault.FlowRule.TheVariants.{FallsOff, Unreached, Empty}
-use Rattle.flow_check.specs.declared.fault.FlowRule.TheVariants.{TooLong, Insn as NoInsn}
-use Rattle.flow_check.specs.declared.fault.FlowFault.TheVariants.{Rule}
+use Rattle.flow_check.specs.declared.flow_fault.FlowRule.{FlowRule}
+use Rattle.flow_check.specs.declared.flow_fault.FlowRule.TheVariants.{BackJump, Outside, InsideWide}
+use Rattle.flow_check.specs.declared.flow_fault.FlowRule.TheVariants.{FallsOff, Unreached, Empty}
+use Rattle.flow_check.specs.declared.flow_fault.FlowRule.TheVariants.{TooLong, Insn as NoInsn}
+use Rattle.flow_check.specs.declared.flow_fault.FlowFault.TheVariants.{Rule}
 use Rattle.flow_check.specs.Edges.{BreaksEdge, KeepsEdges, KeepsReach}
 use Rattle.flow_check.specs.Flow.{IsAcceptedAs}
 use Rattle.flow_check.specs.Fault.{rule_number, IsEdgeFault, IsRead, IsUnread, IsFirstEdgeFault}

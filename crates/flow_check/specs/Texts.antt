@@ -1,10 +1,10 @@
 -- The texts of the graph's faults, as they are printed.
 use Rattle.std.specs.Prelude.{ℕ, List, ◌++◌, codes, decimal}
 use Rattle.bpf_insn.specs.Faults.{fault_text}
-use Rattle.flow_check.specs.declared.fault.FlowFault.{FlowFault}
-use Rattle.flow_check.specs.declared.fault.FlowFault.TheVariants as check
-use Rattle.flow_check.specs.declared.fault.FlowRule.{FlowRule}
-use Rattle.flow_check.specs.declared.fault.FlowRule.TheVariants as flow
+use Rattle.flow_check.specs.declared.flow_fault.FlowFault.{FlowFault}
+use Rattle.flow_check.specs.declared.flow_fault.FlowFault.TheVariants as check
+use Rattle.flow_check.specs.declared.flow_fault.FlowRule.{FlowRule}
+use Rattle.flow_check.specs.declared.flow_fault.FlowRule.TheVariants as flow
 
 abbrev pub flow_rule_text : FlowRule → List ℕ
 flow_rule_text flow.BackJump = codes "F1 BackJump"

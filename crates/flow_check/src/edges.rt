@@ -10,8 +10,8 @@ ghost use Rattle.flow_check.specs.Edges.{KeepsJump, KeepsEdges};
 ghost use Rattle.flow_check.specs.Fault.{IsEdgeFault};
 ghost use Rattle.flow_check.specs.Laid.{laid};
 
-use crate::fault::FlowRule;
-use crate::slots::{insn_behind, is_half, is_wide_at, slot_count};
+use crate::flow_fault::FlowRule;
+use crate::slots::{insn_after, is_half, is_wide_at, slot_count};
 use bpf_insn::{Distance, Insn};
 
 /// The distance of the instruction's jump, if it is a jump.
@@ -97,7 +97,7 @@ pub fn first_edge_fault(code: &[Insn]) -> Option<(usize, FlowRule)>
     let count = slot_count(code);
     let mut wide = false;
     for slot in 0..count {
-        if let Some(insn) = insn_behind(code, slot, wide)
+        if let Some(insn) = insn_after(code, slot, wide)
             && let Some(rule) = edge_fault(code, slot, insn)
         {
             return Some((slot, rule));

@@ -6,16 +6,16 @@
 #![tactic(auto)]
 
 mod edges;
-mod fault;
 mod flow;
-mod law;
+mod flow_fault;
+mod laws;
 mod reach;
 mod read;
 mod slots;
 
 pub use edges::{jump_target, next_place};
-pub use fault::{FlowFault, FlowRule};
 pub use flow::Flow;
-pub use law::one_verdict;
+pub use flow_fault::{FlowFault, FlowRule};
+pub use laws::one_verdict;
 pub use read::{MOST_PROGRAM, read_program};
 pub use slots::{is_wide, laid_out};

@@ -10,7 +10,7 @@ ghost use Rattle.flow_check.specs.Sweep.{IsMarked, IsMarkedTo};
 ghost use Rattle.flow_check.specs.Sweep.{IsLowestUnreached, MarksOnly, marked};
 
 use crate::edges::{jump_target, next_place};
-use crate::slots::{insn_behind, is_wide_at, slot_count};
+use crate::slots::{insn_after, is_wide_at, slot_count};
 use bpf_insn::Insn;
 use std::alloc::{AllocError, Global};
 
@@ -46,7 +46,7 @@ fn sweep(marks: &mut [bool], code: &[Insn]) -> Option<usize>
     let count = slot_count(code);
     let mut wide = false;
     for slot in 0..count {
-        if let Some(insn) = insn_behind(code, slot, wide) {
+        if let Some(insn) = insn_after(code, slot, wide) {
             if !marks[slot] {
                 return Some(slot);
             }

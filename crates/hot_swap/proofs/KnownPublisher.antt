@@ -5,7 +5,7 @@ use mathlib.Core.Option.{some}
 use lib.ListN.{get_elem?}
 use Rattle.left_right.specs.Register.{Admits, TurnsAt, Forks, Merges}
 use Rattle.atomic_table.proofs.Lists.{at_set, at_snoc}
-use Rattle.hot_swap.specs.Seats.{KnowOnePublisher, TellsPublisher}
+use Rattle.hot_swap.specs.Seats.{KnowOnePublisher, NamesPublisher}
 use Rattle.hot_swap.specs.declared.publisher_id.PublisherId.{PublisherId}
 use Rattle.hot_swap.specs.declared.published_ruleset.PublishedRuleset.{PublishedRuleset}
 
@@ -25,7 +25,7 @@ admits x views h seat id at =
 -- what is published is of the same publisher as before
 pub turns : (seat : ℕ) (v : Option PublisherId) (x y : PublishedRuleset)
     → y.known.publisher ≡ x.known.publisher
-    → TurnsAt KnowOnePublisher seat v x y TellsPublisher
+    → TurnsAt KnowOnePublisher seat v x y NamesPublisher
 turns seat v x y same views h at =
     let id = y.known.publisher in (
       Some id,

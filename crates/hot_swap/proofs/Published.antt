@@ -7,7 +7,7 @@ use Rattle.std.proofs.lemmas.List.Sums.{fold-append}
 use Rattle.std.specs.Arc.{arc_value}
 use Rattle.hot_swap.proofs.Prefixes.{has_last}
 use Rattle.hot_swap.specs.Published.{KnownPrefix, IsLatest}
-use Rattle.hot_swap.specs.Seats.{TellsPublisher}
+use Rattle.hot_swap.specs.Seats.{NamesPublisher}
 use Rattle.hot_swap.specs.declared.publisher_id.PublisherId.{PublisherId}
 use Rattle.hot_swap.specs.declared.next.NextInstall.{NextInstall}
 use Rattle.hot_swap.specs.declared.next.Stamp.{Stamp}
@@ -61,7 +61,7 @@ pub told : {U E : Type 0} (P Q : Type 0) (r : Result U E) (next : NextInstall)
     (old new : PublishedRuleset)
     (before after : Option PublisherId) (s : Stamp) → s ≡ brought next
     → MatchResult r (λ _. (stamp_of new ≡ s) × P) (λ _. (new ≡ old) × Q)
-    → MatchResult r (λ _. TellsPublisher before old new after) (λ _. after ≡ before)
+    → MatchResult r (λ _. NamesPublisher before old new after) (λ _. after ≡ before)
     → MatchResult r (λ _. IsShown after new next) (λ _. (after ≡ before) × (new ≡ old))
 told P Q (Ok u) next old new before after s e v t =
     let same : stamp_of new ≡ brought next = v.0 ∙ e in

@@ -11,7 +11,7 @@ KnowOnePublisher shown views = (seat : ℕ) (id : PublisherId)
     → get_elem? views seat ≡ some (Some id) → id ≡ shown.known.publisher
 
 -- after a look or a publish the seat knows the publisher, which is the one that it knew, if any
-abbrev pub TellsPublisher : Option PublisherId → PublishedRuleset → PublishedRuleset
+abbrev pub NamesPublisher : Option PublisherId → PublishedRuleset → PublishedRuleset
     → Option PublisherId → Type 0
-TellsPublisher before old new after = (after ≡ Some new.known.publisher)
+NamesPublisher before old new after = (after ≡ Some new.known.publisher)
     × ((id : PublisherId) → before ≡ Some id → id ≡ new.known.publisher)

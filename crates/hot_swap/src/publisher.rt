@@ -67,7 +67,7 @@ impl Publisher {
         ensures places { IfOk result (λ p. p.places ≡ watchers) }
         ensures memory { IfErr result (λ e. e ≡ SwapFault.Memory) }
     {
-        first.keeps();
+        first.invariant_law();
         let (known, end) = KnownPrefix::open();
         let Ok(end) = Arc::new(alloc, end) else {
             return Err(SwapFault::Memory);
@@ -95,7 +95,7 @@ impl Publisher {
     }
 
     /// Law: the type's invariant.
-    pub fn keeps(&self)
+    pub fn invariant_law(&self)
         ensures last { IsLatest self.now.known self.now.latest.generation self.now.latest.rules }
         // In each ruleset of the list an appid has one app, and a run of its program ends well.
         ensures sound { All IsRuleset self.now.known.rulesets }
@@ -132,7 +132,7 @@ impl Publisher {
         if self.known.generation() == u64::MAX {
             return Err(SwapFault::Exhausted);
         }
-        next.keeps();
+        next.invariant_law();
         let Ok(operation) = NextInstall::new(&self.end, &self.known, &next) else {
             return Err(SwapFault::Memory);
         };

@@ -22,9 +22,9 @@ impl Protocol<PublishedRuleset, Option<PublisherId>> for OnePublisher {
 pub struct PublisherKnown;
 
 impl Outcome<PublishedRuleset, Option<PublisherId>> for PublisherKnown {
-    ghost use Rattle.hot_swap.specs.Seats.{TellsPublisher};
+    ghost use Rattle.hot_swap.specs.Seats.{NamesPublisher};
 
-    ghost then = { TellsPublisher };
+    ghost then = { NamesPublisher };
 }
 
 /// The publisher shares what it knows with a watcher.

@@ -7,7 +7,7 @@ use Rattle.std.specs.declared.string.String.{String}
 use Rattle.bounded_files.specs.Files.{KnownFiles}
 use Rattle.cells.specs.Directory.{Declaration}
 use Rattle.cells.specs.declared.array.CellArray.{CellArray}
-use Rattle.load.specs.Cause.{IsCause, RefusesTelling, cause_in, cause_of}
+use Rattle.load.specs.Cause.{IsCause, RefusesWithCause, cause_in, cause_of}
 use Rattle.load.specs.Sources.{AreArraysBeside}
 use Rattle.load.specs.Loaded.{RefusesPath}
 use Rattle.load.specs.declared.load_fault.LoadFault.{LoadFault}
@@ -16,13 +16,13 @@ use Rattle.load.specs.declared.load_fault.PathFault.{PathFault}
 use Rattle.load.specs.declared.load_fault.PathFault.TheVariants.{Resource, Load}
 
 pub refuses : (known : KnownFiles) (path : List ℕ) (old : List CellArray) (fault : PathFault)
-    (cause : Option (String Global)) → RefusesTelling known path old fault cause
+    (cause : Option (String Global)) → RefusesWithCause known path old fault cause
     → RefusesPath known path old fault
 refuses known path old (Resource fault) cause told = told.0
 refuses known path old (Load fault) cause told = (told.0, told.1, told.2.fault_is)
 
 no_cause : (known : KnownFiles) (path : List ℕ) (old : List CellArray) (fault : PathFault)
-    → RefusesPath known path old fault → RefusesTelling known path old fault None
+    → RefusesPath known path old fault → RefusesWithCause known path old fault None
 no_cause known path old (Resource fault) refused = (refused, refl)
 no_cause known path old (Load fault) refused =
     (refused.0, refused.1, record { fault_is = refused.2; cause_is = tt })
@@ -30,10 +30,10 @@ no_cause known path old (Load fault) refused =
 -- a fault without a cause
 pub untold : (known : KnownFiles) (path : List ℕ) (old : List CellArray) (fault told : PathFault)
     (cause : Option (String Global)) → told ≡ fault → cause ≡ None
-    → RefusesPath known path old fault → RefusesTelling known path old told cause
+    → RefusesPath known path old fault → RefusesWithCause known path old told cause
 untold known path old fault told cause fault_is cause_is refused =
-    subst (λ (c : Option (String Global)). RefusesTelling known path old told c) (sym cause_is)
-    (subst (λ (f : PathFault). RefusesTelling known path old f None) (sym fault_is)
+    subst (λ (c : Option (String Global)). RefusesWithCause known path old told c) (sym cause_is)
+    (subst (λ (f : PathFault). RefusesWithCause known path old f None) (sym fault_is)
     (no_cause known path old fault refused))
 
 is_cause : (old : List CellArray) (bytes : List ℕ) (arrays : List Declaration) (fault : LoadFault)

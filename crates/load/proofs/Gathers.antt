@@ -165,7 +165,7 @@ module _ (known : KnownFiles) (directory : List CellArray) (numbers : List Array
         before = [];
         entry = e;
         after = entries;
-        stands = refl;
+        entries_are = refl;
         number_is = omega arith;
         apps = [];
         supplied = none;
@@ -177,7 +177,7 @@ module _ (known : KnownFiles) (directory : List CellArray) (numbers : List Array
         before = e ∷ rest.before;
         entry = rest.entry;
         after = rest.after;
-        stands = ap (λ (l : List AppEntry). e ∷ l) rest.stands;
+        entries_are = ap (λ (l : List AppEntry). e ∷ l) rest.entries_are;
         number_is = omega (arith, rest.number_is);
         apps = app_of a p ∷ rest.apps;
         supplied = next (is_app known directory numbers e a h p judged) rest.supplied;

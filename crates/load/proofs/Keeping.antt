@@ -11,8 +11,8 @@ use Rattle.bounded_files.specs.Files.{KnownFiles, Gives}
 use Rattle.bounded_files.specs.Kept.{IsKeptOf, KeepsFile}
 use Rattle.bpf_semantics.specs.Program.{ShapedProgram}
 use Rattle.cells.specs.Arrays.{AppShape}
-use Rattle.flow_check.specs.declared.fault.FlowFault.TheVariants as flow
-use Rattle.flow_check.specs.declared.fault.FlowRule.TheVariants.{TooLong}
+use Rattle.flow_check.specs.declared.flow_fault.FlowFault.TheVariants as flow
+use Rattle.flow_check.specs.declared.flow_fault.FlowRule.TheVariants.{TooLong}
 use Rattle.manifest.specs.declared.app.ProgramSource.{ProgramSource}
 use Rattle.manifest.specs.declared.app.ProgramSource.TheVariants as source
 use Rattle.rule_lang.specs.Verdicts.{too_long}

@@ -7,10 +7,10 @@ use Rattle.bpf_insn.specs.Program.{Program, layout}
 use Rattle.bpf_insn.specs.Spelling.{encoding}
 use Rattle.flow_check.specs.Fault.{HasOneVerdict, IsFlowFault}
 use Rattle.flow_check.specs.Flow.{IsAcceptedAs, program_bytes}
-use Rattle.flow_check.specs.declared.fault.FlowFault.TheVariants.{Rule}
-use Rattle.flow_check.specs.declared.fault.FlowRule.{FlowRule}
-use Rattle.flow_check.specs.declared.fault.FlowRule.TheVariants.{Empty, TooLong, Unreached}
-use Rattle.flow_check.specs.declared.fault.FlowRule.TheVariants.{Insn as NoInsn}
+use Rattle.flow_check.specs.declared.flow_fault.FlowFault.TheVariants.{Rule}
+use Rattle.flow_check.specs.declared.flow_fault.FlowRule.{FlowRule}
+use Rattle.flow_check.specs.declared.flow_fault.FlowRule.TheVariants.{Empty, TooLong, Unreached}
+use Rattle.flow_check.specs.declared.flow_fault.FlowRule.TheVariants.{Insn as NoInsn}
 
 -- eight bytes a slot
 laid_length : (is : List Insn) → length (program_bytes (layout is)) ≡ 8 * length (layout is)

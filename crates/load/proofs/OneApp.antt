@@ -112,7 +112,7 @@ module _ (files : List ℕ → Option KnownFile) (directory : List CellArray) (n
         → (r : IsRefusedApp (Some files) directory numbers entries number fault)
         → IsRefusedFrom entries (length r.before) fault
     refused_at entries number fault r =
-        subst (λ (l : List AppEntry). IsRefusedFrom l (length r.before) fault) (sym r.stands)
+        subst (λ (l : List AppEntry). IsRefusedFrom l (length r.before) fault) (sym r.entries_are)
         (refused_from r.before r.apps r.entry r.after fault r.supplied r.refused)
 
     module _ (judged : (p : Program) (shape : AppShape) → verify.ProgramHasOneVerdict p shape)

@@ -9,8 +9,8 @@ use Rattle.cells.specs.Arrays.{AppShape}
 use Rattle.cells.specs.Directory.{IsDirectory}
 use Rattle.cells.specs.declared.array.ArrayNo.{ArrayNo}
 use Rattle.cells.specs.declared.array.CellArray.{CellArray}
-use Rattle.cells.specs.declared.fault.CellsFault.{CellsFault}
-use Rattle.cells.specs.declared.fault.CellsFault.TheVariants as cells
+use Rattle.cells.specs.declared.cells_fault.CellsFault.{CellsFault}
+use Rattle.cells.specs.declared.cells_fault.CellsFault.TheVariants as cells
 use Rattle.declarations.specs.Order.{AreDeclared, IsRefusedArray}
 use Rattle.declarations.specs.OneWay.{ListsDeclareOneWay}
 use Rattle.manifest.specs.Manifest.{Manifest, ReadsManifest}

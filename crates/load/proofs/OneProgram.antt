@@ -13,8 +13,8 @@ use Rattle.acceptance.specs.declared.program_fault.ProgramFault.TheVariants.{Flo
 use Rattle.acceptance.specs.declared.program_fault.RuleTextFault.TheVariants.{Text, Compile}
 use Rattle.cells.specs.Arrays.{AppShape}
 use Rattle.flow_check.specs.Fault.{HasOneVerdict, IsFlowFault}
-use Rattle.flow_check.specs.declared.fault.FlowFault.TheVariants as flow
-use Rattle.flow_check.specs.declared.fault.FlowRule.{FlowRule}
+use Rattle.flow_check.specs.declared.flow_fault.FlowFault.TheVariants as flow
+use Rattle.flow_check.specs.declared.flow_fault.FlowRule.{FlowRule}
 use Rattle.rule_compile.specs.Code.{rule_code}
 use Rattle.rule_compile.specs.declared.compile_fault.CompileFault.TheVariants as compile
 use Rattle.rule_lang.specs.Parts.{OrFault}

@@ -24,7 +24,7 @@ module _ (known : KnownFiles) (directory : List CellArray) (numbers : List Array
     pub before : List AppEntry
     pub entry : AppEntry
     pub after : List AppEntry
-    pub stands : entries ≡ before ++ entry ∷ after
+    pub entries_are : entries ≡ before ++ entry ∷ after
     pub number_is : number ≡ length before + 1
     pub apps : List AppRule
     pub supplied : AreAppsOf before apps

@@ -6,15 +6,15 @@ use Rattle.std.specs.declared.alloc.Global.{Global}
 use Rattle.std.specs.declared.string.String.{String}
 use Rattle.bounded_files.specs.Files.{KnownFiles, Gives, regular_files}
 use Rattle.cells.specs.declared.array.CellArray.{CellArray}
-use Rattle.cells.specs.declared.fault.CellsFault.{CellsFault}
-use Rattle.cells.specs.declared.fault.CellsFault.TheVariants as cells
+use Rattle.cells.specs.declared.cells_fault.CellsFault.{CellsFault}
+use Rattle.cells.specs.declared.cells_fault.CellsFault.TheVariants as cells
 use Rattle.cells.specs.Directory.{Declaration, declaration, array_named}
 use Rattle.declarations.specs.Texts.{declaration_text}
 use Rattle.manifest.specs.Manifest.{Manifest, ReadsManifest}
 use Rattle.manifest.specs.Texts.{schema_error_text, duplicate_text}
 use Rattle.manifest.specs.declared.manifest_fault.ManifestFault.{ManifestFault}
 use Rattle.manifest.specs.declared.manifest_fault.ManifestFault.TheVariants as unread
-use Rattle.load.specs.Folder.{known_beside}
+use Rattle.load.specs.Folder.{files_beside}
 use Rattle.load.specs.Load.{IsLoadFault}
 use Rattle.load.specs.Loaded.{RefusesPath}
 use Rattle.load.specs.Made.{IsMadeFrom}
@@ -76,14 +76,14 @@ pub record IsFaultWithCause (known : KnownFiles) (old : List CellArray) (bytes :
 module _ (known : KnownFiles) (path : List ℕ) (old : List CellArray) where
   -- the file can't be read, and there is no cause; or it gives bytes with this fault and this
   -- cause, if there is one
-  abbrev pub RefusesTelling : PathFault → Option (String Global) → Type 0
-  RefusesTelling (Load fault) cause =
+  abbrev pub RefusesWithCause : PathFault → Option (String Global) → Type 0
+  RefusesWithCause (Load fault) cause =
       (bytes : List ℕ) × Gives (regular_files known) path (Some bytes)
-      × IsFaultWithCause (known_beside known path) old bytes fault cause
-  RefusesTelling (Resource fault) cause =
+      × IsFaultWithCause (files_beside known path) old bytes fault cause
+  RefusesWithCause (Resource fault) cause =
       RefusesPath known path old (Resource fault) × (cause ≡ None)
 
   -- the ruleset with its digest; or the fault and its cause, if there is one
-  abbrev pub LoadsTelling : Result LoadedRuleset LoadRefusal → Type 0
-  LoadsTelling (Ok made) = IsMadeFrom known path old made
-  LoadsTelling (Err refused) = RefusesTelling refused.fault refused.cause
+  abbrev pub LoadsWithCause : Result LoadedRuleset LoadRefusal → Type 0
+  LoadsWithCause (Ok made) = IsMadeFrom known path old made
+  LoadsWithCause (Err refused) = RefusesWithCause refused.fault refused.cause

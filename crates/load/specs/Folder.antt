@@ -16,7 +16,7 @@ path_beside manifest name = path_join (folder_of manifest) name
 
 -- what the names in a manifest lead to: each is relative to the folder of that manifest, and
 -- anything but a regular file of at most 16 MiB counts as unreadable
-abbrev pub known_beside : KnownFiles → List ℕ → KnownFiles
-known_beside known manifest =
+abbrev pub files_beside : KnownFiles → List ℕ → KnownFiles
+files_beside known manifest =
     option_map (λ files. λ name. files (path_beside manifest name))
     (within most_bytes (regular_files known))

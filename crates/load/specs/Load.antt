@@ -4,7 +4,7 @@ use Rattle.std.specs.Prelude.{◌≡◌, ◌≢◌, ℕ, List, Result, Ok, Err}
 use Rattle.cells.specs.Directory.{Declaration}
 use Rattle.cells.specs.declared.array.ArrayNo.{ArrayNo}
 use Rattle.cells.specs.declared.array.CellArray.{CellArray}
-use Rattle.cells.specs.declared.fault.CellsFault.TheVariants as cells
+use Rattle.cells.specs.declared.cells_fault.CellsFault.TheVariants as cells
 use Rattle.declarations.specs.Order.{AreDeclared, IsRefusedArray}
 use Rattle.manifest.specs.Manifest.{Manifest, ReadsManifest}
 use Rattle.manifest.specs.declared.manifest_fault.ManifestFault.TheVariants as manifest

@@ -37,9 +37,9 @@ impl<'a, D> FolderFiles<'a, D> {
 }
 
 impl<'a, D: Disk> Files for FolderFiles<'a, D> {
-    ghost use Rattle.load.specs.Folder.{known_beside};
+    ghost use Rattle.load.specs.Folder.{files_beside};
 
-    ghost known = { λ files. known_beside (D.known files.disk.now) files.manifest.now };
+    ghost known = { λ files. files_beside (D.known files.disk.now) files.manifest.now };
 
     ghost failed = { λ files. files.failures };
 

@@ -4,7 +4,7 @@ ghost use Rattle.std.specs.Prelude.{List, IfOk, IfErr, Some};
 ghost use mathlib.Core.List.{IsPrefix};
 ghost use Rattle.bounded_files.specs.Files.{Gives, regular_files};
 ghost use Rattle.cells.specs.declared.array.CellArray.{CellArray};
-ghost use Rattle.load.specs.Cause.{LoadsTelling};
+ghost use Rattle.load.specs.Cause.{LoadsWithCause};
 ghost use Rattle.load.specs.Loaded.{IsLoadedFrom, LoadsFrom, RefusesPath};
 ghost use Rattle.ruleset.specs.Rules.{KnowsOnly};
 
@@ -63,7 +63,7 @@ pub fn load_with_digest<D: Disk>(
     path: &str,
     directory: &Directory,
 ) -> Result<LoadedRuleset, LoadRefusal>
-    ensures loads { LoadsTelling (D.known disk.now) path.now directory.now result }
+    ensures loads { LoadsWithCause (D.known disk.now) path.now directory.now result }
     ensures rules { IfOk result (λ made. IsLoadedFrom (D.known disk.now) path.now directory.now
         made.rules made.directory) }
     ensures only { IfOk result (λ made. KnowsOnly made.directory made.rules) }

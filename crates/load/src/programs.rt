@@ -89,7 +89,7 @@ fn with_program(alloc: Global, app: AppSources, program: Verified) -> Result<App
         entry,
         shape: _shape,
         kept: _kept,
-        behind_link: _behind_link,
+        through_link: _through_link,
     } = app;
     let AppParts {
         appid,

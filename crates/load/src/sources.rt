@@ -35,7 +35,7 @@ pub struct AppSources {
     pub entry: AppEntry,
     pub shape: Shape,
     pub kept: Option<KeptBytes>,
-    pub behind_link: bool,
+    pub through_link: bool,
 }
 
 /// A manifest that was read: the text with its server's name, its arrays, the directory in which
@@ -227,13 +227,13 @@ fn collect_app<F: Files>(
     let Ok(shape) = Shape::of(alloc, releases, directory, numbers) else {
         return Err(AllocError);
     };
-    let behind_link = files.is_through_link(file_of(entry.source()));
+    let through_link = files.is_through_link(file_of(entry.source()));
     let kept = collect_file(files, entry.source())?;
     Ok(AppSources {
         entry,
         shape,
         kept,
-        behind_link,
+        through_link,
     })
 }
 

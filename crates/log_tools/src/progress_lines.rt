@@ -12,23 +12,23 @@ const MEBIBYTE: u64 = 0x10_0000;
 /// The file of standard error.
 const STANDARD_ERROR: &str = "/dev/stderr";
 
-/// Prints at most once a second how much of a log has been read. It prints nothing if standard error
-/// is a file or a pipe (as a timer's is), or if the clock can't be read.
+/// Prints at most once a second how much of a log has been read. It prints nothing if standard
+/// error is a file or a pipe (as a timer's is), or if the clock can't be read.
 #[derive(Drop)]
 pub(crate) struct ProgressLines<'a, R> {
     rt: &'a R,
-    said: Option<Instant>,
+    printed_at: Option<Instant>,
 }
 
 impl<'a, R: Files + Clock + Eprint> ProgressLines<'a, R> {
     /// For a read that begins now.
     pub(crate) fn new(rt: &'a R) -> ProgressLines<'a, R> {
-        let said = if is_watched(rt) {
+        let printed_at = if is_watched(rt) {
             Instant::now(rt).ok()
         } else {
             None
         };
-        ProgressLines { rt, said }
+        ProgressLines { rt, printed_at }
     }
 }
 
@@ -42,11 +42,11 @@ fn is_watched<R: Files>(rt: &R) -> bool {
 
 impl<'a, R: Clock + Eprint> LogOnlooker for ProgressLines<'a, R> {
     fn read(&mut self, bytes: u64) {
-        let (Some(said), Ok(now)) = (self.said, Instant::now(self.rt)) else {
+        let (Some(printed_at), Ok(now)) = (self.printed_at, Instant::now(self.rt)) else {
             return;
         };
-        if now.saturating_duration_since(said).as_secs() > 0 {
-            self.said = Some(now);
+        if now.saturating_duration_since(printed_at).as_secs() > 0 {
+            self.printed_at = Some(now);
             let read = bytes / MEBIBYTE;
             let _printed = eprintln!(self.rt; "read {read} MiB");
         }

@@ -5,13 +5,13 @@ use Rattle.std.specs.Prelude.{Bool, false, if◌then◌else◌}
 use Rattle.std.specs.Str.{bytes_eq}
 use Rattle.std.proofs.lemmas.List.{take_all}
 use Rattle.bpf_semantics.specs.Program.{ShapedProgram}
-use Rattle.app_rules.specs.Rules.{AreRulesKept, KnownRule, no_rule, next_rule}
+use Rattle.app_rules.specs.Rules.{AreRulesKept, OptionalRule, no_rule, next_rule}
 use Rattle.load.specs.Judged.{AreJudged, no_program, next_program}
 use Rattle.load.specs.declared.sources.AppSources.{AppSources}
 use Rattle.manifest_diff.specs.Apps.{IsKeptApp, ManifestApp, app_in, manifest_app}
 
-pub kept_here : (app : AppSources) (program : ShapedProgram) (rule : KnownRule)
-    (apps : List AppSources) (programs : List ShapedProgram) (rules : List KnownRule)
+pub kept_here : (app : AppSources) (program : ShapedProgram) (rule : OptionalRule)
+    (apps : List AppSources) (programs : List ShapedProgram) (rules : List OptionalRule)
     → AreJudged (app ∷ apps) (program ∷ programs)
     → AreRulesKept (app ∷ apps) (program ∷ programs) (rule ∷ rules)
     → IsKeptApp (manifest_app app program rule)
@@ -35,7 +35,7 @@ judged_others some (next_program {apps} {programs} {app} {program} is more) =
     (subst (λ ys. AreJudged apps ys) (sym (others program programs)) more)
 
 pub kept_others : {apps : List AppSources} {programs : List ShapedProgram}
-    {rules : List KnownRule} → 0 < length apps → AreRulesKept apps programs rules
+    {rules : List OptionalRule} → 0 < length apps → AreRulesKept apps programs rules
     → AreRulesKept (others_of apps) (others_of programs) (others_of rules)
 kept_others some no_rule = absurd (omega (arith, some))
 kept_others some (next_rule {app} {program} {rule} {apps} {programs} {rules} is more) =
@@ -46,7 +46,7 @@ kept_others some (next_rule {app} {program} {rule} {apps} {programs} {rules} is 
 
 -- an app with another appid isn't found
 pub found_later : (appid : List ℕ) (app : AppSources) (apps : List AppSources)
-    (programs : List ShapedProgram) (rules : List KnownRule) (found : Option ManifestApp)
+    (programs : List ShapedProgram) (rules : List OptionalRule) (found : Option ManifestApp)
     → 0 < length apps → 0 < length programs → 0 < length rules → app ≡ get_or apps 0 app
     → bytes_eq app.entry.appid appid ≡ false → app_in apps programs rules appid ≡ found
     → app_in (others_of apps) (others_of programs) (others_of rules) appid ≡ found

@@ -14,8 +14,8 @@ use Rattle.rule_space.specs.Scopes.{IsWithin, Scope}
 use Rattle.rule_space.specs.Spaces.{Space}
 use Rattle.manifest_diff.specs.Apps.{ManifestApp}
 use Rattle.manifest_diff.specs.Apps.IsSameApp.{same_rule, same_program}
-use Rattle.manifest_diff.specs.NoRow.{DiffIsSo, GivesAlike, HasMachine, IsAlike, IsSaid}
-use Rattle.manifest_diff.specs.NoRow.{SaysRuns, Serves}
+use Rattle.manifest_diff.specs.NoRow.{DiffIsSo, GivesAlike, HasMachine, IsAlike, IsRowValue}
+use Rattle.manifest_diff.specs.NoRow.{RowsMatchRuns, Serves}
 use Rattle.manifest_diff.specs.NoRow.{served_side}
 use Rattle.manifest_diff.specs.NoRow.IsAlike.{same_content, same_program as alike_program}
 use Rattle.manifest_diff.specs.Outcomes.{IsSame}
@@ -87,27 +87,29 @@ none p (first ∷ rows) fails row there passes =
     or_parts false c is = (refl, is)
 
 -- what a run of a side gives is said by a row, or the other side gives it in the state
-module _ (x : Scope) (space : Space) (rows : List Row) (side other : Side) (said : Row → ℕ)
+module _ (x : Scope) (space : Space) (rows : List Row) (side other : Side) (row_value : Row → ℕ)
     (complete : (a : Attributes) (g : State) → IsWithin x a g
     → ((row : Row) → Contains rows row → HasMachine space row a g → ⊥)
     → gets side a g ≡ gets other a g)
     (says : (a : Attributes) (g : State) → IsWithin x a g → (row : Row) → Contains rows row
-    → HasMachine space row a g → gets side a g ≡ said row) where
-  is_said : (a : Attributes) (g : State) (content : ℕ) → IsWithin x a g → gets side a g ≡ content
+    → HasMachine space row a g → gets side a g ≡ row_value row) where
+  is_row_value : (a : Attributes) (g : State) (content : ℕ) → IsWithin x a g → gets side a g
+      ≡ content
       → (any : Bool) → list_any (λ row. row_agrees row (place_of space.dimensions a g)) rows ≡ any
-      → IsSaid space rows said other a g content
-  is_said a g content within gives true any =
+      → IsRowValue space rows row_value other a g content
+  is_row_value a g content within gives true any =
       let f = among (λ row. row_agrees row (place_of space.dimensions a g)) rows any in
       inl (f.row, f.there, f.passes, sym (says a g within f.row f.there f.passes) ∙ gives)
-  is_said a g content within gives false any =
+  is_row_value a g content within gives false any =
       inr (sym (complete a g within
       (none (λ row. row_agrees row (place_of space.dimensions a g)) rows any)) ∙ gives)
 
-  says_runs : RunsAreInStates → IsRuleSide side → SaysRuns x space rows side other said
-  says_runs law is a content run =
+  rows_match_runs : RunsAreInStates → IsRuleSide side → RowsMatchRuns x space rows side other
+      row_value
+  rows_match_runs law is a content run =
       let state = given law x side is a content run in (
         state,
-        is_said a state.state content state.within state.gives
+        is_row_value a state.state content state.within state.gives
             (list_any (λ row. row_agrees row (place_of space.dimensions a state.state)) rows) refl,
       )
 
@@ -135,11 +137,11 @@ diff_is_so law = record {
     no_row = has.is_diff.complete;
     true_of = has.is_diff.are_true;
     apart = has.is_diff.apart;
-    old_runs = says_runs x space rows has.old_side has.new_side (λ row. row.current)
+    old_runs = rows_match_runs x space rows has.old_side has.new_side (λ row. row.current)
         has.is_diff.complete
         (λ a g within row there is. (has.is_diff.are_true a g within row there is).0)
         law has.old_is.of_rule;
-    new_runs = says_runs x space rows has.new_side has.old_side (λ row. row.next)
+    new_runs = rows_match_runs x space rows has.new_side has.old_side (λ row. row.next)
         (λ a g within none_has. sym (has.is_diff.complete a g within none_has))
         (λ a g within row there is. (has.is_diff.are_true a g within row there is).1)
         law has.new_is.of_rule;

@@ -7,7 +7,7 @@ use Rattle.bpf_semantics.specs.Program.{ShapedProgram}
 use Rattle.bounded_files.specs.declared.kept_bytes.KeptBytes.{KeptBytes}
 use Rattle.bounded_files.specs.declared.kept_bytes.KeptBytes.TheVariants.{Whole, Longer}
 use Rattle.cells.specs.Arrays.{AppShape}
-use Rattle.app_rules.specs.Rules.{IsRuleKept, KnownRule}
+use Rattle.app_rules.specs.Rules.{IsRuleKept, OptionalRule}
 use Rattle.flow_check.specs.Fault.{HasOneVerdict}
 use Rattle.flow_check.specs.Flow.{IsFlow, program_bytes}
 use Rattle.load.specs.Kept.{whole_file}
@@ -26,13 +26,13 @@ use Rattle.manifest_diff.specs.Outcomes.{IsSame}
 use Rattle.manifest_diff.specs.Same.{HasSameFile, HasSameRule}
 
 -- the rule of a whole file is the one that its bytes spell
-record Spells (bytes : List ℕ) (shape : AppShape) (rule : KnownRule) : Type 0 where
+record Spells (bytes : List ℕ) (shape : AppShape) (rule : OptionalRule) : Type 0 where
   spelled : List Statement
   text : IsTextOf bytes shape spelled
   rule_is : rule ≡ Some spelled
 
 spells : (from : ProgramSource) (kept : Option KeptBytes) (program : ShapedProgram)
-    (rule : KnownRule) (bytes : List ℕ) (statements : List Statement)
+    (rule : OptionalRule) (bytes : List ℕ) (statements : List Statement)
     → IsRuleKept from kept program rule → rule ≡ Some statements → whole_file kept ≡ Some bytes
     → Spells bytes program.shape rule
 spells (source.Program file) kept program rule bytes statements is has whole =
@@ -52,7 +52,7 @@ rule_or other (Ok rule) = rule
 rule_or other (Err fault) = other
 
 -- two texts with the same bytes spell one rule
-one_spelled : (bytes : List ℕ) (shape : AppShape) (rule other : KnownRule)
+one_spelled : (bytes : List ℕ) (shape : AppShape) (rule other : OptionalRule)
     → ((s : AppShape) (all : List ℕ) → RuleHasOneVerdict s all) → Spells bytes shape rule
     → Spells bytes shape other → other ≡ rule
 one_spelled bytes shape rule other one is same =

@@ -8,7 +8,7 @@ use Rattle.std.proofs.lemmas.Option.{same_Some}
 use Rattle.cells.specs.Arrays.{AppShape, IsShape}
 use Rattle.cells.specs.declared.array.CellArray.{CellArray}
 use Rattle.cells.specs.declared.event.CellOp.{CellOp}
-use Rattle.rule_lang.specs.Meaning.{Asks, Behaviour, Chooses}
+use Rattle.rule_lang.specs.Meaning.{Operates, Behaviour, Chooses}
 use Rattle.rule_lang.specs.Shapes.{array_named, cell_of, granted, quota_of}
 use Rattle.rule_space.specs.Machines.{State, chooses_in, declared, left_in, reply_after, takes_of}
 use Rattle.manifest_diff.proofs.CellsLeft.{left_is, one_array}
@@ -130,7 +130,7 @@ module _ (g : State) (s t : AppShape) (shape : IsShape s) (other : IsShape t)
 
   pub asks_alike : (c d : ℕ) (op : CellOp) (next next' : ℕ → Behaviour) → IsSameCell c d
       → ((reply : ℕ) → ChooseAlike (next reply) (next' reply))
-      → ChooseAlike (Asks c op next) (Asks d op next')
+      → ChooseAlike (Operates c op next) (Operates d op next')
   asks_alike c d op next next' both alike taken others are =
       alike (reply_after (left_in g s c) (takes_of c taken)) (c ∷ taken) (d ∷ others)
       (taken_more taken others c d both are)

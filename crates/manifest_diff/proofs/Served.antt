@@ -15,7 +15,7 @@ use Rattle.rule_lang.specs.declared.test.Test.{Test}
 use Rattle.rule_lang.specs.declared.test.Test.TheVariants as test
 use Rattle.rule_lang.specs.Fits.{can_count, can_take, fits, is_release, statement_fits}
 use Rattle.rule_lang.specs.Fits.{step_fits, test_fits}
-use Rattle.rule_lang.specs.Meaning.{Asks, Behaviour, Chooses, behaviour, decide, decide_one}
+use Rattle.rule_lang.specs.Meaning.{Operates, Behaviour, Chooses, behaviour, decide, decide_one}
 use Rattle.rule_lang.specs.Meaning.{test_holds, test_then}
 use Rattle.rule_lang.specs.Shapes.{array_named, cell_of}
 use Rattle.rule_lang.specs.Trees.{Tree, Leaf, Negated, Both, Either, trees_from}
@@ -132,8 +132,8 @@ module _ (a : Attributes) (g : State) (s t : AppShape) (shape : IsShape s) (othe
   count_alike : (name : List ℕ) (index : ℕ) (o : Option CellArray)
       → array_named name s.arrays ≡ o → can_count o index ≡ true → (rest rest' : Behaviour)
       → ChooseAlike rest rest'
-      → ChooseAlike (Asks (cell_of (array_named name s.arrays) index) (Add 1) (λ reply. rest))
-      (Asks (cell_of (array_named name t.arrays) index) (Add 1) (λ reply. rest'))
+      → ChooseAlike (Operates (cell_of (array_named name s.arrays) index) (Add 1) (λ reply. rest))
+      (Operates (cell_of (array_named name t.arrays) index) (Add 1) (λ reply. rest'))
   count_alike name index None is can rest rest' same = absurd (false≢true can)
   count_alike name index (Some b) is can rest rest' same =
       let both = and_parts (not (is_some b.quota)) (nat_lt index b.length) can in

@@ -3,7 +3,7 @@ use Rattle.std.specs.Prelude.{◌≡◌, ℕ, List, [], ◌∷◌, ◌++◌, map
 use Rattle.std.specs.Prelude.{Option, Some, None, option_map}
 use Rattle.std.specs.Str.{bytes_eq}
 use Rattle.bpf_semantics.specs.Program.{ShapedProgram}
-use Rattle.app_rules.specs.Rules.{IsRuleKept, KnownRule}
+use Rattle.app_rules.specs.Rules.{IsRuleKept, OptionalRule}
 use Rattle.load.specs.Judged.{IsJudged}
 use Rattle.load.specs.declared.sources.AppSources.{AppSources}
 use Rattle.releases.specs.Release.{Release}
@@ -18,14 +18,14 @@ use Rattle.rule_space.specs.Machines.{Side}
 pub record ManifestApp : Type 0 where
   pub sources : AppSources
   pub program : ShapedProgram
-  pub rule : KnownRule
+  pub rule : OptionalRule
 
-abbrev pub manifest_app : AppSources → ShapedProgram → KnownRule → ManifestApp
+abbrev pub manifest_app : AppSources → ShapedProgram → OptionalRule → ManifestApp
 manifest_app sources program rule =
     record { sources = sources; program = program; rule = rule }
 
 -- the first app with an appid, among apps with their programs and rules
-abbrev pub app_in : List AppSources → List ShapedProgram → List KnownRule → (appid : List ℕ)
+abbrev pub app_in : List AppSources → List ShapedProgram → List OptionalRule → (appid : List ℕ)
     → Option ManifestApp
 app_in (app ∷ apps) (program ∷ programs) (rule ∷ rules) appid =
     if bytes_eq app.entry.appid appid then Some (manifest_app app program rule)

@@ -78,17 +78,20 @@ HasMachine space row a g = row_agrees row (place_of space.dimensions a g) ≡ tr
 
 -- the content is what a row with the machine in the state says, or what the other manifest also
 -- gives the machine
-abbrev pub IsSaid : Space → List Row → (said : Row → ℕ) → (other : Side) → Attributes → State
+abbrev pub IsRowValue : Space → List Row → (row_value : Row → ℕ) → (other : Side)
+    → Attributes → State
     → (content : ℕ) → Type 0
-IsSaid space rows said other a g content =
-    ((row : Row) × Contains rows row × HasMachine space row a g × (said row ≡ content))
+IsRowValue space rows row_value other a g content =
+    ((row : Row) × Contains rows row × HasMachine space row a g × (row_value row ≡ content))
     ⊎ (gets other a g ≡ content)
 
 -- the rows say what a server of one manifest gives a machine, in a state that grants the same takes
-abbrev pub SaysRuns : Scope → Space → List Row → (side other : Side) → (said : Row → ℕ) → Type 0
-SaysRuns x space rows side other said =
+abbrev pub RowsMatchRuns : Scope → Space → List Row → (side other : Side) → (row_value : Row → ℕ)
+    → Type 0
+RowsMatchRuns x space rows side other row_value =
     (a : Attributes) (content : ℕ) (run : Serves x side a content)
-    → (given : GivesAlike x side a content run) × IsSaid space rows said other a given.state content
+    → (given : GivesAlike x side a content run) × IsRowValue space rows row_value other a
+    given.state content
 
 -- ---- the promise of the command
 
@@ -99,8 +102,8 @@ pub record RowsAreSo (x : Scope) (old new : Option ManifestApp) (space : Space) 
   pub no_row : AreComplete x has.old_side has.new_side space rows
   pub true_of : AreTrue x has.old_side has.new_side space rows
   pub apart : AreApart x has.old_side has.new_side space rows
-  pub old_runs : SaysRuns x space rows has.old_side has.new_side (λ row. row.current)
-  pub new_runs : SaysRuns x space rows has.new_side has.old_side (λ row. row.next)
+  pub old_runs : RowsMatchRuns x space rows has.old_side has.new_side (λ row. row.current)
+  pub new_runs : RowsMatchRuns x space rows has.new_side has.old_side (λ row. row.next)
 
 -- the comparison of an app is among these
 pub record IsReported (both : OpenedBoth) (from_day : ℕ) (used : List CellBound)

@@ -55,7 +55,7 @@ fn used_cell(
 ) -> Result<CellBound, AllocError>
     ensures { IfOk result (λ used. used ≡ specs.used_cell cell.now array.now) }
 {
-    array.keeps();
+    array.invariant_law();
     Ok(CellBound {
         array: ArrayName::of(alloc, array.name())?,
         index: cell.index(),

@@ -131,8 +131,8 @@ pub(crate) fn is_same_program(
     requires { specs.HasContents (Some old.now) (Some new.now) contents.now }
     ensures { result ≡ true → specs.IsSameApp old.now new.now }
 {
-    old.program.keeps();
-    new.program.keeps();
+    old.program.invariant_law();
+    new.program.invariant_law();
     one_verdict_of_bytes(old.program.bytes());
     old.program.bytes() == new.program.bytes()
         && agree_on_contents(&contents.old, &contents.new)

@@ -31,7 +31,7 @@ fn side_with<'a>(shape: &'a Shape, rule: &'a Rule, contents: &'a [u8]) -> Option
     ensures { IfSome result (λ side.
         specs.IsSideWith shape.now rule.now contents.now (side_of side)) }
 {
-    shape.keeps();
+    shape.invariant_law();
     if rule.fits(shape) {
         Some(rule_side(shape, rule.statements(), contents))
     } else {
@@ -55,7 +55,7 @@ pub(crate) fn side_in<'a>(
 {
     match app {
         None => {
-            plain.keeps();
+            plain.invariant_law();
             Some(rule_side(plain, &[], contents))
         }
         Some(app) => match app.rule {

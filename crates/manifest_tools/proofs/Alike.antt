@@ -1,7 +1,7 @@
 -- Clients that differ only in appid and cohort give the same simulation.
 use Rattle.std.proofs.Common.{◌≡◌, ap, subst, ℕ, List, Option, Some, None}
 use Rattle.simulate.specs.Clients.{IsSameButApp, requesting, attributes, clients}
-use Rattle.simulate.specs.Course.{AppByApp, AsksForApp, InTurn, IsSimulated}
+use Rattle.simulate.specs.Course.{AppByApp, ChoosesForApp, InTurn, IsSimulated}
 use Rattle.simulate.specs.Course.AppByApp.{none as no_app, next as next_app}
 use Rattle.attrs.specs.Attributes.{Attributes}
 use Rattle.simulate.specs.declared.client.Client.{Client}
@@ -12,7 +12,7 @@ use Rattle.simulate.specs.Picked.HasPicked.{nothing, picked}
 use Rattle.simulate.specs.Shown.{Simulation}
 
 asks_alike : (c d : Client) (app : AppRule) (old choices new : List ℕ) → IsSameButApp c d
-    → AsksForApp d app old choices new → AsksForApp c app old choices new
+    → ChoosesForApp d app old choices new → ChoosesForApp c app old choices new
 asks_alike c d app old choices new same asks =
     let said : clients (requesting d app.appid) ≡ clients (requesting c app.appid) =
     λ k. λ bucket. ap attributes (same app.appid bucket) k in

@@ -12,8 +12,8 @@ use Rattle.manifest_tools.specs.CheckObjects.{further_object, quota_object, refu
 use Rattle.manifest_tools.specs.CheckObjects.{warning_object}
 use Rattle.manifest_tools.specs.CheckObjects.IsCheckObject.{accepted, refused}
 use Rattle.manifest_tools.specs.CheckObjects.AreCheckObjects.{none, next}
-use Rattle.manifest_tools.specs.declared.fault.ManifestToolFault.{ManifestToolFault}
-use Rattle.manifest_tools.specs.declared.fault.ManifestToolFault.TheVariants as fault
+use Rattle.manifest_tools.specs.declared.manifest_tool_fault.ManifestToolFault.{ManifestToolFault}
+use Rattle.manifest_tools.specs.declared.manifest_tool_fault.ManifestToolFault.TheVariants as fault
 use Rattle.serde_json.specs.Data.{Data}
 use Rattle.serde_json.specs.View.{items_of}
 use Rattle.serde_json.specs.Written.{has_float, items_have_float}

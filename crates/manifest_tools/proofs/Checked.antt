@@ -11,7 +11,7 @@ use Rattle.manifest_tools.specs.Checks.IsCheckedAmong.{accepted, refused}
 use Rattle.manifest_tools.specs.Checks.AreCheckedEach.{none, next}
 use Rattle.manifest_tools.specs.declared.checks.CheckOutput.{CheckOutput}
 use Rattle.manifest_tools.specs.Manifests.{IsCheckRefusal}
-use Rattle.manifest_tools.specs.declared.fault.ManifestToolFault.{ManifestToolFault}
+use Rattle.manifest_tools.specs.declared.manifest_tool_fault.ManifestToolFault.{ManifestToolFault}
 
 -- ---- one more
 

@@ -17,8 +17,8 @@ use Rattle.load.specs.Texts.{load_fault_text}
 use Rattle.manifest_tools.specs.Checks.{AreCheckRefusal, AreChecked, passes}
 use Rattle.manifest_tools.specs.Manifests.{IsChecked, IsCheckRefusal, fault_text}
 use Rattle.manifest_tools.specs.declared.checks.CheckOutput.{CheckOutput}
-use Rattle.manifest_tools.specs.declared.fault.ManifestToolFault.{ManifestToolFault}
-use Rattle.manifest_tools.specs.declared.fault.ManifestToolFault.TheVariants as fault
+use Rattle.manifest_tools.specs.declared.manifest_tool_fault.ManifestToolFault.{ManifestToolFault}
+use Rattle.manifest_tools.specs.declared.manifest_tool_fault.ManifestToolFault.TheVariants as fault
 use Rattle.ruleset.specs.Rules.{AppRule}
 use Rattle.serde_json.specs.Data.{Data, null, boolean, number, string, array, object, unsigned}
 use Rattle.serde_json.specs.Data.{no_members, member}

@@ -9,8 +9,8 @@ use Rattle.diagnosis.specs.declared.accepted.CheckedManifest.{CheckedManifest}
 use Rattle.hex.specs.Hex.{encode_lower}
 use Rattle.manifest_tools.specs.Manifests.{IsChecked, IsCheckRefusal, fault_text}
 use Rattle.manifest_tools.specs.declared.checks.CheckOutput.{CheckOutput}
-use Rattle.manifest_tools.specs.declared.fault.ManifestToolFault.{ManifestToolFault}
-use Rattle.manifest_tools.specs.declared.fault.ManifestToolFault.TheVariants as fault
+use Rattle.manifest_tools.specs.declared.manifest_tool_fault.ManifestToolFault.{ManifestToolFault}
+use Rattle.manifest_tools.specs.declared.manifest_tool_fault.ManifestToolFault.TheVariants as fault
 use Rattle.printing.specs.Printed.{printed}
 use Rattle.ruleset.specs.Texts.{line}
 use Rattle.warnings.specs.Names.{some_counts}
@@ -33,7 +33,7 @@ ok_line allowed warnings = if some_counts allowed warnings then [] else codes "o
 
 -- the report on an accepted manifest: its lines, the last of which are `ok` and the digest; those
 -- of its warnings; and whether it passes
-pub record TellsChecked (strict : Bool) (allowed : List (Bor (List ℕ))) (one : CheckedManifest)
+pub record FormatsChecked (strict : Bool) (allowed : List (Bor (List ℕ))) (one : CheckedManifest)
     (output : CheckOutput) : Type 0 where
   pub text_is : string_bytes output.text ≡ string_bytes one.text
       ++ ok_line allowed one.warnings.items ++ digest_line one.digest
@@ -41,12 +41,12 @@ pub record TellsChecked (strict : Bool) (allowed : List (Bor (List ℕ))) (one :
   pub passes_is : output.passes ≡ passes strict allowed one.warnings.items
 
 -- the report on a refused manifest: the line of its refusal, followed by where and why
-abbrev pub reason_behind : ManifestToolFault → List ℕ
-reason_behind (fault.Diagnosed refused) = string_bytes refused.reason
-reason_behind refused = []
+abbrev pub further_reason : ManifestToolFault → List ℕ
+further_reason (fault.Diagnosed refused) = string_bytes refused.reason
+further_reason refused = []
 
 abbrev pub refusal_text : ManifestToolFault → List ℕ
-refusal_text refused = line (codes "refused " ++ fault_text refused) ++ reason_behind refused
+refusal_text refused = line (codes "refused " ++ fault_text refused) ++ further_reason refused
 
 -- ---- several manifests: lines under the name of their manifest
 
@@ -82,7 +82,7 @@ module _ (known : KnownFiles) (strict : Bool) (allowed : List (Bor (List ℕ))) 
   pub record IsCheckedAlone (path : List ℕ) (output : CheckOutput) : Type 0 where
     pub one : CheckedManifest
     pub checked : IsChecked known path one
-    pub tells : TellsChecked strict allowed one output
+    pub formats : FormatsChecked strict allowed one output
 
   -- one of several: its lines, those in `stderr`, and whether it passes
   pub data IsCheckedAmong (path : List ℕ) : (text stderr : List ℕ) → (passes : Bool) → Type 0

@@ -18,8 +18,8 @@ use Rattle.load.specs.declared.load_fault.PathFault.{PathFault}
 use Rattle.cells.specs.declared.array.CellArray.{CellArray}
 use Rattle.ruleset.specs.Rules.{Rules, app_in}
 use Rattle.manifest_tools.specs.ClientLines.{client_line}
-use Rattle.manifest_tools.specs.declared.fault.ManifestToolFault.{ManifestToolFault}
-use Rattle.manifest_tools.specs.declared.fault.ManifestToolFault.TheVariants as fault
+use Rattle.manifest_tools.specs.declared.manifest_tool_fault.ManifestToolFault.{ManifestToolFault}
+use Rattle.manifest_tools.specs.declared.manifest_tool_fault.ManifestToolFault.TheVariants as fault
 use Rattle.manifest_tools.specs.declared.simulation_output.SimulationOutput.{SimulationOutput}
 
 -- ---- the report on rulesets
@@ -50,14 +50,14 @@ text_against false client now next = client_line client ++ shares_text next ++ m
 text_against true client now next = json_line (comparison_object now next)
 
 -- the report on a simulation, and a picture, if a file is named for it
-pub record TellsAlone (json : Bool) (next : Simulation) (file : Option (List ℕ))
+pub record FormatsAlone (json : Bool) (next : Simulation) (file : Option (List ℕ))
     (output : SimulationOutput) : Type 0 where
   pub text_is : string_bytes output.text ≡ text_alone json next
   pub picture : HasPicture (is_some file) output.picture
   pub loses_is : output.loses ≡ false
 
 -- compared with another one
-pub record TellsAgainst (json : Bool) (client : Client) (next now : Simulation)
+pub record FormatsAgainst (json : Bool) (client : Client) (next now : Simulation)
     (file : Option (List ℕ)) (output : SimulationOutput) : Type 0 where
   pub text_is : string_bytes output.text ≡ text_against json client now next
   pub picture : HasPicture (is_some file) output.picture
@@ -68,7 +68,7 @@ pub record ShowsAlone (json : Bool) (client : Client) (rules : Rules)
     (appid file : Option (List ℕ)) (output : SimulationOutput) : Type 0 where
   pub next : Simulation
   pub simulated : IsSimulationBy client rules appid next
-  pub tells : TellsAlone json next file output
+  pub formats : FormatsAlone json next file output
 
 -- the report on a ruleset compared with another one
 pub record ShowsAgainst (json : Bool) (client : Client) (rules serving : Rules)
@@ -77,7 +77,7 @@ pub record ShowsAgainst (json : Bool) (client : Client) (rules serving : Rules)
   pub simulated : IsSimulationBy client rules appid next
   pub now : Simulation
   pub served : IsSimulationBy client serving appid now
-  pub tells : TellsAgainst json client next now file output
+  pub formats : FormatsAgainst json client next now file output
 
 -- ---- manifests
 

@@ -3,7 +3,7 @@
 ghost use Rattle.std.specs.Prelude.{IfOk, IfErr};
 ghost use Rattle.manifest_tools.specs.Manifests.{IsChecked, IsCheckRefusal};
 
-use crate::fault::ManifestToolFault;
+use crate::manifest_tool_fault::ManifestToolFault;
 use bounded_files::Disk;
 use diagnosis::{CheckedManifest, check, too_long};
 use load::{FolderFiles, MOST_MANIFEST};

@@ -5,7 +5,7 @@ ghost use Rattle.std.specs.Prelude.{◌≡◌, OnOk};
 ghost use Rattle.printing.specs.Pushed.{Puts};
 ghost use Rattle.manifest_tools.specs.Checks as specs;
 
-use crate::fault::ManifestToolFault;
+use crate::manifest_tool_fault::ManifestToolFault;
 use printing::Printed;
 use std::alloc::AllocError;
 use std::fmt::Write;
@@ -66,11 +66,11 @@ pub(crate) fn push_refusal(text: &mut String, fault: &ManifestToolFault) -> Resu
     ensures { OnOk result (Puts text.old text.new (specs.refusal_text fault.now)) }
 {
     writeln!(text, "refused {fault}")?;
-    text.push_str(reason_behind(fault))
+    text.push_str(further_reason(fault))
 }
 
-fn reason_behind(fault: &ManifestToolFault) -> &str
-    ensures { result.now ≡ specs.reason_behind fault.now }
+fn further_reason(fault: &ManifestToolFault) -> &str
+    ensures { result.now ≡ specs.further_reason fault.now }
 {
     match fault {
         ManifestToolFault::Diagnosed(refused) => refused.reason.as_str(),

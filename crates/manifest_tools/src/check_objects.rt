@@ -5,7 +5,7 @@ ghost use Rattle.serde_json.specs.View.{view};
 ghost use Rattle.manifest_tools.specs.CheckObjects as specs;
 ghost use Rattle.manifest_tools.specs.Manifests.{fault_text};
 
-use crate::fault::ManifestToolFault;
+use crate::manifest_tool_fault::ManifestToolFault;
 use bpf_verify::Verified;
 use cells::CellWidth;
 use declarations::ArrayDeclaration;

@@ -10,7 +10,7 @@ use crate::check_json::check_as_json;
 use crate::check_lines::{
     push_digest, push_if_any, push_ok, push_refusal, push_title, push_titled,
 };
-use crate::fault::ManifestToolFault;
+use crate::manifest_tool_fault::ManifestToolFault;
 use bounded_files::{Disk, ResourceFault};
 use diagnosis::CheckedManifest;
 use std::alloc::{AllocError, Global};
@@ -91,19 +91,19 @@ fn check_alone<D: Disk>(
     ensures fault { IfErr result (IsCheckRefusal (D.known disk.now) path.now) }
 {
     let checked = check_file(alloc, disk, path)?;
-    match tell_alone(alloc, checked, strict, allowed) {
+    match format_checked(alloc, checked, strict, allowed) {
         Ok(output) => Ok(output),
         Err(_) => Err(ManifestToolFault::Resource(ResourceFault::Memory)),
     }
 }
 
-fn tell_alone(
+fn format_checked(
     alloc: Global,
     checked: CheckedManifest,
     strict: bool,
     allowed: &[&str],
 ) -> Result<CheckOutput, AllocError>
-    ensures { IfOk result (specs.TellsChecked strict allowed.now checked) }
+    ensures { IfOk result (specs.FormatsChecked strict allowed.now checked) }
 {
     let passes = passes(strict, allowed, checked.warnings.as_slice());
     let mut stderr = String::new(alloc);

@@ -14,13 +14,13 @@ mod check_lines;
 mod check_objects;
 mod checks;
 mod client_line;
-mod fault;
+mod manifest_tool_fault;
 mod progress_lines;
 mod simulating;
 mod simulation_output;
 
 pub use check_lines::push_digest;
 pub use checks::{CheckOutput, check_files};
-pub use fault::ManifestToolFault;
+pub use manifest_tool_fault::ManifestToolFault;
 pub use simulating::simulate_files;
 pub use simulation_output::SimulationOutput;

@@ -8,7 +8,7 @@ use std::time::{Clock, Instant};
 #[derive(Drop)]
 pub(crate) struct ProgressLines<'a, R> {
     rt: &'a R,
-    said: Option<Instant>,
+    printed_at: Option<Instant>,
 }
 
 impl<'a, R: Clock + Eprint> ProgressLines<'a, R> {
@@ -16,18 +16,18 @@ impl<'a, R: Clock + Eprint> ProgressLines<'a, R> {
     pub(crate) fn new(rt: &'a R) -> ProgressLines<'a, R> {
         ProgressLines {
             rt,
-            said: Instant::now(rt).ok(),
+            printed_at: Instant::now(rt).ok(),
         }
     }
 }
 
 impl<'a, R: Clock + Eprint> Onlooker for ProgressLines<'a, R> {
     fn evaluated(&mut self, done: usize, all: usize) {
-        let (Some(said), Ok(now)) = (self.said, Instant::now(self.rt)) else {
+        let (Some(printed_at), Ok(now)) = (self.printed_at, Instant::now(self.rt)) else {
             return;
         };
-        if now.saturating_duration_since(said).as_secs() > 0 {
-            self.said = Some(now);
+        if now.saturating_duration_since(printed_at).as_secs() > 0 {
+            self.printed_at = Some(now);
             let _printed = eprintln!(self.rt; "simulated {done} of {all} apps");
         }
     }

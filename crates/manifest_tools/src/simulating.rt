@@ -7,9 +7,9 @@ ghost use Rattle.manifest_tools.specs.Simulations as specs;
 ghost use Rattle.simulate.specs.Clients.{IsSameButApp};
 
 use crate::client_line::client_line;
-use crate::fault::ManifestToolFault;
+use crate::manifest_tool_fault::ManifestToolFault;
 use crate::progress_lines::ProgressLines;
-use crate::simulation_output::{SimulationOutput, tell_against, tell_alone};
+use crate::simulation_output::{SimulationOutput, format_against, format_alone};
 use bounded_files::{Disk, ResourceFault, may_write_over, write_file};
 use cells::Directory;
 use load::{PathFault, load_path};
@@ -191,7 +191,7 @@ where
         (option_copied file.entry)) }
 {
     let next = simulation_of(rt, rules, appid, client, &mut ProgressLines::new(rt))?;
-    let output = tell_alone(rt.alloc(), &next, file, json);
+    let output = format_alone(rt.alloc(), &next, file, json);
     drop(next);
     Ok(output?)
 }
@@ -241,7 +241,7 @@ where
     let clients = client_line(rt.alloc(), client)?;
     let next = simulation_of(rt, rules, appid, client, &mut progress)?;
     let now = simulation_of(rt, serving, appid, client, &mut progress)?;
-    let output = tell_against(rt.alloc(), &clients, &now, &next, file, json);
+    let output = format_against(rt.alloc(), &clients, &now, &next, file, json);
     drop(now);
     drop(next);
     Ok(output?)

@@ -22,13 +22,13 @@ pub struct SimulationOutput {
 }
 
 // The report on a simulation, and its picture.
-pub(crate) fn tell_alone(
+pub(crate) fn format_alone(
     alloc: Global,
     next: &Simulated,
     file: Option<&str>,
     json: bool,
 ) -> Result<SimulationOutput, AllocError>
-    ensures { IfOk result (specs.TellsAlone json next.now (option_copied file.entry)) }
+    ensures { IfOk result (specs.FormatsAlone json next.now (option_copied file.entry)) }
 {
     let text = text_alone(alloc, next, json)?;
     let picture = picture_if(alloc, file, next)?;
@@ -52,7 +52,7 @@ fn text_alone(alloc: Global, next: &Simulated, json: bool) -> Result<String, All
 }
 
 // The same, between the line of these clients and the moves from what is served.
-pub(crate) fn tell_against(
+pub(crate) fn format_against(
     alloc: Global,
     clients: &str,
     now: &Simulated,
@@ -61,7 +61,7 @@ pub(crate) fn tell_against(
     json: bool,
 ) -> Result<SimulationOutput, AllocError>
     ensures { (client : the_client.Client) → clients.now ≡ client_line client
-        → IfOk result (specs.TellsAgainst json client next.now now.now (option_copied file.entry)) }
+        → IfOk result (specs.FormatsAgainst json client next.now now.now (option_copied file.entry)) }
 {
     let text = text_against(alloc, clients, now, next, json)?;
     let loses = is_lossy(alloc, now, next)?;

@@ -7,7 +7,7 @@ use Rattle.attrs.specs.declared.facts.RequestFacts.{RequestFacts}
 use Rattle.attrs.specs.Bucket.{app_bucket}
 use Rattle.ruleset.specs.Rules.{Rules, AppRule, app_of}
 use Rattle.serde_json.specs.Data.{item}
-use Rattle.omaha_json.specs.Found.{FoundApp, found_app, found_apps, found_with, known_app}
+use Rattle.omaha_json.specs.Found.{FoundApp, found_app, found_apps, found_with, listed_app}
 use Rattle.omaha_json.specs.Reply.{app_value, app_values}
 
 pub found_is : (rules : Rules) (facts : RequestFacts) (app : AppFacts) (choice : Option ℕ)
@@ -17,7 +17,7 @@ pub found_is : (rules : Rules) (facts : RequestFacts) (app : AppFacts) (choice :
     → Some found ≡ found_app rules facts app choice
 found_is rules facts app choice known text bucket found named knows hashed is =
     ap Some (is ∙ ap (found_with known choice) hashed)
-    ∙ ap (option_map (known_app facts app choice)) (knows ∙ ap (app_of rules) named)
+    ∙ ap (option_map (listed_app facts app choice)) (knows ∙ ap (app_of rules) named)
 
 -- the part of a list from place i on begins with the element at i
 left_from : {A : Type 0} (xs : List A) (i : ℕ) (x : A) → i < length xs → x ≡ get_or xs i x

@@ -3,7 +3,7 @@ use Rattle.std.proofs.Common.{ℕ, zero, suc, ◌/◌, ◌<◌, List, [], ◌∷
 use Rattle.std.specs.Str.{IsAscii, IsUtf8}
 use Rattle.std.proofs.lemmas.Str.{IsUtf8-from_ascii}
 use Rattle.std.proofs.lemmas.Str.Ascii.{IsAscii-nil}
-use Rattle.attrs.specs.Bucket.{last_digit, four_digits, told_cohort}
+use Rattle.attrs.specs.Bucket.{last_digit, four_digits, cohort_of_bucket}
 
 ascii_cons : (x : ℕ) (xs : List ℕ) → x < 128 → IsAscii xs → IsAscii (x ∷ xs)
 ascii_cons x xs small rest zero = small
@@ -23,7 +23,7 @@ digits_are_ascii n =
     (ascii_cons c (d ∷ []) (small_digit (n / 10))
     (ascii_cons d [] (small_digit n) IsAscii-nil)))
 
-pub cohort_is_ascii : (bucket : ℕ) → IsAscii (told_cohort bucket)
+pub cohort_is_ascii : (bucket : ℕ) → IsAscii (cohort_of_bucket bucket)
 cohort_is_ascii n =
     let letter : 98 < 128 = omega arith in
     let colon : 58 < 128 = omega arith in

@@ -17,13 +17,13 @@ found_with known choice bucket =
     record { releases = known.releases; bucket = bucket; choice = choice }
 
 -- what is found for an app of the ruleset, with the bucket of the request's app
-abbrev pub known_app : RequestFacts → AppFacts → Option ℕ → AppRule → FoundApp
-known_app facts app choice known = found_with known choice (app_bucket app facts)
+abbrev pub listed_app : RequestFacts → AppFacts → Option ℕ → AppRule → FoundApp
+listed_app facts app choice known = found_with known choice (app_bucket app facts)
 
 -- what is found for an app; nothing if it isn't in the ruleset
 abbrev pub found_app : Rules → RequestFacts → AppFacts → Option ℕ → Option FoundApp
 found_app rules facts app choice =
-    option_map (known_app facts app choice) (app_of rules app.appid)
+    option_map (listed_app facts app choice) (app_of rules app.appid)
 
 -- what is found for each app, with the choice of its run
 abbrev pub found_apps

@@ -6,7 +6,7 @@ use Rattle.serde_json.specs.Data.{Data, number, string, array, object, unsigned}
 use Rattle.serde_json.specs.Data.{Items, no_items, item, Members, no_members, member}
 use Rattle.serde_json.specs.Written.{compact_text}
 use Rattle.attrs.specs.declared.facts.AppFacts.{AppFacts}
-use Rattle.attrs.specs.Bucket.{told_cohort}
+use Rattle.attrs.specs.Bucket.{cohort_of_bucket}
 use Rattle.attrs.specs.Moment.{elapsed_days, elapsed_seconds}
 use Rattle.releases.specs.Release.{Release}
 use Rattle.ruleset.specs.Rules.{Rules}
@@ -28,10 +28,10 @@ pinged true rest = member (codes "ping") (status_value (codes "ok")) rest
 pinged false rest = rest
 
 -- an app that is in the ruleset
-abbrev pub known_value : AppFacts → FoundApp → Data
-known_value app found = object (
+abbrev pub listed_value : AppFacts → FoundApp → Data
+listed_value app found = object (
     member (codes "appid") (string app.appid) (
-    member (codes "cohort") (string (told_cohort found.bucket)) (
+    member (codes "cohort") (string (cohort_of_bucket found.bucket)) (
     pinged app.ping (answered found.releases found.choice))))
 
 -- an app that isn't in the ruleset
@@ -43,7 +43,7 @@ unknown_value appid = object (
 
 -- the object of an app, in the ruleset or not
 abbrev pub app_value : AppFacts → Option FoundApp → Data
-app_value app (Some found) = known_value app found
+app_value app (Some found) = listed_value app found
 app_value app None = unknown_value app.appid
 
 -- the apps, each with what the ruleset has for it

@@ -69,7 +69,7 @@ fn write_known(
     found: &FoundApp<'_>,
 ) -> Result<(), AllocError>
     ensures { OnOk result (Adds writer.old writer.new
-        (tokens_of (specs.known_value app.now found.now))) }
+        (tokens_of (specs.listed_value app.now found.now))) }
 {
     let cohort = cohort_text(found.bucket());
     write_tokens(

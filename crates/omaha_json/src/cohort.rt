@@ -9,7 +9,7 @@ use attrs::{Bucket, four_digits};
 /// `b:` and the four digits of the bucket.
 #[tactic(auto, using(crate::proofs::Cohorts::cohort_is_ascii))]
 pub fn cohort_text(bucket: Bucket) -> [u8; 6]
-    ensures value { result ≡ specs.told_cohort bucket }
+    ensures value { result ≡ specs.cohort_of_bucket bucket }
     ensures ascii { IsAscii result }
 {
     let digits = four_digits(bucket.number());

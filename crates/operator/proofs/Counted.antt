@@ -17,7 +17,7 @@ use Rattle.cells.specs.declared.array.CellWidth.TheVariants.{Bits32, Bits64}
 use Rattle.cells.specs.declared.event.CellEvent.{CellEvent}
 use Rattle.cells.specs.declared.event.CellOp.TheVariants.{Load}
 use Rattle.operator.specs.Counters.{ReadsCells, ReadsArrays, no_cell, one_cell}
-use Rattle.operator.specs.Counters.{no_array, one_array, IsLoad, Tells}
+use Rattle.operator.specs.Counters.{no_array, one_array, IsLoad, Describes}
 use Rattle.operator.specs.Texts.{cell_text}
 
 -- ---- the cells of an array are within all cells
@@ -66,16 +66,16 @@ module _ {P : Type 0} (grew : P → CellEvent → P → Type 0) where
   -- ---- cell after cell
 
   pub no_cells : (p : P) (array : CellArray) (text : List ℕ)
-      → Grows grew p p (Tells (ReadsCells array 0) text text)
+      → Grows grew p p (Describes (ReadsCells array 0) text text)
   no_cells p array text = grows_none p _
       (record { lines = []; written = sym (append-nil text); reads = no_cell })
 
   pub next_cell : (p m q : P) (array : CellArray) (index value : ℕ) (first old new : List ℕ)
       → GrowsBySnoc grew
-      → Grows grew p m (Tells (ReadsCells array index) first old)
+      → Grows grew p m (Describes (ReadsCells array index) first old)
       → grew m (event (array.base + index) Load value) q
       → new ≡ old ++ cell_text array index value
-      → Grows grew p q (Tells (ReadsCells array (index + 1)) first new)
+      → Grows grew p q (Describes (ReadsCells array (index + 1)) first new)
   next_cell p m q array index value first old new snoc before step written =
       let e = event (array.base + index) Load value in
       let line = cell_text array index value in
@@ -93,7 +93,7 @@ module _ {P : Type 0} (grew : P → CellEvent → P → Type 0) where
   -- one more cell was read, and then an allocation failed
   pub loaded_cell : (p m q : P) (array : CellArray) (index value : ℕ) (first old : List ℕ)
       → GrowsBySnoc grew
-      → Grows grew p m (Tells (ReadsCells array index) first old)
+      → Grows grew p m (Describes (ReadsCells array index) first old)
       → grew m (event (array.base + index) Load value) q → Grows grew p q (All IsLoad)
   loaded_cell p m q array index value first old snoc before step =
       let e = event (array.base + index) Load value in
@@ -109,7 +109,7 @@ module _ {P : Type 0} (grew : P → CellEvent → P → Type 0) where
       (old new : List ℕ)
       → GrowsByAppend grew → i < length arrays → array ≡ get_or arrays i array
       → Grows grew p m (λ events. ReadsArrays (take i arrays) events old)
-      → Grows grew m q (Tells (ReadsCells array array.length) old new)
+      → Grows grew m q (Describes (ReadsCells array array.length) old new)
       → Grows grew p q (λ events. ReadsArrays (take (i + 1) arrays) events new)
   next_array p m q arrays i array old new append below found a b =
       let longer : take (i + 1) arrays ≡ take i arrays ++ array ∷ [] =

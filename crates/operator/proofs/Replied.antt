@@ -6,7 +6,7 @@ use Rattle.std.specs.Prelude.{IsTrue, codes, nat_eq}
 use Rattle.std.specs.List.{starts_with, ends_with}
 use Rattle.std.specs.Str.Pattern.{LacksTextAt}
 use Rattle.std.specs.Cmp.Lexicographic.{same_text}
-use Rattle.operator.specs.Done.{IsAskRefusal, IsDoneAs}
+use Rattle.operator.specs.Done.{IsRequestRefusal, IsDoneAs}
 use Rattle.operator.specs.Replies.{IsReplyTo, is_answer}
 use Rattle.operator_request.specs.declared.request.OperatorRequest.{OperatorRequest}
 use Rattle.operator.specs.declared.server_reply.RequestFault.{RequestFault}
@@ -32,7 +32,7 @@ done request bytes lacks reply = record {
 }
 
 pub refuses : (request : OperatorRequest) (fault : RequestFault)
-    → (fault ≡ ask.Word → ¬ IsSendable request) → IsAskRefusal request fault
+    → (fault ≡ ask.Word → ¬ IsSendable request) → IsRequestRefusal request fault
 refuses request ask.Word unsent = unsent refl
 refuses request ask.Memory unsent = tt
 refuses request ask.Connect unsent = tt

@@ -28,7 +28,7 @@ abbrev pub IsLoad : CellEvent → Type 0
 IsLoad e = e.op ≡ Load
 
 -- a text grew by the lines of what the events read
-pub record Tells (Reads : List CellEvent → List ℕ → Type 0) (old new : List ℕ)
+pub record Describes (Reads : List CellEvent → List ℕ → Type 0) (old new : List ℕ)
     (events : List CellEvent) : Type 0 where
   pub lines : List ℕ
   pub written : new ≡ old ++ lines

@@ -12,6 +12,6 @@ pub record IsDoneAs (request : OperatorRequest) (bytes : List ℕ) : Type 0 wher
   pub answered : IsTrue (is_answer request bytes)
 
 -- no line can request this; otherwise the server refuses, no server replies, or memory runs out
-abbrev pub IsAskRefusal : OperatorRequest → RequestFault → Type 0
-IsAskRefusal request Word = ¬ IsSendable request
-IsAskRefusal request fault = Unit {0}
+abbrev pub IsRequestRefusal : OperatorRequest → RequestFault → Type 0
+IsRequestRefusal request Word = ¬ IsSendable request
+IsRequestRefusal request fault = Unit {0}

@@ -34,17 +34,17 @@ cell_text array index value =
 
 -- ---- replies
 
-abbrev pub ask_text : RequestFault → List ℕ
-ask_text ask.Word = codes "B1 Word"
-ask_text ask.Memory = resource_text resource.Memory
-ask_text ask.Connect = codes "B5 Connect"
+abbrev pub request_fault_text : RequestFault → List ℕ
+request_fault_text ask.Word = codes "B1 Word"
+request_fault_text ask.Memory = resource_text resource.Memory
+request_fault_text ask.Connect = codes "B5 Connect"
 -- the words of a server, or of another program that listens at its port
-ask_text (ask.Refused words) = printed (string_bytes words)
+request_fault_text (ask.Refused words) = printed (string_bytes words)
 
 -- given the texts of the loader's faults
 module _ {F : Type 0} (fault_text : F → Option (List ℕ)) where
   abbrev pub refusal_text : OperatorRefusal F → Option (List ℕ)
-  refusal_text refusal.Word = Some (ask_text ask.Word)
+  refusal_text refusal.Word = Some (request_fault_text ask.Word)
   refusal_text refusal.Memory = Some (resource_text resource.Memory)
   refusal_text (refusal.Load fault) = fault_text fault
   refusal_text (refusal.Install fault) = Some (swap_text fault)

@@ -3,7 +3,7 @@
 
 ghost use Rattle.std.specs.Prelude.{◌≡◌, ◌↔◌, ◌^◌, ◌≤◌, length, Err, IfOk, IfErr};
 ghost use Rattle.std.specs.String.{string_bytes};
-ghost use Rattle.operator.specs.Done.{IsAskRefusal, IsDoneAs};
+ghost use Rattle.operator.specs.Done.{IsDoneAs, IsRequestRefusal};
 ghost use Rattle.operator.specs.Replies.{IsReplyTo};
 ghost use Rattle.operator_request.specs.Requests.{IsSendable};
 ghost use Rattle.operator_request.specs.declared.request.OperatorRequest as request;
@@ -36,7 +36,7 @@ where
     R: Net<Stream = TcpStream> + AllocGlobal,
     ensures done { IfOk result (λ t. IsDoneAs request.entry (string_bytes t)) }
     ensures short { IfOk result (λ t. length (string_bytes t) ≤ 2 ^ 20) }
-    ensures fault { IfErr result (IsAskRefusal request.entry) }
+    ensures fault { IfErr result (IsRequestRefusal request.entry) }
     ensures word { result ≡ Err RequestFault.Word ↔ (¬ IsSendable request.entry) }
 {
     let reply = match ask(rt, port, request) {
@@ -56,7 +56,7 @@ pub fn stop_and_wait<R>(rt: &R, port: u16) -> Result<String, RequestFault>
 where
     R: Net<Stream = TcpStream> + AllocGlobal + Clock,
     ensures done { IfOk result (λ t. IsDoneAs OperatorRequest.Stop (string_bytes t)) }
-    ensures fault { IfErr result (IsAskRefusal OperatorRequest.Stop) }
+    ensures fault { IfErr result (IsRequestRefusal OperatorRequest.Stop) }
 {
     match ask_server(rt, OperatorRequest::Stop, port) {
         Ok(text) => {
@@ -88,7 +88,7 @@ fn read_reply(alloc: Global, reply: &[u8]) -> Result<String, RequestFault>
         → IsReplyTo request reply.now → IsDoneAs request (string_bytes t)) }
     ensures same { IfOk result (λ t. string_bytes t ≡ reply.now) }
     ensures fault { IfErr result
-        (λ e. (request : request.OperatorRequest) → IsAskRefusal request e) }
+        (λ e. (request : request.OperatorRequest) → IsRequestRefusal request e) }
 {
     let Ok(text) = str::from_utf8(reply) else {
         return Err(RequestFault::Connect);
@@ -104,7 +104,7 @@ fn read_reply(alloc: Global, reply: &[u8]) -> Result<String, RequestFault>
 
 // The words of a refusal, without their line feed.
 fn refused(alloc: Global, refusal: &str) -> RequestFault
-    ensures { (request : request.OperatorRequest) → IsAskRefusal request result }
+    ensures { (request : request.OperatorRequest) → IsRequestRefusal request result }
 {
     let words = refusal.strip_suffix('\n').unwrap_or(refusal);
     match String::from_str(alloc, words) {

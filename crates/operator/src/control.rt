@@ -57,13 +57,13 @@ impl Control {
     }
 
     /// Law. The invariants of the publisher and of the directory.
-    pub fn keeps(&self)
+    pub fn invariant_law(&self)
         ensures last { IsLatest self.now.publishing.known
             self.now.publishing.latest.generation self.now.publishing.latest.rules }
         ensures sound { All IsRuleset self.now.publishing.known.rulesets }
         ensures directory { IsDirectory self.now.arrays }
     {
-        self.publisher.keeps();
+        self.publisher.invariant_law();
         let _arrays = self.directory.arrays();
     }
 

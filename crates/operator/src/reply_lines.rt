@@ -5,7 +5,7 @@ ghost use Rattle.std.specs.Prelude.{◌≡◌, ◌+◌, ◌++◌, ◌≤◌, All
 ghost use Rattle.std.specs.String.{string_bytes};
 ghost use Rattle.cells.specs.Directory.{IsDirectory};
 ghost use Rattle.hot_swap.specs.Latest.{latest};
-ghost use Rattle.operator.specs.Counters.{IsLoad, ReadsArrays, ReadsCells, Tells};
+ghost use Rattle.operator.specs.Counters.{Describes, IsLoad, ReadsArrays, ReadsCells};
 ghost use Rattle.operator.specs.Texts.{cell_text, ruleset_text};
 ghost use Rattle.cells.specs.Grown.{Grows};
 
@@ -64,7 +64,7 @@ fn tell_cells<C: CellSteps>(
     requires within { array.now.base + array.now.length ≤ 8192 }
     ensures belongs { C.belongs cells.now pass.new }
     ensures written { OnOk result (Grows C.grew pass.old pass.new
-        (Tells (ReadsCells array.now array.now.length)
+        (Describes (ReadsCells array.now array.now.length)
         (string_bytes text.old) (string_bytes text.new))) }
     ensures unwritten { OnErr result (Grows C.grew pass.old pass.new (All IsLoad)) }
 {

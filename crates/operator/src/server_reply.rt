@@ -3,7 +3,7 @@
 
 ghost use Rattle.std.specs.Prelude.{◌≡◌, ◌↔◌, ◌^◌, ◌≤◌, length, Some, Err, IfOk};
 ghost use Rattle.operator.specs.Replies as specs;
-ghost use Rattle.operator.specs.Texts.{ask_text};
+ghost use Rattle.operator.specs.Texts.{request_fault_text};
 ghost use Rattle.operator_request.specs.Requests.{IsSendable};
 
 use crate::reply_forms::{are_cells, begins_with_generation, is_loaded};
@@ -41,7 +41,7 @@ pub enum RequestFault {
 }
 
 impl fmt::Display for RequestFault {
-    ghost output = { λ fault. Some (ask_text fault) };
+    ghost output = { λ fault. Some (request_fault_text fault) };
 
     fn fmt<W: fmt::Write>(&self, f: &mut fmt::Formatter<W>) -> fmt::Result {
         match self {

@@ -6,8 +6,8 @@ use Rattle.block_order.specs.Refusal.{IsOrderFault}
 use Rattle.bounded_files.specs.Files.{KnownFiles, OfFile}
 use Rattle.bpf_insn.specs.Program.{Program}
 use Rattle.flow_check.specs.Flow.{IsAcceptedAs}
-use Rattle.flow_check.specs.declared.fault.FlowFault.{FlowFault}
-use Rattle.flow_check.specs.declared.fault.FlowFault.TheVariants as flow
+use Rattle.flow_check.specs.declared.flow_fault.FlowFault.{FlowFault}
+use Rattle.flow_check.specs.declared.flow_fault.FlowFault.TheVariants as flow
 use Rattle.program_tools.specs.Programs.{IsUnreadProgram}
 use Rattle.program_tools.specs.declared.program_tool_fault.ProgramToolFault.{ProgramToolFault}
 use Rattle.program_tools.specs.declared.program_tool_fault.ProgramToolFault.TheVariants as fault

@@ -76,7 +76,7 @@ fn explanation(
             return Err(ProgramToolFault::Program(ProgramFault::Flow(fault)));
         }
     };
-    flow.keeps();
+    flow.invariant_law();
     match explain_flow(alloc, &flow, shape) {
         Ok(explained) => Ok(explained),
         Err(_) => Err(ProgramToolFault::Program(ProgramFault::Verify(Refusal::Memory))),

@@ -2,9 +2,9 @@
 -- counts as unreadable.
 use Rattle.std.specs.Prelude.{◌≡◌, ◌⊎◌, ℕ, List, Ok}
 use Rattle.std.specs.Str.{IsUtf8}
-use Rattle.bpf_text.specs.declared.fault.AsmFault.{AsmFault}
-use Rattle.bpf_text.specs.declared.fault.AsmFaultKind.TheVariants.{Token}
-use Rattle.bpf_text.specs.declared.fault.ListFault.TheVariants.{Insn}
+use Rattle.bpf_text.specs.declared.text_fault.AsmFault.{AsmFault}
+use Rattle.bpf_text.specs.declared.text_fault.AsmFaultKind.TheVariants.{Token}
+use Rattle.bpf_text.specs.declared.text_fault.ListFault.TheVariants.{Insn}
 use Rattle.bpf_text.specs.Assembly.{Assembles, at_line, IsAsmFault}
 use Rattle.bpf_text.specs.Listing.{Lists, IsFirstFault}
 use Rattle.bounded_files.specs.Files.{KnownFiles, most_bytes, within, OfFileWithin}

@@ -12,7 +12,7 @@ use Rattle.cells.specs.Grown.{GrewBy}
 use Rattle.cells.specs.declared.array.ArrayNo.{ArrayNo}
 use Rattle.cells.specs.declared.array.CellArray.{CellArray}
 use Rattle.cells.specs.declared.event.CellEvent.{CellEvent}
-use Rattle.cells.specs.declared.fault.CellsFault.TheVariants as cells
+use Rattle.cells.specs.declared.cells_fault.CellsFault.TheVariants as cells
 use Rattle.declarations.specs.Order.{AreDeclared, IsRefusedArray}
 use Rattle.program_tools.specs.declared.program_tool_fault.ProgramToolFault.{ProgramToolFault}
 use Rattle.program_tools.specs.declared.program_tool_fault.ProgramToolFault.TheVariants.{Arrays}
@@ -23,8 +23,8 @@ use Rattle.command_line.specs.declared.run_args.RunArgs.{RunArgs}
 use Rattle.command_line.specs.declared.declared_shape.DeclaredShape.{DeclaredShape}
 use Rattle.acceptance.specs.Program.{IsProgramOf, RefusesProgram}
 use Rattle.acceptance.specs.declared.program_fault.ProgramFault.TheVariants.{Flow}
-use Rattle.flow_check.specs.declared.fault.FlowFault.TheVariants as flow
-use Rattle.flow_check.specs.declared.fault.FlowRule.TheVariants.{TooLong}
+use Rattle.flow_check.specs.declared.flow_fault.FlowFault.TheVariants as flow
+use Rattle.flow_check.specs.declared.flow_fault.FlowRule.TheVariants.{TooLong}
 use Rattle.bounded_files.specs.Files.{HasMore, KnownFiles, OfFile}
 use Rattle.bounded_files.specs.declared.resource_fault.ResourceFault.TheVariants.{Memory}
 use Rattle.program_tools.specs.Resources.{IsNoFile}

@@ -55,9 +55,9 @@ fn choose(
         return Err(AllocError);
     };
     let facts: &Attrs = &attrs;
-    facts.keeps();
-    program.keeps();
-    pass.keeps();
+    facts.invariant_law();
+    program.invariant_law();
+    pass.invariant_law();
     events_fit();
     let Ok(program) = Arc::new(alloc, program) else {
         return Err(AllocError);

@@ -9,7 +9,7 @@ use Rattle.rule_lang.specs.declared.condition.Step.{Step}
 use Rattle.rule_lang.specs.declared.rule.Statement.{Statement}
 use Rattle.rule_lang.specs.declared.rule.Statement.TheVariants.{When}
 use Rattle.reasons.specs.Ending.{ending, ending_on}
-use Rattle.reasons.specs.Reading.{Reading, read_behind, read_one, read_steps, read_tree}
+use Rattle.reasons.specs.Reading.{Reading, read_after, read_one, read_steps, read_tree}
 use Rattle.reasons.proofs.Truths.{test_is_so}
 
 -- a behaviour continues by the truth of a reading
@@ -24,7 +24,7 @@ if_not false x y = refl
 both_lead : (text : List ℕ) (holds : Bool) (counters : List ℕ) (second : Reading)
     (then_do met unmet : Behaviour) → Leads counters then_do second met unmet
     → (let first : Reading = record { text = text; holds = holds; counters = counters } in
-    let r : Reading = if holds then read_behind first second else first in
+    let r : Reading = if holds then read_after first second else first in
     ending_on counters (if holds then then_do else unmet)
     ≡ ending_on r.counters (if r.holds then met else unmet))
 both_lead text true counters second then_do met unmet leads = leads
@@ -33,7 +33,7 @@ both_lead text false counters second then_do met unmet leads = refl
 either_lead : (text : List ℕ) (holds : Bool) (counters : List ℕ) (second : Reading)
     (else_do met unmet : Behaviour) → Leads counters else_do second met unmet
     → (let first : Reading = record { text = text; holds = holds; counters = counters } in
-    let r : Reading = if holds then first else read_behind first second in
+    let r : Reading = if holds then first else read_after first second in
     ending_on counters (if holds then met else else_do)
     ≡ ending_on r.counters (if r.holds then met else unmet))
 either_lead text true counters second else_do met unmet leads = refl

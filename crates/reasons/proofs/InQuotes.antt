@@ -56,26 +56,26 @@ in_decimal n = digits_are_glyphs 10 (λ m. omega arith) 64 n [] (record { all = 
 
 -- ---- bytes that may be between quotes
 
-abbrev pub MayStand : List ℕ → Type 0
-MayStand [] = Unit {0}
-MayStand (b ∷ bs) = (b < 128) × (is_kept_out b ≡ false) × MayStand bs
+abbrev pub MayOccur : List ℕ → Type 0
+MayOccur [] = Unit {0}
+MayOccur (b ∷ bs) = (b < 128) × (is_kept_out b ≡ false) × MayOccur bs
 
-both_stand : (xs ys : List ℕ) → MayStand xs → MayStand ys → MayStand (xs ++ ys)
+both_stand : (xs ys : List ℕ) → MayOccur xs → MayOccur ys → MayOccur (xs ++ ys)
 both_stand [] ys p q = q
 both_stand (x ∷ xs) ys p q = (p.0, p.1, both_stand xs ys p.2 q)
 
 glyph_stands : (b : ℕ) → 48 ≤ b → b ≤ 102 → is_kept_out b ≡ false
 glyph_stands b from to = grind arith
 
-glyphs_stand : (bs : List ℕ) → AreGlyphs bs → MayStand bs
+glyphs_stand : (bs : List ℕ) → AreGlyphs bs → MayOccur bs
 glyphs_stand [] glyphs = tt
 glyphs_stand (b ∷ bs) glyphs =
     (omega (arith, glyphs.1), glyph_stands b glyphs.0 glyphs.1, glyphs_stand bs glyphs.2)
 
-opening_stands : MayStand (92 ∷ 117 ∷ 123 ∷ [])
+opening_stands : MayOccur (92 ∷ 117 ∷ 123 ∷ [])
 opening_stands = (omega arith, refl, (omega arith, refl, (omega arith, refl, tt)))
 
-escape_stands : (c : ℕ) → MayStand (escape c)
+escape_stands : (c : ℕ) → MayOccur (escape c)
 escape_stands c =
     both_stand (codes "\\u{" ++ digits 16 false c) (codes "}")
     (both_stand (codes "\\u{") (digits 16 false c) opening_stands
@@ -89,29 +89,29 @@ pub others_are_spelled : (c : ℕ) → is_shown_by_number c ≡ false → encode
 others_are_spelled c is = encode_ascii c (others_are_low c is)
 
 one_stands : (c : ℕ) (b : Bool) → is_shown_by_number c ≡ b
-    → MayStand (if b then escape c else encode_utf8 c)
+    → MayOccur (if b then escape c else encode_utf8 c)
 one_stands c true is = escape_stands c
 one_stands c false is =
-    subst MayStand (sym (others_are_spelled c is))
+    subst MayOccur (sym (others_are_spelled c is))
     (others_are_low c is, (or_parts (is_kept_out c) (c == 92) is).0, tt)
 
-pub all_stand : (cs : List ℕ) → MayStand (flat_map (printed_char is_shown_by_number) cs)
+pub all_stand : (cs : List ℕ) → MayOccur (flat_map (printed_char is_shown_by_number) cs)
 all_stand [] = tt
 all_stand (c ∷ cs) =
     both_stand (printed_char is_shown_by_number c) (flat_map (printed_char is_shown_by_number) cs)
     (one_stands c (is_shown_by_number c) refl) (all_stand cs)
 
-spelled_alike : (bs : List ℕ) → MayStand bs → encode_utf8_all bs ≡ bs
+spelled_alike : (bs : List ℕ) → MayOccur bs → encode_utf8_all bs ≡ bs
 spelled_alike [] stand = refl
 spelled_alike (b ∷ bs) stand =
     ap (λ (l : List ℕ). l ++ encode_utf8_all bs) (encode_ascii b stand.0)
     ∙ ap (λ (l : List ℕ). b ∷ l) (spelled_alike bs stand.2)
 
-none_passes : (bs : List ℕ) → MayStand bs → NonePass is_kept_out bs
+none_passes : (bs : List ℕ) → MayOccur bs → NonePass is_kept_out bs
 none_passes [] stand = tt
 none_passes (b ∷ bs) stand = (stand.1, none_passes bs stand.2)
 
-some_stand : (bs : List ℕ) → MayStand bs → NoCharPasses is_kept_out bs
+some_stand : (bs : List ℕ) → MayOccur bs → NoCharPasses is_kept_out bs
 some_stand bs stand = (bs, spelled_alike bs stand, none_passes bs stand)
 
 -- ---- characters that aren't escaped are unchanged
@@ -134,8 +134,8 @@ kept text utf8 none =
 pub quotes_end_texts : QuotesEndTexts
 unfolding escaped
 quotes_end_texts = record {
-  none_stands =
+  none_there =
       λ text. some_stand (flat_map (printed_char is_shown_by_number) (chars text))
       (all_stand (chars text));
-  others_stand = kept;
+  others_there = kept;
 }

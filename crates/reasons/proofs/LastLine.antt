@@ -7,14 +7,14 @@ use Rattle.cells.specs.Events.{IsEvent, reply_of}
 use Rattle.cells.specs.Grown.{GrewBy}
 use Rattle.cells.specs.declared.event.CellEvent.{CellEvent}
 use Rattle.cells.specs.declared.event.CellOp.{CellOp}
-use Rattle.rule_lang.specs.Meaning.{Behaviour, Chooses, Asks, HasTrace, behaviour}
+use Rattle.rule_lang.specs.Meaning.{Behaviour, Chooses, Operates, HasTrace, behaviour}
 use Rattle.rule_lang.specs.declared.condition.Step.{Step}
 use Rattle.rule_lang.specs.declared.rule.Statement.{Statement}
 use Rattle.rule_lang.specs.declared.rule.Statement.TheVariants.{Count, When}
 use Rattle.reasons.specs.Ending.{Ending, counters_after, ending, ending_on}
 use Rattle.reasons.specs.Reading.{read_steps}
-use Rattle.reasons.specs.RuleLines.{ChoosesByLastLine, by_its_end, by_this_when, behind_when}
-use Rattle.reasons.specs.RuleLines.{behind_count, LastLineChooses, counted, rule_lines, when_line}
+use Rattle.reasons.specs.RuleLines.{ChoosesByLastLine, by_its_end, by_this_when, after_when}
+use Rattle.reasons.specs.RuleLines.{after_count, LastLineChooses, counted, rule_lines, when_line}
 use Rattle.reasons.proofs.Conditions.{when_is_so}
 
 -- ---- the result of a trace on counters that reply by their values is the behaviour's result
@@ -39,8 +39,8 @@ trace_ends : (b : Behaviour) (events : List CellEvent) (old : List ℕ) (choice 
 trace_ends (Chooses k) [] old choice new is grown =
     ap (λ (n : ℕ). ending n old) is ∙ ap (λ (cs : List ℕ). ending choice cs) (sym grown)
 trace_ends (Chooses k) (e ∷ es) old choice new is grown = absurd is
-trace_ends (Asks cell op next) [] old choice new is grown = absurd is
-trace_ends (Asks cell op next) (e ∷ es) old choice new is grown =
+trace_ends (Operates cell op next) [] old choice new is grown = absurd is
+trace_ends (Operates cell op next) (e ∷ es) old choice new is grown =
     event_is_next old grown.0 cell op next e is.0 is.1 grown.1
     ∙ trace_ends (next e.reply) es grown.0 choice new is.3 grown.2
 
@@ -63,10 +63,10 @@ module _ (a : Attributes) (s : AppShape) where
       (by_this_when old steps release rest holds)
   when_chooses old steps release rest false e last holds ends more =
       let r = read_steps a s old steps in
-      let behind = rule_lines a s r.counters rest in
+      let tokens_after = rule_lines a s r.counters rest in
       subst (λ (x : Ending). ChoosesByLastLine a s old (When steps release ∷ rest)
-      (when_line steps r.text ∷ behind) x.choice x.counters) (sym ends)
-      (behind_when old steps release rest behind last.choice last.counters holds more)
+      (when_line steps r.text ∷ tokens_after) x.choice x.counters) (sym ends)
+      (after_when old steps release rest tokens_after last.choice last.counters holds more)
 
   rule_chooses : (rule : List Statement) (old : List ℕ)
       → ChoosesByLastLine a s old rule (rule_lines a s old rule)
@@ -75,7 +75,7 @@ module _ (a : Attributes) (s : AppShape) where
   rule_chooses (Count name index ∷ rest) old =
       let new = counted s old name index in
       let e = ending_on new (behaviour a s rest) in
-      behind_count old name index rest (rule_lines a s new rest) e.choice e.counters
+      after_count old name index rest (rule_lines a s new rest) e.choice e.counters
       (rule_chooses rest new)
   rule_chooses (When steps release ∷ rest) old =
       let r = read_steps a s old steps in

@@ -12,8 +12,8 @@ use Rattle.cells.specs.Events.{AreCells, CanReply, IsEvent, event, limit}
 use Rattle.cells.specs.Grown.{GrewBy}
 use Rattle.cells.specs.declared.event.CellEvent.{CellEvent}
 use Rattle.cells.specs.declared.event.CellOp.TheVariants.{Add}
-use Rattle.rule_lang.specs.Meaning.{Behaviour, Chooses, Asks, HasTrace}
-use Rattle.rule_lang.specs.Meaning.{asks_then, behaviour, cell_used, decide, decide_one}
+use Rattle.rule_lang.specs.Meaning.{Behaviour, Chooses, Operates, HasTrace}
+use Rattle.rule_lang.specs.Meaning.{add_one_then, behaviour, cell_used, decide, decide_one}
 use Rattle.rule_lang.specs.Meaning.{test_holds, test_then}
 use Rattle.rule_lang.specs.Trees.{Tree, Leaf, Negated, Both, Either, trees_from}
 use Rattle.rule_lang.specs.declared.rule.Statement.{Statement}
@@ -24,7 +24,7 @@ use Rattle.reasons.specs.Ending.{IsMeant, counters_after, ending_on}
 data OnlyAdds : Behaviour → Type 0 where
   chooses : (k : ℕ) → OnlyAdds (Chooses k)
   adds : (cell : ℕ) (next : ℕ → Behaviour) → ((reply : ℕ) → OnlyAdds (next reply))
-      → OnlyAdds (Asks cell (Add 1) next)
+      → OnlyAdds (Operates cell (Add 1) next)
 
 -- ---- rules only add
 
@@ -34,7 +34,7 @@ either_adds true f g = f
 either_adds false f g = g
 
 asked_adds : (cell : Option ℕ) (next : ℕ → Behaviour) → ((reply : ℕ) → OnlyAdds (next reply))
-    → OnlyAdds (asks_then cell next)
+    → OnlyAdds (add_one_then cell next)
 asked_adds (Some cell) next all = adds cell next all
 asked_adds None next all = all 0
 

@@ -9,7 +9,7 @@ use Rattle.std.proofs.lemmas.Str.{encodes-chars, scalars-chars}
 use Rattle.std.specs.Fmt.{digits}
 use Rattle.std.specs.Str.Parse.{digits_value}
 use Rattle.printing.specs.Printed.{escape, printed_char}
-use Rattle.reasons.specs.Quoted.{QuotesTellApart, escaped, is_shown_by_number}
+use Rattle.reasons.specs.Quoted.{QuotesAreDistinct, escaped, is_shown_by_number}
 use Rattle.reasons.proofs.InQuotes.{AreGlyphs, hexadecimal, others_are_spelled}
 
 abbrev first_byte : List ℕ → ℕ
@@ -50,10 +50,10 @@ escapes_end : (c d : ℕ) (xs ys : List ℕ) → c < 2 ^ 32 → d < 2 ^ 32
 escapes_end c d xs ys fits other is =
     let cs = digits 16 false c in
     let ds = digits 16 false d in
-    let behind : (cs ++ (125 ∷ [])) ++ xs ≡ (ds ++ (125 ∷ [])) ++ ys =
+    let tokens_after : (cs ++ (125 ∷ [])) ++ xs ≡ (ds ++ (125 ∷ [])) ++ ys =
     ap (λ (l : List ℕ). behind_first (behind_first (behind_first l))) is in
     let both = digits_end cs ds xs ys (hexadecimal c).all (hexadecimal d).all
-    (sym (append_assoc cs (125 ∷ []) xs) ∙ behind ∙ append_assoc ds (125 ∷ []) ys) in
+    (sym (append_assoc cs (125 ∷ []) xs) ∙ tokens_after ∙ append_assoc ds (125 ∷ []) ys) in
     (numbers_alike c d fits other both.0, both.1)
 
 -- an unescaped character doesn't begin an escape or end a text
@@ -111,12 +111,12 @@ all_end (c ∷ cs) (d ∷ ds) xs ys p q is =
     let rest = all_end cs ds xs ys fits.1 other.1 first.1 in
     (joined c d cs ds first.0 rest.0, rest.1)
 
-pub quotes_tell_apart : QuotesTellApart
+pub quotes_are_distinct : QuotesAreDistinct
 unfolding escaped
-quotes_tell_apart text other behind more utf8 is_text is =
-    let both = all_end (chars text) (chars other) behind more (scalars-chars text utf8)
+quotes_are_distinct text other tokens_after more utf8 is_text is =
+    let both = all_end (chars text) (chars other) tokens_after more (scalars-chars text utf8)
     (scalars-chars other is_text)
-    (sym (append_assoc (told_all (chars text)) (34 ∷ []) behind) ∙ ap behind_first is
+    (sym (append_assoc (told_all (chars text)) (34 ∷ []) tokens_after) ∙ ap behind_first is
     ∙ append_assoc (told_all (chars other)) (34 ∷ []) more) in (
       sym (encodes-chars text utf8) ∙ ap encode_utf8_all both.0 ∙ encodes-chars other is_text,
       both.1,

@@ -11,7 +11,7 @@ use Rattle.std.specs.Str.{NoCharPasses, NonePass}
 use Rattle.printing.specs.Printed.{is_control, printed_char}
 use Rattle.rule_lang.specs.Literals.{is_printable}
 use Rattle.reasons.specs.Quoted.{escaped, is_kept_out, is_shown_by_number, quoted}
-use Rattle.reasons.proofs.InQuotes.{AreGlyphs, MayStand, all_stand, in_decimal}
+use Rattle.reasons.proofs.InQuotes.{AreGlyphs, MayOccur, all_stand, in_decimal}
 
 pub record IsPlain (text : List ℕ) : Type 0 where
   pub all : list_all is_printable text ≡ true
@@ -49,7 +49,7 @@ number n = record { all = glyphs_are_plain (decimal n) (in_decimal n).all }
 kept_is_plain : (b : ℕ) → is_kept_out b ≡ false → is_printable b ≡ true
 kept_is_plain b is = grind arith
 
-kept_are_plain : (bs : List ℕ) → MayStand bs → list_all is_printable bs ≡ true
+kept_are_plain : (bs : List ℕ) → MayOccur bs → list_all is_printable bs ≡ true
 kept_are_plain [] stand = refl
 kept_are_plain (b ∷ bs) stand =
     both_true (kept_is_plain b stand.1)

@@ -4,7 +4,7 @@ use Rattle.std.specs.Prelude.{Ok, Err, IfOk, Bool, true, false, if◌then◌else
 use Rattle.rule_lang.specs.Grammar as g
 use Rattle.rule_lang.specs.Lexed.{Placed}
 use Rattle.rule_lang.specs.Parts.{OrFault, ◌>>?◌}
-use Rattle.rule_lang.specs.Phrases.{Phrase, Ends, Needs, Maybe, behind, takes}
+use Rattle.rule_lang.specs.Phrases.{Phrase, Ends, Needs, Maybe, tokens_after, takes}
 use Rattle.rule_lang.specs.Tests as tests
 use Rattle.rule_lang.specs.declared.rule_fault.RuleFault.{RuleFault}
 use Rattle.reasons.proofs.PlainTokens.{ArePlainTokens, next_token}
@@ -40,7 +40,8 @@ no_more = record { is = tt }
 abbrev LeavesPlain : OrFault (List Placed) → Type 0
 LeavesPlain v = Says ArePlainTokens v
 
-behind_is_plain : (p : Phrase) (ts : List Placed) → ArePlainTokens ts → LeavesPlain (behind p ts)
+behind_is_plain : (p : Phrase) (ts : List Placed) → ArePlainTokens ts
+    → LeavesPlain (tokens_after p ts)
 behind_is_plain Ends ts plain = said ts plain
 behind_is_plain (Needs w ws) [] plain = no_more
 behind_is_plain (Needs w ws) (t ∷ ts) (next_token p plain) =
@@ -50,7 +51,8 @@ behind_is_plain (Maybe w given without) (t ∷ ts) (next_token p plain) =
     if_says (takes w t.token) (behind_is_plain given ts plain)
     (behind_is_plain without (t ∷ ts) (next_token p plain))
 
-pub phrase_leaves : (p : Phrase) (ts rest : List Placed) → behind p ts ≡ Ok rest → ArePlainTokens ts
+pub phrase_leaves : (p : Phrase) (ts rest : List Placed) → tokens_after p ts ≡ Ok rest
+    → ArePlainTokens ts
     → ArePlainTokens rest
 phrase_leaves p ts rest is plain =
     (subst (λ (v : OrFault (List Placed)). LeavesPlain v) is (behind_is_plain p ts plain)).is

@@ -13,7 +13,7 @@ use Rattle.rule_lang.specs.Parts as parts
 use Rattle.rule_lang.specs.Parts.{OrFault, part, text_of}
 use Rattle.rule_lang.specs.Phrases.{count_phrase}
 use Rattle.rule_lang.specs.Phrases.{offer_phrase}
-use Rattle.rule_lang.specs.Says as says
+use Rattle.rule_lang.specs.Values as says
 use Rattle.rule_lang.specs.Shapes.{array_named}
 use Rattle.rule_lang.specs.Tests as tests
 use Rattle.rule_lang.specs.Tokens.{Text}
@@ -101,7 +101,7 @@ module _ (s : AppShape) where
       (λ a p. any_says _ _ (λ i. said _ p))
 
   test_is_plain : {ts rest : List Placed} (t : g.IsTest ts rest) → ArePlainTokens ts
-      → Says IsPlainTest (says.test_says s t)
+      → Says IsPlainTest (says.test_value s t)
   test_is_plain (g.of k {ts = ts} h) plain = row_is_plain k ts plain
 
   -- ---- a condition
@@ -126,34 +126,35 @@ module _ (s : AppShape) where
 
   mutual
     fact_is_plain : (depth : ℕ) {ts rest : List Placed} (f : g.IsFact ts rest)
-        → ArePlainTokens ts → SaysSteps (says.fact_says s depth f)
+        → ArePlainTokens ts → SaysSteps (says.fact_value s depth f)
     fact_is_plain depth (g.denied {p = p} is f) plain =
         if_says (nat_lt depth 32)
-        (then_says (says.fact_says s (depth + 1) f) _ (fact_is_plain (depth + 1) f (one_less plain))
+        (then_says (says.fact_value s (depth + 1) f) _
+        (fact_is_plain (depth + 1) f (one_less plain))
         (λ c more. said (Negated c) (both_plain (says.steps_of c) (step.Not ∷ []) more
         (next_step {x = step.Not} tt no_step)))) no_more
     fact_is_plain depth (g.enclosed {p = p} is c closes) plain =
         if_says (nat_lt depth 32) (cond_is_plain (depth + 1) c (one_less plain)) no_more
     fact_is_plain depth (g.leaf {p = p} t) plain =
-        then_says (says.test_says s t) _ (test_is_plain t plain)
+        then_says (says.test_value s t) _ (test_is_plain t plain)
         (λ x more. said (Leaf p.line x) (one_plain x p.line more))
 
     term_is_plain : (depth : ℕ) {ts rest : List Placed} (t : g.IsTerm ts rest)
-        → ArePlainTokens ts → SaysSteps (says.term_says s depth t)
+        → ArePlainTokens ts → SaysSteps (says.term_value s depth t)
     term_is_plain depth (g.fact f) plain = fact_is_plain depth f plain
     term_is_plain depth (g.and_fact t is f) plain =
-        then_says (says.term_says s depth t) _ (term_is_plain depth t plain)
-        (λ c p. then_says (says.fact_says s depth f) _
+        then_says (says.term_value s depth t) _ (term_is_plain depth t plain)
+        (λ c p. then_says (says.fact_value s depth f) _
         (fact_is_plain depth f (one_less (term_leaves t plain)))
         (λ d q. said (Both c d) (joined_plain c d step.And (next_step {x = step.And} tt no_step)
         p q)))
 
     cond_is_plain : (depth : ℕ) {ts rest : List Placed} (c : g.IsCond ts rest)
-        → ArePlainTokens ts → SaysSteps (says.cond_says s depth c)
+        → ArePlainTokens ts → SaysSteps (says.cond_value s depth c)
     cond_is_plain depth (g.term t) plain = term_is_plain depth t plain
     cond_is_plain depth (g.or_term c is t) plain =
-        then_says (says.cond_says s depth c) _ (cond_is_plain depth c plain)
-        (λ b p. then_says (says.term_says s depth t) _
+        then_says (says.cond_value s depth c) _ (cond_is_plain depth c plain)
+        (λ b p. then_says (says.term_value s depth t) _
         (term_is_plain depth t (one_less (cond_leaves c plain)))
         (λ d q. said (Either b d) (joined_plain b d step.Or (next_step {x = step.Or} tt no_step)
         p q)))
@@ -171,12 +172,12 @@ pub data IsPlainRule : List Statement → Type 0 where
 
 module _ (s : AppShape) where
   statement_is_plain : {ts rest : List Placed} (x : g.IsStatement ts rest) → ArePlainTokens ts
-      → Says IsPlainStatement (says.statement_says s x)
+      → Says IsPlainStatement (says.statement_value s x)
   statement_is_plain (g.count {ts = ts} h) plain =
       any_says (parts.array s false (part ts 1)) _
       (λ a. any_says (parts.index a (part ts 3)) _ (λ i. said (Count a.name i) tt))
   statement_is_plain (g.when {mid = mid} is c h) plain =
-      then_says (says.cond_says s 0 c) _ (cond_is_plain s 0 c (one_less plain))
+      then_says (says.cond_value s 0 c) _ (cond_is_plain s 0 c (one_less plain))
       (λ condition p. any_says _ _ (λ k. said (When (says.steps_of condition) k) p))
 
   statement_leaves : {ts rest : List Placed} → g.IsStatement ts rest → ArePlainTokens ts
@@ -187,11 +188,11 @@ module _ (s : AppShape) where
       phrase_leaves offer_phrase mid rest h (cond_leaves c (one_less plain))
 
   rule_is_plain : {ts : List Placed} (r : g.IsRule ts) → ArePlainTokens ts
-      → Says IsPlainRule (says.rule_says s r)
+      → Says IsPlainRule (says.rule_value s r)
   rule_is_plain (g.otherwise h) plain = said [] no_statement
   rule_is_plain (g.stmt x r) plain =
-      then_says (says.statement_says s x) _ (statement_is_plain x plain)
-      (λ a p. then_says (says.rule_says s r) _ (rule_is_plain r (statement_leaves x plain))
+      then_says (says.statement_value s x) _ (statement_is_plain x plain)
+      (λ a p. then_says (says.rule_value s r) _ (rule_is_plain r (statement_leaves x plain))
       (λ rest q. said (a ∷ rest) (next_statement p q)))
 
   verdict_is_plain : (text : Text) (v : OrFault (List Statement)) → IsVerdict s text v

@@ -20,7 +20,7 @@ use Rattle.rule_lang.specs.declared.test.Comparison.TheVariants.{Lt, Le, Eq, Ne,
 use Rattle.rule_lang.specs.declared.test.Test.{Test}
 use Rattle.rule_lang.specs.declared.test.Test.TheVariants as test
 use Rattle.reasons.specs.Ending.{holds_on, value_at}
-use Rattle.reasons.specs.Reading.{Reading, read_behind, read_one, read_steps, read_tree}
+use Rattle.reasons.specs.Reading.{Reading, read_after, read_one, read_steps, read_tree}
 use Rattle.reasons.specs.Texts as texts
 use Rattle.reasons.proofs.Plain.{IsPlain, joined, chosen, in_quotes, known, number}
 
@@ -201,16 +201,16 @@ module _ (a : Attributes) (s : AppShape) where
   truth_is_plain value false t = joined (known (codes ": no") refl) (found_is_plain value t)
 
   behind_is_plain : (first second : Reading) → IsPlain first.text → IsPlain second.text
-      → IsPlain (read_behind first second).text
+      → IsPlain (read_after first second).text
   behind_is_plain first second p q = joined (joined p (known (codes "; ") refl)) q
 
   if_behind : (b : Bool) (first second : Reading) → IsPlain first.text → IsPlain second.text
-      → IsPlain (if b then read_behind first second else first).text
+      → IsPlain (if b then read_after first second else first).text
   if_behind true first second p q = behind_is_plain first second p q
   if_behind false first second p q = p
 
   unless_behind : (b : Bool) (first second : Reading) → IsPlain first.text → IsPlain second.text
-      → IsPlain (if b then first else read_behind first second).text
+      → IsPlain (if b then first else read_after first second).text
   unless_behind true first second p q = p
   unless_behind false first second p q = behind_is_plain first second p q
 

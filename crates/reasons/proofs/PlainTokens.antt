@@ -87,11 +87,11 @@ part_is_plain (c ∷ rest) =
 with_part_is_plain : (text : List ℕ) (n : ℕ) → plain (take n text) ≡ true
     → plain (take (tokens.with_part text n) text) ≡ true
 with_part_is_plain text n is =
-    let behind = drop n text in
-    let part = take (tokens.part_len behind) behind in
-    ap plain (take-add n (tokens.part_len behind) text)
+    let tokens_after = drop n text in
+    let part = take (tokens.part_len tokens_after) tokens_after in
+    ap plain (take-add n (tokens.part_len tokens_after) text)
     ∙ list_all-append is_printable (take n text) part
-    ∙ both_true is (part_is_plain behind)
+    ∙ both_true is (part_is_plain tokens_after)
 
 number_is_plain : (text : List ℕ) → plain (take (tokens.number_len text) text) ≡ true
 number_is_plain text =

@@ -10,7 +10,7 @@ use Rattle.rule_lang.specs.declared.condition.Step.{Step}
 use Rattle.rule_lang.specs.declared.condition.Step.TheVariants as step
 use Rattle.rule_lang.specs.declared.test.Test.{Test}
 use Rattle.reasons.specs.Ending.{left_at}
-use Rattle.reasons.specs.Reading.{Reading, read_behind, read_one, read_steps, read_tree}
+use Rattle.reasons.specs.Reading.{Reading, read_after, read_one, read_steps, read_tree}
 use Rattle.reasons.specs.Stack.{Part, Stacked, after_steps, followed, given_back, negated}
 use Rattle.reasons.specs.Stack.{stacked, stepped, tested}
 use Rattle.reasons.specs.Texts.{negated_text}
@@ -27,7 +27,7 @@ record IsPartOf (r : Reading) (old : List ℕ) (p : Part) (new : List ℕ) : Typ
 
 followed_is : (r q : Reading) (old mid new : List ℕ) (first second : Part)
     → IsPartOf r old first mid → IsPartOf q mid second new
-    → IsPartOf (read_behind r q) old (followed first second) new
+    → IsPartOf (read_after r q) old (followed first second) new
 followed_is r q old mid new first second a b = record {
   text =
       ap (λ (x : List ℕ). x ++ codes "; " ++ second.text) a.text
@@ -75,7 +75,7 @@ module _ (a : Attributes) (s : AppShape) (first : List ℕ) where
   joined_is : {ts : List Tree} {ps : List Part} {old mid new : List ℕ} (c : Tree)
       (r q : Reading) (p second : Part) (asked : Bool) → AreRead ts ps old
       → IsPartOf r old p mid → IsPartOf q mid second new
-      → read_tree a s old c ≡ (if asked then read_behind r q else r)
+      → read_tree a s old c ≡ (if asked then read_after r q else r)
       → Agree (Some (c ∷ ts)) (if asked then Some (stacked (followed p second ∷ ps) new)
       else Some (stacked (p ∷ ps) (given_back second.taken new)))
   joined_is {old = old} {mid = mid} {new = new} c r q p second true rest rp rq is =
@@ -120,7 +120,7 @@ module _ (a : Attributes) (s : AppShape) (first : List ℕ) where
       (if not h then Some (stacked (followed p q ∷ ps) new)
       else Some (stacked (p ∷ ps) (given_back q.taken new)))) (sym rp.holds)
       (joined_is (Either b c) r (read_tree a s r.counters c) p q (not r.holds) rest rp moved
-      (if_not r.holds r (read_behind r (read_tree a s r.counters c))))
+      (if_not r.holds r (read_after r (read_tree a s r.counters c))))
 
   agree_then : (f : List Tree → Option (List Tree)) (g : Stacked → Option Stacked)
       → ((ts : List Tree) (st : Stacked) → AreRead ts st.parts st.counters → Agree (f ts) (g st))

@@ -3,13 +3,13 @@ use Rattle.std.proofs.Common.{◌≡◌, ℕ, List, refl}
 use Rattle.std.specs.Prelude.{Option, Some, None, if◌then◌else◌}
 use Rattle.attrs.specs.Attributes.{Attributes}
 use Rattle.cells.specs.Arrays.{AppShape}
-use Rattle.rule_lang.specs.Meaning.{Behaviour, asks_then, cell_used, test_holds, test_then}
+use Rattle.rule_lang.specs.Meaning.{Behaviour, add_one_then, cell_used, test_holds, test_then}
 use Rattle.rule_lang.specs.declared.test.Test.{Test}
 use Rattle.reasons.specs.Ending.{ending_on, holds_on, left_at, value_at}
 
 -- it continues by the cell's value, on the counters after adding 1
 goes_by_value : (counters : List ℕ) (cell : Option ℕ) (next : ℕ → Behaviour)
-    → ending_on counters (asks_then cell next)
+    → ending_on counters (add_one_then cell next)
     ≡ ending_on (left_at counters cell) (next (value_at counters cell))
 goes_by_value counters None next = refl
 goes_by_value counters (Some cell) next = refl

@@ -8,7 +8,7 @@ use Rattle.cells.specs.Grown.{GrewBy}
 use Rattle.cells.specs.declared.event.CellOp.{CellOp}
 use Rattle.cells.specs.declared.event.CellOp.TheVariants.{Add}
 use Rattle.cells.specs.declared.event.CellEvent.{CellEvent}
-use Rattle.rule_lang.specs.Meaning.{Behaviour, Chooses, Asks, HasTrace, behaviour}
+use Rattle.rule_lang.specs.Meaning.{Behaviour, Chooses, Operates, HasTrace, behaviour}
 use Rattle.rule_lang.specs.Meaning.{cell_used, test_holds}
 use Rattle.rule_lang.specs.declared.rule.Statement.{Statement}
 use Rattle.rule_lang.specs.declared.test.Test.{Test}
@@ -30,7 +30,7 @@ counters_after counters cell op =
 -- the result of a behaviour on counters with these values
 abbrev pub ending_on : (counters : List ℕ) → Behaviour → Ending
 ending_on counters (Chooses k) = ending k counters
-ending_on counters (Asks cell op next) =
+ending_on counters (Operates cell op next) =
     ending_on (counters_after counters cell op) (next (reply_of (slice_index counters cell) op))
 
 -- the reply to a test: the value of its cell, or 0 if it has none

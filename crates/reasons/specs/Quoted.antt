@@ -25,11 +25,11 @@ quoted text = codes "\"" ++ escaped text ++ codes "\""
 -- between the quotes there is no quote, and only printable ASCII; a text of this form without a
 -- backslash isn't changed
 pub record QuotesEndTexts : Type 0 where
-  pub none_stands : EscapesAll is_kept_out escaped
-  pub others_stand : KeepsOthers is_shown_by_number escaped
+  pub none_there : EscapesAll is_kept_out escaped
+  pub others_there : KeepsOthers is_shown_by_number escaped
 
 -- two texts look the same in quotes only if they are equal, whatever follows them: so no text
 -- passes for another, or for another part of a line
-abbrev pub QuotesTellApart : Type 0
-QuotesTellApart = (text other behind more : List ℕ) → IsUtf8 text → IsUtf8 other
-    → quoted text ++ behind ≡ quoted other ++ more → (text ≡ other) × (behind ≡ more)
+abbrev pub QuotesAreDistinct : Type 0
+QuotesAreDistinct = (text other following more : List ℕ) → IsUtf8 text → IsUtf8 other
+    → quoted text ++ following ≡ quoted other ++ more → (text ≡ other) × (following ≡ more)

@@ -18,8 +18,8 @@ pub record Reading : Type 0 where
   pub counters : List ℕ
 
 -- a reading followed by another
-abbrev pub read_behind : Reading → Reading → Reading
-read_behind first second =
+abbrev pub read_after : Reading → Reading → Reading
+read_after first second =
     record second { text = first.text ++ codes "; " ++ second.text }
 
 -- the reading of `not`
@@ -41,10 +41,10 @@ module _ (a : Attributes) (s : AppShape) where
   read_tree counters (Negated c) = read_negated (read_tree counters c)
   read_tree counters (Both b c) =
       let r = read_tree counters b in
-      if r.holds then read_behind r (read_tree r.counters c) else r
+      if r.holds then read_after r (read_tree r.counters c) else r
   read_tree counters (Either b c) =
       let r = read_tree counters b in
-      if r.holds then r else read_behind r (read_tree r.counters c)
+      if r.holds then r else read_after r (read_tree r.counters c)
 
   -- the steps of a condition form one tree
   abbrev pub read_one : (counters : List ℕ) → Option (List Tree) → Reading

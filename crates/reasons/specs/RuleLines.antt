@@ -72,21 +72,21 @@ pub data ChoosesByLastLine (a : Attributes) (s : AppShape)
       (when_line steps (read_steps a s old steps).text ∷ []) release
       (read_steps a s old steps).counters
   -- after a `when` that doesn't hold the rest chooses
-  behind_when : (old : List ℕ) (steps : List Step) (release : ℕ) (rest : List Statement)
+  after_when : (old : List ℕ) (steps : List Step) (release : ℕ) (rest : List Statement)
       (report : List (List ℕ)) (choice : ℕ) (new : List ℕ)
       → (read_steps a s old steps).holds ≡ false
       → ChoosesByLastLine a s (read_steps a s old steps).counters rest report choice new
       → ChoosesByLastLine a s old (When steps release ∷ rest)
       (when_line steps (read_steps a s old steps).text ∷ report) choice new
   -- a count has no line
-  behind_count : (old name : List ℕ) (index : ℕ) (rest : List Statement)
+  after_count : (old name : List ℕ) (index : ℕ) (rest : List Statement)
       (report : List (List ℕ)) (choice : ℕ) (new : List ℕ)
       → ChoosesByLastLine a s (counted s old name index) rest report choice new
       → ChoosesByLastLine a s old (Count name index ∷ rest) report choice new
 
 -- the report on a `when`: its line is appended to a text, with whether it holds, and the counters'
 -- new values
-pub record TellsWhen (a : Attributes) (s : AppShape) (steps : List Step) (old : List ℕ)
+pub record ExplainsWhen (a : Attributes) (s : AppShape) (steps : List Step) (old : List ℕ)
     (before after : List ℕ) (holds : Bool) (new : List ℕ) : Type 0 where
   pub text_is : after ≡ before ++ ended (when_line steps (read_steps a s old steps).text)
   pub holds_is : holds ≡ (read_steps a s old steps).holds
@@ -94,7 +94,7 @@ pub record TellsWhen (a : Attributes) (s : AppShape) (steps : List Step) (old : 
 
 -- the report on a rule: its lines are appended to a text, and the choice and the counters are those
 -- that the rule means
-pub record TellsRule (a : Attributes) (s : AppShape) (rule : List Statement) (old : List ℕ)
+pub record ExplainsRule (a : Attributes) (s : AppShape) (rule : List Statement) (old : List ℕ)
     (before after : List ℕ) (choice : ℕ) (new : List ℕ) : Type 0 where
   pub text_is : after ≡ before ++ rule_text a s old rule
   pub meant : IsMeant a s rule old choice new

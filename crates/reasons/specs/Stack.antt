@@ -58,9 +58,9 @@ followed first second = record {
 }
 
 -- whether the second part counts: for `and` if the first holds, for `or` if it doesn't
-abbrev pub asks_second : (goes_on : Bool) → Part → Bool
-asks_second true first = first.holds
-asks_second false first = not first.holds
+abbrev pub reads_second : (goes_on : Bool) → Part → Bool
+reads_second true first = first.holds
+reads_second false first = not first.holds
 
 -- negates the newest part, if there is one
 abbrev pub not_newest : List Part → (counters : List ℕ) → Option Stacked
@@ -70,7 +70,7 @@ not_newest [] counters = None
 -- joins the two newest parts, if there are two
 abbrev pub join_two : (goes_on : Bool) → List Part → (counters : List ℕ) → Option Stacked
 join_two goes_on (second ∷ first ∷ ps) counters =
-    if asks_second goes_on first then Some (stacked (followed first second ∷ ps) counters)
+    if reads_second goes_on first then Some (stacked (followed first second ∷ ps) counters)
     else Some (stacked (first ∷ ps) (given_back second.taken counters))
 join_two goes_on ps counters = None
 

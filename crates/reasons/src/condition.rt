@@ -10,8 +10,8 @@ use cells::{PlainPass, Shape};
 use rule_lang::Step;
 use std::alloc::{AllocError, Global};
 
-fn asks_second(goes_on: bool, first: &Part) -> bool
-    ensures { result ≡ specs.asks_second goes_on first.now }
+fn reads_second(goes_on: bool, first: &Part) -> bool
+    ensures { result ≡ specs.reads_second goes_on first.now }
 {
     if goes_on { first.holds } else { !first.holds }
 }
@@ -56,7 +56,7 @@ fn join_two(
         → specs.join_two goes_on (second ∷ first ∷ below) counters.old
         ≡ Some (specs.stacked (p ∷ below) counters.new)) }
 {
-    if asks_second(goes_on, &first) {
+    if reads_second(goes_on, &first) {
         followed(first, second)
     } else {
         Ok(without(first, second, counters))

@@ -47,7 +47,7 @@ pub(crate) fn add_one(counters: &mut PlainPass, cell: u32) -> u64
     ensures after { counters.new ≡ counters_after counters.old cell (Add 1) }
     ensures fits { result < limit cell }
 {
-    counters.keeps();
+    counters.invariant_law();
     if cell < CellNo::COUNT as u32 {
         PlainCells.act(counters, CellNo::new(cell as u16), CellOp::Add(1))
     } else {
@@ -76,7 +76,7 @@ impl CellTake {
     pub fn give_back(self, counters: &mut PlainPass)
         ensures { counters.new ≡ slice_set counters.old self.cell self.value }
     {
-        counters.keeps();
+        counters.invariant_law();
         if self.cell < CellNo::COUNT as u32 {
             let cell = CellNo::new(self.cell as u16);
             let _reply = PlainCells.act(counters, cell, CellOp::Store(self.value));

@@ -42,6 +42,6 @@ pub fn quotes_end_texts()
 {}
 
 /// Law: two texts look the same in quotes only if they are equal, whatever follows them.
-pub fn quotes_tell_apart()
-    ensures { quoted.QuotesTellApart }
+pub fn quotes_are_distinct()
+    ensures { quoted.QuotesAreDistinct }
 {}

@@ -27,9 +27,9 @@ mod test_text;
 mod words;
 
 pub use laws::{
-    conditions_are_so, endings_are_meant, last_line_chooses, quotes_end_texts, quotes_tell_apart,
+    conditions_are_so, endings_are_meant, last_line_chooses, quotes_are_distinct, quotes_end_texts,
     truths_are_so, whens_are_lines, whens_decide,
 };
 pub use quoted::push_quoted;
-pub use rule_report::tell_rule;
+pub use rule_report::explain_rule;
 pub use test_text::push_test;

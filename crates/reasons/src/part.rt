@@ -51,7 +51,7 @@ fn cell_used(shape: &Shape, test: &Test) -> Option<u32>
 }
 
 // Takes from a cell, if there is one, and records the take.
-fn ask_cell(
+fn read_cell(
     counters: &mut PlainPass,
     cell: Option<u32>,
     taken: &mut Vec<CellTake>,
@@ -83,7 +83,7 @@ pub(crate) fn read_test(
         (counters.new ≡ left_at counters.old (meaning.cell_used shape.now test.now)) }
 {
     let mut taken = Vec::new(alloc);
-    let value = ask_cell(counters, cell_used(shape, test), &mut taken)?;
+    let value = read_cell(counters, cell_used(shape, test), &mut taken)?;
     let holds = test_holds(attrs, shape, value, test);
     let mut text = String::new(alloc);
     push_tested(&mut text, attrs, shape, value, holds, test)?;

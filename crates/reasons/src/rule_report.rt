@@ -20,7 +20,7 @@ use std::alloc::{AllocError, Global};
 /// leaves the counters as the rule leaves them.
 // open: whether an allocation fails, which is its one error, and what the text and the counters are
 // then.
-pub fn tell_rule(
+pub fn explain_rule(
     alloc: Global,
     text: &mut String,
     attrs: &Attrs,
@@ -28,15 +28,15 @@ pub fn tell_rule(
     rule: &Rule,
     counters: &mut PlainPass,
 ) -> Result<u8, AllocError>
-    ensures { IfOk result (λ choice. specs.TellsRule attrs.now shape.now rule.now counters.old
+    ensures { IfOk result (λ choice. specs.ExplainsRule attrs.now shape.now rule.now counters.old
         (string_bytes text.old) (string_bytes text.new) choice counters.new) }
 {
     endings_are_meant();
-    counters.keeps();
-    tell_statements(alloc, text, attrs, shape, rule.statements(), counters)
+    counters.invariant_law();
+    explain_statements(alloc, text, attrs, shape, rule.statements(), counters)
 }
 
-fn tell_statements(
+fn explain_statements(
     alloc: Global,
     text: &mut String,
     attrs: &Attrs,
@@ -55,7 +55,7 @@ fn tell_statements(
         match statement {
             Statement::Count { array, index } => count(shape, array, *index, counters),
             Statement::When { condition, release } => {
-                if tell_when(alloc, text, attrs, shape, condition, counters)? {
+                if explain_when(alloc, text, attrs, shape, condition, counters)? {
                     return Ok(*release);
                 }
             }
@@ -74,7 +74,7 @@ fn count(shape: &Shape, array: &ArrayName, index: u16, counters: &mut PlainPass)
 }
 
 // Adds the line of a `when`, and returns whether it holds.
-fn tell_when(
+fn explain_when(
     alloc: Global,
     text: &mut String,
     attrs: &Attrs,
@@ -82,7 +82,8 @@ fn tell_when(
     condition: &RuleCondition,
     counters: &mut PlainPass,
 ) -> Result<bool, AllocError>
-    ensures { IfOk result (λ holds. specs.TellsWhen attrs.now shape.now condition.now counters.old
+    ensures { IfOk result
+        (λ holds. specs.ExplainsWhen attrs.now shape.now condition.now counters.old
         (string_bytes text.old) (string_bytes text.new) holds counters.new) }
 {
     let steps = condition.steps();

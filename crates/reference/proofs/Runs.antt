@@ -7,7 +7,7 @@ use Rattle.bpf_semantics.specs.State.{State}
 use Rattle.bpf_semantics.specs.Outcome.{Outcome, Done, Trap}
 use Rattle.bpf_semantics.specs.Run.{Ends, Traps}
 use Rattle.bpf_semantics.specs.Run.Ends.{last, more}
-use Rattle.bpf_semantics.specs.Run.Ends.{asked as asked_then}
+use Rattle.bpf_semantics.specs.Run.Ends.{operated as asked_then}
 use Rattle.bpf_semantics.specs.Run.Traps.{now, later, replied}
 use Rattle.bpf_semantics.specs.Step.{step}
 use Rattle.bpf_semantics.specs.Laws.{IsNext}
@@ -17,7 +17,7 @@ use Rattle.reference.specs.declared.observed.Observed.TheVariants as observed
 use Rattle.reference.specs.Observed.{IsStep, Grew}
 use Rattle.reference.specs.declared.observed.RunEnd.TheVariants as end
 use Rattle.reference.specs.Runs.{GoesOn, IsCut, IsRun}
-use Rattle.reference.specs.Runs.GoesOn.{stays, goes, asked}
+use Rattle.reference.specs.Runs.GoesOn.{stays, goes, operated}
 
 -- the end of a run from a state on the way is the end of the run
 pub then_ends : (p : ShapedProgram) (s : State) (es : List CellEvent) (t : State) → GoesOn p s es t
@@ -26,7 +26,7 @@ pub then_ends : (p : ShapedProgram) (s : State) (es : List CellEvent) (t : State
 then_ends p s es t stays ds choice count end = end
 then_ends p s es t (goes {es = fs} {t = u} before step) ds choice count end =
     then_ends p s fs u before ds choice count (more step end)
-then_ends p s es t (asked {es = fs} {t = u} e before step) ds choice count end =
+then_ends p s es t (operated {es = fs} {t = u} e before step) ds choice count end =
     subst (λ (l : List CellEvent). Ends p s l choice count) (sym (append_assoc fs (e ∷ []) ds))
     (then_ends p s fs u before (e ∷ ds) choice count (asked_then step end))
 
@@ -35,7 +35,7 @@ pub then_traps : (p : ShapedProgram) (s : State) (es : List CellEvent) (t : Stat
 then_traps p s es t stays ds count end = end
 then_traps p s es t (goes {es = fs} {t = u} before step) ds count end =
     then_traps p s fs u before ds count (later step end)
-then_traps p s es t (asked {es = fs} {t = u} e before step) ds count end =
+then_traps p s es t (operated {es = fs} {t = u} e before step) ds count end =
     subst (λ (l : List CellEvent). Traps p s l count) (sym (append_assoc fs (e ∷ []) ds))
     (then_traps p s fs u before (e ∷ ds) count (replied step end))
 
@@ -48,7 +48,7 @@ pub counted : (p : ShapedProgram) (t : State) (o : Observed) (u : State) → IsN
     → IsGoing o → IsStep p t o u → u.count ≡ t.count + 1
 counted p t observed.Going u law going is = (subst (IsNext t) is law).count
 counted p t (observed.Event e) u law going is =
-    ap (λ (s : State). s.count) is.state ∙ (subst (IsNext t) is.asks law e.reply).count
+    ap (λ (s : State). s.count) is.state ∙ (subst (IsNext t) is.operates law e.reply).count
 counted p t (observed.Done n) u law going is = absurd (going.0 n refl)
 counted p t observed.Trap u law going is = absurd (going.1 refl)
 
@@ -66,7 +66,8 @@ module _ {P : Type 0} (grew : P → CellEvent → P → Type 0) where
       (run.0, goes run.1 is, subst (λ (q : P). GrewBy grew pass run.0 q) (sym grown) run.2)
   one_step snoc p s pass t held (observed.Event e) u next run going is grown =
       let es = run.0 ++ e ∷ [] in
-      let there = subst (λ (v : State). GoesOn p s es v) (sym is.state) (asked e run.1 is.asks) in
+      let there = subst (λ (v : State). GoesOn p s es v) (sym is.state)
+      (operated e run.1 is.operates) in
       (es, there, snoc pass run.0 held e next run.2 grown)
   one_step snoc p s pass t held (observed.Done n) u next run going is grown =
       absurd (going.0 n refl)

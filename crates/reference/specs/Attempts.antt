@@ -20,8 +20,8 @@ replied s (Some dst) reply = moved_to (with_register s (number_of dst) reply) (s
 -- continues changes the state
 abbrev pub Comes : Outcome → State → Attempt → State → Type 0
 Comes o s attempt.Going t = o ≡ outcome.Going t
-Comes o s (attempt.Asks cell op into) t =
-    (o ≡ outcome.Asks cell.number op (replied s into)) × (t ≡ s)
+Comes o s (attempt.Operates cell op into) t =
+    (o ≡ outcome.Operates cell.number op (replied s into)) × (t ≡ s)
 Comes o s (attempt.Done choice) t = (o ≡ outcome.Done choice) × (t ≡ s)
 Comes o s attempt.Trap t = (o ≡ outcome.Trap) × (t ≡ s)
 

@@ -12,7 +12,7 @@ use Rattle.reference.specs.declared.observed.Observed.TheVariants as observed
 -- the semantics' step requests the operation of this event, and continues with its reply
 pub record IsEventStep (p : ShapedProgram) (s : State) (e : CellEvent) (t : State) : Type 0 where
   pub next : ℕ → State
-  pub asks : step p s ≡ outcome.Asks e.cell e.op next
+  pub operates : step p s ≡ outcome.Operates e.cell e.op next
   pub state : t ≡ next e.reply
   pub fits : CanReply e.cell e.op e.reply
 

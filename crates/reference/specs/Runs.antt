@@ -4,7 +4,7 @@ use Rattle.cells.specs.declared.event.CellEvent.{CellEvent}
 use Rattle.bpf_semantics.specs.Program.{ShapedProgram}
 use Rattle.bpf_semantics.specs.State.{State}
 use Rattle.bpf_semantics.specs.Outcome as outcome
-use Rattle.bpf_semantics.specs.Outcome.{Outcome, Going, Asks, Done}
+use Rattle.bpf_semantics.specs.Outcome.{Outcome, Going, Operates, Done}
 use Rattle.bpf_semantics.specs.Run.{Ends, Traps}
 use Rattle.bpf_semantics.specs.Step.{step}
 use Rattle.reference.specs.declared.observed.RunEnd.{RunEnd}
@@ -15,8 +15,8 @@ pub data GoesOn (p : ShapedProgram) (s : State) : List CellEvent → State → T
   stays : GoesOn p s [] s
   goes : {es : List CellEvent} {t u : State}
       → GoesOn p s es t → step p t ≡ Going u → GoesOn p s es u
-  asked : {es : List CellEvent} {t : State} {next : ℕ → State} (e : CellEvent)
-      → GoesOn p s es t → step p t ≡ Asks e.cell e.op next
+  operated : {es : List CellEvent} {t : State} {next : ℕ → State} (e : CellEvent)
+      → GoesOn p s es t → step p t ≡ Operates e.cell e.op next
       → GoesOn p s (es ++ e ∷ []) (next e.reply)
 
 -- the run from s to t has these events, within `limit` steps, and this outcome is next

@@ -15,7 +15,7 @@ use cells::{CellNo, CellOp};
 pub enum Attempt {
     Going,
     /// The counter's reply goes into the register, if there is one.
-    Asks {
+    Operates {
         cell: CellNo,
         op: CellOp,
         into: Option<Reg>,
@@ -109,12 +109,12 @@ impl Interpreter {
 
 /// Requests a counter operation; the reply goes into the register, if there is one. R10 is
 /// read-only.
-pub fn ask(cell: CellNo, op: CellOp, into: Option<Reg>) -> Attempt
-    ensures { (s : State) → Comes (outcome.ask s cell.number op into) s result s }
+pub fn operate(cell: CellNo, op: CellOp, into: Option<Reg>) -> Attempt
+    ensures { (s : State) → Comes (outcome.operate s cell.number op into) s result s }
 {
     match into {
         Some(Reg::R10) => Attempt::Trap,
-        _ => Attempt::Asks { cell, op, into },
+        _ => Attempt::Operates { cell, op, into },
     }
 }
 

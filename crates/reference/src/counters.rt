@@ -10,7 +10,7 @@ ghost use Rattle.bpf_semantics.specs.Step as semantics;
 ghost use Rattle.reference.specs.Attempts.{HasRoom, Comes, ComesIf, cell_number_in};
 ghost use Rattle.reference.specs.Marks.{state_of};
 
-use crate::attempt::{Attempt, ask};
+use crate::attempt::{Attempt, operate};
 use crate::memory::in_stack;
 use crate::state::Interpreter;
 use bpf_insn::{AtomicOp, AtomicSize, LoadKind, Reg, Size};
@@ -86,7 +86,7 @@ impl Interpreter {
             Comes (semantics.load s kind dst base offset) s result (state_of self.new) }
     {
         match load_cell(kind, base, offset) {
-            Some(cell) => ask(cell, CellOp::Load, Some(dst)),
+            Some(cell) => operate(cell, CellOp::Load, Some(dst)),
             None => {
                 let value = self.loaded(kind, base, offset);
                 self.write(1, dst, value)
@@ -111,7 +111,7 @@ impl Interpreter {
         };
         let count = byte_count(size) as u64;
         match store_cell(size, Some(base), offset) {
-            Some(cell) => ask(cell, CellOp::Store(cut(count, value)), None),
+            Some(cell) => operate(cell, CellOp::Store(cut(count, value)), None),
             None => self.store_bytes(add_offset(base, offset), count, value),
         }
     }
@@ -143,7 +143,7 @@ impl Interpreter {
     }
 
     /// The counter and the operation of an atomic instruction; `None` if it is undefined.
-    fn atomic_asks(
+    fn atomic_operates(
         &self,
         op: AtomicOp,
         size: AtomicSize,
@@ -152,14 +152,14 @@ impl Interpreter {
         offset: i16,
     ) -> Option<Attempt>
         ensures { let s = state_of self.now in
-            ComesIf (counters.atomic_asks s op size dst src offset) s result }
+            ComesIf (counters.atomic_operates s op size dst src offset) s result }
     {
         let count = atomic_count(size) as u64;
         let cell = cell_at(add_offset(self.register(dst)?, offset), count)?;
         let r0 = self.expected(op)?;
         let value = self.register(src)?;
         let op_on_cell = cell_op(op, cut(count, r0), cut(count, value));
-        Some(ask(cell, op_on_cell, fetched(op, src)))
+        Some(operate(cell, op_on_cell, fetched(op, src)))
     }
 
     /// One atomic operation on a counter.
@@ -172,9 +172,9 @@ impl Interpreter {
         offset: i16,
     ) -> Attempt
         ensures { let s = state_of self.now in
-            Comes (needed (counters.atomic_asks s op size dst src offset)) s result s }
+            Comes (needed (counters.atomic_operates s op size dst src offset)) s result s }
     {
-        match self.atomic_asks(op, size, dst, src, offset) {
+        match self.atomic_operates(op, size, dst, src, offset) {
             Some(attempt) => attempt,
             None => Attempt::Trap,
         }

@@ -33,7 +33,7 @@ impl Interpreter {
     {
         match self.attempt(code, shape) {
             Attempt::Going => Observed::Going,
-            Attempt::Asks { cell, op, into } => {
+            Attempt::Operates { cell, op, into } => {
                 let reply = cells.act(pass, cell, op);
                 self.take_reply(into, reply);
                 let cell = cell.number;

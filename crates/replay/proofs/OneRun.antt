@@ -4,7 +4,7 @@ use Rattle.std.proofs.Common.{take, drop, append_assoc, append-nil, refl, sym, a
 use Rattle.std.proofs.Math.Seq.{take-length}
 use Rattle.world.specs.Batches.{BatchesJoin}
 use Rattle.world.specs.Happens.{Answer, Plays}
-use Rattle.world.specs.StandsFor.{Parts}
+use Rattle.world.specs.Represents.{Parts}
 use Rattle.world.specs.World.{WorldState}
 use Rattle.world.specs.declared.event.Event.{Event}
 use Rattle.replay.specs.Played.{repeated, IsLineReplied, AreRepliesFrom}
@@ -25,8 +25,8 @@ told_first : BatchesJoin → (before between : Parts) (requested : EventLine) (l
     (e : Event) (events : List Event) (reply : Reply) (replies : List Reply)
     → IsLineReplied before requested e reply between → AreRepliesFrom between lines events replies
     → AreRepliesFrom before (requested ∷ lines) (e ∷ events) (reply ∷ replies)
-told_first join before between requested lines e events reply replies own others w stands =
-    let played = own.played w stands in
+told_first join before between requested lines e events reply replies own others w represents =
+    let played = own.played w represents in
     let more = others played.0 played.2 in record {
       answers = own.answers ∷ more.answers;
       after = more.after;
@@ -94,4 +94,4 @@ ends before now lines left events behind replies no_line no_event so_far =
     let here = rw (none_left left no_line, none_left behind no_event) at so_far in
     rw (append-nil replies) at
     (here.tells []
-    (λ w stands. record { answers = []; after = w; run = refl; lines_replied = tt }))
+    (λ w represents. record { answers = []; after = w; run = refl; lines_replied = tt }))

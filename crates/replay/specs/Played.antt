@@ -3,7 +3,7 @@ use Rattle.std.specs.Prelude.{◌≡◌, List, [], ◌∷◌, ◌++◌, length, 
 use Rattle.std.specs.List.{flat_map}
 use Rattle.world.specs.Happens.{Answer, Plays}
 use Rattle.world.specs.Headline.{ArePlayed}
-use Rattle.world.specs.StandsFor.{Parts, WorldStandsFor}
+use Rattle.world.specs.Represents.{Parts, WorldRepresents}
 use Rattle.world.specs.World.{WorldState}
 use Rattle.world.specs.declared.event.Event.{Event}
 use Rattle.world.specs.declared.event.Event.TheVariants as event
@@ -59,5 +59,5 @@ pub record AreRepliesTo (w : WorldState) (lines : List EventLine) (events : List
 
 -- this holds from every world that `before` represents
 abbrev pub AreRepliesFrom : Parts → List EventLine → List Event → List Reply → Type 0
-AreRepliesFrom before lines events replies = (w : WorldState) → WorldStandsFor before w
+AreRepliesFrom before lines events replies = (w : WorldState) → WorldRepresents before w
     → AreRepliesTo w lines events replies

@@ -85,20 +85,20 @@ abbrev pub is_passed : List ℕ → Bool
 is_passed [] = true
 is_passed (c ∷ cs) = c == byte "#"
 
-abbrev pub said_by : List ℕ → Option EventLine
-said_by line = if is_passed line then None else event_of line
+abbrev pub line_event : List ℕ → Option EventLine
+line_event line = if is_passed line then None else event_of line
 
 abbrev pub is_malformed : List ℕ → Bool
 is_malformed line = not (is_passed line) && is_none (event_of line)
 
-pub record Says (line : List ℕ) (e : Option EventLine) : Type 0 where
+pub record IsLineOf (line : List ℕ) (e : Option EventLine) : Type 0 where
   pub well_formed : is_malformed line ≡ false
-  pub said : said_by line ≡ e
+  pub event_is : line_event line ≡ e
 
 -- no line is malformed, and these are the events of the lines, in order
-pub record AreSaid (lines : List (List ℕ)) (events : List EventLine) : Type 0 where
+pub record AreEventLines (lines : List (List ℕ)) (events : List EventLine) : Type 0 where
   pub well_formed : position_from is_malformed 1 lines ≡ None
-  pub events_are : events ≡ filter_map said_by lines
+  pub events_are : events ≡ filter_map line_event lines
 
 -- the number of the first malformed line, from 1
 abbrev pub IsFirstMalformed : List (List ℕ) → ScriptFault → Type 0
@@ -108,7 +108,7 @@ IsFirstMalformed lines Memory = Unit {0}
 -- the text is UTF-8, and these are the events of all its lines
 pub record IsScript (bytes : List ℕ) (events : List EventLine) : Type 0 where
   pub is_text : IsUtf8 bytes
-  pub said : AreSaid (lines bytes) events
+  pub event_is : AreEventLines (lines bytes) events
 
 -- the first malformed line, or line 1 of bytes that aren't text
 abbrev pub IsScriptFault : List ℕ → ScriptFault → Type 0

@@ -31,7 +31,8 @@ fn lines<'a>(alloc: Global, text: &'a str) -> Result<Vec<&'a str>, AllocError>
 }
 
 fn read_lines(alloc: Global, lines: &[&str]) -> Result<Vec<EventLine>, ScriptFault>
-    ensures events { IfOk result (λ v. specs.AreSaid (map (λ line. line.now) lines.now) v.items) }
+    ensures events { IfOk result
+        (λ v. specs.AreEventLines (map (λ line. line.now) lines.now) v.items) }
     ensures fault { IfErr result (specs.IsFirstMalformed (map (λ line. line.now) lines.now)) }
 {
     let mut events = Vec::new(alloc);
@@ -52,7 +53,7 @@ fn read_lines(alloc: Global, lines: &[&str]) -> Result<Vec<EventLine>, ScriptFau
 
 // The event of a line, unless the line is skipped.
 fn read_line(alloc: Global, line: &str) -> Result<Option<EventLine>, LineFault>
-    ensures said { IfOk result (λ e. specs.Says line.now e) }
+    ensures event_is { IfOk result (λ e. specs.IsLineOf line.now e) }
     ensures malformed { result ≡ Err LineFault.Malformed → specs.is_malformed line.now ≡ true }
 {
     if line.is_empty() || line.starts_with('#') {

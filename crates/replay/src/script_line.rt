@@ -43,7 +43,7 @@ pub enum LineFault {
 
 /// The event of a line.
 pub fn read_event(alloc: Global, line: &str) -> Result<EventLine, LineFault>
-    ensures said { IfOk result (λ e. specs.event_of line.now ≡ Some e) }
+    ensures event_is { IfOk result (λ e. specs.event_of line.now ≡ Some e) }
     ensures malformed { result ≡ Err LineFault.Malformed → specs.event_of line.now ≡ None }
 {
     let (word, rest) = halves(line);
@@ -72,7 +72,7 @@ fn fields<'a>(alloc: Global, line: &'a str) -> Result<Vec<&'a str>, AllocError>
 }
 
 fn read_fields(alloc: Global, fields: &[&str]) -> Result<EventLine, LineFault>
-    ensures said { IfOk result (λ e.
+    ensures event_is { IfOk result (λ e.
         specs.of_fields (map (λ field. field.now) fields.now) ≡ Some e) }
     ensures malformed { result ≡ Err LineFault.Malformed
         → specs.of_fields (map (λ field. field.now) fields.now) ≡ None }
@@ -86,7 +86,7 @@ fn read_fields(alloc: Global, fields: &[&str]) -> Result<EventLine, LineFault>
 }
 
 fn with_worker(word: &str, worker: &str) -> Result<EventLine, LineFault>
-    ensures said { IfOk result (λ e. specs.with_worker word.now worker.now ≡ Some e) }
+    ensures event_is { IfOk result (λ e. specs.with_worker word.now worker.now ≡ Some e) }
     ensures malformed { result ≡ Err LineFault.Malformed
         → specs.with_worker word.now worker.now ≡ None }
 {
@@ -104,7 +104,7 @@ fn with_worker(word: &str, worker: &str) -> Result<EventLine, LineFault>
 }
 
 fn steps(word: &str, worker: &str, count: &str) -> Result<EventLine, LineFault>
-    ensures said { IfOk result (λ e. specs.steps word.now worker.now count.now ≡ Some e) }
+    ensures event_is { IfOk result (λ e. specs.steps word.now worker.now count.now ≡ Some e) }
     ensures malformed { result ≡ Err LineFault.Malformed
         → specs.steps word.now worker.now count.now ≡ None }
 {
@@ -127,7 +127,7 @@ fn start(
     bucket: &str,
     version: &str,
 ) -> Result<EventLine, LineFault>
-    ensures said { IfOk result (λ e.
+    ensures event_is { IfOk result (λ e.
         specs.start worker.now appid.now bucket.now version.now ≡ Some e) }
     ensures malformed { result ≡ Err LineFault.Malformed
         → specs.start worker.now appid.now bucket.now version.now ≡ None }
@@ -146,7 +146,7 @@ fn start(
 }
 
 fn version_text(alloc: Global, field: &str) -> Result<Option<Text>, LineFault>
-    ensures said { IfOk result (λ v. specs.version_text field.now ≡ Some v) }
+    ensures event_is { IfOk result (λ v. specs.version_text field.now ≡ Some v) }
     ensures malformed { result ≡ Err LineFault.Malformed → specs.version_text field.now ≡ None }
 {
     if field == "-" {
@@ -156,7 +156,7 @@ fn version_text(alloc: Global, field: &str) -> Result<Option<Text>, LineFault>
 }
 
 fn swap(alloc: Global, rest: &str) -> Result<EventLine, LineFault>
-    ensures said { IfOk result (λ e. specs.swap rest.now ≡ Some e) }
+    ensures event_is { IfOk result (λ e. specs.swap rest.now ≡ Some e) }
     ensures malformed { result ≡ Err LineFault.Malformed → specs.swap rest.now ≡ None }
 {
     let manifest = text(alloc, rest)?;
@@ -165,7 +165,7 @@ fn swap(alloc: Global, rest: &str) -> Result<EventLine, LineFault>
 
 // A field that isn't empty.
 fn text(alloc: Global, field: &str) -> Result<Text, LineFault>
-    ensures said { IfOk result (λ t. specs.text field.now ≡ Some t) }
+    ensures event_is { IfOk result (λ t. specs.text field.now ≡ Some t) }
     ensures malformed { result ≡ Err LineFault.Malformed → specs.text field.now ≡ None }
 {
     if field.is_empty() {

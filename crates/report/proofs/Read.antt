@@ -5,7 +5,7 @@ use Rattle.std.proofs.Common.{if◌then◌else◌, arith}
 use Rattle.std.specs.Io.KnownBytes.{Consumes, IsAtEnd}
 use Rattle.std.specs.Prelude.{IfNone, IfSome, Option, None, Some}
 use Rattle.report.specs.Counts.{Counts}
-use Rattle.report.specs.Lines.{grown, lines_behind}
+use Rattle.report.specs.Lines.{grown, lines_after}
 use Rattle.report.specs.Reading.{CountsLines, ReadsLog, ReadsBlock}
 use Rattle.report.specs.declared.counting.Report.{Report}
 use Rattle.report.specs.declared.window.Window.{Window}
@@ -32,31 +32,31 @@ if_false : {A : Type 0} (b : Bool) (x y : A) → b ≡ false → (if b then x el
 if_false b x y fails = rw fails refl
 
 feed_ends : (begun bytes : List ℕ)
-    → lines_behind begun (10 ∷ bytes) ≡ begun ∷ lines_behind [] bytes
-unfolding lines_behind
+    → lines_after begun (10 ∷ bytes) ≡ begun ∷ lines_after [] bytes
+unfolding lines_after
 feed_ends begun bytes = refl
 
 other_goes_on : (begun : List ℕ) (b : ℕ) (bytes : List ℕ) → (b == 10) ≡ false
-    → lines_behind begun (b ∷ bytes) ≡ lines_behind (grown begun b) bytes
-unfolding lines_behind
+    → lines_after begun (b ∷ bytes) ≡ lines_after (grown begun b) bytes
+unfolding lines_after
 other_goes_on begun b bytes differs = if_false (b == 10) _ _ differs
 
-none_begun : lines_behind [] [] ≡ []
-unfolding lines_behind
+none_begun : lines_after [] [] ≡ []
+unfolding lines_after
 none_begun = refl
 
 more_than_none : (n : ℕ) → (suc n == 0) ≡ false
 more_than_none n = grind arith
 
-some_begun : (b : ℕ) (line : List ℕ) → lines_behind (b ∷ line) [] ≡ (b ∷ line) ∷ []
-unfolding lines_behind
+some_begun : (b : ℕ) (line : List ℕ) → lines_after (b ∷ line) [] ≡ (b ∷ line) ∷ []
+unfolding lines_after
 some_begun b line = if_false (length (b ∷ line) == 0) _ _ (more_than_none (length line))
 
 pub is_zero : (n : ℕ) (b : Bool) → b ≡ (n == 0) → b ≡ true → n ≡ 0
 is_zero n b is holds = grind arith
 
 pub no_line : (window : Window) (begun : List ℕ) (r : Report) → length begun ≡ 0
-    → CountsLines window (lines_behind begun []) r r
+    → CountsLines window (lines_after begun []) r r
 no_line window [] r none =
     subst (λ (lines : List (List ℕ)). CountsLines window lines r r) (sym none_begun)
     (counts_none window r)
@@ -68,7 +68,7 @@ line_ends window begun old new counted = record {
   behind = λ bytes last rest.
       subst (λ (lines : List (List ℕ)). CountsLines window lines old last)
       (sym (feed_ends begun bytes))
-      (counts_both window (begun ∷ []) (lines_behind [] bytes) old new last counted rest);
+      (counts_both window (begun ∷ []) (lines_after [] bytes) old new last counted rest);
 }
 
 pub line_goes_on : (window : Window) (begun begun_then : List ℕ) (b : ℕ) (r : Report)
@@ -76,7 +76,7 @@ pub line_goes_on : (window : Window) (begun begun_then : List ℕ) (b : ℕ) (r 
 line_goes_on window begun begun_then b r other grows = record {
   behind = λ bytes last rest.
       subst (λ (lines : List (List ℕ)). CountsLines window lines r last)
-      (ap (λ (line : List ℕ). lines_behind line bytes) grows
+      (ap (λ (line : List ℕ). lines_after line bytes) grows
       ∙ sym (other_goes_on begun b bytes (neq_false b 10 other))) rest;
 }
   where
@@ -92,7 +92,7 @@ pub reads_both : (window : Window) (xs ys : List ℕ) (x y z : List ℕ) (a b c 
     → ReadsBlock window (xs ++ ys) x a z c
 reads_both window xs ys x y z a b c first next = record {
   behind = λ bytes last rest.
-      subst (λ (all : List ℕ). CountsLines window (lines_behind x all) a last)
+      subst (λ (all : List ℕ). CountsLines window (lines_after x all) a last)
       (sym (append_assoc xs ys bytes))
       (first.behind (ys ++ bytes) last (next.behind bytes last rest));
 }
@@ -100,7 +100,7 @@ reads_both window xs ys x y z a b c first next = record {
 pub last_line : (window : Window) (begun : List ℕ) (old new : Report)
     → (length begun ≡ 0 → old ≡ new)
     → (length begun ≢ 0 → CountsLines window (begun ∷ []) old new)
-    → CountsLines window (lines_behind begun []) old new
+    → CountsLines window (lines_after begun []) old new
 last_line window [] old new none some =
     subst (λ (lines : List (List ℕ)). CountsLines window lines old new) (sym none_begun)
     (subst (λ (r : Report). CountsLines window [] old r) (none refl) (counts_none window old))
@@ -139,10 +139,10 @@ at_none {A} o P is holds = subst (λ (q : Option A). IfNone q P) is holds
 pub log_read : (window : Window) (known last_known : Option (List ℕ)) (seen begun : List ℕ)
     (start old new : Report) → Consumes known last_known seen → IsAtEnd last_known
     → ReadsBlock window seen [] start begun old
-    → CountsLines window (lines_behind begun []) old new → ReadsLog window known start new
+    → CountsLines window (lines_after begun []) old new → ReadsLog window known start new
 log_read window known last_known seen begun start old new consumed ended reads last = record {
   bytes = seen;
   given = all_consumed known last_known seen consumed ended;
-  counted = subst (λ (bytes : List ℕ). CountsLines window (lines_behind [] bytes) start new)
+  counted = subst (λ (bytes : List ℕ). CountsLines window (lines_after [] bytes) start new)
       (append-nil seen) (reads.behind [] new last);
 }

@@ -6,10 +6,10 @@ abbrev pub grown : List ℕ → ℕ → List ℕ
 grown line b = if nat_lt (length line) 65537 then line ++ b ∷ [] else line
 
 -- the lines of these bytes, if the first line begins with `begun`
-unfoldable pub lines_behind : List ℕ → List ℕ → List (List ℕ)
-lines_behind begun [] = if length begun == 0 then [] else begun ∷ []
-lines_behind begun (b ∷ bytes) =
-    if b == 10 then begun ∷ lines_behind [] bytes else lines_behind (grown begun b) bytes
+unfoldable pub lines_after : List ℕ → List ℕ → List (List ℕ)
+lines_after begun [] = if length begun == 0 then [] else begun ∷ []
+lines_after begun (b ∷ bytes) =
+    if b == 10 then begun ∷ lines_after [] bytes else lines_after (grown begun b) bytes
 
 abbrev pub lines_in : List ℕ → List (List ℕ)
-lines_in bytes = lines_behind [] bytes
+lines_in bytes = lines_after [] bytes

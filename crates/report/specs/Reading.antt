@@ -1,7 +1,7 @@
 -- What is counted in bytes that are read in pieces.
 use Rattle.std.specs.Prelude.{◌≡◌, List, ℕ, ◌++◌, Bool, Option, IfSome}
 use Rattle.report.specs.Counts.{Counts}
-use Rattle.report.specs.Lines.{lines_behind, lines_in}
+use Rattle.report.specs.Lines.{lines_after, lines_in}
 use Rattle.report.specs.declared.counting.Report.{Report}
 use Rattle.report.specs.declared.window.Window.{Window}
 
@@ -15,8 +15,8 @@ pub record CountsLines (window : Window) (lines : List (List ℕ)) (old new : Re
 pub record ReadsBlock (window : Window) (block : List ℕ) (begun : List ℕ) (old : Report)
     (begun_then : List ℕ) (new : Report) : Type 0 where
   pub behind : (bytes : List ℕ) (last : Report)
-      → CountsLines window (lines_behind begun_then bytes) new last
-      → CountsLines window (lines_behind begun (block ++ bytes)) old last
+      → CountsLines window (lines_after begun_then bytes) new last
+      → CountsLines window (lines_after begun (block ++ bytes)) old last
 
 -- The lines of a log are counted. If the reader's bytes are known, these are the log; nothing is
 -- known about a device, so they are some bytes.

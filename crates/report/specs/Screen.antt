@@ -130,8 +130,8 @@ module _ (heads : Bool) where
   abbrev pub apps_text : List ℕ → Tally → List ℕ
   apps_text title t = table_text heads title (codes "number\tapp\n") t
 
-  abbrev pub asks_text : Report → List ℕ
-  asks_text r =
+  abbrev pub update_checks_text : Report → List ℕ
+  update_checks_text r =
       apps_text (codes "asks\n") r.update_checks
       ++ table_text heads (codes "offers\n") (codes "number\tapp\trelease\n") r.offered
       ++ apps_text (codes "no update\n") r.unoffered ++ buckets_text heads r
@@ -147,4 +147,4 @@ module _ (heads : Bool) where
       ++ apps_text (codes "events that are cut\n") r.cut_events
 
   abbrev pub screen : Report → List ℕ
-  screen r = numbers_text r ++ asks_text r ++ results_text heads r ++ faults_text r
+  screen r = numbers_text r ++ update_checks_text r ++ results_text heads r ++ faults_text r

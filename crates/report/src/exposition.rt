@@ -28,7 +28,7 @@ fn push_all(text: &mut String, kind: MetricKind, report: &Report) -> Result<(), 
     ensures { OnOk result (Puts text.old text.new (specs.exposition kind report.now)) }
 {
     push_numbers(text, kind, report)?;
-    push_asks(text, kind, report)?;
+    push_update_checks(text, kind, report)?;
     push_faults(text, kind, report)?;
     Ok(())
 }
@@ -78,7 +78,11 @@ fn push_numbers(text: &mut String, kind: MetricKind, report: &Report) -> Result<
     Ok(())
 }
 
-fn push_asks(text: &mut String, kind: MetricKind, report: &Report) -> Result<(), AllocError>
+fn push_update_checks(
+    text: &mut String,
+    kind: MetricKind,
+    report: &Report,
+) -> Result<(), AllocError>
     ensures { OnOk result (Puts text.old text.new (specs.asks kind report.now)) }
 {
     push_metric(

@@ -4,7 +4,7 @@
 ghost use Rattle.std.specs.Prelude.{◌≡◌, ◌≢◌, ◌<◌, ◌≤◌, [], ◌∷◌, length, take};
 ghost use Rattle.std.specs.Prelude.{IfNone, IfOk, IfSome, OnOk};
 ghost use Rattle.std.specs.Io.KnownBytes.{Consumes, IsAtEnd};
-ghost use Rattle.report.specs.Lines.{grown, lines_behind};
+ghost use Rattle.report.specs.Lines.{grown, lines_after};
 ghost use Rattle.report.specs.Reading.{CountsLines, ReadsBlock, ReadsLog};
 
 use crate::counting::Report;
@@ -14,7 +14,7 @@ use std::alloc::{AllocError, Global};
 use std::io::{self, Error, ErrorKind, Read};
 
 /// The maximum number of bytes kept of a line.
-const KEPT: usize = LINE_LIMIT + 1;
+const LINE_BUFFER_BYTES: usize = LINE_LIMIT + 1;
 
 /// The size of a block.
 const BLOCK: usize = 0x40000;
@@ -127,12 +127,12 @@ fn count_byte(
     if byte == b'\n' {
         return end_line(alloc, window, report, begun);
     }
-    keep_other(window, report, begun, byte)
+    append_other_byte(window, report, begun, byte)
 }
 
 // Any byte but a line feed.
 #[tactic(auto, using(crate::proofs::Read::line_goes_on))]
-fn keep_other(
+fn append_other_byte(
     window: &Window<'_>,
     report: &mut Report,
     begun: &mut Vec<u8>,
@@ -142,7 +142,7 @@ fn keep_other(
     ensures { OnOk result (ReadsBlock window.now (byte ∷ [])
         begun.old.items report.old begun.new.items report.new) }
 {
-    keep(begun, byte)
+    append_byte(begun, byte)
 }
 
 #[tactic(auto, using(crate::proofs::Read::line_ends))]
@@ -160,11 +160,11 @@ fn end_line(
     Ok(())
 }
 
-// Appends a byte to the line, unless the line has `KEPT` bytes.
-fn keep(begun: &mut Vec<u8>, byte: u8) -> Result<(), AllocError>
+// Appends a byte to the line, unless the line has `LINE_BUFFER_BYTES` bytes.
+fn append_byte(begun: &mut Vec<u8>, byte: u8) -> Result<(), AllocError>
     ensures { OnOk result (begun.new.items ≡ grown begun.old.items byte) }
 {
-    if begun.len() < KEPT {
+    if begun.len() < LINE_BUFFER_BYTES {
         begun.push(byte)?;
     }
     Ok(())
@@ -179,7 +179,7 @@ fn count_last(
     begun: &[u8],
 ) -> Result<(), AllocError>
     ensures { OnOk result
-        (CountsLines window.now (lines_behind begun.now []) report.old report.new) }
+        (CountsLines window.now (lines_after begun.now []) report.old report.new) }
 {
     if begun.is_empty() {
         return Ok(());

@@ -29,7 +29,7 @@ fn push_screen(text: &mut String, heads: bool, report: &Report) -> Result<(), Al
     ensures { OnOk result (Puts text.old text.new (specs.screen heads report.now)) }
 {
     push_numbers(text, heads, report)?;
-    push_asks(text, heads, report)?;
+    push_update_checks(text, heads, report)?;
     push_results(text, heads, report)?;
     push_faults(text, heads, report)?;
     Ok(())
@@ -76,8 +76,8 @@ fn push_left_out(text: &mut String, report: &Report) -> Result<(), AllocError>
     Ok(())
 }
 
-fn push_asks(text: &mut String, heads: bool, report: &Report) -> Result<(), AllocError>
-    ensures { OnOk result (Puts text.old text.new (specs.asks_text heads report.now)) }
+fn push_update_checks(text: &mut String, heads: bool, report: &Report) -> Result<(), AllocError>
+    ensures { OnOk result (Puts text.old text.new (specs.update_checks_text heads report.now)) }
 {
     push_apps(text, heads, "asks\n", &report.update_checks)?;
     push_table(

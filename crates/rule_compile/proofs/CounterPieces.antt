@@ -15,7 +15,7 @@ use Rattle.bpf_semantics.specs.State.{State, with_register}
 use Rattle.bpf_semantics.specs.Outcome.{branch}
 use Rattle.bpf_semantics.specs.Reads.{both}
 use Rattle.bpf_semantics.specs.Step.{act}
-use Rattle.rule_lang.specs.Meaning.{Behaviour, Asks}
+use Rattle.rule_lang.specs.Meaning.{Behaviour, Operates}
 use Rattle.rule_compile.specs.Instructions as insn
 use Rattle.rule_compile.specs.Blocks as code
 use Rattle.rule_compile.proofs.Labels.{from_label, next_here, later_here, next_wide}
@@ -31,9 +31,9 @@ module _ (p : ShapedProgram) (a : Attributes) where
       → found.base + index ≡ c → IsCellOf size c
       → Comes p a (Nothing p a) q choice b
       → Comes p a (Nothing p a) (code.count_code size array index q) choice
-      (Asks c (Add 1) (λ r. b))
+      (Operates c (Add 1) (λ r. b))
   count_runs size array index c found q choice b is sum cell rest =
-      let asked : Behaviour = Asks c (Add 1) (λ r. b) in
+      let asked : Behaviour = Operates c (Add 1) (λ r. b) in
       cell_then p a array index c found (Some (insn.set_argument R2 1) ∷ Some
       (insn.add_to_cell size) ∷ q) choice asked is sum (below_all p a size c cell)
       (one_then p a c (Some (insn.add_to_cell size) ∷ q) choice asked
@@ -105,7 +105,7 @@ module _ (p : ShapedProgram) (a : Attributes) where
       → found.base + index ≡ c → c < 4096
       → Comes p a (Nothing p a) (from_label q l) choice x → Comes p a (Nothing p a) q choice y
       → Comes p a (Nothing p a) (code.take_code array index quota sense l q) choice
-      (Asks c (Add 1) (λ r. if nat_lt r quota then (if sense then x else y)
+      (Operates c (Add 1) (λ r. if nat_lt r quota then (if sense then x else y)
       else (if sense then y else x)))
   unfolding from_label
   take_runs array index c quota found sense l q choice x y is sum cell to on =
@@ -114,10 +114,10 @@ module _ (p : ShapedProgram) (a : Attributes) where
       else (if sense then y else x) in
       cell_then p a array index c found
       (Some (insn.set_argument R2 1) ∷ Some insn.take_from_cell ∷ Some
-      (insn.load_quota quota) ∷ None ∷ jump) choice (Asks c (Add 1) next) is sum
+      (insn.load_quota quota) ∷ None ∷ jump) choice (Operates c (Add 1) next) is sum
       (omega (arith, cell))
       (one_then p a c (Some insn.take_from_cell ∷ Some (insn.load_quota quota) ∷ None ∷ jump) choice
-      (Asks c (Add 1) next)
+      (Operates c (Add 1) next)
       (take_then p a c (Some (insn.load_quota quota) ∷ None ∷ jump) choice next cell
       (λ r. quota_then r quota jump choice (next r)
       (subst (λ (b : Behaviour). Comes p a (HasBoth r quota) jump choice b)

@@ -20,7 +20,7 @@ use Rattle.bpf_semantics.specs.Outcome.{write}
 use Rattle.bpf_semantics.specs.Outcome as outcome
 use Rattle.bpf_semantics.specs.Counters.{atomic_count}
 use Rattle.bpf_semantics.specs.Step.{act}
-use Rattle.rule_lang.specs.Meaning.{Behaviour, Asks}
+use Rattle.rule_lang.specs.Meaning.{Behaviour, Operates}
 use Rattle.rule_compile.specs.Instructions as insn
 use Rattle.rule_compile.proofs.Labels.{next_here, next_wide}
 use Rattle.rule_compile.proofs.Runs.{Comes, Nothing, Has, quiet, asks}
@@ -125,7 +125,7 @@ module _ (p : ShapedProgram) (a : Attributes) where
 
   pub add_then : (size : AtomicSize) (c : ℕ) (q : Program) (choice : ℕ) (b : Behaviour)
       → IsCellOf size c → Comes p a (Nothing p a) q choice b
-      → Comes p a (HasOne c) (Some (insn.add_to_cell size) ∷ q) choice (Asks c (Add 1) (λ r. b))
+      → Comes p a (HasOne c) (Some (insn.add_to_cell size) ∷ q) choice (Operates c (Add 1) (λ r. b))
   add_then size c q choice b cell rest s h known =
       asks p a s (λ r. record s { slot = s.slot + 1; count = s.count + 1 })
       (insn.add_to_cell size) q choice c (Add 1) (λ r. b) h
@@ -141,14 +141,14 @@ module _ (p : ShapedProgram) (a : Attributes) where
     where
       adds : (size : AtomicSize) → s.registers 3 ≡ Some (cell_address c) → s.registers 2 ≡ Some 1
           → cell_at (address_of (cell_address c) (pos 0)) (atomic_count size) ≡ Some c
-          → act p.shape s (insn.add_to_cell size) ≡ outcome.Asks c (Add 1)
+          → act p.shape s (insn.add_to_cell size) ≡ outcome.Operates c (Add 1)
           (λ r. record s { slot = s.slot + 1; count = s.count + 1 })
       adds Word three two is = rw (three, is, two) refl
       adds Double three two is = rw (three, is, two) refl
 
   pub take_then : (c : ℕ) (q : Program) (choice : ℕ) (next : ℕ → Behaviour) → c < 4096
       → ((r : ℕ) → Comes p a (Has p a 2 r) q choice (next r))
-      → Comes p a (HasOne c) (Some insn.take_from_cell ∷ q) choice (Asks c (Add 1) next)
+      → Comes p a (HasOne c) (Some insn.take_from_cell ∷ q) choice (Operates c (Add 1) next)
   take_then c q choice next cell rest s h known =
       asks p a s (λ r. record (with_register s 2 r) { slot = s.slot + 1; count = s.count + 1 })
       insn.take_from_cell q choice c (Add 1) next h takes
@@ -163,6 +163,6 @@ module _ (p : ShapedProgram) (a : Attributes) where
       is : cell_at (address_of (cell_address c) (pos 0)) 8 ≡ Some c
       is = found_cell Double c cell
 
-      takes : act p.shape s insn.take_from_cell ≡ outcome.Asks c (Add 1)
+      takes : act p.shape s insn.take_from_cell ≡ outcome.Operates c (Add 1)
           (λ r. record (with_register s 2 r) { slot = s.slot + 1; count = s.count + 1 })
       takes = rw (known.0, is, known.1) refl

@@ -14,8 +14,8 @@ use Rattle.bpf_insn.specs.Spelling.{width_of}
 use Rattle.bpf_insn.specs.Program.{Program, ◌>>=◌, at, landing, slots_moved}
 use Rattle.flow_check.specs.Edges.{Reached, start, along, jump_of, target_of}
 use Rattle.flow_check.specs.Edges.{goes_on, next_of, next_target, successors, KeepsEdges}
-use Rattle.flow_check.specs.declared.fault.FlowRule.TheVariants.{BackJump, Outside}
-use Rattle.flow_check.specs.declared.fault.FlowRule.TheVariants.{InsideWide, FallsOff}
+use Rattle.flow_check.specs.declared.flow_fault.FlowRule.TheVariants.{BackJump, Outside}
+use Rattle.flow_check.specs.declared.flow_fault.FlowRule.TheVariants.{InsideWide, FallsOff}
 use Rattle.flow_check.specs.Flow.{IsFlow}
 use Rattle.cells.specs.Arrays.{AppShape}
 use Rattle.bpf_verify.specs.Table.{Known}

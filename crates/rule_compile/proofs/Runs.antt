@@ -22,9 +22,9 @@ use Rattle.bpf_semantics.specs.Memory.{context_start, stack_top}
 use Rattle.bpf_semantics.specs.Program.{ShapedProgram}
 use Rattle.bpf_semantics.specs.State.{State, with_register}
 use Rattle.bpf_semantics.specs.Reads.{both}
-use Rattle.bpf_semantics.specs.Outcome.{Going, Asks, write, branch, finish}
+use Rattle.bpf_semantics.specs.Outcome.{Going, Operates, write, branch, finish}
 use Rattle.bpf_semantics.specs.Step.{step, act, act_at, load}
-use Rattle.bpf_semantics.specs.Run.{Ends, last, more, asked}
+use Rattle.bpf_semantics.specs.Run.{Ends, last, more, operated}
 use Rattle.rule_lang.specs.Meaning.{Behaviour, Chooses, HasTrace}
 use Rattle.rule_lang.specs.Meaning as does
 use Rattle.rule_compile.specs.Instructions as insn
@@ -73,15 +73,15 @@ module _ (p : ShapedProgram) (a : Attributes) where
 
   pub asks : (s : State) (t : ℕ → State) (i : Insn) (q : Program) (choice cell : ℕ) (op : CellOp)
       (next : ℕ → Behaviour) → IsAt (Some i ∷ q) choice s
-      → act p.shape s i ≡ Asks cell op t → ((r : ℕ) → EndsAs (t r) (next r))
-      → EndsAs s (does.Asks cell op next)
+      → act p.shape s i ≡ Operates cell op t → ((r : ℕ) → EndsAs (t r) (next r))
+      → EndsAs s (does.Operates cell op next)
   asks s t i q choice cell op next h is rest [] end follows = absurd follows
   asks s t i q choice cell op next h is rest (e ∷ es) end follows =
       let r = rest e.reply es end follows.3 in
-      let same : step p s ≡ Asks e.cell e.op t =
-      step_is s choice i q h ∙ is ∙ ap (λ (c : ℕ). Asks c op t) (sym follows.0)
-      ∙ ap (λ (o : CellOp). Asks e.cell o t) (sym follows.1) in
-      (r.0, asked same r.1)
+      let same : step p s ≡ Operates e.cell e.op t =
+      step_is s choice i q h ∙ is ∙ ap (λ (c : ℕ). Operates c op t) (sym follows.0)
+      ∙ ap (λ (o : CellOp). Operates e.cell o t) (sym follows.1) in
+      (r.0, operated same r.1)
 
   -- ---- the frame of a rule
 

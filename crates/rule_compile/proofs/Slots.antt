@@ -3,9 +3,9 @@ use Rattle.std.proofs.Common.{◌≡◌, Bool, false, List, [], ◌∷◌, lengt
 use Rattle.std.specs.Prelude.{reverse}
 use Rattle.std.proofs.lemmas.List.{length-reverse}
 use Rattle.bpf_insn.specs.declared.insn.Insn.{Insn}
-use Rattle.flow_check.specs.Laid.{is_wide, laid_behind, laid}
+use Rattle.flow_check.specs.Laid.{is_wide, laid_after, laid}
 
-length_behind : (w : Bool) (is : List Insn) → length (laid_behind w is) ≡ length is
+length_behind : (w : Bool) (is : List Insn) → length (laid_after w is) ≡ length is
 length_behind w [] = refl
 length_behind w (i ∷ is) = let more = length_behind (is_wide i) is in omega (arith, more)
 

@@ -20,7 +20,7 @@ use Rattle.bpf_semantics.specs.Program.{ShapedProgram}
 use Rattle.bpf_semantics.specs.State.{State, with_bytes, written_at}
 use Rattle.bpf_semantics.specs.Step.{store}
 use Rattle.bpf_semantics.specs.Outcome.{Going, moved}
-use Rattle.bpf_semantics.specs.Counters.{reach, store_asks}
+use Rattle.bpf_semantics.specs.Counters.{reach, store_operates}
 use Rattle.rule_lang.specs.Meaning.{Behaviour}
 use Rattle.rule_compile.specs.Instructions as insn
 use Rattle.rule_compile.specs.Blocks as code
@@ -167,9 +167,10 @@ store_at : (s : State) (o : Option ℕ) (z : ℤ) (x v : ℕ) → o ≡ Some sta
 unfolding after_store
 store_at s o z x v top address none inside =
     ap (λ (o : Option ℕ). store s size.Word o z (Some v)) top
-    ∙ ap (λ (y : ℕ). reach (cell_at y 4) (store_asks s size.Word (Some v))
+    ∙ ap (λ (y : ℕ). reach (cell_at y 4) (store_operates s size.Word (Some v))
     (moved (written_at s y 4 v))) address
-    ∙ ap (λ (c : Option ℕ). reach c (store_asks s size.Word (Some v)) (moved (written_at s x 4 v)))
+    ∙ ap (λ (c : Option ℕ). reach c (store_operates s size.Word (Some v))
+    (moved (written_at s x 4 v)))
     none
     ∙ ap (λ (b : Bool). moved (if b then Some
     (record s { stack = with_bytes s.stack (x - stack_start) 4 v }) else None)) inside

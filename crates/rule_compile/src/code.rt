@@ -56,7 +56,7 @@ impl Code {
     }
 
     /// Law: the code has at most 4096 slots.
-    pub fn keeps(&self)
+    pub fn invariant_law(&self)
         ensures { length self.now ≤ 4096 }
     {
         let _count = self.len();

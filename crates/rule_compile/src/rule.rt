@@ -46,9 +46,9 @@ pub fn compile(alloc: Global, rule: &Rule, shape: &Shape) -> Result<Verified, Co
         → 4096 < length (code.rule_code shape.now rule.now) }
     ensures cost { result ≡ Err CompileFault.TooLong → 4096 < cost rule.now }
 {
-    shape.keeps();
+    shape.invariant_law();
     let code = emit(alloc, shape, rule.statements())?;
-    code.keeps();
+    code.invariant_law();
     let flow = flow_of(alloc, code.into_slots())?;
     table_is_enough();
     Ok(Verified::known(alloc, flow, shape)?)

@@ -13,7 +13,7 @@ use std::fmt::Write;
 use std::str;
 
 /// A sentence about a place, and its line with a caret. Returns `None` if an allocation fails.
-pub fn tell_at(alloc: Global, text: &str, place: usize, sentence: &str) -> Option<String>
+pub fn message_at(alloc: Global, text: &str, place: usize, sentence: &str) -> Option<String>
     ensures { IfSome result
         (λ message. string_bytes message ≡ specs.lines_at text.now place sentence.now) }
 {
@@ -26,7 +26,7 @@ pub fn tell_at(alloc: Global, text: &str, place: usize, sentence: &str) -> Optio
         return None;
     };
     let mut message = String::new(alloc);
-    match tell_lines(
+    match push_lines(
         &mut message,
         line,
         column.len() + 1,
@@ -56,7 +56,7 @@ fn printed_pad(alloc: Global, before: &[u8]) -> Option<String>
     }
 }
 
-fn tell_lines(
+fn push_lines(
     text: &mut String,
     line: usize,
     column: usize,

@@ -133,7 +133,7 @@ fn kind_text(follower: Follower) -> Option<&'static str>
     }
 }
 
-fn tell_shown(text: &mut String, follower: Follower) -> Result<(), AllocError>
+fn push_follower(text: &mut String, follower: Follower) -> Result<(), AllocError>
     ensures { OnOk result (Puts text.old text.new (followers.shown follower)) }
 {
     match kind_text(follower) {
@@ -156,22 +156,26 @@ fn separator(rest: &[Follower]) -> &'static str
 }
 
 /// Adds followers as a list, such as `"offer", "and" or "or"`.
-pub fn tell_listed(text: &mut String, listed: &[Follower]) -> Result<(), AllocError>
+pub fn push_followers(text: &mut String, listed: &[Follower]) -> Result<(), AllocError>
     ensures { OnOk result (Puts text.old text.new (followers.listed listed.now)) }
 {
     let mut left = listed;
     while let [first, rest @ ..] = left {
-        tell_one(text, *first, rest)?;
+        push_listed_follower(text, *first, rest)?;
         left = rest;
     }
     Ok(())
 }
 
-fn tell_one(text: &mut String, first: Follower, rest: &[Follower]) -> Result<(), AllocError>
+fn push_listed_follower(
+    text: &mut String,
+    first: Follower,
+    rest: &[Follower],
+) -> Result<(), AllocError>
     ensures { OnOk result
         (Puts text.old text.new (followers.shown first ++ followers.separator rest.now)) }
 {
-    tell_shown(text, first)?;
+    push_follower(text, first)?;
     text.push_str(separator(rest))
 }
 

@@ -145,7 +145,7 @@ fn names_attribute(word: &str) -> bool
 }
 
 /// Adds a hint if a test is expected, but there is only the name of a flag or an attribute.
-pub fn tell_test_hint(text: &mut String, lexeme: &str) -> Result<(), AllocError>
+pub fn push_test_hint(text: &mut String, lexeme: &str) -> Result<(), AllocError>
     ensures { OnOk result (Puts text.old text.new (sentences.test_hint lexeme.now)) }
 {
     if names_flag(lexeme) {

@@ -34,4 +34,4 @@ mod spread;
 mod trial;
 
 pub use place::line_text;
-pub use rule_message::{rule_too_long, tell_rule_fault};
+pub use rule_message::{rule_fault_message, rule_too_long};

@@ -50,7 +50,7 @@ fn code_padding(n: u32) -> &'static str
     }
 }
 
-fn tell_code(text: &mut String, n: u32) -> Result<(), AllocError>
+fn push_code(text: &mut String, n: u32) -> Result<(), AllocError>
     ensures { OnOk result (Puts text.old text.new (sentences.code_text n)) }
 {
     let padding = code_padding(n);
@@ -64,7 +64,7 @@ fn is_printed(c: u8) -> bool
 }
 
 /// Adds a lexeme, or "the text's end".
-pub fn tell_lexeme(text: &mut String, lexeme: &str) -> Result<(), AllocError>
+pub fn push_lexeme(text: &mut String, lexeme: &str) -> Result<(), AllocError>
     ensures { OnOk result (Puts text.old text.new (sentences.lexeme_text lexeme.now)) }
 {
     if lexeme.is_empty() {
@@ -77,6 +77,6 @@ pub fn tell_lexeme(text: &mut String, lexeme: &str) -> Result<(), AllocError>
     } else if is_printed(c) {
         write!(text, "\"{lexeme}\"")
     } else {
-        tell_code(text, character_code(lexeme.as_bytes()))
+        push_code(text, character_code(lexeme.as_bytes()))
     }
 }

@@ -4,7 +4,7 @@ ghost use Rattle.std.specs.Prelude.{◌≡◌, OnOk, option_copied};
 ghost use Rattle.printing.specs.Pushed.{Puts};
 ghost use Rattle.rule_diagnosis.specs.Sentences as sentences;
 
-use crate::quoting::tell_lexeme;
+use crate::quoting::push_lexeme;
 use cells::{CellArray, Shape};
 use rule_lang::array_named;
 use std::alloc::AllocError;
@@ -24,7 +24,7 @@ fn version_range() -> &'static str
     "each number of a version is at most 4294967295"
 }
 
-fn tell_releases(text: &mut String, releases: u8) -> Result<(), AllocError>
+fn push_release_range(text: &mut String, releases: u8) -> Result<(), AllocError>
     ensures { OnOk result (Puts text.old text.new (sentences.releases_range releases)) }
 {
     if releases == 0 {
@@ -34,24 +34,24 @@ fn tell_releases(text: &mut String, releases: u8) -> Result<(), AllocError>
     }
 }
 
-fn tell_cells(text: &mut String, array: Option<&CellArray>) -> Result<(), AllocError>
+fn push_cells_range(text: &mut String, array: Option<&CellArray>) -> Result<(), AllocError>
     ensures { OnOk result
         (Puts text.old text.new (sentences.cells_range (option_copied array.entry))) }
 {
     match array {
-        Some(array) => tell_cells_of(text, array),
+        Some(array) => push_array_range(text, array),
         None => Ok(()),
     }
 }
 
-fn tell_cells_of(text: &mut String, array: &CellArray) -> Result<(), AllocError>
+fn push_array_range(text: &mut String, array: &CellArray) -> Result<(), AllocError>
     ensures { OnOk result (Puts text.old text.new (sentences.cells_of array.now)) }
 {
     text.push_str(array.name.as_str())?;
-    tell_indexes(text, array.length)
+    push_indexes(text, array.length)
 }
 
-fn tell_indexes(text: &mut String, length: u16) -> Result<(), AllocError>
+fn push_indexes(text: &mut String, length: u16) -> Result<(), AllocError>
     ensures { OnOk result (Puts text.old text.new (sentences.index_range length)) }
 {
     write!(text, "'s indexes are below {length}")
@@ -71,7 +71,7 @@ fn number_range(before: &str, earlier: &str) -> &'static str
     }
 }
 
-fn tell_range_of(
+fn push_value_range(
     text: &mut String,
     shape: &Shape,
     earlier: &str,
@@ -84,16 +84,16 @@ fn tell_range_of(
     if found == "not" || found == "(" {
         text.push_str(depth_range())
     } else if before == "offer" {
-        tell_releases(text, shape.releases())
+        push_release_range(text, shape.releases())
     } else if before == "[" || before == "," {
-        tell_cells(text, array_named(shape.arrays(), earlier))
+        push_cells_range(text, array_named(shape.arrays(), earlier))
     } else {
         text.push_str(number_range(before, earlier))
     }
 }
 
 /// Adds the sentence about an L4; `earlier` and `before` are the two previous lexemes.
-pub fn tell_range(
+pub fn push_range_sentence(
     text: &mut String,
     shape: &Shape,
     earlier: &str,
@@ -104,7 +104,7 @@ pub fn tell_range(
         (Puts text.old text.new (sentences.range_sentence shape.now earlier.now before.now
         found.now)) }
 {
-    tell_lexeme(text, found)?;
+    push_lexeme(text, found)?;
     text.push_str(" is out of range: ")?;
-    tell_range_of(text, shape, earlier, before, found)
+    push_value_range(text, shape, earlier, before, found)
 }

@@ -7,13 +7,13 @@ ghost use Rattle.rule_diagnosis.specs.Lexemes as lexemes;
 ghost use Rattle.rule_diagnosis.specs.Message as specs;
 ghost use Rattle.rule_lang.specs.Verdicts.{IsVerdict};
 
-use crate::caret::tell_at;
-use crate::follower::{Follower, expects_test, tell_listed};
-use crate::hint::{misplaced_hint, parts_digits, tell_test_hint};
+use crate::caret::message_at;
+use crate::follower::{Follower, expects_test, push_followers};
+use crate::hint::{misplaced_hint, parts_digits, push_test_hint};
 use crate::place::{front, line_at, line_text};
-use crate::quoting::tell_lexeme;
-use crate::range::tell_range;
-use crate::sentence::{tell_name, tell_token};
+use crate::quoting::push_lexeme;
+use crate::range::push_range_sentence;
+use crate::sentence::{push_name_sentence, push_token_sentence};
 use crate::spread::{lexeme_start, spread};
 use crate::trial::followers_of;
 use cells::Shape;
@@ -35,7 +35,7 @@ use std::str;
 /// the text's words, one to a line, are more than 65536 bytes.
 // open: that there is a result: it is None if an allocation fails, if the fault isn't this text's,
 // and if its words, a line each, are over 65536 bytes.
-pub fn tell_rule_fault(
+pub fn rule_fault_message(
     alloc: Global,
     text: &str,
     shape: &Shape,
@@ -46,7 +46,7 @@ pub fn tell_rule_fault(
         (λ message. specs.IsRuleMessage shape.now text.now line kind (string_bytes message)) }
 {
     if text.len() > MOST_RULE {
-        return tell_too_long(alloc, kind);
+        return too_long_message(alloc, kind);
     }
     let Ok(rows) = spread(alloc, text.as_bytes()) else {
         return None;
@@ -62,14 +62,14 @@ pub fn tell_rule_fault(
         return None;
     }
     match kind {
-        RuleFaultKind::Token => tell_other(alloc, text, shape, rows, row, RuleFaultKind::Token),
-        RuleFaultKind::Shape => tell_shape(alloc, text, shape, rows, row),
-        RuleFaultKind::Name => tell_other(alloc, text, shape, rows, row, RuleFaultKind::Name),
-        RuleFaultKind::Range => tell_other(alloc, text, shape, rows, row, RuleFaultKind::Range),
+        RuleFaultKind::Token => other_message(alloc, text, shape, rows, row, RuleFaultKind::Token),
+        RuleFaultKind::Shape => shape_message(alloc, text, shape, rows, row),
+        RuleFaultKind::Name => other_message(alloc, text, shape, rows, row, RuleFaultKind::Name),
+        RuleFaultKind::Range => other_message(alloc, text, shape, rows, row, RuleFaultKind::Range),
     }
 }
 
-fn tell_too_long(alloc: Global, kind: RuleFaultKind) -> Option<String>
+fn too_long_message(alloc: Global, kind: RuleFaultKind) -> Option<String>
     ensures { IfSome result (λ message. (text : List ℕ) → 65536 < length text
         → specs.IsRuleTooLong text kind (string_bytes message)) }
 {
@@ -108,7 +108,7 @@ fn is_same(kind: RuleFaultKind, other: RuleFaultKind) -> bool
 }
 
 // Explains a misplaced token.
-fn tell_shape(alloc: Global, text: &str, shape: &Shape, rows: &str, row: usize) -> Option<String>
+fn shape_message(alloc: Global, text: &str, shape: &Shape, rows: &str, row: usize) -> Option<String>
     requires { rows.now ≡ lexemes.spread text.now }
     ensures { IfSome result (λ message. specs.AreLines shape.now text.now RuleFaultKind.Shape row
         (string_bytes message)) }
@@ -119,19 +119,19 @@ fn tell_shape(alloc: Global, text: &str, shape: &Shape, rows: &str, row: usize) 
     };
     let parted = parts_digits(text.as_bytes(), at);
     let mut sentence = String::new(alloc);
-    match tell_misplaced(
+    match push_shape_sentence(
         &mut sentence,
         parted,
         line_text(row, rows),
         found.as_slice(),
     ) {
-        Ok(()) => tell_at(alloc, text, at, sentence.as_str()),
+        Ok(()) => message_at(alloc, text, at, sentence.as_str()),
         Err(_) => None,
     }
 }
 
 #[tactic(auto, unfolding(crate::specs::Message::shape_sentence))]
-fn tell_misplaced(
+fn push_shape_sentence(
     text: &mut String,
     parted: bool,
     lexeme: &str,
@@ -140,19 +140,19 @@ fn tell_misplaced(
     ensures { OnOk result
         (Puts text.old text.new (specs.shape_sentence parted lexeme.now found.now)) }
 {
-    tell_lexeme(text, lexeme)?;
+    push_lexeme(text, lexeme)?;
     text.push_str(" stands where ")?;
-    tell_listed(text, found)?;
+    push_followers(text, found)?;
     text.push_str(" is expected")?;
     if expects_test(found) {
-        tell_test_hint(text, lexeme)
+        push_test_hint(text, lexeme)
     } else {
         text.push_str(misplaced_hint(parted, lexeme))
     }
 }
 
 // Explains a fault of another kind.
-fn tell_other(
+fn other_message(
     alloc: Global,
     text: &str,
     shape: &Shape,
@@ -165,16 +165,16 @@ fn tell_other(
         (specs.row_start text.now row) (specs.sentence shape.now text.now kind row)) }
 {
     let mut sentence = String::new(alloc);
-    match tell_sentence(&mut sentence, shape, rows, row, kind) {
+    match push_sentence(&mut sentence, shape, rows, row, kind) {
         Ok(()) => {
             let at = lexeme_start(row.saturating_sub(2), text.as_bytes());
-            tell_at(alloc, text, at, sentence.as_str())
+            message_at(alloc, text, at, sentence.as_str())
         }
         Err(_) => None,
     }
 }
 
-fn tell_sentence(
+fn push_sentence(
     text: &mut String,
     shape: &Shape,
     rows: &str,
@@ -187,9 +187,9 @@ fn tell_sentence(
     let before = line_text(row.saturating_sub(1), rows);
     let earlier = line_text(row.saturating_sub(2), rows);
     match kind {
-        RuleFaultKind::Token => tell_token(text, found),
+        RuleFaultKind::Token => push_token_sentence(text, found),
         RuleFaultKind::Shape => Ok(()),
-        RuleFaultKind::Name => tell_name(text, shape, before, found),
-        RuleFaultKind::Range => tell_range(text, shape, earlier, before, found),
+        RuleFaultKind::Name => push_name_sentence(text, shape, before, found),
+        RuleFaultKind::Range => push_range_sentence(text, shape, earlier, before, found),
     }
 }

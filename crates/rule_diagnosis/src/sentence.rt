@@ -6,17 +6,17 @@ ghost use Rattle.rule_diagnosis.specs.Sentences as sentences;
 ghost use Rattle.rule_lang.specs.Shapes as shapes;
 
 use crate::hint::hint;
-use crate::quoting::tell_lexeme;
+use crate::quoting::push_lexeme;
 use cells::{CellArray, Shape};
 use rule_lang::array_named;
 use std::alloc::AllocError;
 use std::fmt::Write;
 
 /// Adds the sentence about an L1.
-pub fn tell_token(text: &mut String, found: &str) -> Result<(), AllocError>
+pub fn push_token_sentence(text: &mut String, found: &str) -> Result<(), AllocError>
     ensures { OnOk result (Puts text.old text.new (sentences.token_sentence found.now)) }
 {
-    tell_lexeme(text, found)?;
+    push_lexeme(text, found)?;
     text.push_str(no_word())?;
     text.push_str(hint(found))
 }
@@ -56,41 +56,41 @@ fn quota_hint() -> &'static str
     " has a quota: take adds to it, and count doesn't"
 }
 
-fn tell_next(text: &mut String, arrays: &[CellArray]) -> Result<(), AllocError>
+fn push_other_names(text: &mut String, arrays: &[CellArray]) -> Result<(), AllocError>
     ensures { OnOk result (Puts text.old text.new (flat_map sentences.next_name arrays.now)) }
 {
     for array in arrays {
-        tell_one(text, array)?;
+        push_next_name(text, array)?;
     }
     Ok(())
 }
 
-fn tell_one(text: &mut String, array: &CellArray) -> Result<(), AllocError>
+fn push_next_name(text: &mut String, array: &CellArray) -> Result<(), AllocError>
     ensures { OnOk result (Puts text.old text.new (sentences.next_name array.now)) }
 {
     let name = array.name.as_str();
     write!(text, ", {name}")
 }
 
-fn tell_names(text: &mut String, arrays: &[CellArray]) -> Result<(), AllocError>
+fn push_array_names(text: &mut String, arrays: &[CellArray]) -> Result<(), AllocError>
     ensures { OnOk result (Puts text.old text.new (sentences.array_names arrays.now)) }
 {
     match arrays {
         [] => text.push_str("none"),
         [first, others @ ..] => {
             text.push_str(first.name.as_str())?;
-            tell_next(text, others)
+            push_other_names(text, others)
         }
     }
 }
 
 // Adds the sentence about a wrong name of an array.
-fn tell_array(text: &mut String, shape: &Shape, found: &str) -> Result<(), AllocError>
+fn push_array_sentence(text: &mut String, shape: &Shape, found: &str) -> Result<(), AllocError>
     ensures { OnOk result
         (Puts text.old text.new (sentences.array_sentence shape.now found.now
         (shapes.array_named found.now shape.now.arrays))) }
 {
-    tell_lexeme(text, found)?;
+    push_lexeme(text, found)?;
     match array_named(shape.arrays(), found) {
         Some(array) => text.push_str(if array.quota.is_some() {
             quota_hint()
@@ -99,13 +99,13 @@ fn tell_array(text: &mut String, shape: &Shape, found: &str) -> Result<(), Alloc
         }),
         None => {
             text.push_str(" is no array; there are: ")?;
-            tell_names(text, shape.arrays())
+            push_array_names(text, shape.arrays())
         }
     }
 }
 
 /// Adds the sentence about an L3; `before` is the previous lexeme.
-pub fn tell_name(
+pub fn push_name_sentence(
     text: &mut String,
     shape: &Shape,
     before: &str,
@@ -115,14 +115,14 @@ pub fn tell_name(
         (Puts text.old text.new (sentences.name_sentence shape.now before.now found.now)) }
 {
     if before == "flag" {
-        tell_lexeme(text, found)?;
+        push_lexeme(text, found)?;
         text.push_str(" is no flag; there are: ")?;
         text.push_str(flags())
     } else if before == "attr" {
-        tell_lexeme(text, found)?;
+        push_lexeme(text, found)?;
         text.push_str(" is no attribute; there are: ")?;
         text.push_str(attributes())
     } else {
-        tell_array(text, shape, found)
+        push_array_sentence(text, shape, found)
     }
 }

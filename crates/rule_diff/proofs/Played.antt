@@ -10,7 +10,7 @@ use Rattle.attrs.specs.Attributes.{Attributes}
 use Rattle.cells.specs.Arrays.{AppShape}
 use Rattle.cells.specs.declared.event.CellEvent.{CellEvent}
 use Rattle.cells.specs.declared.event.CellOp.TheVariants.{Add}
-use Rattle.rule_lang.specs.Meaning.{Asks, Behaviour, Chooses, HasTrace, asks_then, cell_used}
+use Rattle.rule_lang.specs.Meaning.{Operates, Behaviour, Chooses, HasTrace, add_one_then, cell_used}
 use Rattle.rule_lang.specs.Meaning.{decide, decide_one, test_holds, test_then}
 use Rattle.rule_lang.specs.Trees.{Tree, Leaf, Negated, Both, Either}
 use Rattle.rule_lang.specs.declared.test.Test.{Test}
@@ -64,7 +64,7 @@ module _ (a : Attributes) (s : AppShape) (left : ℕ → ℕ) (events : List Cel
       → ((done rest : List CellEvent) (e : CellEvent) (taken : List ℕ)
       → events ≡ done ++ e ∷ rest → e.cell ≡ cell → AreTaken done taken
       → next e.reply ≡ next (reply_after (left cell) (takes_of cell taken)))
-      → Plays (Asks cell (Add 1) next)
+      → Plays (Operates cell (Add 1) next)
   asks_plays cell next plays same done [] taken choice is are trace = absurd trace
   asks_plays cell next plays same done (e ∷ es) taken choice is are trace =
       let here = trace.0 in
@@ -79,11 +79,11 @@ module _ (a : Attributes) (s : AppShape) (left : ℕ → ℕ) (events : List Cel
       → Plays (test_then a s t met unmet)
   test_plays (no_cell t none) met unmet f g =
       subst (λ (o : Option ℕ).
-      Plays (asks_then o (λ reply. if test_holds a s reply t then met else unmet))) (sym none)
+      Plays (add_one_then o (λ reply. if test_holds a s reply t then met else unmet))) (sym none)
       (either_plays (test_holds a s 0 t) met unmet f g)
   test_plays (a_take t cell quota asked holds some few left_is rise) met unmet f g =
       subst (λ (o : Option ℕ).
-      Plays (asks_then o (λ reply. if test_holds a s reply t then met else unmet))) (sym asked)
+      Plays (add_one_then o (λ reply. if test_holds a s reply t then met else unmet))) (sym asked)
       (asks_plays cell (λ reply. if test_holds a s reply t then met else unmet)
       (λ reply. either_plays (test_holds a s reply t) met unmet f g)
       (λ done rest e taken is here are. ap (λ (b : Bool). if b then met else unmet)
@@ -129,7 +129,7 @@ module _ (a : Attributes) (s : AppShape) (left : ℕ → ℕ) (events : List Cel
   one_plays (Some (b ∷ c ∷ cs)) are release rest plays = plays
 
   pub count_plays : (cell : ℕ) (rest : Behaviour) → Plays rest
-      → Plays (Asks cell (Add 1) (λ reply. rest))
+      → Plays (Operates cell (Add 1) (λ reply. rest))
   count_plays cell rest plays =
       asks_plays cell (λ reply. rest) (λ reply. plays) (λ done es e taken is here are. refl)
 

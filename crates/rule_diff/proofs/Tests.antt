@@ -8,7 +8,7 @@ use Rattle.std.proofs.lemmas.Bool.{le-ltb, leb-true, lt-ltb, ltb-true}
 use Rattle.std.proofs.lemmas.Option.{get_or_from_slice_get, slice_get-map}
 use Rattle.attrs.specs.Attributes.{Attributes}
 use Rattle.cells.specs.Arrays.{AppShape}
-use Rattle.rule_lang.specs.Meaning.{Behaviour, allows, asks_then, cell_used, test_holds}
+use Rattle.rule_lang.specs.Meaning.{Behaviour, allows, add_one_then, cell_used, test_holds}
 use Rattle.rule_lang.specs.Meaning.{test_then}
 use Rattle.rule_lang.specs.declared.test.Test.{Test}
 use Rattle.rule_space.specs.declared.plan_test.PlanTest.{PlanTest}
@@ -81,7 +81,7 @@ module _ (Is : Attributes → State → Type 0) (ds : List Dimension) (s : AppSh
   plain_goes t b taken met unmet none is =
       subst (λ (k : ℕ). Goes (left_in g s) (decided b) taken met unmet k)
       (sym (ap (λ (o : Option ℕ). chooses_in (left_in g s) taken
-      (asks_then o (λ reply. if test_holds a s reply t then met else unmet))) none
+      (add_one_then o (λ reply. if test_holds a s reply t then met else unmet))) none
       ∙ ap (λ (x : Bool). chooses_in (left_in g s) taken (if x then met else unmet)) is))
       (decided_goes (left_in g s) b taken met unmet)
 
@@ -93,7 +93,7 @@ module _ (Is : Attributes → State → Type 0) (ds : List Dimension) (s : AppSh
       ≡ chooses_in (left_in g s) (cell ∷ taken) (if granted then met else unmet)
   taken_is t cell granted taken met unmet asked is =
       ap (λ (o : Option ℕ). chooses_in (left_in g s) taken
-      (asks_then o (λ reply. if test_holds a s reply t then met else unmet))) asked
+      (add_one_then o (λ reply. if test_holds a s reply t then met else unmet))) asked
       ∙ ap (λ (x : Bool). chooses_in (left_in g s) (cell ∷ taken) (if x then met else unmet)) is
 
   take_truth_goes : (d : Dimension) (here number cell : ℕ) (taken : List ℕ)

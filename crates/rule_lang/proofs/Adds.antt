@@ -6,7 +6,7 @@ use Rattle.rule_lang.specs.declared.condition.Step.{Step}
 use Rattle.rule_lang.specs.declared.condition.Step.TheVariants as step
 use Rattle.rule_lang.specs.declared.frame.Frame.{Frame}
 use Rattle.rule_lang.specs.Reader.Drafts.{Pending, frame, and_step, or_step}
-use Rattle.rule_lang.specs.Says.{steps_of}
+use Rattle.rule_lang.specs.Values.{steps_of}
 use Rattle.rule_lang.specs.Trees.{Tree, Negated, Both, Either}
 
 -- ---- effects of phrases

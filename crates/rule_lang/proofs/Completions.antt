@@ -7,7 +7,7 @@ use Rattle.rule_lang.specs.declared.test.Comparison.TheVariants as comparison
 use Rattle.rule_lang.specs.declared.token.Token.TheVariants as token
 use Rattle.rule_lang.specs.Grammar as g
 use Rattle.rule_lang.specs.Lexed.{Placed, on}
-use Rattle.rule_lang.specs.Phrases.{Phrase, Ends, Needs, Maybe, takes, behind}
+use Rattle.rule_lang.specs.Phrases.{Phrase, Ends, Needs, Maybe, takes, tokens_after}
 use Rattle.rule_lang.specs.Phrases.{misplaced, offer_phrase, otherwise_phrase}
 use Rattle.rule_lang.specs.declared.test_table.TestKind.TheVariants as the_kind
 use Rattle.rule_lang.specs.Tests.{test_phrase}
@@ -51,10 +51,11 @@ fill Ends ts = ts
 fill (Needs w ws) ts = on 0 (filler w) ∷ fill ws ts
 fill (Maybe w given without) ts = on 0 (filler w) ∷ fill given ts
 
-filled : (ws : Phrase) (ts : List Placed) → behind ws (fill ws ts) ≡ Ok ts
+filled : (ws : Phrase) (ts : List Placed) → tokens_after ws (fill ws ts) ≡ Ok ts
 filled Ends ts = refl
 filled (Needs w ws) ts =
-    ap (λ (b : Bool). if b then behind ws (fill ws ts) else Err (misplaced 0)) (taken_filler w)
+    ap (λ (b : Bool). if b then tokens_after ws (fill ws ts) else Err (misplaced 0))
+    (taken_filler w)
     ∙ filled ws ts
 filled (Maybe w given without) ts =
     ap (λ (b : Bool). given_or b given without (on 0 (filler w)) (fill given ts)) (taken_filler w)

@@ -8,7 +8,7 @@ use Rattle.rule_lang.specs.Grammar as g
 use Rattle.rule_lang.specs.Lexed.{Placed}
 use Rattle.rule_lang.specs.Parts.{◌>>?◌, out_of_range}
 use Rattle.rule_lang.specs.Reader.Reading.{Draft, too_deep, fact_next, operator_next}
-use Rattle.rule_lang.specs.Says as says
+use Rattle.rule_lang.specs.Values as spelled
 use Rattle.rule_lang.specs.Tokens.{Token}
 use Rattle.rule_lang.specs.Trees.{Negated, Both, Either}
 use Rattle.rule_lang.proofs.Noted.{readded, mapped, joined as both_noted, opener_noted, shallow}
@@ -26,10 +26,10 @@ use Rattle.rule_lang.proofs.Values.{term_of_cond}
 mutual
   fact_reads : (s : AppShape) (depth : ℕ) (d : Draft) {ts rest : List Placed}
       → (f : g.IsFact ts rest) → IsAtFact d depth
-      → Reached s d ts (says.fact_says s depth f) (AddsFact d.condition) rest
+      → Reached s d ts (spelled.fact_value s depth f) (AddsFact d.condition) rest
   fact_reads s depth d (g.denied {p = p} {ts = ts} {rest = rest} is f) at =
       let inner = behind_not d p in
-      let v = says.fact_says s (depth + 1) f in
+      let v = spelled.fact_value s (depth + 1) f in
       let r = fact_reads s (depth + 1) inner f (at_not d depth p at) in
       record {
         last = r.last;
@@ -46,7 +46,7 @@ mutual
   fact_reads s depth d (g.enclosed {p = p} {q = q} {ts = ts} {rest = rest} is c closes) at =
       let inner = behind_open d p in
       let same = same_condition d p in
-      let v = says.cond_says s (depth + 1) c in
+      let v = spelled.cond_value s (depth + 1) c in
       let r = cond_reads s (depth + 1) inner c (at_open d depth p at) in
       let around : r.last.condition.below ≡ d.condition.top ∷ d.condition.below = r.below ∙ ap (λ (x
       : Pending). x.top ∷ x.below) same in
@@ -65,7 +65,7 @@ mutual
             (last, rest) w r.place refl (close_next s d.condition r.last q rest closes around) k));
       }
   fact_reads s depth d (g.leaf {p = p} {ts = ts} {rest = rest} t) at =
-      let v = says.test_says s t in
+      let v = spelled.test_value s t in
       record {
         last = after_test d p.line v;
         place = refl;
@@ -78,9 +78,9 @@ mutual
 
   term_reads : (s : AppShape) (depth : ℕ) (d : Draft) {ts rest : List Placed}
       → (t : g.IsTerm ts rest) → IsAtTerm d depth
-      → Reached s d ts (says.term_says s depth t) (AddsTerm d.condition) rest
+      → Reached s d ts (spelled.term_value s depth t) (AddsTerm d.condition) rest
   term_reads s depth d (g.fact f) at =
-      let v = says.fact_says s depth f in
+      let v = spelled.fact_value s depth f in
       let r = fact_reads s depth d f (fact_of_term d depth at) in
       record {
         last = r.last;
@@ -93,8 +93,8 @@ mutual
         back = r.back;
       }
   term_reads s depth d (g.and_fact {p = p} {mid = mid} t is f) at =
-      let v = says.term_says s depth t in
-      let w = says.fact_says s depth f in
+      let v = spelled.term_value s depth t in
+      let w = spelled.fact_value s depth f in
       let first = term_reads s depth d t at in
       let e = behind_and first.last in
       let r = fact_reads s depth e f (at_and d.noted v d.condition first.last depth at.deep
@@ -115,9 +115,9 @@ mutual
 
   pub cond_reads : (s : AppShape) (depth : ℕ) (d : Draft) {ts rest : List Placed}
       → (c : g.IsCond ts rest) → IsAtCond d depth
-      → Reached s d ts (says.cond_says s depth c) (AddsCond d.condition) rest
+      → Reached s d ts (spelled.cond_value s depth c) (AddsCond d.condition) rest
   cond_reads s depth d (g.term t) at =
-      let v = says.term_says s depth t in
+      let v = spelled.term_value s depth t in
       let r = term_reads s depth d t (term_of_cond d depth at) in
       record {
         last = r.last;
@@ -130,8 +130,8 @@ mutual
         back = r.back;
       }
   cond_reads s depth d (g.or_term {p = p} {mid = mid} c is t) at =
-      let v = says.cond_says s depth c in
-      let w = says.term_says s depth t in
+      let v = spelled.cond_value s depth c in
+      let w = spelled.term_value s depth t in
       let first = cond_reads s depth d c at in
       let e = behind_or first.last in
       let r = term_reads s depth e t (at_or d.noted v d.condition first.last depth at.deep

@@ -16,7 +16,7 @@ use Rattle.rule_lang.specs.declared.rule.Statement.{Statement}
 use Rattle.rule_lang.specs.declared.token.Token.TheVariants as token
 use Rattle.rule_lang.specs.Lexed.{Placed, Lexed, tokens_in}
 use Rattle.rule_lang.specs.Parts.{OrFault, ◌>>?◌, part, out_of_range, release}
-use Rattle.rule_lang.specs.Phrases.{Phrase, Needs, behind, misplaced}
+use Rattle.rule_lang.specs.Phrases.{Phrase, Needs, tokens_after, misplaced}
 use Rattle.rule_lang.specs.Phrases.{count_phrase, offer_phrase, otherwise_phrase}
 use Rattle.rule_lang.specs.Reader.Drafts.{Pending, begin, denied, opened, joined}
 use Rattle.rule_lang.specs.Reader.Drafts.{parted, closed, term_done, is_empty}
@@ -25,7 +25,7 @@ use Rattle.rule_lang.specs.Reader.Reading.{with_condition, counted, statement_ne
 use Rattle.rule_lang.specs.Reader.Reading.{with_test, test_next, fact_next, closed_next}
 use Rattle.rule_lang.specs.Reader.Reading.{offered, offer_next, operator_next, next_in, next}
 use Rattle.rule_lang.specs.Reader.Reading.{is_done, verdict, Reads, ended, refused, goes_on}
-use Rattle.rule_lang.specs.Says.{count_of}
+use Rattle.rule_lang.specs.Values.{count_of}
 use Rattle.rule_lang.specs.Tests.{row, rest_phrase, kind_of}
 use Rattle.rule_lang.specs.Tokens.{Text, Token}
 use Rattle.rule_lang.specs.Verdicts.{HasVerdict, too_long, no_token}
@@ -45,10 +45,10 @@ fewer_left : (ts : List Placed) (p q : Draft × List Placed) → ◌≡◌ {A = 
 fewer_left ts p q h k = subst (λ (r : Draft × List Placed). Fewer ts r) (same_ok p q h) k
 
 phrase_fewer : (w : Want) (ws : Phrase) (ts : List Placed) (d : Draft)
-    (q : Draft × List Placed) → (behind (Needs w ws) ts >>? λ rest. Ok (d, rest)) ≡ Ok q
+    (q : Draft × List Placed) → (tokens_after (Needs w ws) ts >>? λ rest. Ok (d, rest)) ≡ Ok q
     → Fewer ts q
 phrase_fewer w ws ts d q h =
-    let b = bound (behind (Needs w ws) ts) (λ rest. Ok (d, rest)) q h in
+    let b = bound (tokens_after (Needs w ws) ts) (λ rest. Ok (d, rest)) q h in
     let t = one_taken w ws ts b.value b.first in
     let left = fewer b.value t.after (behind_rest ws t.after b.value t.more) in
     let whole : length ts ≡ length (t.first ∷ t.after) =
@@ -73,7 +73,7 @@ test_fewer : (s : AppShape) (d : Draft) (line : ℕ) (o : Option TestKind) (ts :
 test_fewer s d line None ts q h = absurd (no_ok (misplaced line) q h)
 test_fewer s d line (Some k) ts q h =
     phrase_fewer (want.Keyword (row k).word) (rest_phrase k) ts (in_mode mode.Operator (with_test
-    line ((row k).says s ts) d)) q h
+    line ((row k).spelled s ts) d)) q h
 
 fact_fewer : (s : AppShape) (d : Draft) (t : Token) (p : Placed) (ts after : List Placed)
     (q : Draft × List Placed) → length after < length ts

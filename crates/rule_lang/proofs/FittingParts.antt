@@ -22,7 +22,7 @@ use Rattle.rule_lang.specs.Parts.{OrFault, ◌>>?◌, part, number, salt, modulu
 use Rattle.rule_lang.specs.Parts.{attribute}
 use Rattle.rule_lang.specs.Parts.{array, array_if, index, release, within, unknown, same}
 use Rattle.rule_lang.specs.Parts.{out_of_range, comparison}
-use Rattle.rule_lang.specs.Says.{count_of}
+use Rattle.rule_lang.specs.Values.{count_of}
 use Rattle.rule_lang.specs.Shapes.{array_named}
 use Rattle.rule_lang.specs.Tests.{row, take_test, begins, optional, past, bucket_test, attr_test}
 use Rattle.rule_lang.specs.Tests.{literal}
@@ -169,7 +169,7 @@ attr_fits s ts = each (test_fits s) (attribute (part ts 1)) (λ a. literal (part
     refl))
 
 pub by_kind : (s : AppShape) (ts : List Placed) (k : TestKind)
-    → IfRead (test_fits s) ((row k).says s ts)
+    → IfRead (test_fits s) ((row k).spelled s ts)
 by_kind s ts the_kind.Version =
     free s (version (part ts 2)) (λ v. test.Version (comparison (part ts 1)) v) (λ v. refl)
 by_kind s ts the_kind.Bucket = bucket_fits s ts

@@ -16,12 +16,12 @@ use Rattle.rule_lang.specs.declared.token.Token.TheVariants as token
 use Rattle.rule_lang.specs.Reader.Drafts.{Pending, first_frame, begin, denied, opened}
 use Rattle.rule_lang.specs.Lexed.{Placed}
 use Rattle.rule_lang.specs.Parts.{OrFault, ◌>>?◌, out_of_range}
-use Rattle.rule_lang.specs.Phrases.{Phrase, Ends, Needs, Maybe, behind, misplaced}
+use Rattle.rule_lang.specs.Phrases.{Phrase, Ends, Needs, Maybe, tokens_after, misplaced}
 use Rattle.rule_lang.specs.Phrases.{takes, count_phrase, otherwise_phrase}
 use Rattle.rule_lang.specs.Reader.Reading.{Draft, Next, first_of, with_fault_if, in_mode}
 use Rattle.rule_lang.specs.Reader.Reading.{with_condition, counted, statement_next, too_deep}
 use Rattle.rule_lang.specs.Reader.Reading.{with_test, test_next, fact_next, next}
-use Rattle.rule_lang.specs.Says.{count_of}
+use Rattle.rule_lang.specs.Values.{count_of}
 use Rattle.rule_lang.specs.Reader.Sound.{HasTrees, all_waiting, IsSoundAfter, IsSoundIn, IsSound}
 use Rattle.rule_lang.specs.Tests.{row, test_phrase, kind_of}
 use Rattle.rule_lang.specs.Tokens.{Token}
@@ -78,19 +78,21 @@ rest_is rest ts r = let l = fewer rest ts r in dropped rest ts (length ts - leng
     (arith, l))
 
 behind_by : (w : Want) (ws : Phrase) (t : Placed) (ts rest : List Placed) (b : Bool)
-    → (if b then behind ws ts else Err (misplaced t.line)) ≡ Ok rest → (behind ws ts ≡ Ok rest
+    → (if b then tokens_after ws ts else Err (misplaced t.line)) ≡ Ok rest
+    → (tokens_after ws ts ≡ Ok rest
     → IsRest rest ts) → IsRest rest (t ∷ ts)
 behind_by w ws t ts rest true h next = later (next h)
 behind_by w ws t ts rest false h next = absurd (no_ok (misplaced t.line) rest h)
 
 maybe_by : (given without : Phrase) (t : Placed) (ts rest : List Placed) (b : Bool)
-    → (if b then behind given ts else behind without (t ∷ ts)) ≡ Ok rest
-    → (behind given ts ≡ Ok rest → IsRest rest ts)
-    → (behind without (t ∷ ts) ≡ Ok rest → IsRest rest (t ∷ ts)) → IsRest rest (t ∷ ts)
+    → (if b then tokens_after given ts else tokens_after without (t ∷ ts)) ≡ Ok rest
+    → (tokens_after given ts ≡ Ok rest → IsRest rest ts)
+    → (tokens_after without (t ∷ ts) ≡ Ok rest → IsRest rest (t ∷ ts)) → IsRest rest (t ∷ ts)
 maybe_by given without t ts rest true h there left = later (there h)
 maybe_by given without t ts rest false h there left = left h
 
-pub behind_rest : (ws : Phrase) (ts rest : List Placed) → behind ws ts ≡ Ok rest → IsRest rest ts
+pub behind_rest : (ws : Phrase) (ts rest : List Placed) → tokens_after ws ts ≡ Ok rest
+    → IsRest rest ts
 behind_rest Ends ts rest h = subst (λ (us : List Placed). IsRest us ts) (same_ok ts rest h) all
 behind_rest (Needs w ws) [] rest h = absurd (no_ok (misplaced 0) rest h)
 behind_rest (Needs w ws) (t ∷ ts) rest h =
@@ -119,9 +121,9 @@ mode_counted (Ok statement) d = refl
 mode_counted (Err e) d = refl
 
 pub phrase_keeps : (ws : Phrase) (ts : List Placed) (d : Draft) (q : Draft × List Placed)
-    → IsSound d → (behind ws ts >>? λ rest. Ok (d, rest)) ≡ Ok q → Keeps ts q
+    → IsSound d → (tokens_after ws ts >>? λ rest. Ok (d, rest)) ≡ Ok q → Keeps ts q
 phrase_keeps ws ts d q sound h =
-    let b = bound (behind ws ts) (λ rest. Ok (d, rest)) q h in
+    let b = bound (tokens_after ws ts) (λ rest. Ok (d, rest)) q h in
     kept ts (d, b.value) q b.after (record {
       sound = sound;
       rest = behind_rest ws ts b.value
@@ -186,7 +188,7 @@ test_keeps : (s : AppShape) (d : Draft) (line : ℕ) (o : Option TestKind) (ts :
     (q : Draft × List Placed) → FactSound d → test_next s d line o ts ≡ Ok q → Keeps ts q
 test_keeps s d line None ts q sound h = absurd (no_ok (misplaced line) q h)
 test_keeps s d line (Some k) ts q sound h =
-    let said = (row k).says s ts in
+    let said = (row k).spelled s ts in
     phrase_keeps (test_phrase k) ts (in_mode mode.Operator (with_test line said d)) q
     (test_sound d line said sound) h
 

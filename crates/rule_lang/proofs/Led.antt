@@ -14,7 +14,7 @@ use Rattle.rule_lang.specs.declared.phrase.Want.TheVariants as want
 use Rattle.rule_lang.specs.declared.token.Token.TheVariants as token
 use Rattle.rule_lang.specs.Lexed.{Placed}
 use Rattle.rule_lang.specs.Parts.{OrFault, ◌>>?◌}
-use Rattle.rule_lang.specs.Phrases.{Phrase, Ends, Needs, Maybe, behind, misplaced, takes}
+use Rattle.rule_lang.specs.Phrases.{Phrase, Ends, Needs, Maybe, tokens_after, misplaced, takes}
 use Rattle.rule_lang.specs.Reader.Reading.{Draft, Next}
 use Rattle.rule_lang.specs.Tokens.{Token}
 use Rattle.rule_lang.proofs.Machine.{Place, AtStatement, AtFact, AtOperator, AtEnd}
@@ -330,18 +330,19 @@ end_left w p ts no_end fits (inl is) =
 end_left w p ts no_end fits (inr h) = h
 
 behind_led : (ws : Phrase) (l : Place) (ts : List Placed) → ends_well (is_end l) ws ≡ true
-    → Before ws l ts → LedBehind (state ws l) l ts (behind ws ts)
+    → Before ws l ts → LedBehind (state ws l) l ts (tokens_after ws ts)
 behind_led Ends l ts well h = record { front = []; whole = refl; way = refl; ends = h }
 behind_led (Needs w ws) l [] well h = absurd h
 behind_led (Needs w ws) l (p ∷ ts) well h = by_test (takes w p.token) refl (λ (k : Passed ws l ts).
     behind_led ws l ts k.well k.before)
   where
     by_test : (b : Bool) → takes w p.token ≡ b
-        → (Passed ws l ts → LedBehind (state ws l) l ts (behind ws ts))
-        → LedBehind (state (Needs w ws) l) l (p ∷ ts) (if b then behind ws ts else Err (misplaced
+        → (Passed ws l ts → LedBehind (state ws l) l ts (tokens_after ws ts))
+        → LedBehind (state (Needs w ws) l) l (p ∷ ts)
+        (if b then tokens_after ws ts else Err (misplaced
         p.line))
     by_test true e go =
-        needs_went w ws l p ts (behind ws ts) e (go (passed w ws l p ts well e h))
+        needs_went w ws l p ts (tokens_after ws ts) e (go (passed w ws l p ts well e h))
     by_test false e go = stopped (state (Needs w ws) l) p ts (ap (λ (b : Bool). if b then Some
         (state ws l) else None) e)
 behind_led (Maybe w given without) l [] well h = absurd h
@@ -354,16 +355,18 @@ behind_led (Maybe w given without) l (p ∷ ts) well h =
   where
     by_test : (b : Bool) → takes w p.token ≡ b → (m : MaybeWell (is_end l) w given without)
         → (MaybeWell (is_end l) w given without → HasEnd ts
-        → LedBehind (state given l) l ts (behind given ts))
+        → LedBehind (state given l) l ts (tokens_after given ts))
         → (MaybeWell (is_end l) w given without
-        → LedBehind (state without l) l (p ∷ ts) (behind without (p ∷ ts)))
-        → LedBehind (state (Maybe w given without) l) l (p ∷ ts) (if b then behind given ts else
-        behind without (p ∷ ts))
+        → LedBehind (state without l) l (p ∷ ts) (tokens_after without (p ∷ ts)))
+        → LedBehind (state (Maybe w given without) l) l (p ∷ ts)
+        (if b then tokens_after given ts else
+        tokens_after without (p ∷ ts))
     by_test true e m there left =
-        given_went w given without l p ts (behind given ts) e (there m (end_left w p ts m.goes_on e
+        given_went w given without l p ts (tokens_after given ts) e
+        (there m (end_left w p ts m.goes_on e
         h))
     by_test false e m there left =
-        left_went w given without l p ts (behind without (p ∷ ts)) e m.more (left m)
+        left_went w given without l p ts (tokens_after without (p ∷ ts)) e m.more (left m)
 
 led_to : (x : State) (l : Place) (ts : List Placed) (e : Draft) (o : OrFault (List Placed))
     → state_of e ≡ state Ends l → LedBehind x l ts o → Led x ts (o >>? λ rest. Ok (e, rest))
@@ -372,19 +375,20 @@ led_to x l ts e (Err f) is h = h
 
 -- the result of a phrase that leads to this draft
 abbrev pub phrase_next : Phrase → List Placed → Draft → Next
-phrase_next ws ts e = behind ws ts >>? λ rest. Ok (e, rest)
+phrase_next ws ts e = tokens_after ws ts >>? λ rest. Ok (e, rest)
 
 -- the rest of a phrase
 pub rest_led : (ws : Phrase) (l : Place) (ts : List Placed) (e : Draft)
     → ends_well (is_end l) ws ≡ true → state_of e ≡ state Ends l → HasEnd ts
     → Led (state ws l) ts (phrase_next ws ts e)
 rest_led ws l ts e well is h =
-    led_to (state ws l) l ts e (behind ws ts) is (behind_led ws l ts well (before_of ws l ts h))
+    led_to (state ws l) l ts e (tokens_after ws ts) is
+    (behind_led ws l ts well (before_of ws l ts h))
 
 -- the result of a phrase, by whether its first token is accepted
 abbrev next_if : Bool → Phrase → Placed → List Placed → Draft → Next
 next_if b ws p ts e =
-    (if b then behind ws ts else Err (misplaced p.line)) >>? λ rest. Ok (e, rest)
+    (if b then tokens_after ws ts else Err (misplaced p.line)) >>? λ rest. Ok (e, rest)
 
 -- a phrase whose first token is accepted
 pub first_led : (x y : State) (w : Want) (ws : Phrase) (p : Placed) (after : List Placed)

@@ -8,7 +8,7 @@ use Rattle.rule_lang.specs.declared.test_table.TestKind.{TestKind}
 use Rattle.rule_lang.specs.declared.token.Token.TheVariants as token
 use Rattle.rule_lang.specs.Grammar as g
 use Rattle.rule_lang.specs.Lexed.{Placed}
-use Rattle.rule_lang.specs.Phrases.{Phrase, Ends, Needs, Maybe, takes, behind}
+use Rattle.rule_lang.specs.Phrases.{Phrase, Ends, Needs, Maybe, takes, tokens_after}
 use Rattle.rule_lang.specs.Phrases.{count_phrase, offer_phrase, otherwise_phrase}
 use Rattle.rule_lang.specs.Tests.{rest_phrase, kind_of}
 use Rattle.rule_lang.specs.Tokens.{Token}
@@ -130,7 +130,7 @@ GoesOn AtEnd ts = Unit {0}
 
 pub record Completes (x : State) (ts : List Placed) : Type 0 where
   pub rest : List Placed
-  pub phrase : behind x.wants ts ≡ Ok rest
+  pub phrase : tokens_after x.wants ts ≡ Ok rest
   pub more : GoesOn x.place rest
 
 abbrev pub CompletesIf : Option State → List Placed → Type 0

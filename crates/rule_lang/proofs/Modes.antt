@@ -24,7 +24,7 @@ use Rattle.rule_lang.specs.Reader.Reading.{fact_next}
 use Rattle.rule_lang.specs.Reader.Reading.{closed_next, offered, offer_next, operator_next}
 use Rattle.rule_lang.specs.Reader.Reading.{next_in, next}
 use Rattle.rule_lang.specs.Reader.Reading.{is_done}
-use Rattle.rule_lang.specs.Says.{count_of}
+use Rattle.rule_lang.specs.Values.{count_of}
 use Rattle.rule_lang.specs.Tests.{row, rest_phrase, kind_of}
 use Rattle.rule_lang.specs.Tokens.{Token}
 use Rattle.rule_lang.proofs.Keeping.{mode_counted, mode_noted}
@@ -81,7 +81,7 @@ test_led : (s : AppShape) (d : Draft) (k : TestKind) (p : Placed) (after : List 
     k) (p ∷ after))
 test_led s d k p after is h =
     let n = length d.condition.below in
-    let said = (row k).says s (p ∷ after) in
+    let said = (row k).spelled s (p ∷ after) in
     let e = in_mode mode.Operator (with_test p.line said d) in
     let there = state_is e mode.Operator d.condition.below refl (below_tested p.line said d) in
     phrase_led (row k).word (rest_phrase k) (AtFact n) (AtOperator n) p after e is (word_step n k)

@@ -9,7 +9,7 @@ use Rattle.rule_lang.specs.Reader.Drafts.{Pending, deeper}
 use Rattle.rule_lang.specs.Lexed.{Placed}
 use Rattle.rule_lang.specs.Parts.{OrFault, ◌>>?◌, out_of_range}
 use Rattle.rule_lang.specs.Reader.Reading.{Draft, first_of, with_fault_if, too_deep}
-use Rattle.rule_lang.specs.Says as says
+use Rattle.rule_lang.specs.Values as spelled
 use Rattle.rule_lang.specs.Trees.{Tree}
 
 -- ---- the draft after a phrase
@@ -104,12 +104,13 @@ turned false a b = refl
 pub opener_noted : (d : Draft) (depth : ℕ) (p : Placed) (v : OrFault Tree) (adds : Adds) (e : Draft)
     → (d.noted ≡ None → d.condition.depth ≡ depth)
     → Noted (with_fault_if (too_deep d) (out_of_range p) d).noted v adds e
-    → Noted d.noted (says.within_depth depth p v) adds e
+    → Noted d.noted (spelled.within_depth depth p v) adds e
 opener_noted d depth p v adds e deep h =
     let x = out_of_range p in
     let first : Noted (first_if (too_deep d) d.noted x) v adds e = subst (λ (o : Option RuleFault).
     Noted o v adds e) (noted_is (too_deep d) x d) h in
-    revalued d.noted (if too_deep d then Err x else v) (says.within_depth depth p v) adds e (λ none.
+    revalued d.noted (if too_deep d then Err x else v) (spelled.within_depth depth p v) adds e
+    (λ none.
     turned {A = OrFault Tree} (nat_lt d.condition.depth 32) (Err x) v
     ∙ ap (λ (n : ℕ). if nat_lt n 32 then v else Err x) (deep none)) (opener_by (too_deep d) d.noted
     x v adds e first)

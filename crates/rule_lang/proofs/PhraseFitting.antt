@@ -16,14 +16,14 @@ use Rattle.rule_lang.specs.Reader.Drafts.{term_done, or_step, closed_to, is_empt
 use Rattle.rule_lang.specs.Fits.{step_fits, statement_fits, fits}
 use Rattle.rule_lang.specs.Lexed.{Placed}
 use Rattle.rule_lang.specs.Parts.{OrFault, ◌>>?◌, part, release, out_of_range}
-use Rattle.rule_lang.specs.Phrases.{Phrase, behind, misplaced, count_phrase}
+use Rattle.rule_lang.specs.Phrases.{Phrase, tokens_after, misplaced, count_phrase}
 use Rattle.rule_lang.specs.Phrases.{offer_phrase, otherwise_phrase}
 use Rattle.rule_lang.specs.Reader.Reading.{Draft, Next, with_fault_if, in_mode, with_condition}
 use Rattle.rule_lang.specs.Reader.Reading.{counted, statement_next, too_deep, with_test, test_next}
 use Rattle.rule_lang.specs.Reader.Reading.{fact_next, closed_next, offered, offer_next}
 use Rattle.rule_lang.specs.Reader.Reading.{operator_next, next_in, next, first_draft, verdict}
 use Rattle.rule_lang.specs.Reader.Reading.{Reads, ended, refused, goes_on}
-use Rattle.rule_lang.specs.Says.{count_of}
+use Rattle.rule_lang.specs.Values.{count_of}
 use Rattle.rule_lang.specs.Tests.{row, test_phrase, kind_of}
 use Rattle.rule_lang.specs.Tokens.{Token}
 use Rattle.rule_lang.proofs.Keeping.{same_ok, no_ok, bound}
@@ -38,9 +38,9 @@ kept : (s : AppShape) (p q : Draft × List Placed) → ◌≡◌ {A = Next} (Ok 
 kept s p q h k = subst (λ (r : Draft × List Placed). Fitting s r.0) (same_ok p q h) k
 
 phrase_kept : (s : AppShape) (ws : Phrase) (ts : List Placed) (d : Draft) (q : Draft × List
-    Placed) → (behind ws ts >>? λ rest. Ok (d, rest)) ≡ Ok q → Fitting s d → Fitting s q.0
+    Placed) → (tokens_after ws ts >>? λ rest. Ok (d, rest)) ≡ Ok q → Fitting s d → Fitting s q.0
 phrase_kept s ws ts d q h k =
-    let b = bound (behind ws ts) (λ rest. Ok (d, rest)) q h in
+    let b = bound (tokens_after ws ts) (λ rest. Ok (d, rest)) q h in
     kept s (d, b.value) q b.after k
 
 again : (s : AppShape) (d e : Draft) → e.statements ≡ d.statements
@@ -75,7 +75,7 @@ test_kept : (s : AppShape) (d : Draft) (line : ℕ) (o : Option TestKind) (ts : 
     (q : Draft × List Placed) → Fitting s d → test_next s d line o ts ≡ Ok q → Fitting s q.0
 test_kept s d line None ts q f h = absurd (no_ok (misplaced line) q h)
 test_kept s d line (Some k) ts q f h =
-    let said = (row k).says s ts in
+    let said = (row k).spelled s ts in
     let e = with_test line said d in
     let fit = tested_fits s line said d (by_kind s ts k) f in
     phrase_kept s (test_phrase k) ts (in_mode mode.Operator e) q h (again s e (in_mode

@@ -14,13 +14,14 @@ use Rattle.rule_lang.specs.Reader.Drafts.{Pending, begin, term_done, is_empty, o
 use Rattle.rule_lang.specs.Grammar as g
 use Rattle.rule_lang.specs.Lexed.{Placed}
 use Rattle.rule_lang.specs.Parts.{OrFault, ◌>>?◌, part, release}
-use Rattle.rule_lang.specs.Phrases.{behind, misplaced, count_phrase, offer_phrase, otherwise_phrase}
+use Rattle.rule_lang.specs.Phrases.{tokens_after, misplaced, count_phrase, offer_phrase}
+use Rattle.rule_lang.specs.Phrases.{otherwise_phrase}
 use Rattle.rule_lang.specs.Reader.Reading.{Draft, first_of, in_mode, with_condition}
 use Rattle.rule_lang.specs.Reader.Reading.{counted, unless_noted, offered, statement_next}
 use Rattle.rule_lang.specs.Reader.Reading.{operator_next}
 use Rattle.rule_lang.specs.Reader.Reading.{offer_next, first_draft, verdict, Reads, ended}
-use Rattle.rule_lang.specs.Says as says
-use Rattle.rule_lang.specs.Says.{count_of, steps_of}
+use Rattle.rule_lang.specs.Values as spelled
+use Rattle.rule_lang.specs.Values.{count_of, steps_of}
 use Rattle.rule_lang.specs.Tokens.{Token}
 use Rattle.rule_lang.specs.Trees.{Tree}
 use Rattle.rule_lang.proofs.Takes.{token_is}
@@ -55,7 +56,7 @@ counted_stated d (Err e) (Some x) is = ap (λ (o : Option RuleFault). first_of o
 counted_stated d (Err e) None is = ap (λ (o : Option RuleFault). first_of o e) is
 
 count_back : (s : AppShape) (d : Draft) (ts rest : List Placed) → d.mode ≡ mode.Statement
-    → behind count_phrase ts ≡ Ok rest → (w : OrFault (List Statement))
+    → tokens_after count_phrase ts ≡ Ok rest → (w : OrFault (List Statement))
     → Reads s (counted (count_of s ts) d) rest w → Reads s d ts w
 count_back s d [] rest m h w k = absurd (no_ok (misplaced 0) rest h)
 count_back s d (p ∷ ts) rest m h w k =
@@ -70,7 +71,8 @@ behind_offer s e ts = in_mode mode.Statement (offered (release s (part ts 1)) (w
     (term_done e.condition) e))
 
 offer_back : (s : AppShape) (d : Draft) (ts rest : List Placed) → d.mode ≡ mode.Operator
-    → d.condition.below ≡ [] → behind offer_phrase ts ≡ Ok rest → (w : OrFault (List Statement))
+    → d.condition.below ≡ [] → tokens_after offer_phrase ts ≡ Ok rest
+    → (w : OrFault (List Statement))
     → Reads s (behind_offer s d ts) rest w → Reads s d ts w
 offer_back s d [] rest m below h w k = absurd (no_ok (misplaced 0) rest h)
 offer_back s d (p ∷ ts) rest m below h w k =
@@ -121,7 +123,7 @@ at_when : (d : Draft) → IsAtCond (in_mode mode.Fact (with_condition begin d)) 
 at_when d = record { place = refl; deep = λ none. refl; top = λ none. refl }
 
 statement_reads : (s : AppShape) (d : Draft) {ts rest : List Placed} → (x : g.IsStatement ts rest)
-    → d.mode ≡ mode.Statement → StatementReached s d ts (says.statement_says s x) rest
+    → d.mode ≡ mode.Statement → StatementReached s d ts (spelled.statement_value s x) rest
 statement_reads s d (g.count {ts = ts} {rest = rest} h) m = record {
   last = counted (count_of s ts) d;
   place = mode_counted (count_of s ts) d ∙ m;
@@ -134,7 +136,7 @@ statement_reads s d (g.when {p = p} {ts = ts} {mid = mid} {rest = rest} is c h) 
     record {
       last = behind_offer s r.last mid;
       place = refl;
-      stated = offer_stated d.noted (says.cond_says s 0 c) (release s (part mid 1)) r.last
+      stated = offer_stated d.noted (spelled.cond_value s 0 c) (release s (part mid 1)) r.last
           d.statements r.statements r.noted;
       back = λ w k. going_on s d mode.Statement p ts (inner, ts) w m refl (ap (λ (t : Token).
           statement_next s d t p.line (p ∷ ts) ts) is) (r.back w (offer_back s r.last mid rest
@@ -144,7 +146,7 @@ statement_reads s d (g.when {p = p} {ts = ts} {mid = mid} {rest = rest} is c h) 
 -- ---- rules
 
 otherwise_back : (s : AppShape) (d : Draft) (ts rest : List Placed) → d.mode ≡ mode.Statement
-    → behind otherwise_phrase ts ≡ Ok rest → (w : OrFault (List Statement))
+    → tokens_after otherwise_phrase ts ≡ Ok rest → (w : OrFault (List Statement))
     → Reads s (in_mode mode.Done d) rest w → Reads s d ts w
 otherwise_back s d [] rest m h w k = absurd (no_ok (misplaced 0) rest h)
 otherwise_back s d (p ∷ ts) rest m h w k =
@@ -183,16 +185,17 @@ told_on None (Ok a) w before e h =
     ap (λ (o : Option RuleFault). told o e.statements w) h.0 ∙ told_none e a before w h.1
 
 rule_reads : (s : AppShape) (d : Draft) {ts : List Placed} → (r : g.IsRule ts)
-    → d.mode ≡ mode.Statement → Reads s d ts (told d.noted d.statements (says.rule_says s r))
+    → d.mode ≡ mode.Statement → Reads s d ts (told d.noted d.statements (spelled.rule_value s r))
 rule_reads s d (g.otherwise {ts = ts} {rest = rest} h) m =
     otherwise_back s d ts rest m h (told d.noted d.statements (Ok [])) (subst (λ (w : OrFault (List
     Statement)). Reads s (in_mode mode.Done d) rest w) (told_end (in_mode mode.Done d) d.noted)
     (ended refl))
 rule_reads s d (g.stmt {ts = ts} x r) m =
     let first = statement_reads s d x m in
-    let w = says.rule_says s r in
+    let w = spelled.rule_value s r in
     let later = rule_reads s first.last r first.place in
-    subst (λ (v : OrFault (List Statement)). Reads s d ts v) (told_on d.noted (says.statement_says s
+    subst (λ (v : OrFault (List Statement)). Reads s d ts v)
+    (told_on d.noted (spelled.statement_value s
     x) w d.statements first.last first.stated) (first.back (told first.last.noted
     first.last.statements w) later)
 
@@ -201,7 +204,8 @@ told_whole (Ok xs) = refl
 told_whole (Err e) = refl
 
 pub rule_spelled : (s : AppShape) (ts : List Placed) (r : g.IsRule ts)
-    → Reads s first_draft ts (says.rule_says s r)
+    → Reads s first_draft ts (spelled.rule_value s r)
 rule_spelled s ts r =
-    subst (λ (v : OrFault (List Statement)). Reads s first_draft ts v) (told_whole (says.rule_says s
+    subst (λ (v : OrFault (List Statement)). Reads s first_draft ts v)
+    (told_whole (spelled.rule_value s
     r)) (rule_reads s first_draft r refl)

@@ -15,7 +15,7 @@ use Rattle.rule_lang.specs.Lexed.{Placed}
 use Rattle.rule_lang.specs.Parts.{OrFault}
 use Rattle.rule_lang.specs.declared.test_table.TestKind.{TestKind}
 use Rattle.rule_lang.specs.declared.test_table.TestKind.TheVariants as the_kind
-use Rattle.rule_lang.specs.Phrases.{Phrase, Ends, Needs, Maybe, takes, behind, misplaced}
+use Rattle.rule_lang.specs.Phrases.{Phrase, Ends, Needs, Maybe, takes, tokens_after, misplaced}
 use Rattle.rule_lang.specs.Phrases.{count_phrase, offer_phrase, otherwise_phrase}
 use Rattle.rule_lang.specs.Tests.{row, rest_phrase, kind_of}
 use Rattle.rule_lang.specs.Tokens.{Token}
@@ -81,14 +81,14 @@ word_step n k = refl
 -- ---- one step back
 
 taken : (w : Want) (ws : Phrase) (p : Placed) (ts rest : List Placed) → takes w p.token ≡ true
-    → behind ws ts ≡ Ok rest → behind (Needs w ws) (p ∷ ts) ≡ Ok rest
+    → tokens_after ws ts ≡ Ok rest → tokens_after (Needs w ws) (p ∷ ts) ≡ Ok rest
 taken w ws p ts rest is h =
-    ap (λ (b : Bool). if b then behind ws ts else Err (misplaced p.line)) is ∙ h
+    ap (λ (b : Bool). if b then tokens_after ws ts else Err (misplaced p.line)) is ∙ h
 
 -- a word as a phrase's first token
 pub worded : (k : Keyword) (ws : Phrase) (p : Placed) (ts rest : List Placed)
-    → p.token ≡ token.Keyword k → behind ws ts ≡ Ok rest
-    → behind (Needs (want.Keyword k) ws) (p ∷ ts) ≡ Ok rest
+    → p.token ≡ token.Keyword k → tokens_after ws ts ≡ Ok rest
+    → tokens_after (Needs (want.Keyword k) ws) (p ∷ ts) ≡ Ok rest
 worded k ws p ts rest is h =
     taken (want.Keyword k) ws p ts rest (ap (takes (want.Keyword k)) is ∙ same_word k) h
 
@@ -231,7 +231,7 @@ needs_back false w ws l p ts e h = absurd h
 -- what follows an optional part
 abbrev pub given_or : Bool → (given without : Phrase) → Placed → List Placed
     → OrFault (List Placed)
-given_or b given without p ts = if b then behind given ts else behind without (p ∷ ts)
+given_or b given without p ts = if b then tokens_after given ts else tokens_after without (p ∷ ts)
 
 maybe_back : (b : Bool) (w : Want) (given without : Phrase) (l : Place) (p : Placed)
     (ts : List Placed) → takes w p.token ≡ b

@@ -9,7 +9,7 @@ use Rattle.rule_lang.specs.declared.phrase.Want.TheVariants as want
 use Rattle.rule_lang.specs.declared.token.Token.TheVariants as token
 use Rattle.rule_lang.specs.Grammar as g
 use Rattle.rule_lang.specs.Lexed.{Placed}
-use Rattle.rule_lang.specs.Phrases.{Phrase, Ends, Needs, Maybe, takes, behind, misplaced}
+use Rattle.rule_lang.specs.Phrases.{Phrase, Ends, Needs, Maybe, takes, tokens_after, misplaced}
 use Rattle.rule_lang.specs.Phrases.{count_phrase, offer_phrase, otherwise_phrase}
 use Rattle.rule_lang.specs.Tests.{row, rest_phrase}
 use Rattle.rule_lang.specs.Tokens.{Token}
@@ -27,9 +27,10 @@ pub record IsTaken (w : Want) (ws : Phrase) (ts rest : List Placed) : Type 0 whe
   pub after : List Placed
   pub is : ts ≡ first ∷ after
   pub fits : takes w first.token ≡ true
-  pub more : behind ws after ≡ Ok rest
+  pub more : tokens_after ws after ≡ Ok rest
 
-pub one_taken : (w : Want) (ws : Phrase) (ts rest : List Placed) → behind (Needs w ws) ts ≡ Ok rest
+pub one_taken : (w : Want) (ws : Phrase) (ts rest : List Placed) → tokens_after (Needs w ws) ts
+    ≡ Ok rest
     → IsTaken w ws ts rest
 one_taken w ws [] rest h = absurd (no_ok (misplaced 0) rest h)
 one_taken w ws (p ∷ ts) rest h = by_test (takes w p.token) refl
@@ -40,16 +41,17 @@ one_taken w ws (p ∷ ts) rest h = by_test (takes w p.token) refl
       after = ts;
       is = refl;
       fits = e;
-      more = sym (ap (λ (b : Bool). if b then behind ws ts else Err (misplaced p.line)) e) ∙ h;
+      more = sym (ap (λ (b : Bool). if b then tokens_after ws ts else Err (misplaced p.line)) e)
+          ∙ h;
     }
     by_test false e = absurd (no_ok (misplaced p.line) rest (sym (ap (λ (b : Bool). if b then
-        behind ws ts else Err (misplaced p.line)) e) ∙ h))
+        tokens_after ws ts else Err (misplaced p.line)) e) ∙ h))
 
 -- with an optional part
 given_runs : (b : Bool) (w : Want) (given without : Phrase) (l : Place) (p : Placed)
     (ts rest : List Placed) → takes w p.token ≡ b
-    → (behind given ts ≡ Ok rest → runs (state given l) ts ≡ runs (state Ends l) rest)
-    → (behind without (p ∷ ts) ≡ Ok rest
+    → (tokens_after given ts ≡ Ok rest → runs (state given l) ts ≡ runs (state Ends l) rest)
+    → (tokens_after without (p ∷ ts) ≡ Ok rest
     → runs (state without l) (p ∷ ts) ≡ runs (state Ends l) rest)
     → given_or b given without p ts ≡ Ok rest
     → option_and_then (λ y. runs y ts) (if b then Some (state given l) else wants_step without l
@@ -57,7 +59,7 @@ given_runs : (b : Bool) (w : Want) (given without : Phrase) (l : Place) (p : Pla
 given_runs true w given without l p ts rest e there left h = there h
 given_runs false w given without l p ts rest e there left h = left h
 
-phrase_runs : (ws : Phrase) (l : Place) (ts rest : List Placed) → behind ws ts ≡ Ok rest
+phrase_runs : (ws : Phrase) (l : Place) (ts rest : List Placed) → tokens_after ws ts ≡ Ok rest
     → runs (state ws l) ts ≡ runs (state Ends l) rest
 phrase_runs Ends l ts rest h = ap (runs (state Ends l)) (same_ok ts rest h)
 phrase_runs (Needs w ws) l ts rest h =
@@ -78,7 +80,8 @@ one_runs l x p ts is = ap (option_and_then (λ y. runs y ts)) is
 -- a phrase whose first token the machine takes in this state
 first_runs : (w : Want) (ws us : Phrase) (l m : Place) (ts rest : List Placed)
     → ((t : Token) → takes w t ≡ true → place_step l t ≡ Some (state us m))
-    → behind (Needs w ws) ts ≡ Ok rest → ((after : List Placed) → behind ws after ≡ Ok rest
+    → tokens_after (Needs w ws) ts ≡ Ok rest
+    → ((after : List Placed) → tokens_after ws after ≡ Ok rest
     → runs (state us m) after ≡ runs (state Ends m) rest)
     → runs (state Ends l) ts ≡ runs (state Ends m) rest
 first_runs w ws us l m ts rest fits h go =
@@ -94,7 +97,7 @@ token_is k t h = absurd cc
 -- a phrase that begins with a word
 word_runs : (k : Keyword) (ws : Phrase) (l m : Place) (ts rest : List Placed)
     → place_step l (token.Keyword k) ≡ Some (state ws m)
-    → behind (Needs (want.Keyword k) ws) ts ≡ Ok rest
+    → tokens_after (Needs (want.Keyword k) ws) ts ≡ Ok rest
     → runs (state Ends l) ts ≡ runs (state Ends m) rest
 word_runs k ws l m ts rest is h =
     first_runs (want.Keyword k) ws ws l m ts rest (λ t e. ap (place_step l) (token_is k t e) ∙ is) h

@@ -16,11 +16,11 @@ use Rattle.rule_lang.specs.declared.token.Token.TheVariants as token
 use Rattle.rule_lang.specs.Grammar as g
 use Rattle.rule_lang.specs.Lexed.{Placed}
 use Rattle.rule_lang.specs.Parts.{OrFault, ◌>>?◌}
-use Rattle.rule_lang.specs.Phrases.{Phrase, Needs, behind, misplaced, takes}
+use Rattle.rule_lang.specs.Phrases.{Phrase, Needs, tokens_after, misplaced, takes}
 use Rattle.rule_lang.specs.Reader.Reading.{Draft, first_of, with_fault_if, in_mode}
 use Rattle.rule_lang.specs.Reader.Reading.{with_test, test_next, fact_next}
 use Rattle.rule_lang.specs.Reader.Reading.{next_in, next, is_done, Reads, goes_on}
-use Rattle.rule_lang.specs.Says as says
+use Rattle.rule_lang.specs.Values as spelled
 use Rattle.rule_lang.specs.Tests.{row, rest_phrase}
 use Rattle.rule_lang.specs.Tokens.{Token}
 use Rattle.rule_lang.specs.Trees.{Tree, Leaf}
@@ -57,11 +57,12 @@ statements_noted false e d = refl
 -- ---- tests
 
 pub first_taken : (w : Want) (ws : Phrase) (p : Placed) (ts rest : List Placed)
-    → behind (Needs w ws) (p ∷ ts) ≡ Ok rest → takes w p.token ≡ true
+    → tokens_after (Needs w ws) (p ∷ ts) ≡ Ok rest → takes w p.token ≡ true
 first_taken w ws p ts rest h = by_test (takes w p.token) refl h
   where
     by_test : (b : Bool) → takes w p.token ≡ b
-        → (if b then behind ws ts else Err (misplaced p.line)) ≡ Ok rest → takes w p.token ≡ true
+        → (if b then tokens_after ws ts else Err (misplaced p.line)) ≡ Ok rest
+        → takes w p.token ≡ true
     by_test true e k = e
     by_test false e k = absurd (no_ok (misplaced p.line) rest k)
 
@@ -77,14 +78,14 @@ kind_next s d k p ts = refl
 
 pub test_read : (s : AppShape) (d : Draft) (p : Placed) (ts rest : List Placed)
     → (t : g.IsTest (p ∷ ts) rest)
-    → fact_next s d p.token p (p ∷ ts) ts ≡ Ok (after_test d p.line (says.test_says s t), rest)
+    → fact_next s d p.token p (p ∷ ts) ts ≡ Ok (after_test d p.line (spelled.test_value s t), rest)
 test_read s d p ts rest (g.of k h) =
     let word = want.Keyword (row k).word in
     let is = token_is (row k).word p.token (first_taken word (rest_phrase k) p ts rest h) in
     ap (λ (t : Token). fact_next s d t p (p ∷ ts) ts) is
     ∙ kind_next s d k p ts
     ∙ ap (λ (x : OrFault (List Placed)). x >>? λ us. Ok (
-      after_test d p.line ((row k).says s (p ∷ ts)),
+      after_test d p.line ((row k).spelled s (p ∷ ts)),
       us,
     )) h
 

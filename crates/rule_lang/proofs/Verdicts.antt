@@ -12,7 +12,7 @@ use Rattle.rule_lang.specs.Parts.{OrFault}
 use Rattle.rule_lang.specs.Reader.Reading.{Draft, is_done, Reads, ended, refused, goes_on}
 use Rattle.rule_lang.specs.Reader.Reading.{first_draft}
 use Rattle.rule_lang.specs.Phrases.{misplaced}
-use Rattle.rule_lang.specs.Says.{rule_says}
+use Rattle.rule_lang.specs.Values.{rule_value}
 use Rattle.rule_lang.specs.Tokens.{Text}
 use Rattle.rule_lang.specs.Verdicts.{IsVerdict, too_long, no_token, no_rule, a_rule}
 use Rattle.rule_lang.proofs.Keeping.{same_ok, no_ok}
@@ -131,7 +131,7 @@ by_outcome : (s : AppShape) (text : Text) (ts : List Placed) (v : OrFault (List 
     → IsVerdict s text v
 by_outcome s text ts v short lexed reads (rule r) =
     subst (λ (w : OrFault (List Statement)). IsVerdict s text w) (reads_once s first_draft ts
-    (rule_says s r) v (rule_spelled s ts r) reads) (a_rule short lexed r)
+    (rule_value s r) v (rule_spelled s ts r) reads) (a_rule short lexed r)
 by_outcome s text ts v short lexed reads (wrong before after p whole begins stops is) =
     subst (λ (w : OrFault (List Statement)). IsVerdict s text w) (sym is) (no_rule before after p
     short (lexed ∙ ap (λ (xs : List Placed). Ok xs) whole) begins stops)

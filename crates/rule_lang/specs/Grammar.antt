@@ -17,12 +17,13 @@ use Rattle.rule_lang.specs.declared.keyword.Keyword.TheVariants as keyword
 use Rattle.rule_lang.specs.declared.test_table.TestKind.{TestKind}
 use Rattle.rule_lang.specs.declared.token.Token.TheVariants as token
 use Rattle.rule_lang.specs.Lexed.{Placed}
-use Rattle.rule_lang.specs.Phrases.{Phrase, behind, count_phrase, offer_phrase, otherwise_phrase}
+use Rattle.rule_lang.specs.Phrases.{Phrase, tokens_after, count_phrase, offer_phrase}
+use Rattle.rule_lang.specs.Phrases.{otherwise_phrase}
 use Rattle.rule_lang.specs.Tests.{test_phrase}
 
 -- a phrase: one token for each of its places, in order
 abbrev pub IsPhrase : Phrase → List Placed → List Placed → Type 0
-IsPhrase p ts rest = behind p ts ≡ Ok rest
+IsPhrase p ts rest = tokens_after p ts ≡ Ok rest
 
 -- a test of some kind, by the table of tests
 pub data IsTest : List Placed → List Placed → Type 0 where

@@ -13,6 +13,6 @@ pub mod Phrases
 pub mod Parts
 pub mod Tests
 pub mod Grammar
-pub mod Says
+pub mod Values
 pub mod Verdicts
 pub mod Texts

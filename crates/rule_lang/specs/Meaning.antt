@@ -63,14 +63,14 @@ remainder (Some m) n = n % m
 -- it makes a choice, or sends an operation to a cell and continues by the reply
 pub data Behaviour : Type 0 where
   Chooses : ℕ → Behaviour
-  Asks : (cell : ℕ) → CellOp → (ℕ → Behaviour) → Behaviour
+  Operates : (cell : ℕ) → CellOp → (ℕ → Behaviour) → Behaviour
 
 -- it makes exactly these events, given their replies, and then this choice
 abbrev pub HasTrace : Behaviour → List CellEvent → ℕ → Type 0
 HasTrace (Chooses k) [] choice = k ≡ choice
 HasTrace (Chooses k) (e ∷ es) choice = ⊥
-HasTrace (Asks cell op next) [] choice = ⊥
-HasTrace (Asks cell op next) (e ∷ es) choice =
+HasTrace (Operates cell op next) [] choice = ⊥
+HasTrace (Operates cell op next) (e ∷ es) choice =
     (e.cell ≡ cell) × (e.op ≡ op) × (e.reply < 2 ^ 64) × HasTrace (next e.reply) es choice
 
 -- ---- tests and conditions
@@ -92,14 +92,14 @@ cell_used s (test.Take name index) = Some (cell_of (array_named name s.arrays) i
 cell_used s t = None
 
 -- one Add of 1 to the cell, and the continuation on its reply; without a cell the reply is 0
-abbrev pub asks_then : Option ℕ → (ℕ → Behaviour) → Behaviour
-asks_then (Some cell) next = Asks cell (Add 1) next
-asks_then None next = next 0
+abbrev pub add_one_then : Option ℕ → (ℕ → Behaviour) → Behaviour
+add_one_then (Some cell) next = Operates cell (Add 1) next
+add_one_then None next = next 0
 
 -- a test with the continuations if it holds and if it fails
 abbrev pub test_then : Attributes → AppShape → the_test.Test → Behaviour → Behaviour → Behaviour
 test_then a s t met unmet =
-    asks_then (cell_used s t) (λ reply. if test_holds a s reply t then met else unmet)
+    add_one_then (cell_used s t) (λ reply. if test_holds a s reply t then met else unmet)
 
 -- a condition, evaluated from left to right until it is decided, with the continuations if it holds
 -- and if it fails
@@ -124,6 +124,6 @@ decide_steps a s steps met unmet = decide_one a s (trees_from [] steps) met unme
 abbrev pub behaviour : Attributes → AppShape → List Statement → Behaviour
 behaviour a s [] = Chooses 0
 behaviour a s (Count name index ∷ rest) =
-    Asks (cell_of (array_named name s.arrays) index) (Add 1) (λ reply. behaviour a s rest)
+    Operates (cell_of (array_named name s.arrays) index) (Add 1) (λ reply. behaviour a s rest)
 behaviour a s (When steps release ∷ rest) =
     decide_steps a s steps (Chooses release) (behaviour a s rest)

@@ -91,10 +91,11 @@ misplaced line = fault.At line kind.Shape
 
 -- the tokens after a phrase, or its first misplaced token; an optional part is present if its first
 -- token is. `End` is the last token, and no phrase continues after it.
-abbrev pub behind : Phrase → List Placed → Result (List Placed) RuleFault
-behind Ends ts = Ok ts
-behind (Needs w ws) [] = Err (misplaced 0)
-behind (Needs w ws) (t ∷ ts) = if takes w t.token then behind ws ts else Err (misplaced t.line)
-behind (Maybe w given without) [] = Err (misplaced 0)
-behind (Maybe w given without) (t ∷ ts) =
-    if takes w t.token then behind given ts else behind without (t ∷ ts)
+abbrev pub tokens_after : Phrase → List Placed → Result (List Placed) RuleFault
+tokens_after Ends ts = Ok ts
+tokens_after (Needs w ws) [] = Err (misplaced 0)
+tokens_after (Needs w ws) (t ∷ ts) = if takes w t.token then tokens_after ws ts else Err
+    (misplaced t.line)
+tokens_after (Maybe w given without) [] = Err (misplaced 0)
+tokens_after (Maybe w given without) (t ∷ ts) =
+    if takes w t.token then tokens_after given ts else tokens_after without (t ∷ ts)

@@ -79,7 +79,7 @@ take_test s ts =
 pub record TestRow : Type 0 where
   pub word : Keyword
   pub wants : List Want
-  pub says : AppShape → List Placed → OrFault Test
+  pub spelled : AppShape → List Placed → OrFault Test
 
 -- for each kind of test its first word, what follows it, and the test that its tokens spell
 abbrev pub row : TestKind → TestRow
@@ -87,43 +87,43 @@ abbrev pub row : TestKind → TestRow
 row the_kind.Version = record {
   word = keyword.Version;
   wants = want.Comparison ∷ want.Version ∷ [];
-  says = λ s ts. version_test ts;
+  spelled = λ s ts. version_test ts;
 }
 -- "bucket" [ "(" num ")" ] [ "mod" num ] rel num
 row the_kind.Bucket = record {
   word = keyword.Bucket;
   wants = want.Salt ∷ want.Modulus ∷ want.Comparison ∷ want.Number ∷ [];
-  says = λ s ts. bucket_test ts;
+  spelled = λ s ts. bucket_test ts;
 }
 -- "today" rel num
 row the_kind.Today = record {
   word = keyword.Today;
   wants = want.Comparison ∷ want.Number ∷ [];
-  says = λ s ts. today_test ts;
+  spelled = λ s ts. today_test ts;
 }
 -- "installed" rel num
 row the_kind.Installed = record {
   word = keyword.Installed;
   wants = want.Comparison ∷ want.Number ∷ [];
-  says = λ s ts. installed_test ts;
+  spelled = λ s ts. installed_test ts;
 }
 -- "flag" name
 row the_kind.Flag = record {
   word = keyword.Flag;
   wants = want.Name ∷ [];
-  says = λ s ts. flag_test ts;
+  spelled = λ s ts. flag_test ts;
 }
 -- "attr" name "is" text; the name may be the word `version`
 row the_kind.Attr = record {
   word = keyword.Attr;
   wants = want.Attribute ∷ want.Keyword keyword.Is ∷ want.Text ∷ [];
-  says = λ s ts. attr_test ts;
+  spelled = λ s ts. attr_test ts;
 }
 -- "take" "(" name "," num ")"
 row the_kind.Take = record {
   word = keyword.Take;
   wants = want.Open ∷ want.Name ∷ want.Comma ∷ want.Number ∷ want.Close ∷ [];
-  says = λ s ts. take_test s ts;
+  spelled = λ s ts. take_test s ts;
 }
 
 -- all places of a test, and those after its first word

@@ -12,7 +12,7 @@ use Rattle.rule_lang.specs.Grammar.{IsRule, Begins}
 use Rattle.rule_lang.specs.Lexed.{Placed, tokens_in}
 use Rattle.rule_lang.specs.Parts.{OrFault}
 use Rattle.rule_lang.specs.Phrases.{misplaced}
-use Rattle.rule_lang.specs.Says.{rule_says}
+use Rattle.rule_lang.specs.Values.{rule_value}
 use Rattle.rule_lang.specs.Tokens.{Text}
 
 -- the rule that a text spells, or the fault that counts
@@ -25,7 +25,7 @@ pub data IsVerdict (s : AppShape) (text : Text) : OrFault (List Statement) → T
       → tokens_in text ≡ Ok (before ++ (p ∷ after)) → Begins before
       → (Begins (before ++ (p ∷ [])) → ⊥) → IsVerdict s text (Err (misplaced p.line))
   a_rule : {ts : List Placed} → length text ≤ 65536 → tokens_in text ≡ Ok ts → (r : IsRule ts)
-      → IsVerdict s text (rule_says s r)
+      → IsVerdict s text (rule_value s r)
 
 -- the fault that counts, or a failed allocation
 abbrev pub IsRuleFault : AppShape → Text → RuleFault → Type 0

@@ -99,14 +99,16 @@ pub fn ended() -> RuleFault
 }
 
 // The tokens after one that is accepted; or L2 at another token.
-fn behind_one<'t, 'a>(
+fn after_one<'t, 'a>(
     want: Want,
     tokens: &'t [Placed<&'a str>],
 ) -> Result<&'t [Placed<&'a str>], RuleFault>
-    ensures rest { IfOk result (λ rest. (p : phrases.Phrase) → phrases.behind (phrases.Needs want p)
-        (placed_all tokens.now) ≡ phrases.behind p (placed_all rest.now)) }
+    ensures rest { IfOk result
+        (λ rest. (p : phrases.Phrase) → phrases.tokens_after (phrases.Needs want p)
+        (placed_all tokens.now) ≡ phrases.tokens_after p (placed_all rest.now)) }
     ensures shorter { IfOk result (λ rest. length rest.now + 1 ≤ length tokens.now) }
-    ensures fault { IfErr result (λ e. (p : phrases.Phrase) → phrases.behind (phrases.Needs want p)
+    ensures fault { IfErr result
+        (λ e. (p : phrases.Phrase) → phrases.tokens_after (phrases.Needs want p)
         (placed_all tokens.now) ≡ Err e) }
 {
     let [placed, after @ ..] = tokens else {
@@ -120,12 +122,12 @@ fn behind_one<'t, 'a>(
 }
 
 // The tokens after `(`, a number and `)`, or all tokens if the first isn't `(`.
-fn behind_salt<'t, 'a>(tokens: &'t [Placed<&'a str>]) -> Result<&'t [Placed<&'a str>], RuleFault>
-    ensures rest { IfOk result (λ rest. (ws : List Want) → phrases.behind (phrases.phrase_of
-        (Want.Salt ∷ ws)) (placed_all tokens.now) ≡ phrases.behind (phrases.phrase_of ws)
+fn after_salt<'t, 'a>(tokens: &'t [Placed<&'a str>]) -> Result<&'t [Placed<&'a str>], RuleFault>
+    ensures rest { IfOk result (λ rest. (ws : List Want) → phrases.tokens_after (phrases.phrase_of
+        (Want.Salt ∷ ws)) (placed_all tokens.now) ≡ phrases.tokens_after (phrases.phrase_of ws)
         (placed_all rest.now)) }
     ensures shorter { IfOk result (λ rest. length rest.now ≤ length tokens.now) }
-    ensures fault { IfErr result (λ e. (ws : List Want) → phrases.behind (phrases.phrase_of
+    ensures fault { IfErr result (λ e. (ws : List Want) → phrases.tokens_after (phrases.phrase_of
         (Want.Salt ∷ ws)) (placed_all tokens.now) ≡ Err e) }
 {
     let [open, inside @ ..] = tokens else {
@@ -150,12 +152,12 @@ fn behind_salt<'t, 'a>(tokens: &'t [Placed<&'a str>]) -> Result<&'t [Placed<&'a 
 }
 
 // The tokens after `mod` and a number, or all tokens if the first isn't `mod`.
-fn behind_modulus<'t, 'a>(tokens: &'t [Placed<&'a str>]) -> Result<&'t [Placed<&'a str>], RuleFault>
-    ensures rest { IfOk result (λ rest. (ws : List Want) → phrases.behind (phrases.phrase_of
-        (Want.Modulus ∷ ws)) (placed_all tokens.now) ≡ phrases.behind (phrases.phrase_of ws)
+fn after_modulus<'t, 'a>(tokens: &'t [Placed<&'a str>]) -> Result<&'t [Placed<&'a str>], RuleFault>
+    ensures rest { IfOk result (λ rest. (ws : List Want) → phrases.tokens_after (phrases.phrase_of
+        (Want.Modulus ∷ ws)) (placed_all tokens.now) ≡ phrases.tokens_after (phrases.phrase_of ws)
         (placed_all rest.now)) }
     ensures shorter { IfOk result (λ rest. length rest.now ≤ length tokens.now) }
-    ensures fault { IfErr result (λ e. (ws : List Want) → phrases.behind (phrases.phrase_of
+    ensures fault { IfErr result (λ e. (ws : List Want) → phrases.tokens_after (phrases.phrase_of
         (Want.Modulus ∷ ws)) (placed_all tokens.now) ≡ Err e) }
 {
     let [word, more @ ..] = tokens else {
@@ -174,40 +176,42 @@ fn behind_modulus<'t, 'a>(tokens: &'t [Placed<&'a str>]) -> Result<&'t [Placed<&
 }
 
 // The tokens after one place of a phrase.
-fn behind_place<'t, 'a>(
+fn after_place<'t, 'a>(
     want: Want,
     tokens: &'t [Placed<&'a str>],
 ) -> Result<&'t [Placed<&'a str>], RuleFault>
-    ensures rest { IfOk result (λ rest. (ws : List Want) → phrases.behind (phrases.phrase_of
-        (want ∷ ws)) (placed_all tokens.now) ≡ phrases.behind (phrases.phrase_of ws)
+    ensures rest { IfOk result (λ rest. (ws : List Want) → phrases.tokens_after (phrases.phrase_of
+        (want ∷ ws)) (placed_all tokens.now) ≡ phrases.tokens_after (phrases.phrase_of ws)
         (placed_all rest.now)) }
     ensures shorter { IfOk result (λ rest. length rest.now + phrases.fewest_at want
         ≤ length tokens.now) }
-    ensures fault { IfErr result (λ e. (ws : List Want) → phrases.behind (phrases.phrase_of
+    ensures fault { IfErr result (λ e. (ws : List Want) → phrases.tokens_after (phrases.phrase_of
         (want ∷ ws)) (placed_all tokens.now) ≡ Err e) }
 {
     match want {
-        Want::Salt => behind_salt(tokens),
-        Want::Modulus => behind_modulus(tokens),
-        want => behind_one(want, tokens),
+        Want::Salt => after_salt(tokens),
+        Want::Modulus => after_modulus(tokens),
+        want => after_one(want, tokens),
     }
 }
 
 /// The tokens after a phrase, or L2 at the first token that doesn't belong to it. It recurses once
 /// for each place of the phrase.
-pub fn behind<'t, 'a>(
+pub fn tokens_after<'t, 'a>(
     wants: &[Want],
     tokens: &'t [Placed<&'a str>],
 ) -> Result<&'t [Placed<&'a str>], RuleFault>
-    ensures rest { IfOk result (λ rest. phrases.behind (phrases.phrase_of wants.now) (placed_all
+    ensures rest { IfOk result
+        (λ rest. phrases.tokens_after (phrases.phrase_of wants.now) (placed_all
         tokens.now) ≡ Ok (placed_all rest.now)) }
     ensures shorter { IfOk result (λ rest. length rest.now + phrases.fewest wants.now
         ≤ length tokens.now) }
-    ensures fault { IfErr result (λ e. phrases.behind (phrases.phrase_of wants.now) (placed_all
+    ensures fault { IfErr result
+        (λ e. phrases.tokens_after (phrases.phrase_of wants.now) (placed_all
         tokens.now) ≡ Err e) }
 {
     let [want, more @ ..] = wants else {
         return Ok(tokens);
     };
-    behind(more, behind_place(*want, tokens)?)
+    tokens_after(more, after_place(*want, tokens)?)
 }

@@ -19,7 +19,7 @@ use crate::keyword::Keyword;
 use crate::lexer::Placed;
 use crate::part::{out_of_range, part, release};
 use crate::pending::{self, MOST_DEPTH};
-use crate::phrase::{OFFER, behind, ended, misplaced};
+use crate::phrase::{OFFER, ended, misplaced, tokens_after};
 use crate::rule::Rule;
 use crate::rule_fault::RuleFault;
 use crate::statements::read_statement;
@@ -47,7 +47,8 @@ fn read_test<'a>(
     line: usize,
     tokens: &[Placed<&'a str>],
 ) -> Result<(), RuleFault>
-    ensures { Makes result (draft_as_lists draft.new) (reading.with_test line ((tests.row kind).says
+    ensures { Makes result (draft_as_lists draft.new)
+        (reading.with_test line ((tests.row kind).spelled
         shape.now (placed_all tokens.now)) (draft_as_lists draft.old)) }
 {
     match test_of(alloc, shape, kind, tokens) {
@@ -94,7 +95,7 @@ fn read_fact<'t, 'a>(
             let Some(kind) = kind_of(token) else {
                 return Err(misplaced(first));
             };
-            let rest = behind(wants_of(kind), tokens)?;
+            let rest = tokens_after(wants_of(kind), tokens)?;
             read_test(alloc, shape, draft, kind, first.line, tokens)?;
             draft.mode = Mode::Operator;
             Ok(rest)
@@ -160,7 +161,7 @@ fn read_operator<'t, 'a>(
             if !pending::end(&mut draft.condition)? {
                 return Err(misplaced(first));
             }
-            let rest = behind(&OFFER, tokens)?;
+            let rest = tokens_after(&OFFER, tokens)?;
             read_offer(alloc, shape, draft, tokens)?;
             draft.mode = Mode::Statement;
             Ok(rest)
@@ -208,8 +209,8 @@ fn advance<'a>(
     ensures further { IfOk result (λ p. (place < p) × (p ≤ length tokens.now)) }
 {
     let (_, rest) = tokens.split_at(place);
-    let behind = read_next(alloc, shape, draft, rest)?;
-    Ok(tokens.len() - behind.len())
+    let tokens_after = read_next(alloc, shape, draft, rest)?;
+    Ok(tokens.len() - tokens_after.len())
 }
 
 fn is_done(mode: Mode) -> bool
@@ -231,7 +232,7 @@ pub fn read<'a>(alloc: Global, shape: &Shape, tokens: &[Placed<&'a str>]) -> Res
     let mut place = 0;
     while !is_done(draft.mode) {
         match advance(alloc, shape, &mut draft, tokens, place) {
-            Ok(behind) => place = behind,
+            Ok(tokens_after) => place = tokens_after,
             Err(fault) => return Err(fault),
         }
     }

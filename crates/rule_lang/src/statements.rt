@@ -3,7 +3,7 @@
 ghost use Rattle.std.specs.Prelude.{◌≡◌, ◌<◌, length, IfOk, IfErr, Ok};
 ghost use Rattle.rule_lang.specs.Named.{token_named, placed_all, draft_as_lists};
 ghost use Rattle.rule_lang.specs.Reader.Reading as reading;
-ghost use Rattle.rule_lang.specs.Says as says;
+ghost use Rattle.rule_lang.specs.Values as spelled;
 ghost use Rattle.rule_lang.specs.Reader.Results.{IsFaultOf, ReadsTo, Makes};
 
 use crate::draft::{Draft, Mode, add, note};
@@ -12,7 +12,7 @@ use crate::keyword::Keyword;
 use crate::lexer::Placed;
 use crate::part::{array, index, part};
 use crate::pending;
-use crate::phrase::{COUNT, OTHERWISE, behind, misplaced};
+use crate::phrase::{COUNT, OTHERWISE, misplaced, tokens_after};
 use crate::rule::Statement;
 use crate::rule_fault::RuleFault;
 use crate::token::Token;
@@ -24,9 +24,9 @@ fn count_of<'a>(
     shape: &Shape,
     tokens: &[Placed<&'a str>],
 ) -> Result<Statement, RuleFault>
-    ensures statement { IfOk result (λ s. says.count_of shape.now (placed_all tokens.now) ≡ Ok
+    ensures statement { IfOk result (λ s. spelled.count_of shape.now (placed_all tokens.now) ≡ Ok
         s) }
-    ensures fault { IfErr result (IsFaultOf (says.count_of shape.now (placed_all tokens.now))) }
+    ensures fault { IfErr result (IsFaultOf (spelled.count_of shape.now (placed_all tokens.now))) }
 {
     let array = array(shape, false, part(tokens, 1))?;
     let index = index(array, part(tokens, 3))?;
@@ -41,7 +41,7 @@ fn read_count<'a>(
     draft: &mut Draft,
     tokens: &[Placed<&'a str>],
 ) -> Result<(), RuleFault>
-    ensures { Makes result (draft_as_lists draft.new) (reading.counted (says.count_of shape.now
+    ensures { Makes result (draft_as_lists draft.new) (reading.counted (spelled.count_of shape.now
         (placed_all tokens.now)) (draft_as_lists draft.old)) }
 {
     match count_of(alloc, shape, tokens) {
@@ -71,7 +71,7 @@ pub fn read_statement<'t, 'a>(
 {
     match first.token {
         Token::Keyword(Keyword::Count) => {
-            let rest = behind(&COUNT, tokens)?;
+            let rest = tokens_after(&COUNT, tokens)?;
             read_count(alloc, shape, draft, tokens)?;
             Ok(rest)
         }
@@ -81,7 +81,7 @@ pub fn read_statement<'t, 'a>(
             Ok(after)
         }
         Token::Keyword(Keyword::Otherwise) => {
-            let rest = behind(&OTHERWISE, tokens)?;
+            let rest = tokens_after(&OTHERWISE, tokens)?;
             draft.mode = Mode::Done;
             Ok(rest)
         }

@@ -69,13 +69,13 @@ fn bucket_test<'a>(tokens: &[Placed<&'a str>]) -> Result<Test, RuleFault>
     ensures { result ≡ tests.bucket_test (placed_all tokens.now) }
 {
     let salted = begins(Want::Salt, tokens, 1);
-    let behind_salt = past(salted, 3, 1);
-    let divided = begins(Want::Modulus, tokens, behind_salt);
-    let behind_modulus = past(divided, 2, behind_salt);
+    let after_salt = past(salted, 3, 1);
+    let divided = begins(Want::Modulus, tokens, after_salt);
+    let after_modulus = past(divided, 2, after_salt);
     let salt = optional_salt(salted, part(tokens, 2))?;
-    let modulus = optional_modulus(divided, part(tokens, behind_salt + 1))?;
-    let number = number(part(tokens, behind_modulus + 1))?;
-    let comparison = comparison(part(tokens, behind_modulus));
+    let modulus = optional_modulus(divided, part(tokens, after_salt + 1))?;
+    let number = number(part(tokens, after_modulus + 1))?;
+    let comparison = comparison(part(tokens, after_modulus));
     Ok(Test::Bucket {
         salt,
         modulus,
@@ -148,9 +148,9 @@ pub fn test_of<'a>(
     kind: TestKind,
     tokens: &[Placed<&'a str>],
 ) -> Result<Test, RuleFault>
-    ensures test { IfOk result (λ t. (tests.row kind).says shape.now (placed_all tokens.now)
+    ensures test { IfOk result (λ t. (tests.row kind).spelled shape.now (placed_all tokens.now)
         ≡ Ok t) }
-    ensures fault { IfErr result (IsFaultOf ((tests.row kind).says shape.now (placed_all
+    ensures fault { IfErr result (IsFaultOf ((tests.row kind).spelled shape.now (placed_all
         tokens.now))) }
 {
     match kind {

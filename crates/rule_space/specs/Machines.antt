@@ -10,7 +10,7 @@ use Rattle.attrs.specs.declared.facts.AppFacts.{AppFacts}
 use Rattle.attrs.specs.declared.facts.RequestFacts.{RequestFacts}
 use Rattle.cells.specs.Arrays.{AppShape}
 use Rattle.cells.specs.declared.array.CellArray.{CellArray}
-use Rattle.rule_lang.specs.Meaning.{Behaviour, Chooses, Asks, behaviour}
+use Rattle.rule_lang.specs.Meaning.{Behaviour, Chooses, Operates, behaviour}
 use Rattle.rule_lang.specs.declared.rule.Statement.{Statement}
 
 -- ---- machines
@@ -63,7 +63,7 @@ reply_after left taken = if nat_lt taken left then 0 else 2 ^ 63
 -- of `taken` before
 abbrev pub chooses_in : (left : ℕ → ℕ) → (taken : List ℕ) → Behaviour → ℕ
 chooses_in left taken (Chooses k) = k
-chooses_in left taken (Asks cell op next) =
+chooses_in left taken (Operates cell op next) =
     chooses_in left (cell ∷ taken) (next (reply_after (left cell) (takes_of cell taken)))
 
 -- one side of a comparison: the shape of an app in a manifest, the statements of its rule, and the

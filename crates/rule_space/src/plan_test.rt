@@ -170,7 +170,7 @@ fn takes_at(
     ensures { (x : Scope) → All (IsLine x) dimensions.now → IfSome result
         (DecidesAs (IsWithin x) dimensions.now shape.now (Test.Take name.now index)) }
 {
-    shape.keeps();
+    shape.invariant_law();
     match grant_at(dimensions, place, shape, name, index) {
         Some(cell) => Some(PlanTest::Takes {
             dimension: place,

@@ -52,7 +52,7 @@ impl App {
         ensures releases { result.releases ≡ releases.items }
     {
         let accepted: &Verified = &program;
-        accepted.keeps();
+        accepted.invariant_law();
         App {
             appid,
             program,
@@ -61,7 +61,7 @@ impl App {
     }
 
     /// Law: the invariant of an app.
-    pub fn keeps(&self)
+    pub fn invariant_law(&self)
         // The appid is valid. Every run of its program only does operations on counters that its
         // arrays allow, ends, and chooses 0 or one of its releases.
         ensures { IsApp self.now }

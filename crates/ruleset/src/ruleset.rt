@@ -53,7 +53,7 @@ impl Ruleset {
     }
 
     /// Law: the invariant of a ruleset.
-    pub fn keeps(&self)
+    pub fn invariant_law(&self)
         ensures once { ¬ HasDuplicate (appids_of self.now.apps) }
         // So an appid has one app. A run of its program only does operations on counters that the
         // program's arrays allow, and ends with 0 or a release of the app.
@@ -120,6 +120,6 @@ fn are_apps(apps: &[App])
     ensures { All IsApp apps.now }
 {
     for app in apps {
-        app.keeps();
+        app.invariant_law();
     }
 }

@@ -27,7 +27,7 @@ IsExcerptOf None None = Unit {0}
 IsExcerptOf text excerpt = ⊥
 
 -- the event of an installed load: its path, the generation that is then served, and its digest
-pub record TellsInstalledLoad (path : List ℕ) (generation : ℕ) (digest : Option (List ℕ))
+pub record DescribesInstalledLoad (path : List ℕ) (generation : ℕ) (digest : Option (List ℕ))
     (load : Load) : Type 0 where
   pub path_is : IsExcerpt path load.path
   pub generation_is : load.generation ≡ generation
@@ -36,7 +36,7 @@ pub record TellsInstalledLoad (path : List ℕ) (generation : ℕ) (digest : Opt
   pub cause_is : load.cause ≡ None
 
 -- the event of a refused load: its path, the text of the refusal, and the cause
-pub record TellsRefusedLoad (path text : List ℕ) (cause : Option (List ℕ)) (load : Load)
+pub record DescribesRefusedLoad (path text : List ℕ) (cause : Option (List ℕ)) (load : Load)
     : Type 0 where
   pub path_is : IsExcerpt path load.path
   pub generation_is : load.generation ≡ 0
@@ -45,22 +45,23 @@ pub record TellsRefusedLoad (path text : List ℕ) (cause : Option (List ℕ)) (
   pub cause_is : IsExcerptOf cause load.cause
 
 -- the line, with a header, of a load with this property
-pub record IsLoadLine (header : LineHeader) (Tells : Load → Type 0) (line : List ℕ) : Type 0 where
+pub record IsLoadLine (header : LineHeader) (Describes : Load → Type 0) (line : List ℕ)
+    : Type 0 where
   pub load : Load
-  pub tells : Tells load
+  pub describes : Describes load
   pub line_is : line ≡ event_line header (log.Load load)
 
 -- given the relation of a loader's faults to their causes, and their texts
 module _ {F : Type 0} (has_cause : F → Option (List ℕ) → Type 0)
     (fault_text : F → Option (List ℕ)) where
   -- the event of a load with this refusal: the refusal's text, as far as it is known, and its cause
-  pub record TellsReplyRefusal (path : List ℕ) (refused : OperatorRefusal F) (load : Load)
+  pub record DescribesReplyRefusal (path : List ℕ) (refused : OperatorRefusal F) (load : Load)
       : Type 0 where
     pub text : List ℕ
     pub cause : Option (List ℕ)
     pub text_is : IfSome (refusal_text fault_text refused) (λ known. text ≡ known)
     pub cause_is : IsCauseOf has_cause refused cause
-    pub tells : TellsRefusedLoad path text cause load
+    pub describes : DescribesRefusedLoad path text cause load
 
   -- the line of an operator's request for a load, by the reply: its generation and digest if it is
   -- installed, or why it is refused; other replies have no line
@@ -68,9 +69,9 @@ module _ {F : Type 0} (has_cause : F → Option (List ℕ) → Type 0)
       → Option (List ℕ) → Type 0
   IsLineOfReply header path digest (reply.Loaded generation) (Some line) =
       IsLoadLine header
-      (TellsInstalledLoad path generation (option_map encode_lower digest)) line
+      (DescribesInstalledLoad path generation (option_map encode_lower digest)) line
   IsLineOfReply header path digest (reply.Refused refused) (Some line) =
-      IsLoadLine header (TellsReplyRefusal path refused) line
+      IsLoadLine header (DescribesReplyRefusal path refused) line
   IsLineOfReply header path digest (reply.Lines lines) None = Unit {0}
   IsLineOfReply header path digest reply.Stopping None = Unit {0}
   IsLineOfReply header path digest other line = ⊥

@@ -15,7 +15,7 @@ digest_in = option_map (λ loaded. loaded.digest)
 
 -- the event of a server that starts: its manifest, the operator's port, and the digest of what it
 -- serves
-pub record TellsStart (server : Starting) (digest : Option (List ℕ)) (start : Start)
+pub record DescribesStart (server : Starting) (digest : Option (List ℕ)) (start : Start)
     : Type 0 where
   pub manifest_is : IsExcerpt server.manifest.now start.manifest
   pub operator_is : start.operator ≡ server.operator
@@ -25,7 +25,7 @@ pub record TellsStart (server : Starting) (digest : Option (List ℕ)) (start : 
 
 -- the event of a refused start: the manifest, the operator's port, the text of the refusal, and the
 -- cause
-pub record TellsRefusedStart (server : Starting) (text : List ℕ) (cause : Option (List ℕ))
+pub record DescribesRefusedStart (server : Starting) (text : List ℕ) (cause : Option (List ℕ))
     (start : Start) : Type 0 where
   pub manifest_is : IsExcerpt server.manifest.now start.manifest
   pub operator_is : start.operator ≡ server.operator
@@ -34,9 +34,9 @@ pub record TellsRefusedStart (server : Starting) (text : List ℕ) (cause : Opti
   pub cause_is : IsExcerptOf cause start.cause
 
 -- the line, at a time, of a server's start with this property
-pub record IsStartLine (time : Utc) (server : Starting) (Tells : Start → Type 0) (line : List ℕ)
+pub record IsStartLine (time : Utc) (server : Starting) (Describes : Start → Type 0) (line : List ℕ)
     : Type 0 where
   pub start : Start
-  pub tells : Tells start
+  pub describes : Describes start
   pub line_is :
       line ≡ event_line (record { time = time; port = server.port }) (log.Start start)

@@ -3,7 +3,8 @@
 ghost use Rattle.std.specs.Prelude.{◌≡◌, IfOk, IfSome, option_copied, option_map, string_bytes};
 ghost use Rattle.hex.specs.Hex.{encode_lower};
 ghost use Rattle.server_log.specs.Loads.{IsCauseOf, IsExcerptOf, IsLineOfReply, IsLoadLine};
-ghost use Rattle.server_log.specs.Loads.{TellsInstalledLoad, TellsReplyRefusal, TellsRefusedLoad};
+ghost use Rattle.server_log.specs.Loads.{DescribesInstalledLoad, DescribesReplyRefusal};
+ghost use Rattle.server_log.specs.Loads.{DescribesRefusedLoad};
 
 use crate::clock::seconds_from_now;
 use crate::log_queue::{LogPiece, LogQueue};
@@ -103,7 +104,7 @@ fn installed_line(
     generation: Generation,
     digest: Option<[u8; 32]>,
 ) -> Result<Vec<u8>, AllocError>
-    ensures { IfOk result (λ line. IsLoadLine header.now (TellsInstalledLoad path.now generation
+    ensures { IfOk result (λ line. IsLoadLine header.now (DescribesInstalledLoad path.now generation
         (option_map encode_lower digest)) line.items) }
 {
     let digest = digest_text(alloc, digest)?;
@@ -119,7 +120,7 @@ fn refused_line<L: Loader>(
     refusal: &OperatorRefusal<L::Fault>,
 ) -> Result<Vec<u8>, AllocError>
     ensures { IfOk result (λ line. IsLoadLine header.now
-        (TellsReplyRefusal L.has_cause L.Fault.output path.now refusal.now) line.items) }
+        (DescribesReplyRefusal L.has_cause L.Fault.output path.now refusal.now) line.items) }
 {
     let text = refusal.to_string(alloc)?;
     let load = refused(path, &text, cause_of(loader, refusal));
@@ -150,7 +151,7 @@ pub fn digest_text(alloc: Global, digest: Option<[u8; 32]>) -> Result<Option<Str
 
 // The event of an installed load.
 fn installed<'x>(path: &'x str, generation: Generation, digest: Option<&'x str>) -> Load<'x>
-    ensures { TellsInstalledLoad path.now generation (option_copied digest.entry) result }
+    ensures { DescribesInstalledLoad path.now generation (option_copied digest.entry) result }
 {
     Load {
         path: Excerpt::of(path),
@@ -163,7 +164,7 @@ fn installed<'x>(path: &'x str, generation: Generation, digest: Option<&'x str>)
 
 // The event of a refused load.
 fn refused<'x>(path: &'x str, refusal: &'x str, cause: Option<&'x str>) -> Load<'x>
-    ensures { TellsRefusedLoad path.now refusal.now (option_copied cause.entry) result }
+    ensures { DescribesRefusedLoad path.now refusal.now (option_copied cause.entry) result }
 {
     Load {
         path: Excerpt::of(path),

@@ -78,7 +78,7 @@ where
     }
     unwritten = write_totals(&rt, port, &tally, unwritten);
     if unwritten != 0 {
-        let _told = tell_unwritten(&rt, port, unwritten);
+        let _told = report_unwritten(&rt, port, unwritten);
     }
     drop(ending);
 }
@@ -120,7 +120,7 @@ fn write_piece<H>(rt: &H, port: u16, piece: &LogPiece, unwritten: u64) -> u64
 where
     H: AllocGlobal + Clock + LogOutput,
 {
-    if unwritten != 0 && !tell_unwritten(rt, port, unwritten) {
+    if unwritten != 0 && !report_unwritten(rt, port, unwritten) {
         return unwritten.saturating_add(piece.lines);
     }
     match rt.write_lines(&piece.text) {
@@ -131,7 +131,7 @@ where
 
 // Logs how many lines couldn't be written, of which the last may be cut. Returns whether that was
 // written.
-fn tell_unwritten<H>(rt: &H, port: u16, lines: u64) -> bool
+fn report_unwritten<H>(rt: &H, port: u16, lines: u64) -> bool
 where
     H: AllocGlobal + Clock + LogOutput,
 {

@@ -3,7 +3,8 @@
 
 ghost use Rattle.std.specs.Prelude.{◌≡◌, IfOk, IfSome, option_copied, option_map};
 ghost use Rattle.hex.specs.Hex.{encode_lower};
-ghost use Rattle.server_log.specs.Starts.{IsStartLine, TellsRefusedStart, TellsStart, digest_in};
+ghost use Rattle.server_log.specs.Starts.{DescribesRefusedStart, DescribesStart, IsStartLine};
+ghost use Rattle.server_log.specs.Starts.{digest_in};
 
 use crate::clock::utc_now;
 use crate::load_line::{digest_text, excerpt_of};
@@ -88,7 +89,8 @@ fn start_line(
     server: Starting<'_>,
     serves: Option<&LoadedRuleset>,
 ) -> Result<LogPiece, AllocError>
-    ensures line { IfOk result (λ piece. IsStartLine time.now server.entry (TellsStart server.entry
+    ensures line { IfOk result
+        (λ piece. IsStartLine time.now server.entry (DescribesStart server.entry
         (option_map encode_lower (digest_in (option_copied serves.entry)))) piece.text.items) }
     ensures one { IfOk result (λ piece. piece.lines ≡ 1) }
 {
@@ -125,7 +127,7 @@ fn refused_start_line<F: Display>(
 ) -> Result<Vec<u8>, AllocError>
     ensures { IfOk result (λ line. IfSome (F.output fault.now)
         (λ text. IsStartLine time.now server.entry
-        (TellsRefusedStart server.entry text (option_copied cause.entry)) line.items)) }
+        (DescribesRefusedStart server.entry text (option_copied cause.entry)) line.items)) }
 {
     let text = fault.to_string(alloc)?;
     let event = LogEvent::Start(refused(server, &text, cause));
@@ -137,7 +139,7 @@ fn refused_start_line<F: Display>(
 }
 
 fn started<'x>(server: Starting<'x>, digest: Option<&'x str>) -> Start<'x>
-    ensures { TellsStart server.entry (option_copied digest.entry) result }
+    ensures { DescribesStart server.entry (option_copied digest.entry) result }
 {
     Start {
         manifest: Excerpt::of(server.manifest),
@@ -149,7 +151,7 @@ fn started<'x>(server: Starting<'x>, digest: Option<&'x str>) -> Start<'x>
 }
 
 fn refused<'x>(server: Starting<'x>, refusal: &'x str, cause: Option<&'x str>) -> Start<'x>
-    ensures { TellsRefusedStart server.entry refusal.now (option_copied cause.entry) result }
+    ensures { DescribesRefusedStart server.entry refusal.now (option_copied cause.entry) result }
 {
     Start {
         manifest: Excerpt::of(server.manifest),

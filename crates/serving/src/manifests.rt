@@ -26,13 +26,13 @@ impl<'a, D> Manifests<'a, D> {
 
 impl<'a, D: Disk> Loader for Manifests<'a, D> {
     ghost use Rattle.std.specs.Prelude.{◌≡◌, option_map, string_bytes};
-    ghost use Rattle.load.specs.Cause.{LoadsTelling};
+    ghost use Rattle.load.specs.Cause.{LoadsWithCause};
 
     type Fault = LoadRefusal;
 
     ghost has_cause = { λ refusal told. told ≡ option_map string_bytes refusal.cause };
 
-    ghost loads = { λ manifests. LoadsTelling (D.known manifests.disk.now) };
+    ghost loads = { λ manifests. LoadsWithCause (D.known manifests.disk.now) };
 
     fn load(
         &self,

@@ -11,7 +11,7 @@ use Rattle.bpf_semantics.specs.Program.{ShapedProgram}
 use Rattle.ruleset.specs.Rules.{AppRule}
 use Rattle.simulate.specs.Clients.{IsSameButCohort, IsSameButApp, attributes, clients}
 use Rattle.simulate.specs.Clients.{in_bucket, requesting}
-use Rattle.simulate.specs.Course.{Chooses, InTurn, AsksForApp, AppByApp}
+use Rattle.simulate.specs.Course.{Chooses, InTurn, ChoosesForApp, AppByApp}
 use Rattle.simulate.specs.Course.InTurn.{none, next}
 use Rattle.simulate.specs.Course.AppByApp.{none as no_app, next as next_app}
 use Rattle.simulate.specs.declared.client.Client.{Client}
@@ -82,7 +82,7 @@ no_app_yet first old apps = record {
 pub one_app_more : (first now after : Client) (old between new : List ℕ) (apps : List AppRule)
     (i : ℕ) (app : AppRule) (chosen longer : List (List ℕ)) (choices : List ℕ)
     → IsAtApp first now old between apps i chosen → i < length apps → app ≡ get_or apps i app
-    → AsksForApp now app between choices new → IsSameButApp now after
+    → ChoosesForApp now app between choices new → IsSameButApp now after
     → longer ≡ chosen ++ choices ∷ []
     → IsAtApp first after old new apps (i + 1) longer
 one_app_more first now after old between new apps i app chosen longer choices so_far within found

@@ -56,7 +56,7 @@ module _ (apps : List AppRule) (appid : List ℕ) where
         record {
           app = app;
           found = sym at.same ∙ ap (λ (l : List AppRule). app_in l appid) is ∙ here;
-          stands = slice_get_read apps (length apps) place app refl inside
+          is_there = slice_get_read apps (length apps) place app refl inside
               (first ∙ get_or-drop place apps 0 app ∙ ap (λ i. get_or apps i app) same_place);
           within = inside;
         }

@@ -1,13 +1,13 @@
 -- The clients of a simulation: one in each bucket, which keeps the cohort that a server gave it.
 use Rattle.std.specs.Prelude.{◌≡◌, ℕ, List, Some}
 use Rattle.attrs.specs.Attributes.{Attributes}
-use Rattle.attrs.specs.Bucket.{told_cohort}
+use Rattle.attrs.specs.Bucket.{cohort_of_bucket}
 use Rattle.attrs.specs.Facts.{attributes_of}
 use Rattle.simulate.specs.declared.client.Client.{Client}
 
 -- the client of a bucket: it sends the bucket's cohort, and otherwise what all clients send
 abbrev pub in_bucket : Client → ℕ → Client
-in_bucket c bucket = record c { app = record c.app { cohort = Some (told_cohort bucket) } }
+in_bucket c bucket = record c { app = record c.app { cohort = Some (cohort_of_bucket bucket) } }
 
 -- a client that requests the app with an appid
 abbrev pub requesting : Client → List ℕ → Client

@@ -34,8 +34,8 @@ pub data InTurn (program : ShapedProgram) (client : ℕ → Attributes) (old : L
       → InTurn program client old (n + 1) (choices ++ choice ∷ []) new
 
 -- the choices of the clients of all buckets for an app
-abbrev pub AsksForApp : Client → AppRule → (old choices new : List ℕ) → Type 0
-AsksForApp client app old choices new =
+abbrev pub ChoosesForApp : Client → AppRule → (old choices new : List ℕ) → Type 0
+ChoosesForApp client app old choices new =
     InTurn app.program (clients (requesting client app.appid)) old bucket_count choices new
 
 -- the apps, in order: the clients' choices for each, and the values that they leave
@@ -44,7 +44,7 @@ pub data AppByApp (client : Client) (old : List ℕ)
   none : AppByApp client old [] [] old
   next : (apps : List AppRule) (chosen : List (List ℕ)) (between : List ℕ) (app : AppRule)
       (choices new : List ℕ) → AppByApp client old apps chosen between
-      → AsksForApp client app between choices new
+      → ChoosesForApp client app between choices new
       → AppByApp client old (apps ++ app ∷ []) (chosen ++ choices ∷ []) new
 
 -- a simulation: before the first app all counters are 0

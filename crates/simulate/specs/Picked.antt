@@ -15,7 +15,7 @@ pub record ArePlaces (first end : ℕ) (apps : List AppRule) : Type 0 where
 pub record IsPlaceOf (apps : List AppRule) (appid : List ℕ) (place : ℕ) : Type 0 where
   pub app : AppRule
   pub found : app_in apps appid ≡ Some app
-  pub stands : slice_get apps place ≡ Some app
+  pub is_there : slice_get apps place ≡ Some app
   pub within : place < length apps
 
 -- only the app with an appid, from a simulation of all apps; without such an app no app

@@ -20,7 +20,7 @@ impl Client {
     ghost use Rattle.simulate.specs.Clients.{IsSameButCohort, IsSameButApp};
 
     /// Changes the app for which the client requests an update.
-    pub(crate) fn ask_for(&mut self, alloc: Global, appid: &str) -> Result<(), AllocError>
+    pub(crate) fn set_appid(&mut self, alloc: Global, appid: &str) -> Result<(), AllocError>
         ensures asks { OnOk result (self.new ≡ requesting self.old appid.now) }
         ensures same { IsSameButApp self.old self.new }
     {
@@ -53,7 +53,7 @@ impl Client {
 
 // The cohort that a server gave to the client of a bucket: `b:` and four digits.
 fn cohort_of(alloc: Global, bucket: u16) -> Result<Text, AllocError>
-    ensures { IfOk result (λ text. text ≡ specs.told_cohort bucket) }
+    ensures { IfOk result (λ text. text ≡ specs.cohort_of_bucket bucket) }
 {
     let first = bucket / 1000 % 10;
     let second = bucket / 100 % 10;

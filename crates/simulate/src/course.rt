@@ -2,7 +2,7 @@
 
 ghost use Rattle.std.specs.Prelude.{◌≡◌, length, IfOk};
 ghost use Rattle.simulate.specs.Clients.{IsSameButApp};
-ghost use Rattle.simulate.specs.Course.{AsksForApp, IsSimulated};
+ghost use Rattle.simulate.specs.Course.{ChoosesForApp, IsSimulated};
 
 use crate::choices::Choices;
 use crate::client::Client;
@@ -36,7 +36,7 @@ pub fn simulate<O: Onlooker>(
     let apps = rules.apps();
     let mut chosen = Vec::with_capacity(alloc, apps.len())?;
     for app in apps {
-        let choices = ask_for_app(alloc, app, client, &cells, &mut pass)?;
+        let choices = choose_for_app(alloc, app, client, &cells, &mut pass)?;
         chosen.push(choices)?;
         onlooker.evaluated(chosen.len(), apps.len());
     }
@@ -44,7 +44,7 @@ pub fn simulate<O: Onlooker>(
 }
 
 // The clients' choices for an app.
-fn ask_for_app(
+fn choose_for_app(
     alloc: Global,
     app: &App,
     client: &mut Client,
@@ -52,9 +52,9 @@ fn ask_for_app(
     pass: &mut PlainPass,
 ) -> Result<Choices, AllocError>
     ensures choices { IfOk result (λ choices.
-        AsksForApp client.old app.now pass.old choices pass.new) }
+        ChoosesForApp client.old app.now pass.old choices pass.new) }
     ensures client { IsSameButApp client.old client.new }
 {
-    client.ask_for(alloc, app.appid())?;
+    client.set_appid(alloc, app.appid())?;
     run_all(alloc, app.program(), client, cells, pass)
 }

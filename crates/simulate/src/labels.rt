@@ -27,7 +27,7 @@ fn count_of(app: &App) -> usize
     ensures few { result ≤ 64 }
 {
     let program: &Verified = app.program();
-    program.keeps();
+    program.invariant_law();
     app.releases().len()
 }
 

@@ -28,13 +28,13 @@ pub fn moving_objects(
 {
     let none = Choices::none(alloc)?;
     let mut values = Vec::new(alloc);
-    push_kept(&mut values, now, next, &none)?;
+    push_tables_of_next(&mut values, now, next, &none)?;
     push_gone(&mut values, now, next, &none)?;
     Ok(values)
 }
 
 // The objects of the next ruleset's apps.
-fn push_kept(
+fn push_tables_of_next(
     values: &mut Vec<Value>,
     now: &Simulated,
     next: &Simulated,

@@ -36,12 +36,12 @@ pub fn push_moves(
     ensures { OnOk result (Puts text.old text.new (specs.moves_text now.now next.now)) }
 {
     let none = Choices::none(alloc)?;
-    push_kept(alloc, text, now, next, &none)?;
+    push_tables_of_next(alloc, text, now, next, &none)?;
     push_gone(alloc, text, now, next, &none)
 }
 
 // The tables of the apps of the next ruleset.
-fn push_kept(
+fn push_tables_of_next(
     alloc: Global,
     text: &mut String,
     now: &Simulated,

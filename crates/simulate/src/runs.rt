@@ -30,7 +30,7 @@ pub(crate) fn run_all(
     let mut bucket = 0;
     while bucket < Bucket::COUNT {
         client.move_to(alloc, bucket)?;
-        let choice = ask(alloc, program, client, cells, pass)?;
+        let choice = choose(alloc, program, client, cells, pass)?;
         choices.push(choice)?;
         bucket += 1;
     }
@@ -38,7 +38,7 @@ pub(crate) fn run_all(
 }
 
 // The choice of a client's run.
-fn ask(
+fn choose(
     alloc: Global,
     program: &Arc<Verified>,
     client: &Client,
@@ -57,7 +57,7 @@ fn ask(
         return Err(AllocError);
     };
     let accepted: &Verified = &program;
-    accepted.keeps();
+    accepted.invariant_law();
     let (choice, _count) = Run::start(program, attrs).run(cells, pass);
     Ok(choice)
 }

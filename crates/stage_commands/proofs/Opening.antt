@@ -1,10 +1,10 @@
 -- What is gathered and judged may be compared.
 use Rattle.std.proofs.Common.{ℕ, List, [], Some}
 use Rattle.bounded_files.specs.Files.{Gives, KnownFiles, regular_files}
-use Rattle.load.specs.Folder.{known_beside}
+use Rattle.load.specs.Folder.{files_beside}
 use Rattle.load.specs.Sources.{AreSources}
 use Rattle.load.specs.declared.sources.Sources.{Sources}
-use Rattle.stage_commands.specs.Apps.{IsGathered}
+use Rattle.stage_commands.specs.Apps.{IsCollected}
 use Rattle.app_rules.specs.Rules.{AreRulesOf}
 use Rattle.load.specs.Judged.{AreJudged}
 use Rattle.manifest_diff.specs.Opened.{AreKept}
@@ -12,11 +12,11 @@ use Rattle.manifest_diff.specs.declared.opened.OpenedBoth.{OpenedBoth}
 use Rattle.manifest_diff.specs.declared.opened.OpenedManifest.{OpenedManifest}
 use Rattle.stage_commands.specs.Compared.{IsJudged}
 
-pub is_gathered : (known : KnownFiles) (path bytes : List ℕ) (sources : Sources)
+pub is_collected : (known : KnownFiles) (path bytes : List ℕ) (sources : Sources)
     → Gives (regular_files known) path (Some bytes)
-    → AreSources (known_beside known path) [] bytes sources
-    → IsGathered known path bytes sources
-is_gathered known path bytes sources given is = record { given = given; are_sources = is }
+    → AreSources (files_beside known path) [] bytes sources
+    → IsCollected known path bytes sources
+is_collected known path bytes sources given is = record { given = given; are_sources = is }
 
 pub is_judged : (opened : OpenedManifest)
     → AreJudged opened.sources.apps.items opened.programs.items

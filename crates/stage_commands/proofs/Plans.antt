@@ -8,7 +8,7 @@ use Rattle.stage_folder.specs.Folders.{GivesFile, KnownFolder}
 use Rattle.staging.specs.Halts.{Halts, halting_file}
 use Rattle.staging.specs.Raises.{IsRaised}
 use Rattle.staging.specs.Steps.{ReplacedFile}
-use Rattle.stage_commands.specs.Apps.{IsAppOf, IsGathered, ReplacesBy, app_named}
+use Rattle.stage_commands.specs.Apps.{IsAppOf, IsCollected, ReplacesBy, app_named}
 use Rattle.stage_commands.specs.Stages.{PlansHalt, PlansHaltOf, PlansRaise, PlansRaiseOf}
 
 pub halt_of : (folder : KnownFolder) (app : AppSources) (found : Option (List ℕ))
@@ -25,18 +25,18 @@ halt_of folder app found bytes file is halts given by = record {
 }
 
 is_app : (known : KnownFiles) (manifest appid bytes : List ℕ) (sources : Sources)
-    (app : AppSources) → IsGathered known manifest bytes sources
+    (app : AppSources) → IsCollected known manifest bytes sources
     → app_named sources.apps.items appid ≡ Some app → IsAppOf known manifest appid app
-is_app known manifest appid bytes sources app gathered found =
-    record { bytes = bytes; sources = sources; gathered = gathered; found = found }
+is_app known manifest appid bytes sources app collected found =
+    record { bytes = bytes; sources = sources; collected = collected; found = found }
 
 pub halt : (known : KnownFiles) (manifest appid bytes : List ℕ) (sources : Sources)
     (app : AppSources) (folder : KnownFolder) (file : Option ReplacedFile)
-    → IsGathered known manifest bytes sources → app_named sources.apps.items appid ≡ Some app
+    → IsCollected known manifest bytes sources → app_named sources.apps.items appid ≡ Some app
     → PlansHaltOf folder app file → PlansHalt known manifest appid folder file
-halt known manifest appid bytes sources app folder file gathered found plan = record {
+halt known manifest appid bytes sources app folder file collected found plan = record {
   app = app;
-  is_app = is_app known manifest appid bytes sources app gathered found;
+  is_app = is_app known manifest appid bytes sources app collected found;
   plan = plan;
 }
 
@@ -54,10 +54,10 @@ raise_of folder app buckets was text file given raised by = record {
 
 pub raise : (known : KnownFiles) (manifest appid bytes : List ℕ) (buckets : ℕ)
     (sources : Sources) (app : AppSources) (folder : KnownFolder) (file : Option ReplacedFile)
-    → IsGathered known manifest bytes sources → app_named sources.apps.items appid ≡ Some app
+    → IsCollected known manifest bytes sources → app_named sources.apps.items appid ≡ Some app
     → PlansRaiseOf folder app buckets file → PlansRaise known manifest appid buckets folder file
-raise known manifest appid bytes buckets sources app folder file gathered found plan = record {
+raise known manifest appid bytes buckets sources app folder file collected found plan = record {
   app = app;
-  is_app = is_app known manifest appid bytes sources app gathered found;
+  is_app = is_app known manifest appid bytes sources app collected found;
   plan = plan;
 }

@@ -15,7 +15,7 @@ use Rattle.stage_folder.specs.Recorded.{AreRecorded}
 use Rattle.stage_folder.specs.Steps.{done}
 use Rattle.stage_folder.specs.declared.records.RecordedSteps.{RecordedSteps}
 use Rattle.staging.specs.Steps.{ReplacedFile, StagingStep, lifted_halt}
-use Rattle.stage_commands.specs.Apps.{IsGathered, ReplacesBy}
+use Rattle.stage_commands.specs.Apps.{IsCollected, ReplacesBy}
 use Rattle.stage_commands.specs.Puts.{AddsAppFile, app_file, no_file}
 use Rattle.stage_commands.specs.Puts.{AddsFile, file_added, nothing_added}
 use Rattle.stage_commands.specs.Puts.{AreFilesOf, AreFilesSoFar, IsAmongFiles, IsFileOf}
@@ -63,7 +63,8 @@ next apps others app files _ h (no_file) =
     record { are = h.are; left_are = λ file is. h.left_are file (inr is) }
 next apps others app files new h (app_file bytes kept adds) = record {
   are = added apps files new _ bytes
-      (λ file named has. h.left_are file (inl (named, with_bytes app file bytes has kept))) adds h.are;
+      (λ file named has. h.left_are file (inl (named, with_bytes app file bytes has kept)))
+      adds h.are;
   left_are = λ file is. h.left_are file (inr is);
 }
 
@@ -89,22 +90,22 @@ are_files manifest apps files _ h (file_added _ file named has) =
 
 pub plans : (known : KnownFiles) (current manifest : List ℕ) (steps : List StagingStep)
     (anyway : Bool) (files : List ReplacedFile) (bytes : List ℕ) (sources : Sources)
-    → IsGathered known manifest bytes sources → AreFilesOf bytes sources.apps.items files
+    → IsCollected known manifest bytes sources → AreFilesOf bytes sources.apps.items files
     → (anyway ≡ false → LiftsNone known current steps sources.apps.items)
     → PlansPut known current manifest steps anyway files
-plans known current manifest steps anyway files bytes sources gathered are lifts = record {
+plans known current manifest steps anyway files bytes sources collected are lifts = record {
   bytes = bytes;
   sources = sources;
-  gathered = gathered;
+  collected = collected;
   are_files = are;
   lifts_none = lifts;
 }
 
 pub lifts_none : (known : KnownFiles) (current bytes : List ℕ) (steps : List StagingStep)
-    (sources : Sources) (next : List AppSources) → IsGathered known current bytes sources
+    (sources : Sources) (next : List AppSources) → IsCollected known current bytes sources
     → lifted_halt steps sources.apps.items next ≡ None → LiftsNone known current steps next
-lifts_none known current bytes steps sources next gathered is =
-    record { bytes = bytes; sources = sources; gathered = gathered; none_is = is }
+lifts_none known current bytes steps sources next collected is =
+    record { bytes = bytes; sources = sources; collected = collected; none_is = is }
 
 pub has_put : (known : KnownFiles) (current manifest : List ℕ) (anyway : Bool)
     (records : KnownRecords) (old new : KnownFolder) (recorded : RecordedSteps)

@@ -11,7 +11,7 @@ use Rattle.stage_folder.specs.Steps.{done}
 use Rattle.stage_folder.specs.Recorded.{AreRecorded}
 use Rattle.stage_folder.specs.declared.records.RecordedSteps.{RecordedSteps}
 use Rattle.staging.specs.Steps.{ReplacedFile, StagingStep, lifted_halt}
-use Rattle.stage_commands.specs.Apps.{IsGathered}
+use Rattle.stage_commands.specs.Apps.{IsCollected}
 
 -- ---- the files that are replaced
 
@@ -61,7 +61,7 @@ pub record LiftsNone (known : KnownFiles) (current : List ℕ) (steps : List Sta
     (next : List AppSources) : Type 0 where
   pub bytes : List ℕ
   pub sources : Sources
-  pub gathered : IsGathered known current bytes sources
+  pub collected : IsCollected known current bytes sources
   pub none_is : lifted_halt steps sources.apps.items next ≡ None
 
 -- ---- the whole
@@ -71,7 +71,7 @@ module _ (known : KnownFiles) (current manifest : List ℕ) where
       : Type 0 where
     pub bytes : List ℕ
     pub sources : Sources
-    pub gathered : IsGathered known manifest bytes sources
+    pub collected : IsCollected known manifest bytes sources
     pub are_files : AreFilesOf bytes sources.apps.items files
     pub lifts_none : anyway ≡ false → LiftsNone known current steps sources.apps.items
 

@@ -4,7 +4,7 @@ ghost use Rattle.std.specs.Prelude.{◌≡◌, IfOk, Some, option_map, option_to
 ghost use Rattle.stage_commands.specs.Apps as specs;
 ghost use Rattle.stage_folder.specs.Folders.{GivesFile, KnownFolder};
 
-use crate::gathered::app_named;
+use crate::collected::app_named;
 use crate::options::StageOptions;
 use crate::outcome::{Lines, Stop};
 use crate::stop_texts::{no_app, one_file};

@@ -2,11 +2,11 @@
 
 ghost use Rattle.std.specs.Prelude.{◌≡◌, IfOk, OnOk, false, true};
 ghost use Rattle.bounded_files.specs.Files.{KnownFiles};
-ghost use Rattle.stage_commands.specs.Apps.{IsGathered};
+ghost use Rattle.stage_commands.specs.Apps.{IsCollected};
 ghost use Rattle.stage_commands.specs.Stages.{HasHalted, PlansHalt, PlansHaltOf};
 
 use crate::app_file::{app_to_change, files_of, replacement};
-use crate::gathered::{GatheredManifest, gather};
+use crate::collected::{CollectedManifest, collect};
 use crate::options::StageOptions;
 use crate::outcome::{Lines, Stop};
 use crate::steps::{owned_text, read_steps, take_step};
@@ -43,7 +43,7 @@ fn file_by<R, F>(
     rt: &R,
     folder: &F,
     manifest: &str,
-    gathered: &GatheredManifest,
+    collected: &CollectedManifest,
     appid: &str,
     options: &StageOptions<'_>,
     lines: &mut Lines,
@@ -52,10 +52,10 @@ where
     R: Files + AllocGlobal,
     F: StageFolder,
     ensures { IfOk result (λ file. (known : KnownFiles)
-        → IsGathered known manifest.now gathered.now.bytes.items gathered.now.sources
+        → IsCollected known manifest.now collected.now.bytes.items collected.now.sources
         → PlansHalt known manifest.now appid.now (F.files folder.now) file) }
 {
-    let apps = &gathered.sources.apps;
+    let apps = &collected.sources.apps;
     let app = app_to_change(rt, manifest, apps, appid, options, lines)?;
     let file = halting_file_of(rt.alloc(), folder, app)?;
     Ok(file)
@@ -79,12 +79,12 @@ where
         (F.files folder.now)) }
 {
     let alloc = rt.alloc();
-    let gathered = match gather(alloc, disk, manifest) {
-        Ok(gathered) => gathered,
+    let collected = match collect(alloc, disk, manifest) {
+        Ok(collected) => collected,
         Err(fault) => return Err(no_manifest(alloc, manifest, &fault)),
     };
-    let file = file_by(rt, folder, manifest, &gathered, appid, options, lines);
-    drop(gathered);
+    let file = file_by(rt, folder, manifest, &collected, appid, options, lines);
+    drop(collected);
     Ok(file?)
 }
 

@@ -4,7 +4,7 @@
 //! See docs/OPERATING.md.
 #![tactic(auto)]
 
-// How it works. The manifest in place is gathered like a load's (`gathered.rt`). What is to be
+// How it works. The manifest in place is gathered like a load's (`collected.rt`). What is to be
 // replaced is planned first, and nothing is changed meanwhile: the file that halts an app
 // (`halts.rt`), a rule with another number (`raises.rt`), the files of another manifest
 // (`puts.rt`). A raise and another manifest are compared with what is in place (`comparison.rt`).
@@ -17,9 +17,9 @@
 mod actions;
 mod app_file;
 mod backs;
+mod collected;
 mod comparison;
 mod digest_line;
-mod gathered;
 mod halts;
 mod loads;
 mod new_file;

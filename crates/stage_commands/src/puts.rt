@@ -1,13 +1,13 @@
 //! `stage put`: a manifest from elsewhere, and the files that it names, replace those in place.
 
 ghost use Rattle.std.specs.Prelude.{◌≡◌, IfOk, IfSome, None, OnOk, false, true};
-ghost use Rattle.stage_commands.specs.Apps.{IsGathered};
+ghost use Rattle.stage_commands.specs.Apps.{IsCollected};
 ghost use Rattle.stage_commands.specs.Compared.{IsJudged};
 ghost use Rattle.stage_commands.specs.Puts.{HasPut, LiftsNone, PlansPut};
 ghost use Rattle.staging.specs.Steps as specs;
 
+use crate::collected::{CollectedManifest, collect, judged};
 use crate::comparison::compare;
-use crate::gathered::{GatheredManifest, gather, judged};
 use crate::options::StageOptions;
 use crate::outcome::{Lines, Stop};
 use crate::put_files::files_to_put;
@@ -56,8 +56,8 @@ fn present_manifest<D: Disk>(
     ensures lifts { OnOk result (anyway ≡ false
         → LiftsNone (D.known disk.now) current.now steps.now next.now) }
 {
-    let sources = match gather(alloc, disk, current) {
-        Ok(GatheredManifest { sources, .. }) => sources,
+    let sources = match collect(alloc, disk, current) {
+        Ok(CollectedManifest { sources, .. }) => sources,
         Err(fault) => {
             lines.go_on_if(anyway, no_manifest(alloc, current, &fault))?;
             return Ok(None);
@@ -115,12 +115,12 @@ fn next_manifest<D: Disk>(
     disk: &D,
     manifest: &str,
 ) -> Result<(Vec<u8>, OpenedManifest), Stop>
-    ensures gathered { IfOk result (λ next. IsGathered (D.known disk.now) manifest.now
+    ensures collected { IfOk result (λ next. IsCollected (D.known disk.now) manifest.now
         next.0.items next.1.sources) }
     ensures judged { IfOk result (λ next. IsJudged next.1) }
 {
-    let GatheredManifest { bytes, sources } = match gather(alloc, disk, manifest) {
-        Ok(gathered) => gathered,
+    let CollectedManifest { bytes, sources } = match collect(alloc, disk, manifest) {
+        Ok(collected) => collected,
         Err(fault) => return Err(no_manifest(alloc, manifest, &fault)),
     };
     match judged(alloc, sources) {

@@ -8,8 +8,8 @@ ghost use Rattle.stage_commands.specs.Stages.{HasRaised, PlansRaise, PlansRaiseO
 ghost use Rattle.stage_folder.specs.Folders.{GivesFile};
 
 use crate::app_file::{app_to_change, files_of, replacement};
+use crate::collected::{CollectedManifest, collect, judged};
 use crate::comparison::compare;
-use crate::gathered::{GatheredManifest, gather, judged};
 use crate::new_file::WithNewFile;
 use crate::options::StageOptions;
 use crate::outcome::{Lines, Stop};
@@ -108,7 +108,7 @@ fn compare_with<R, D>(
     rt: &R,
     disk: &D,
     manifest: &str,
-    gathered: GatheredManifest,
+    collected: CollectedManifest,
     file: &ReplacedFile,
     options: &StageOptions<'_>,
     lines: &mut Lines,
@@ -118,7 +118,7 @@ where
     D: Disk,
 {
     let alloc = rt.alloc();
-    let GatheredManifest { bytes, sources } = gathered;
+    let CollectedManifest { bytes, sources } = collected;
     let old = match judged(alloc, sources) {
         Ok(old) => old,
         Err(fault) => return Err(not_judged(alloc, manifest, &fault)),
@@ -149,17 +149,17 @@ where
         (F.files folder.now)) }
 {
     let alloc = rt.alloc();
-    let gathered = match gather(alloc, disk, manifest) {
-        Ok(gathered) => gathered,
+    let collected = match collect(alloc, disk, manifest) {
+        Ok(collected) => collected,
         Err(fault) => return Err(no_manifest(alloc, manifest, &fault)),
     };
-    let file = match app_to_change(rt, manifest, &gathered.sources.apps, appid, options, lines) {
+    let file = match app_to_change(rt, manifest, &collected.sources.apps, appid, options, lines) {
         Ok(app) => raised_file_of(alloc, folder, app, buckets),
         Err(stop) => Err(stop),
     };
     let file = file?;
     if let Some(file) = &file {
-        compare_with(rt, disk, manifest, gathered, file, options, lines)?;
+        compare_with(rt, disk, manifest, collected, file, options, lines)?;
     }
     Ok(file)
 }

@@ -2,8 +2,8 @@
 
 // No contract says what is printed: bench/outside tests it.
 
+use crate::collected::CollectedManifest;
 use crate::digest_line::last_digest;
-use crate::gathered::GatheredManifest;
 use crate::loads::push_fault;
 use crate::options::StageOptions;
 use crate::outcome::Lines;
@@ -76,7 +76,7 @@ fn push_shown(
 fn push_counters<R>(
     rt: &R,
     port: u16,
-    gathered: &GatheredManifest,
+    collected: &CollectedManifest,
     text: &mut String,
 ) -> Result<(), RequestFault>
 where
@@ -86,7 +86,7 @@ where
     let Ok(cells) = read_assignments(rt.alloc(), reply.as_str()) else {
         return Err(RequestFault::Memory);
     };
-    match push_quotas(text, &gathered.sources.arrays, &cells) {
+    match push_quotas(text, &collected.sources.arrays, &cells) {
         Ok(()) => Ok(()),
         Err(_) => Err(RequestFault::Memory),
     }
@@ -96,7 +96,7 @@ where
 fn push_server<R>(
     rt: &R,
     port: u16,
-    gathered: &GatheredManifest,
+    collected: &CollectedManifest,
     apps: Option<&str>,
     text: &mut String,
 ) -> Result<bool, RequestFault>
@@ -107,7 +107,7 @@ where
     let Ok(is_alike) = push_shown(text, port, reply.as_str(), apps) else {
         return Err(RequestFault::Memory);
     };
-    push_counters(rt, port, gathered, text)?;
+    push_counters(rt, port, collected, text)?;
     Ok(is_alike)
 }
 
@@ -115,7 +115,7 @@ where
 pub(crate) fn push_servers<R>(
     rt: &R,
     manifest: &str,
-    gathered: &GatheredManifest,
+    collected: &CollectedManifest,
     options: &StageOptions<'_>,
     lines: &mut Lines,
 ) -> Result<bool, AllocError>
@@ -125,10 +125,10 @@ where
     if options.no_load {
         return Ok(true);
     }
-    let apps = shown_apps(rt.alloc(), &gathered.sources.apps)?;
+    let apps = shown_apps(rt.alloc(), &collected.sources.apps)?;
     let mut all = true;
     for port in options.ports() {
-        match push_server(rt, *port, gathered, apps.as_deref(), &mut lines.text) {
+        match push_server(rt, *port, collected, apps.as_deref(), &mut lines.text) {
             Ok(is_alike) => all = all && is_alike,
             Err(fault) => {
                 push_fault(&mut lines.stderr, *port, &fault, manifest)?;
@@ -164,7 +164,7 @@ fn push_digests(
 /// Adds whether what is in place is what the log's server loaded last, if a log is named.
 pub(crate) fn push_log<R>(
     rt: &R,
-    gathered: &GatheredManifest,
+    collected: &CollectedManifest,
     options: &StageOptions<'_>,
     lines: &mut Lines,
 ) -> Result<bool, AllocError>
@@ -174,7 +174,7 @@ where
     let Some(log) = options.log else {
         return Ok(true);
     };
-    let Some(digest) = digest_of(&gathered.bytes, &gathered.sources.apps) else {
+    let Some(digest) = digest_of(&collected.bytes, &collected.sources.apps) else {
         return Ok(false);
     };
     let in_place = hex::encode(rt.alloc(), digest)?;

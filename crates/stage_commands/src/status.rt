@@ -2,7 +2,7 @@
 
 // No contract says what is printed: bench/outside tests it.
 
-use crate::gathered::gather;
+use crate::collected::collect;
 use crate::options::StageOptions;
 use crate::outcome::{Lines, Stop};
 use crate::servers::{push_log, push_servers};
@@ -91,13 +91,13 @@ where
     R: Files + AllocGlobal + Net<Stream = TcpStream>,
     D: Disk,
 {
-    let gathered = match gather(rt.alloc(), disk, manifest) {
-        Ok(gathered) => gathered,
+    let collected = match collect(rt.alloc(), disk, manifest) {
+        Ok(collected) => collected,
         Err(fault) => return Err(no_manifest(rt.alloc(), manifest, &fault)),
     };
-    push_halts(steps, &gathered.sources.apps, lines)?;
-    let are_served = push_servers(rt, manifest, &gathered, options, lines)?;
-    let is_logged = push_log(rt, &gathered, options, lines)?;
+    push_halts(steps, &collected.sources.apps, lines)?;
+    let are_served = push_servers(rt, manifest, &collected, options, lines)?;
+    let is_logged = push_log(rt, &collected, options, lines)?;
     Ok(are_served && is_logged)
 }
 

@@ -1,6 +1,7 @@
 -- The program `mov r0, 0` and `exit` is accepted under each shape, and chooses none.
 use Rattle.std.proofs.Common.{◌≡◌, ℕ, zero, suc, List, [], ◌∷◌, Some, None}
-use Rattle.std.proofs.Common.{Option, Bool, cond, not, true, pos, refl, sym, ap, subst, arith, ◌∙◌, le-leb}
+use Rattle.std.proofs.Common.{Option, Bool, cond, not, true, pos, refl, sym, ap, subst, arith, ◌∙◌}
+use Rattle.std.proofs.Common.{le-leb}
 use lib.Count.{count_leading_zeros}
 use Rattle.std.proofs.lemmas.List.Elements.{All-cons, All-nil}
 use Rattle.abs_value.specs.declared.state.AbsState.{AbsState}
@@ -27,9 +28,9 @@ use Rattle.cells.specs.Arrays.{AppShape}
 use Rattle.flow_check.specs.Edges.{KeepsEdges, KeepsReach, along, start, goes_on}
 use Rattle.flow_check.specs.Edges.{jump_of, next_of, target_of}
 use Rattle.flow_check.specs.Flow.{IsAcceptedAs, IsFlow, IsLayout}
-use Rattle.flow_check.specs.declared.fault.FlowFault.TheVariants as flow
-use Rattle.flow_check.specs.declared.fault.FlowRule.TheVariants.{BackJump, Outside}
-use Rattle.flow_check.specs.declared.fault.FlowRule.TheVariants.{InsideWide, FallsOff}
+use Rattle.flow_check.specs.declared.flow_fault.FlowFault.TheVariants as flow
+use Rattle.flow_check.specs.declared.flow_fault.FlowRule.TheVariants.{BackJump, Outside}
+use Rattle.flow_check.specs.declared.flow_fault.FlowRule.TheVariants.{InsideWide, FallsOff}
 use Rattle.load.specs.Source.{RefusesBytes}
 use Rattle.load.specs.declared.load_fault.AppFault.{AppFault}
 use Rattle.load.specs.declared.load_fault.AppFault.TheVariants as app
@@ -87,7 +88,8 @@ no_jump (suc (suc s)) i is = absurd cc
 
 no_target : (s t : ℕ) (i : Insn) → at none_code s ≡ Some i → target_of s i ≡ Some t → ⊥
 no_target s t i is target =
-    let none = ap (λ (o : Option Distance). o >>= λ d. landing s (slots_moved d)) (no_jump s i is) in
+    let none = ap (λ (o : Option Distance). o >>= λ d. landing s (slots_moved d))
+    (no_jump s i is) in
     absurd cc
 
 falls_off : (s : ℕ) (i : Insn) → at none_code s ≡ Some i → goes_on i ≡ true → next_of s i ≡ 2 → ⊥

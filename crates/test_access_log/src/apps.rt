@@ -125,14 +125,14 @@ const ROWS: &[Row] = &[
     Row {
         has_more: true,
         outcome: Outcome::Offered(2, "1.1"),
-        parts: &[(BESIDE, 1)],
+        parts: &[(FURTHER, 1)],
         ..PLAIN
     },
     Row {
         has_more: true,
         outcome: Outcome::Offered(2, "1.1"),
         count: 30,
-        parts: &[("\"appid\"", 30), (BESIDE, 6), ("\"ap\":", 6)],
+        parts: &[("\"appid\"", 30), (FURTHER, 6), ("\"ap\":", 6)],
         end: "],\"more_left_out\":24}\n",
         ..PLAIN
     },
@@ -148,7 +148,7 @@ const ROWS: &[Row] = &[
 ];
 
 /// The further members of an app, which take 145 bytes.
-pub(crate) fn beside(text: &str) -> FurtherMembers<'_> {
+pub(crate) fn further_members(text: &str) -> FurtherMembers<'_> {
     FurtherMembers {
         ap: Some(Excerpt::short(text)),
         lang: Some(Excerpt::short("de\u{9b}")),
@@ -159,7 +159,7 @@ pub(crate) fn beside(text: &str) -> FurtherMembers<'_> {
 }
 
 /// These members in a line.
-const BESIDE: &str = "\"release\":\"1.1\",\"ap\":\"aaaaaaaaaaaaaaaaaaaaaaaaaaaaaaaa\",\
+const FURTHER: &str = "\"release\":\"1.1\",\"ap\":\"aaaaaaaaaaaaaaaaaaaaaaaaaaaaaaaa\",\
     \"ap_left_out\":8,\"lang\":\"de\\u009b\",\"installdate\":0,\"ignored\":\"brand cohort\"}";
 
 pub(crate) fn push_apps<'a>(
@@ -195,7 +195,7 @@ fn app_of<'a>(row: &Row, text: &'a str) -> LoggedApp<'a> {
             Some(Excerpt::of(first(text, row.event)))
         },
         more: if row.has_more {
-            beside(first(text, 40))
+            further_members(first(text, 40))
         } else {
             NO_MORE
         },
@@ -227,7 +227,7 @@ fn is_line(line: &str, row: &Row) -> bool {
 }
 
 #[test]
-fn as_many_apps_are_told_as_have_room(rt: HostRuntime) -> Result<(), Fail> {
+fn as_many_apps_are_logged_as_fit(rt: HostRuntime) -> Result<(), Fail> {
     for row in ROWS {
         let line = line_of(rt.alloc(), row)?;
         assert!(rt; is_line(&line, row), "{line}");

@@ -1,7 +1,7 @@
 //! Requests of apps of several kinds: what is left out of a line is counted by kind, and no line is
 //! too long.
 
-use crate::apps::{beside, first, push_apps};
+use crate::apps::{first, further_members, push_apps};
 use crate::given::{HEADER, NOTES, answered, line_with};
 use access_log::{Connection, Excerpt, LogEvent, LoggedApp, Outcome};
 use std::alloc::Global;
@@ -82,7 +82,7 @@ const WIDE: &str = "aaaaaaaaaaaaaaaaaaaaaaaaaaaaaaaaaaaaaaaaaaaaaaaaaaaaaaaaaaaa
 fn full(appid: &'static str, outcome: Outcome<'static>) -> LoggedApp<'static> {
     LoggedApp {
         named: false,
-        more: beside("x"),
+        more: further_members("x"),
         ..kind(appid, outcome)
     }
 }

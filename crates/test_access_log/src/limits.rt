@@ -54,16 +54,16 @@ fn excerpt_of(most: u16, text: &str) -> Excerpt<'_> {
 }
 
 // Whether the excerpt of a text is as long as it should be.
-fn is_excerpt(text: &str, most: u16, told: usize, length: u64) -> bool {
+fn is_excerpt(text: &str, most: u16, shown: usize, length: u64) -> bool {
     let excerpt = excerpt_of(most, text);
-    excerpt.text.len() == told && excerpt.length == length && text.starts_with(excerpt.text)
+    excerpt.text.len() == shown && excerpt.length == length && text.starts_with(excerpt.text)
 }
 
 #[test]
 fn excerpts_have_whole_characters(rt: HostRuntime) -> Result<(), Fail> {
-    for (most, count, end, told, length) in EXCERPTS {
+    for (most, count, end, shown, length) in EXCERPTS {
         let text = repeated(rt.alloc(), *count, *end)?;
-        assert!(rt; is_excerpt(&text, *most, *told, *length), "{text}");
+        assert!(rt; is_excerpt(&text, *most, *shown, *length), "{text}");
     }
     Ok(())
 }

@@ -84,16 +84,16 @@ fn has_row_words(alloc: Global, row: &str) -> Result<bool, Fail> {
 }
 
 /// Whether each of the expected words is one of the context's.
-fn has_words(told: &str, wanted: &str) -> bool {
+fn has_words(printed: &str, wanted: &str) -> bool {
     let mut has = true;
     for word in wanted.split(' ') {
-        has = has && has_word(told, word);
+        has = has && has_word(printed, word);
     }
     has
 }
 
-fn has_word(told: &str, wanted: &str) -> bool {
-    for word in told.split(' ') {
+fn has_word(printed: &str, wanted: &str) -> bool {
+    for word in printed.split(' ') {
         if word == wanted {
             return true;
         }

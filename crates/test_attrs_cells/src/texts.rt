@@ -123,7 +123,7 @@ fn is_full(alloc: Global) -> Result<bool, AttrFault> {
 
 // Out of memory, once: the second result is the usual one.
 #[test]
-fn refused_memory_is_told(rt: HostRuntime) {
+fn a_failed_allocation_is_reported(rt: HostRuntime) {
     let answer = match is_full(rt.alloc()) {
         Err(AttrFault::Memory) => is_full(rt.alloc()),
         answer => answer,

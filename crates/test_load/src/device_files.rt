@@ -18,7 +18,10 @@ const PATHS: [(&str, &str, &str); 5] = [
     ("nowhere", "B3 File", "B3 File"),
 ];
 
-fn told(alloc: Global, read: Result<Option<Vec<u8>>, ResourceFault>) -> Result<String, AllocError> {
+fn result_text(
+    alloc: Global,
+    read: Result<Option<Vec<u8>>, ResourceFault>,
+) -> Result<String, AllocError> {
     match read {
         Ok(Some(bytes)) => format!(in alloc; "{}", bytes.len()),
         Ok(None) => String::from_str(alloc, "more"),
@@ -26,16 +29,16 @@ fn told(alloc: Global, read: Result<Option<Vec<u8>>, ResourceFault>) -> Result<S
     }
 }
 
-fn is_told<R: Files + AllocGlobal>(
+fn has_result<R: Files + AllocGlobal>(
     rt: &R,
     path: &str,
     any: &str,
     regular: &str,
 ) -> Result<(), Fail> {
     let device = Device::new(rt);
-    let found = told(rt.alloc(), device.read(path, 3))?;
+    let found = result_text(rt.alloc(), device.read(path, 3))?;
     must(path, found.as_str(), found.as_str() == any)?;
-    let found = told(rt.alloc(), device.read_regular(path, 3))?;
+    let found = result_text(rt.alloc(), device.read_regular(path, 3))?;
     must(path, found.as_str(), found.as_str() == regular)
 }
 
@@ -44,7 +47,7 @@ fn each_kind(rt: HostRuntime) -> Result<(), Fail> {
     write(&rt, "three", b"123")?;
     write(&rt, "four", b"1234")?;
     for (path, any, regular) in PATHS {
-        is_told(&rt, path, any, regular)?;
+        has_result(&rt, path, any, regular)?;
     }
     Ok(())
 }
@@ -63,7 +66,7 @@ const KEPT: [(&str, &str); 9] = [
     ("nowhere", "B3 File"),
 ];
 
-fn told_kept(alloc: Global, kept: Result<KeptBytes, ResourceFault>) -> Result<String, AllocError> {
+fn kept_text(alloc: Global, kept: Result<KeptBytes, ResourceFault>) -> Result<String, AllocError> {
     match kept {
         Ok(KeptBytes::Whole(bytes)) => format!(in alloc; "{}", bytes.len()),
         Ok(
@@ -103,7 +106,7 @@ fn kept(rt: HostRuntime) -> Result<(), Fail> {
     File::create(&rt, "more")?.set_len(0x100_0001)?;
     let device = Device::new(&rt);
     for (path, want) in KEPT {
-        let found = told_kept(rt.alloc(), device.keep_regular(path, 3))?;
+        let found = kept_text(rt.alloc(), device.keep_regular(path, 3))?;
         must(path, found.as_str(), found.as_str() == want)?;
     }
     Ok(())

@@ -82,21 +82,21 @@ impl Loader {
     }
 
     /// `ok`, or the printed refusal.
-    fn told(&mut self, alloc: Global, manifest: &str) -> Result<String, AllocError> {
+    fn result_text(&mut self, alloc: Global, manifest: &str) -> Result<String, AllocError> {
         match self.load(alloc, manifest) {
             Ok(_) => String::from_str(alloc, "ok"),
             Err(fault) => format!(in alloc; "{fault}"),
         }
     }
 
-    fn must_tell(
+    fn must_give(
         &mut self,
         alloc: Global,
         row: &str,
         manifest: &str,
         want: &str,
     ) -> Result<(), Fail> {
-        let told = self.told(alloc, manifest)?;
-        must(row, told.as_str(), told.as_str() == want)
+        let result_text = self.result_text(alloc, manifest)?;
+        must(row, result_text.as_str(), result_text.as_str() == want)
     }
 }

@@ -129,7 +129,12 @@ const ENDS: &str = r#"
 "#;
 
 /// How both runs of a program end, for the app of a version.
-pub(crate) fn told(alloc: Global, text: &str, releases: u8, version: &str) -> Result<String, Fail> {
+pub(crate) fn result_text(
+    alloc: Global,
+    text: &str,
+    releases: u8,
+    version: &str,
+) -> Result<String, Fail> {
     let (choice, count) = run_both(alloc, text, releases, version)?.ok_or("they differ")?;
     Ok(format!(in alloc; "{choice} after {count}")?)
 }
@@ -139,7 +144,7 @@ fn beside_the_machine(rt: HostRuntime) -> Result<(), Fail> {
     let alloc = rt.alloc();
     for text in ENDS.split("\n- ").skip(1) {
         let row = row_of(alloc, text)?;
-        let found = told(alloc, row.program.as_str(), 64, "1.2.3.4")?;
+        let found = result_text(alloc, row.program.as_str(), 64, "1.2.3.4")?;
         assert!(rt; found.as_str() == row.head, "{text}: {found}");
     }
     Ok(())

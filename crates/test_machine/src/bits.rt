@@ -1,7 +1,7 @@
 //! Programs that are accepted because of known bits, for apps that take their edges in turn: step
 //! by step on the machine and on the interpreter.
 
-use crate::beside::told;
+use crate::beside::result_text;
 use crate::row::row_of;
 use std::alloc::Global;
 use std::test::Fail;
@@ -71,7 +71,7 @@ fn ends(alloc: Global, text: &str, releases: u8, versions: &str) -> Result<Strin
         if !ends.is_empty() {
             ends.push_str(", ")?;
         }
-        ends.push_str(told(alloc, text, releases, version)?.as_str())?;
+        ends.push_str(result_text(alloc, text, releases, version)?.as_str())?;
     }
     Ok(ends)
 }

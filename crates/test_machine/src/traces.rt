@@ -117,7 +117,7 @@ fn traced(alloc: Global, text: &str, counters: &mut PlainPass) -> Result<TracedR
     Ok(run?)
 }
 
-fn told_on(alloc: Global, text: &str, value: u64) -> Result<String, Fail> {
+fn traced_text(alloc: Global, text: &str, value: u64) -> Result<String, Fail> {
     let mut counters = counters_with(alloc, value)?;
     let run = traced(alloc, text, &mut counters)?;
     let left = counters.value(CellNo::new(0));
@@ -127,9 +127,9 @@ fn told_on(alloc: Global, text: &str, value: u64) -> Result<String, Fail> {
 }
 
 #[test]
-fn the_last_jump_is_told_on_counters(rt: HostRuntime) -> Result<(), Fail> {
+fn the_last_jump_is_returned(rt: HostRuntime) -> Result<(), Fail> {
     for (program, value, expected) in ROWS_ON {
-        let found = told_on(rt.alloc(), program, *value)?;
+        let found = traced_text(rt.alloc(), program, *value)?;
         assert_eq!(rt; found.as_str(), *expected);
     }
     Ok(())

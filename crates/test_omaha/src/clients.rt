@@ -1,7 +1,7 @@
 //! Whole requests in the form of other products' updaters: what is read of each. The replies are
 //! rows of the program `rows`.
 
-use crate::facts::told;
+use crate::facts::result_text;
 use std::alloc::Global;
 use std::test::Fail;
 
@@ -68,7 +68,7 @@ x 1.0 - - - - - updatecheck ping -"##;
 
 /// Whether these facts are read from a body.
 fn is_read(alloc: Global, body: &str, facts: &str) -> Result<bool, Fail> {
-    let found = told(alloc, body)?;
+    let found = result_text(alloc, body)?;
     Ok(found.as_str() == facts)
 }
 

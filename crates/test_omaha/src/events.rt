@@ -31,7 +31,7 @@ impl AppObserver for Events {
 }
 
 /// The lines of a body's apps, and whether the body is a request.
-fn told(alloc: Global, body: &str) -> Result<(String, bool), Fail> {
+fn result_text(alloc: Global, body: &str) -> Result<(String, bool), Fail> {
     let mut events = Events {
         alloc,
         lines: Vec::new(alloc),
@@ -61,7 +61,7 @@ const EVENTS: &str = r#"[{"a":[],"eventresult":1,"eventtype":3},null]
 
 #[test]
 fn events_are_compact(rt: HostRuntime) -> Result<(), Fail> {
-    let (lines, is_request) = told(rt.alloc(), BODY)?;
+    let (lines, is_request) = result_text(rt.alloc(), BODY)?;
     assert_eq!(rt; lines.as_str(), EVENTS);
     assert!(rt; is_request);
     Ok(())
@@ -73,7 +73,7 @@ const REFUSED: &str = r#"{"request":{"protocol":"3.1","app":[
 
 #[test]
 fn events_of_a_refused_request(rt: HostRuntime) -> Result<(), Fail> {
-    let (lines, is_request) = told(rt.alloc(), REFUSED)?;
+    let (lines, is_request) = result_text(rt.alloc(), REFUSED)?;
     assert_eq!(rt; lines.as_str(), "1\ntrue\n2");
     assert!(rt; !is_request);
     Ok(())

@@ -18,7 +18,7 @@ fn flag(is_set: bool, word: &str) -> &str {
     if is_set { word } else { "-" }
 }
 
-fn told_request(alloc: Global, facts: &RequestFacts) -> Result<String, AllocError> {
+fn request_text(alloc: Global, facts: &RequestFacts) -> Result<String, AllocError> {
     let texts = [
         given(&facts.requestid),
         given(&facts.sessionid),
@@ -28,7 +28,7 @@ fn told_request(alloc: Global, facts: &RequestFacts) -> Result<String, AllocErro
 }
 
 /// An app in a line: its texts, the day of its installation, and what it requests.
-fn told_app(alloc: Global, facts: &AppFacts) -> Result<String, AllocError> {
+fn app_text(alloc: Global, facts: &AppFacts) -> Result<String, AllocError> {
     let day = match facts.installdate {
         Some(day) => format!(in alloc; "{day}")?,
         None => String::from_str(alloc, "-")?,
@@ -49,11 +49,11 @@ fn told_app(alloc: Global, facts: &AppFacts) -> Result<String, AllocError> {
 }
 
 /// What is read from a body, in lines: the request's ids and platform, and then each app.
-pub(crate) fn told(alloc: Global, body: &str) -> Result<String, Fail> {
+pub(crate) fn result_text(alloc: Global, body: &str) -> Result<String, Fail> {
     let request = read(alloc, body.as_bytes())?;
-    let mut lines = vec![in alloc; told_request(alloc, request.facts())?]?;
+    let mut lines = vec![in alloc; request_text(alloc, request.facts())?]?;
     for app in request.apps() {
-        lines.push(told_app(alloc, app.facts())?)?;
+        lines.push(app_text(alloc, app.facts())?)?;
     }
     Ok(lines.join(alloc, "\n")?)
 }
@@ -73,7 +73,7 @@ z - - - - - 4294967295 - - event";
 
 #[test]
 fn facts(rt: HostRuntime) -> Result<(), Fail> {
-    let found = told(rt.alloc(), BODY)?;
+    let found = result_text(rt.alloc(), BODY)?;
     assert_eq!(rt; found.as_str(), FACTS);
     Ok(())
 }

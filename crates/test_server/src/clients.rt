@@ -32,7 +32,7 @@ where
 }
 
 /// Connections that have sent a whole request each.
-fn asked_times<H>(rt: &H, place: SocketAddr, count: u32) -> io::Result<Vec<TcpStream>>
+fn requested_times<H>(rt: &H, place: SocketAddr, count: u32) -> io::Result<Vec<TcpStream>>
 where
     H: Net<Stream = TcpStream> + AllocGlobal,
 {
@@ -64,7 +64,7 @@ pub(crate) fn two<H>(rt: &H, place: SocketAddr) -> io::Result<bool>
 where
     H: Net<Stream = TcpStream> + AllocGlobal,
 {
-    let streams = asked_times(rt, place, 2)?;
+    let streams = requested_times(rt, place, 2)?;
     are_replied(rt, &streams)
 }
 
@@ -149,7 +149,7 @@ pub(crate) fn waiting<H>(
 where
     H: Net<Stream = TcpStream> + AllocGlobal + Clock,
 {
-    let streams = asked_times(rt, place, 3)?;
+    let streams = requested_times(rt, place, 3)?;
     let came = gate.awaits_calls(gate.holds);
     if gate.holds < 3 {
         thread::sleep(rt, Duration::from_millis(500));

@@ -10,15 +10,15 @@ const STRANGE: &str = "{\"appid\":\"\\u009b31m\\u202e\",\"version\":\"\\u2028\\u
     {\"appid\":\"\u{9b}\u{e9}\",\"event\":[\"\u{7f}\"]}";
 
 /// These apps in the log.
-const STRANGE_TOLD: &str = "{\"appid\":\"\\u009b31m\\u202e\",\"version\":\"\\u2028\\u007f\",\
+const STRANGE_LOGGED: &str = "{\"appid\":\"\\u009b31m\\u202e\",\"version\":\"\\u2028\\u007f\",\
     \"bucket\":6037,\"named\":false,\"unknown\":true},\
     {\"appid\":\"\\u009b\u{e9}\",\"bucket\":6037,\"named\":false,\"unknown\":true,\
     \"event\":\"[\\\"\\u007f\\\"]\"}]";
 
 /// An app that is offered a release; after it, the same app in the log.
-const ASKED: &str = ",{\"appid\":\"x\",\"updatecheck\":{}}";
+const REQUESTED: &str = ",{\"appid\":\"x\",\"updatecheck\":{}}";
 
-const ASKED_TOLD: &str =
+const REQUESTED_LOGGED: &str =
     "{\"appid\":\"x\",\"bucket\":6037,\"named\":false,\"choice\":1,\"release\":\"2.0.0.0\"}";
 
 /// What is left out of 256 apps, of which 48 are in the line.
@@ -45,7 +45,7 @@ fn row(alloc: Global, apps: &str, size: usize, reported: &str) -> Result<String,
 /// An unknown app with a long appid before 255 that are offered a release.
 fn crowd(alloc: Global) -> Result<String, AllocError> {
     let long = "a".repeat(alloc, 3300)?;
-    let requested = ASKED.repeat(alloc, 255)?;
+    let requested = REQUESTED.repeat(alloc, 255)?;
     format!(in alloc; "{{\"appid\":\"{long}\",\"updatecheck\":{{}}}}{requested}")
 }
 
@@ -66,9 +66,9 @@ fn crowd_row(alloc: Global) -> Result<String, AllocError> {
 
 /// The rows of all these clients.
 fn rows(alloc: Global) -> Result<String, AllocError> {
-    let mut rows = row(alloc, STRANGE, 0, STRANGE_TOLD)?;
+    let mut rows = row(alloc, STRANGE, 0, STRANGE_LOGGED)?;
     rows.push_str(&crowd_row(alloc)?)?;
-    rows.push_str(&row(alloc, STRANGE, 1048576, STRANGE_TOLD)?)?;
+    rows.push_str(&row(alloc, STRANGE, 1048576, STRANGE_LOGGED)?)?;
     Ok(rows)
 }
 

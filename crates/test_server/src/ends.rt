@@ -1,7 +1,7 @@
 //! What ends an operator's port, apart from a request to stop.
 
 use crate::loopback::{listening, reply, sent};
-use crate::session::is_asked;
+use crate::session::has_answer;
 use crate::shelf::{Shelf, publisher_of};
 use crate::whole_server::service_of;
 use cells::Directory;
@@ -61,8 +61,8 @@ where
     H: Net<Stream = TcpStream> + AllocGlobal,
 {
     let _silent = sent(rt, place, b"")?;
-    let shown = is_asked(rt, place.port(), "show", SHOWN)?;
-    Ok(shown && is_asked(rt, place.port(), "stop", "stopping\n")?)
+    let shown = has_answer(rt, place.port(), "show", SHOWN)?;
+    Ok(shown && has_answer(rt, place.port(), "stop", "stopping\n")?)
 }
 
 /// Whether a connection that sends nothing is closed at its time limit.

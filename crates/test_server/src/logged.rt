@@ -181,7 +181,7 @@ fn log_has_a_line_a_connection(rt: HostRuntime) -> Result<(), Fail> {
 
 /// If the clock can't be read, a client gets nothing, and its connection has a line.
 #[test]
-fn a_clock_that_fails_is_told(rt: HostRuntime) -> Result<(), Fail> {
+fn a_clock_that_fails_is_reported(rt: HostRuntime) -> Result<(), Fail> {
     assert!(rt; is_logged_at(&rt, "nothing", WITHOUT_CLOCK, UNTIMED)?);
     Ok(())
 }

@@ -76,7 +76,11 @@ fn refusal_in(alloc: Global, written: &[u8]) -> Result<MemoryAnswer, AllocError>
 }
 
 /// The outcome of an exchange with a server whose counter was `before`.
-fn asked_of(alloc: Global, received: &Exchanged, before: u64) -> Result<MemoryAnswer, AllocError> {
+fn memory_answer(
+    alloc: Global,
+    received: &Exchanged,
+    before: u64,
+) -> Result<MemoryAnswer, AllocError> {
     let written = received.written.as_slice();
     let text = if before == 0 { OFFERED } else { NO_UPDATE };
     let is_reply = is_reply(alloc, written, text)?;
@@ -100,7 +104,7 @@ fn requested(alloc: Global, server: &mut Answering) -> Result<MemoryAnswer, Allo
         input.as_slice(),
     );
     let rise = server.pass.value(CellNo::new(0)).wrapping_sub(before);
-    let requested = again!(asked_of(alloc, &received, before))?;
+    let requested = again!(memory_answer(alloc, &received, before))?;
     let is_right = rise == 1 || rise == 0 && requested != MemoryAnswer::Replied;
     Ok(if is_right {
         requested
@@ -110,7 +114,7 @@ fn requested(alloc: Global, server: &mut Answering) -> Result<MemoryAnswer, Allo
 }
 
 /// Makes a server, and sends two requests.
-fn asked_twice<H: Wait>(rt: &H, alloc: Global) -> Result<[MemoryAnswer; 2], Fail> {
+fn two_answers<H: Wait>(rt: &H, alloc: Global) -> Result<[MemoryAnswer; 2], Fail> {
     let mut server = again!(server_of(rt, alloc, "one"))?;
     let first = requested(alloc, &mut server);
     let second = requested(alloc, &mut server);
@@ -119,8 +123,8 @@ fn asked_twice<H: Wait>(rt: &H, alloc: Global) -> Result<[MemoryAnswer; 2], Fail
 }
 
 #[test]
-fn memory_that_is_refused_is_told(rt: HostRuntime) -> Result<(), Fail> {
-    let [first, second] = asked_twice(&rt, rt.alloc())?;
+fn a_failed_allocation_is_reported(rt: HostRuntime) -> Result<(), Fail> {
+    let [first, second] = two_answers(&rt, rt.alloc())?;
     for (answer, name) in REFUSALS {
         if first == answer {
             println!(rt; "answer: 500 {name}")?;

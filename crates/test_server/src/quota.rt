@@ -16,28 +16,28 @@ use std::test::Fail;
 use std::thread;
 use std::thread::Threads;
 
-/// How many of `asks` requests to a worker are offered the release.
+/// How many of `request_count` requests to a worker are offered the release.
 fn offers(
     alloc: Global,
     cells: &SharedCells,
     worker: (SharedPass, Watcher),
     input: &[u8],
-    asks: u32,
+    request_count: u32,
 ) -> usize
     requires { IsPassOf cells.now worker.0 }
 {
     let (mut pass, mut watcher) = worker;
     let mut count = 0usize;
-    for _ in 0..asks {
+    for _ in 0..request_count {
         let received = exchange(alloc, cells, &mut pass, &mut watcher, input);
         count = count.saturating_add(times(&received.written, "\"version\":\"2.0.0.0\""));
     }
     count
 }
 
-/// How many requests are offered the release if each worker but the last serves `asks` of them in a
-/// thread of its own; and the counter afterwards.
-fn all_offers<H>(rt: &H, crew: Crew, asks: u32) -> Result<(usize, u64), Fail>
+/// How many requests are offered the release if each worker but the last serves `request_count` of
+/// them in a thread of its own; and the counter afterwards.
+fn all_offers<H>(rt: &H, crew: Crew, request_count: u32) -> Result<(usize, u64), Fail>
 where
     H: Threads + AllocGlobal + Sync,
 {
@@ -51,7 +51,7 @@ where
         workers,
         &|worker| -> usize
             requires { IsPassOf cells worker.0 }
-        { offers(rt.alloc(), &cells, worker, &input, asks) },
+        { offers(rt.alloc(), &cells, worker, &input, request_count) },
     )?;
     let mut all = 0usize;
     for count in &counts {
@@ -61,14 +61,14 @@ where
 }
 
 /// As above, for `workers` workers and a ruleset whose app takes from a quota.
-fn taken<H>(rt: &H, path: &str, workers: usize, asks: u32) -> Result<(usize, u64), Fail>
+fn taken<H>(rt: &H, path: &str, workers: usize, request_count: u32) -> Result<(usize, u64), Fail>
 where
     H: Threads + Wait + AllocGlobal + Sync,
 {
     let places = workers.saturating_add(1).clamp(1, 65);
     let mut publisher = publisher_of(rt, rt.alloc(), path, places)?;
     let taken = match crew_of(rt.alloc(), &mut publisher, places) {
-        Ok(crew) => all_offers(rt, crew, asks),
+        Ok(crew) => all_offers(rt, crew, request_count),
         Err(fault) => Err(fault),
     };
     publisher.close(rt);

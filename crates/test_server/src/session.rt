@@ -57,7 +57,7 @@ where
 }
 
 /// Whether the operator's side returns this for a line.
-pub(crate) fn is_asked<H>(rt: &H, port: u16, line: &str, want: &str) -> io::Result<bool>
+pub(crate) fn has_answer<H>(rt: &H, port: u16, line: &str, want: &str) -> io::Result<bool>
 where
     H: Net<Stream = TcpStream> + AllocGlobal,
 {
@@ -85,8 +85,8 @@ where
 #[test]
 fn ports(rt: HostRuntime) -> Result<(), Fail> {
     let used = used_port(&rt)?.ok_or("a port of loopback")?;
-    assert!(rt; is_asked(&rt, used, "show", "B5 Connect")?);
-    assert!(rt; is_asked(&rt, used, "frob", "B1 Word")?);
-    assert!(rt; is_asked(&rt, used, "load a\nb", "B1 Word")?);
+    assert!(rt; has_answer(&rt, used, "show", "B5 Connect")?);
+    assert!(rt; has_answer(&rt, used, "frob", "B1 Word")?);
+    assert!(rt; has_answer(&rt, used, "load a\nb", "B1 Word")?);
     Ok(())
 }

@@ -4,7 +4,7 @@ use crate::clients::{is_answered, is_replied};
 use crate::exchange::post;
 use crate::loopback::{send, sent};
 use crate::replies::TWO_APPS;
-use crate::session::is_asked;
+use crate::session::has_answer;
 use crate::whole_server::{PortTask, wrong};
 use std::io;
 use std::net::{Net, SocketAddr, TcpStream};
@@ -12,7 +12,7 @@ use std::test::Fail;
 
 /// What is sent to the operator's port from the first stop on, and what the operator's side
 /// returns. A server that stops sends everybody `stopping`, which is a reply only to a stop.
-const ASKED: &[(&str, &str)] = &[
+const REQUESTED: &[(&str, &str)] = &[
     ("stop", "stopping\n"),
     ("stop", "stopping\n"),
     ("show", "B5 Connect"),
@@ -26,8 +26,8 @@ fn wrong_line<H>(rt: &H, port: u16) -> io::Result<Option<&'static str>>
 where
     H: Net<Stream = TcpStream> + AllocGlobal,
 {
-    for (line, want) in ASKED {
-        if !is_asked(rt, port, *line, *want)? {
+    for (line, want) in REQUESTED {
+        if !has_answer(rt, port, *line, *want)? {
             return Ok(Some(*line));
         }
     }
@@ -43,10 +43,10 @@ where
     let whole = post(rt.alloc(), TWO_APPS)?;
     let (head, body) = whole.split_at(whole.len().saturating_sub(TWO_APPS.len()));
     let first = sent(rt, clients, head)?;
-    let is_behind = is_answered(rt, clients).unwrap_or(false);
+    let is_served_later = is_answered(rt, clients).unwrap_or(false);
     let wrong = wrong_line(rt, port).unwrap_or(Some("the port"));
     let is_received = send(&first, body).is_ok() && is_replied(rt, &first).unwrap_or(false);
-    Ok(if is_behind && is_received {
+    Ok(if is_served_later && is_received {
         wrong
     } else {
         Some("the client")

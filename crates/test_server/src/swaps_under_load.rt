@@ -3,7 +3,7 @@
 
 use crate::exchange::times;
 use crate::meeting::awaits;
-use crate::session::{FOUR_APPS, ONE_APP, is_asked, posted};
+use crate::session::{FOUR_APPS, ONE_APP, has_answer, posted};
 use crate::whole_server::{PortTask, wrong};
 use std::net::{Net, SocketAddr, TcpListener, TcpStream};
 use std::sync::atomic::{AtomicBool, AtomicU64, Ordering};
@@ -22,7 +22,7 @@ pub(crate) struct Swaps {
     pub(crate) loads: u64,
     /// How many requests each of four clients sends, and how many of them before it waits for all
     /// loads.
-    asks: u64,
+    request_count: u64,
     before: u64,
     /// A request, and how many apps it has.
     body: &'static str,
@@ -35,7 +35,7 @@ pub(crate) const WHOLE: Swaps = Swaps {
     served: "yes",
     other: "no",
     loads: 60,
-    asks: 100,
+    request_count: 100,
     before: 100,
     body: FOUR_APPS,
     apps: 4,
@@ -46,7 +46,7 @@ pub(crate) const QUOTA: Swaps = Swaps {
     served: "forty",
     other: "other_forty",
     loads: 7,
-    asks: 30,
+    request_count: 30,
     before: 9,
     body: ONE_APP,
     apps: 1,
@@ -124,11 +124,11 @@ fn count(progress: &Progress, swaps: Swaps, reply: &[u8]) {
 }
 
 /// What one client does.
-fn ask<H>(rt: &H, place: SocketAddr, swaps: Swaps, progress: &Progress)
+fn post_requests<H>(rt: &H, place: SocketAddr, swaps: Swaps, progress: &Progress)
 where
     H: Net<Stream = TcpStream> + AllocGlobal,
 {
-    for i in 0..swaps.asks {
+    for i in 0..swaps.request_count {
         if i == swaps.before {
             let _loaded = awaits(&progress.loaded);
         }
@@ -140,28 +140,28 @@ where
 }
 
 /// What two clients do at once.
-fn ask_twice<H>(rt: &H, place: SocketAddr, swaps: Swaps, progress: &Progress)
+fn post_by_two<H>(rt: &H, place: SocketAddr, swaps: Swaps, progress: &Progress)
 where
     H: Threads + AllocGlobal + Sync,
     H: Net<Listener = TcpListener, Stream = TcpStream>,
 {
     let _done = thread::join(
         rt,
-        || ask(rt, place, swaps, progress),
-        || ask(rt, place, swaps, progress),
+        || post_requests(rt, place, swaps, progress),
+        || post_requests(rt, place, swaps, progress),
     );
 }
 
 /// What four clients do at once.
-fn ask_all<H>(rt: &H, place: SocketAddr, swaps: Swaps, progress: &Progress)
+fn post_by_four<H>(rt: &H, place: SocketAddr, swaps: Swaps, progress: &Progress)
 where
     H: Threads + AllocGlobal + Sync,
     H: Net<Listener = TcpListener, Stream = TcpStream>,
 {
     let _done = thread::join(
         rt,
-        || ask_twice(rt, place, swaps, progress),
-        || ask_twice(rt, place, swaps, progress),
+        || post_by_two(rt, place, swaps, progress),
+        || post_by_two(rt, place, swaps, progress),
     );
 }
 
@@ -177,7 +177,7 @@ where
     };
     let line = format!(in rt.alloc(); "load {path}")?;
     let want = format!(in rt.alloc(); "generation {}\n", i.saturating_add(2))?;
-    is_asked(rt, port, line.as_str(), want.as_str())
+    has_answer(rt, port, line.as_str(), want.as_str())
 }
 
 /// How many loads got the next generation.
@@ -205,7 +205,7 @@ where
     let (installed, _asked) = thread::join(
         rt,
         || installed(rt, port, swaps, progress),
-        || ask_all(rt, place, swaps, progress),
+        || post_by_four(rt, place, swaps, progress),
     );
     installed == swaps.loads
 }
@@ -235,7 +235,7 @@ where
     let (other, none_other) = progress.other.counts();
     let are_offered = served.saturating_add(other) == 40 && 0 < served && 0 < other;
     let are_refused = none_served.saturating_add(none_other) == 80;
-    let is_counted = is_asked(rt, port, "cells", "q[0] 120\n")?;
+    let is_counted = has_answer(rt, port, "cells", "q[0] 120\n")?;
     Ok(is_swapped && are_offered && are_refused && is_counted)
 }
 

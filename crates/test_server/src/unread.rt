@@ -18,8 +18,8 @@ fn is_unread(alloc: Global, server: &mut Answering) -> Result<bool, AllocError> 
         &mut server.watcher,
         FailAt::new(input.as_slice(), 1_000_000, 1),
     );
-    let is_told = received.outcome == Err(AnswerFault::Reading) && received.written.is_empty();
-    Ok(is_told && server.pass.value(CellNo::new(0)) == 0)
+    let is_refused = received.outcome == Err(AnswerFault::Reading) && received.written.is_empty();
+    Ok(is_refused && server.pass.value(CellNo::new(0)) == 0)
 }
 
 #[test]

@@ -1,7 +1,7 @@
 //! A whole server over loopback, with its operator, and what is done at its two ports.
 
 use crate::clients::at_once;
-use crate::session::{is_asked, ports_of};
+use crate::session::{has_answer, ports_of};
 use crate::shelf::{Shelf, ruleset};
 use crate::staffed::is_given_up;
 use crate::stops::wrong_at_end;
@@ -57,12 +57,12 @@ const SERVING: &[u8] = b"serving generation 1\n";
 
 /// What was written, and by how many writes.
 #[derive(Drop)]
-struct Said {
+struct PrintedLine {
     text: Vec<u8>,
     writes: u64,
 }
 
-impl Write for Said {
+impl Write for PrintedLine {
     fn write(&mut self, buf: &[u8]) -> io::Result<usize> {
         self.writes = self.writes.saturating_add(1);
         self.text.write(buf)
@@ -92,15 +92,15 @@ where
         return Err(ServingFault::Resource(ResourceFault::Memory));
     };
     let server = staff(rt, ports, rules, directory, workers.clamp(1, 64))?;
-    let mut said = Said {
+    let mut said = PrintedLine {
         text: Vec::new(rt.alloc()),
         writes: 0,
     };
     let outcome = server.serve(rt, shelf, service, &mut said);
-    let is_said = said.text.as_slice() == SERVING && said.writes == 1;
+    let is_printed = said.text.as_slice() == SERVING && said.writes == 1;
     drop(said);
     match outcome {
-        Ok(_) if is_said => Ok(()),
+        Ok(_) if is_printed => Ok(()),
         Ok(_) => Err(ServingFault::Resource(ResourceFault::File)),
         Err(fault) => Err(fault),
     }
@@ -125,7 +125,7 @@ where
         PortTask::Swaps => Ok(are_whole(rt, clients, port)),
         PortTask::Quota => is_shared(rt, clients, port),
     };
-    if !is_asked(rt, port, "stop", "stopping\n").unwrap_or(false) {
+    if !has_answer(rt, port, "stop", "stopping\n").unwrap_or(false) {
         return Some("the stop");
     }
     match is_done {

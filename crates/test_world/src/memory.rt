@@ -62,11 +62,11 @@ fn attributes(rt: HostRuntime) -> Result<(), Fail> {
 }
 
 /// Whether the graph of these bytes keeps them.
-fn keeps_bytes(alloc: Global, bytes: &[u8]) -> Result<bool, FlowFault> {
+fn has_its_bytes(alloc: Global, bytes: &[u8]) -> Result<bool, FlowFault> {
     Ok(Flow::check(alloc, bytes)?.bytes() == bytes)
 }
 
-fn keeps_bytes_again<R: Print>(
+fn has_its_bytes_again<R: Print>(
     rt: &R,
     alloc: Global,
     bytes: &[u8],
@@ -75,13 +75,13 @@ fn keeps_bytes_again<R: Print>(
         rt,
         "Flow::check: F9 Memory",
         FlowFault::Memory,
-        { keeps_bytes(alloc, bytes) }
+        { has_its_bytes(alloc, bytes) }
     ))
 }
 
 #[test]
 fn graphs(rt: HostRuntime) -> Result<(), Fail> {
-    assert!(rt; keeps_bytes_again(&rt, rt.alloc(), BELOW_100)? == Ok(true));
+    assert!(rt; has_its_bytes_again(&rt, rt.alloc(), BELOW_100)? == Ok(true));
     let rows: [(&[u8], FlowRule); 3] = [
         (b"\x95\0\0\0\0\0\0\0\x95\0\0\0\0\0\0\0", FlowRule::Unreached),
         (
@@ -94,7 +94,7 @@ fn graphs(rt: HostRuntime) -> Result<(), Fail> {
         ),
     ];
     for (bytes, rule) in rows {
-        let answer = keeps_bytes_again(&rt, rt.alloc(), bytes)?;
+        let answer = has_its_bytes_again(&rt, rt.alloc(), bytes)?;
         assert!(rt; answer == Err(FlowFault::Rule { slot: 1, rule }));
     }
     Ok(())

@@ -38,7 +38,7 @@ fn publisher<R: Wait + Print>(rt: &R, alloc: Global) -> Result<Publisher, Fail> 
 }
 
 /// The generation that a watcher gets, or 0 if it gets none, or another generation's ruleset.
-fn seen(watcher: &mut Watcher) -> u64 {
+fn generation_of(watcher: &mut Watcher) -> u64 {
     match watcher.current() {
         Ok((generation, rules)) if rules.server().parse::<u64>() == Ok(generation) => generation,
         _ => 0,
@@ -47,22 +47,22 @@ fn seen(watcher: &mut Watcher) -> u64 {
 
 /// What a watcher without notices gets, before an install and after it; and what another gets after
 /// a notice, and then after an install without a notice.
-fn seen_in_turn<R: Wait>(
+fn generations_in_turn<R: Wait>(
     rt: &R,
     alloc: Global,
     publisher: &mut Publisher,
 ) -> Result<[u64; 4], Fail> {
     let mut first = publisher.watcher()?;
     let mut second = publisher.watcher()?;
-    let before = seen(&mut first);
+    let before = generation_of(&mut first);
     publisher.install(rt, numbered(alloc, 2)?)?;
-    let after = seen(&mut first);
+    let after = generation_of(&mut first);
     drop(first);
     let notice = publisher.tell();
     second.learn(&notice);
-    let at_once = seen(&mut second);
+    let at_once = generation_of(&mut second);
     publisher.install(rt, numbered(alloc, 3)?)?;
-    let last = seen(&mut second);
+    let last = generation_of(&mut second);
     Ok([before, after, at_once, last])
 }
 
@@ -70,7 +70,7 @@ fn seen_in_turn<R: Wait>(
 #[test]
 fn memory(rt: HostRuntime) -> Result<(), Fail> {
     let mut publisher = publisher(&rt, rt.alloc())?;
-    let found = seen_in_turn(&rt, rt.alloc(), &mut publisher);
+    let found = generations_in_turn(&rt, rt.alloc(), &mut publisher);
     let third = publisher.watcher().err();
     publisher.close(&rt);
     assert_eq!(rt; found?, [1, 2, 2, 3]);
@@ -79,15 +79,15 @@ fn memory(rt: HostRuntime) -> Result<(), Fail> {
 }
 
 /// What a watcher gets after a notice.
-fn seen_after(mut watcher: Watcher, notice: &Notice) -> u64
+fn generation_after(mut watcher: Watcher, notice: &Notice) -> u64
     requires { notice.now.publisher ≡ watcher.publisher }
 {
     watcher.learn(notice);
-    seen(&mut watcher)
+    generation_of(&mut watcher)
 }
 
 /// What two watchers in two threads get that learn one notice.
-fn both_seen<R: Threads + Wait + Sync>(
+fn both_generations<R: Threads + Wait + Sync>(
     rt: &R,
     alloc: Global,
     publisher: &mut Publisher,
@@ -101,17 +101,17 @@ fn both_seen<R: Threads + Wait + Sync>(
         rt,
         move ||
             requires { notice.now.publisher ≡ one.publisher }
-        { seen_after(one, notice) },
+        { generation_after(one, notice) },
         move ||
             requires { notice.now.publisher ≡ two.publisher }
-        { seen_after(two, notice) },
+        { generation_after(two, notice) },
     ))
 }
 
 #[test]
-fn one_notice_tells_two(rt: HostRuntime) -> Result<(), Fail> {
+fn one_notice_reaches_two(rt: HostRuntime) -> Result<(), Fail> {
     let mut publisher = publisher(&rt, rt.alloc())?;
-    let found = both_seen(&rt, rt.alloc(), &mut publisher);
+    let found = both_generations(&rt, rt.alloc(), &mut publisher);
     publisher.close(&rt);
     assert_eq!(rt; found?, (2, 2));
     Ok(())
@@ -123,7 +123,7 @@ fn falls(mut watcher: Watcher) -> (Watcher, u64) {
     let mut last = 1;
     let mut count = 0u64;
     for _ in 0..1000 {
-        let generation = seen(&mut watcher);
+        let generation = generation_of(&mut watcher);
         if generation < last {
             count = count.saturating_add(1);
         }
@@ -146,7 +146,7 @@ fn install_all<R: Wait>(rt: &R, alloc: Global, publisher: &mut Publisher) -> Res
 
 /// Two threads watch while a third installs: how many installs fail, how often each watcher falls
 /// back, and which generation each gets afterwards.
-fn watch_twice<R: Threads + Wait + Sync>(
+fn watch_by_two<R: Threads + Wait + Sync>(
     rt: &R,
     alloc: Global,
     publisher: &mut Publisher,
@@ -158,16 +158,22 @@ fn watch_twice<R: Threads + Wait + Sync>(
         move || falls(one),
         || join(rt, move || falls(two), || install_all(rt, alloc, publisher)),
     );
-    let seen_last = [seen(&mut one), seen(&mut two)];
+    let generation_last = [generation_of(&mut one), generation_of(&mut two)];
     drop(one);
     drop(two);
-    Ok([refused?, one_falls, two_falls, seen_last[0], seen_last[1]])
+    Ok([
+        refused?,
+        one_falls,
+        two_falls,
+        generation_last[0],
+        generation_last[1],
+    ])
 }
 
 #[test]
 fn generations_never_fall(rt: HostRuntime) -> Result<(), Fail> {
     let mut publisher = publisher(&rt, rt.alloc())?;
-    let found = watch_twice(&rt, rt.alloc(), &mut publisher);
+    let found = watch_by_two(&rt, rt.alloc(), &mut publisher);
     publisher.close(&rt);
     assert_eq!(rt; found?, [0, 0, 0, 101, 101]);
     Ok(())

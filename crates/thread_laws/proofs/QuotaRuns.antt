@@ -16,7 +16,7 @@ use Rattle.bpf_semantics.specs.State.{State, opening}
 use Rattle.bpf_verify.specs.Covers.{IsCovered, IsSafeOutcome, HasPossibleReply}
 use Rattle.bpf_verify.specs.Covers.{StepsAreSafe, AreLawful}
 use Rattle.bpf_checks.specs.Sound.{IsLawful, KeepsQuota}
-use Rattle.thread_laws.specs.Runs.{Reaches, stays, goes, asks, Stage, UnderWay, AtEnd}
+use Rattle.thread_laws.specs.Runs.{Reaches, stays, goes, operates, Stage, UnderWay, AtEnd}
 use Rattle.thread_laws.specs.Runs.{ComesAsFar, AppRun}
 use Rattle.thread_laws.specs.Quotas.{HasOnlyQuotasAt, OnlyCountsAt}
 
@@ -28,7 +28,7 @@ lawful_to p safe s t es stays covered fit =
     All-nil (λ (e : CellEvent). IsLawful p.shape e.cell e.op)
 lawful_to p safe s t es (goes {t = u} is rest) covered fit =
     lawful_to p safe u t es rest (subst (IsSafeOutcome p s) is (safe s covered)).1 fit
-lawful_to p safe s t es (asks {next = next} {e = d} {es = ds} is rest) covered fit =
+lawful_to p safe s t es (operates {next = next} {e = d} {es = ds} is rest) covered fit =
     let here = subst (IsSafeOutcome p s) is (safe s covered) in
     let then = here.1 d.reply (All-head HasPossibleReply d ds fit) in
     All-cons (λ (e : CellEvent). IsLawful p.shape e.cell e.op) d ds here.0
@@ -40,8 +40,8 @@ ends_at : (p : ShapedProgram) (s : State) (es : List CellEvent) (choice count : 
 ends_at p s es choice count (last is counted) = (s, stays)
 ends_at p s es choice count (more {t = t} is rest) =
     let end = ends_at p t es choice count rest in (end.0, goes is end.1)
-ends_at p s es choice count (whole.asked {next = next} {e = d} {es = ds} is rest) =
-    let end = ends_at p (next d.reply) ds choice count rest in (end.0, asks is end.1)
+ends_at p s es choice count (whole.operated {next = next} {e = d} {es = ds} is rest) =
+    let end = ends_at p (next d.reply) ds choice count rest in (end.0, operates is end.1)
 
 lawful_as_far : (p : ShapedProgram) → StepsAreSafe p → (s : State) (es : List CellEvent)
     (stage : Stage) → ComesAsFar p s es stage → IsCovered p s → All HasPossibleReply es

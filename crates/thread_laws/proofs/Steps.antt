@@ -3,7 +3,7 @@ use Rattle.std.proofs.Common.{◌≡◌, ℕ, ◌+◌, List, [], ◌∷◌, ◌+
 use Rattle.std.proofs.Common.{ap, subst, ◌∙◌, set-set}
 use Rattle.std.specs.Prelude.{slice_get, slice_set}
 use Rattle.std.specs.List.{AllByRecursion}
-use Rattle.bpf_semantics.specs.Outcome.{Outcome, Going, Asks, Done}
+use Rattle.bpf_semantics.specs.Outcome.{Outcome, Going, Operates, Done}
 use Rattle.bpf_semantics.specs.Program.{ShapedProgram}
 use Rattle.bpf_semantics.specs.State.{State}
 use Rattle.bpf_semantics.specs.Step.{step}
@@ -113,7 +113,7 @@ module _ (rs : List Rules) (v : WorldState) (k : ℕ) where
   -- a step that touches a counter
   touching : (history : List Entry) (cells new : List ℕ) (ws : List Worker) (n : ℕ)
       (p : ShapedProgram) (s : State) (f : ℕ → State) (e : CellEvent)
-      → slice_get ws k ≡ Some (Running n p s) → step p s ≡ Asks e.cell e.op f
+      → slice_get ws k ≡ Some (Running n p s) → step p s ≡ Operates e.cell e.op f
       → IsEvent cells e new → Goes new (slice_set ws k (Running n p (f e.reply))) history
       → Goes cells ws (entry_by k e ∷ history)
   touching history cells new ws n p s f e is a event rest =
@@ -133,7 +133,7 @@ module _ (rs : List Rules) (v : WorldState) (k : ℕ) where
             ap (λ (values : List ℕ). world_of rs values (slice_set ws k y)) event.values_are
             ∙ ap (λ (o : Outcome). with_step w k o y) (sym a);
       })
-      (asks_so cells ws n p s (Asks e.cell e.op f) is a
+      (asks_so cells ws n p s (Operates e.cell e.op f) is a
       ∙ ap (λ (reply : ℕ). entry_by k (record { cell = e.cell; op = e.op; reply = reply }) ∷ [])
       replied) rest
 
@@ -176,7 +176,7 @@ module _ (rs : List Rules) (v : WorldState) (k : ℕ) where
       let same : d ≡ e = cc in
       let tail : ds ≡ next = cc in
       touching history cells new ws n p s f e is
-      (subst (λ (b : CellEvent). step p s ≡ Asks b.cell b.op f) same a) event
+      (subst (λ (b : CellEvent). step p s ≡ Operates b.cell b.op f) same a) event
       (go (Running n p (f e.reply))
       (subst (λ (b : CellEvent). Works (Running n p (f b.reply)) next y) same
       (subst (λ (l : List CellEvent). Works (Running n p (f d.reply)) l y) tail later)))

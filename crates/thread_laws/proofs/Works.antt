@@ -4,7 +4,7 @@ use Rattle.std.proofs.Common.{◌∙◌}
 use Rattle.std.specs.List.{AllByRecursion}
 use Rattle.attrs.specs.Attributes.{Attributes}
 use Rattle.bpf_semantics.specs.Laws.{Follows, IsNext}
-use Rattle.bpf_semantics.specs.Outcome.{Going, Asks, Done}
+use Rattle.bpf_semantics.specs.Outcome.{Going, Operates, Done}
 use Rattle.bpf_semantics.specs.Program.{ShapedProgram}
 use Rattle.bpf_semantics.specs.Run.{Ends, last, more}
 use Rattle.bpf_semantics.specs.Run as whole
@@ -13,7 +13,8 @@ use Rattle.bpf_semantics.specs.Step.{step}
 use Rattle.cells.specs.declared.event.CellEvent.{CellEvent}
 use Rattle.ruleset.specs.Rules.{Rules}
 use Rattle.world.specs.World.{Worker, Idle, Running, Ended}
-use Rattle.thread_laws.specs.Runs.{Reaches, stays, goes, asks, Stage, UnderWay, AtEnd, ComesAsFar}
+use Rattle.thread_laws.specs.Runs.{Reaches, stays, goes, operates, Stage, UnderWay, AtEnd}
+use Rattle.thread_laws.specs.Runs.{ComesAsFar}
 use Rattle.thread_laws.specs.Runs.{AppRun, IsRunUnder, at_start, at_stage, as_far}
 
 -- the worker gets to another state of its run, or to its end, and makes the events on the way
@@ -23,7 +24,7 @@ pub data Works : Worker → List CellEvent → Worker → Type 0 where
       → step p s ≡ Going t → Works (Running n p t) es y → Works (Running n p s) es y
   touches : {n : ℕ} {p : ShapedProgram} {s : State} {next : ℕ → State} {e : CellEvent}
       {es : List CellEvent} {y : Worker}
-      → step p s ≡ Asks e.cell e.op next → Works (Running n p (next e.reply)) es y
+      → step p s ≡ Operates e.cell e.op next → Works (Running n p (next e.reply)) es y
       → Works (Running n p s) (e ∷ es) y
   closes : {n : ℕ} {p : ShapedProgram} {s : State} {choice : ℕ} → step p s ≡ Done choice
       → Works (Running n p s) [] (Ended n p s.attributes choice (s.count + 1))
@@ -36,7 +37,7 @@ leads_works : (n : ℕ) (p : ShapedProgram) (s t : State) (es : List CellEvent) 
     → Works (Running n p s) es (Running n p t)
 leads_works n p s t es stays = rests
 leads_works n p s t es (goes {t = u} e rest) = moves e (leads_works n p u t es rest)
-leads_works n p s t es (asks {next = next} {e = d} {es = ds} e rest) =
+leads_works n p s t es (operates {next = next} {e = d} {es = ds} e rest) =
     touches e (leads_works n p (next d.reply) t ds rest)
 
 ends_works : Counts → (n : ℕ) (p : ShapedProgram) (a : Attributes) (s : State)
@@ -49,7 +50,7 @@ ends_works law n p a s es choice count same (last e counted) =
 ends_works law n p a s es choice count same (more {t = t} e rest) =
     let next : Follows s t = subst (IsNext s) e (law p s) in
     moves e (ends_works law n p a t es choice count (next.attributes ∙ same) rest)
-ends_works law n p a s es choice count same (whole.asked {next = f} {e = d} {es = ds} e rest) =
+ends_works law n p a s es choice count same (whole.operated {next = f} {e = d} {es = ds} e rest) =
     let all : (reply : ℕ) → Follows s (f reply) = subst (IsNext s) e (law p s) in
     touches e
     (ends_works law n p a (f d.reply) ds choice count ((all d.reply).attributes ∙ same) rest)

@@ -1,7 +1,7 @@
 -- Runs of the machine, done or not, each of a program in a ruleset of a published list.
 use Rattle.std.specs.Prelude.{◌≡◌, ℕ, List, [], ◌∷◌, map}
 use Rattle.attrs.specs.Attributes.{Attributes, AreShort}
-use Rattle.bpf_semantics.specs.Outcome.{Going, Asks}
+use Rattle.bpf_semantics.specs.Outcome.{Going, Operates}
 use Rattle.bpf_semantics.specs.Program.{ShapedProgram}
 use Rattle.bpf_semantics.specs.Run.{Ends}
 use Rattle.bpf_semantics.specs.State.{State, opening}
@@ -17,8 +17,9 @@ pub data Reaches (p : ShapedProgram) : State → List CellEvent → State → Ty
   stays : {s : State} → Reaches p s [] s
   goes : {s t u : State} {es : List CellEvent} → step p s ≡ Going t → Reaches p t es u
       → Reaches p s es u
-  asks : {s u : State} {next : ℕ → State} {e : CellEvent} {es : List CellEvent}
-      → step p s ≡ Asks e.cell e.op next → Reaches p (next e.reply) es u → Reaches p s (e ∷ es) u
+  operates : {s u : State} {next : ℕ → State} {e : CellEvent} {es : List CellEvent}
+      → step p s ≡ Operates e.cell e.op next → Reaches p (next e.reply) es u
+      → Reaches p s (e ∷ es) u
 
 -- how far a run is: in a state, from which it continues, or at its end
 pub data Stage : Type 0 where

@@ -13,13 +13,13 @@ use Rattle.timeline.specs.declared.marks.Series.{Series}
 -- ---- the texts of a name
 
 -- the rest of the name, if its first text is this one
-abbrev pub rest_behind : List ℕ → List ℕ → Option (List ℕ)
-rest_behind text name = if bytes_eq (first name) text then Some (rest name) else None
+abbrev pub rest_after : List ℕ → List ℕ → Option (List ℕ)
+rest_after text name = if bytes_eq (first name) text then Some (rest name) else None
 
 -- the same for any first text, if `None` is given
-abbrev pub behind_any : Option (List ℕ) → List ℕ → Option (List ℕ)
-behind_any (Some text) name = rest_behind text name
-behind_any None name = Some (rest name)
+abbrev pub rest_after_any : Option (List ℕ) → List ℕ → Option (List ℕ)
+rest_after_any (Some text) name = rest_after text name
+rest_after_any None name = Some (rest name)
 
 -- ---- rows of a series
 
@@ -52,7 +52,7 @@ moment_in text = decimal_within 0 4223371679 text
 abbrev pub moment_of : Drawn → List ℕ → Option ℕ
 moment_of drawn name =
     option_and_then (λ a. option_and_then (λ b. option_and_then moment_in
-    (behind_any drawn.version b)) (rest_behind drawn.app a)) (rest_behind drawn.what name)
+    (rest_after_any drawn.version b)) (rest_after drawn.app a)) (rest_after drawn.what name)
 
 -- for any name
 abbrev pub any_moment : List ℕ → Option ℕ

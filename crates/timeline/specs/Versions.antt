@@ -2,14 +2,14 @@
 use Rattle.std.specs.Prelude.{ℕ, List, [], ◌∷◌, ◌++◌, codes, string_bytes}
 use Rattle.report.specs.Screen.{Rows}
 use Rattle.report.specs.Names.{listed}
-use Rattle.timeline.specs.Marks.{drawn_count, of_all, of_version, rest_behind}
+use Rattle.timeline.specs.Marks.{drawn_count, of_all, of_version, rest_after}
 use Rattle.timeline.specs.declared.legend.VersionCounts.{VersionCounts}
 
 -- the versions of an app in the rows of versions
 abbrev pub versions_in_rows : List ℕ → Rows → List (List ℕ)
 versions_in_rows app [] = []
 versions_in_rows app (row ∷ rows) =
-    listed (rest_behind app (string_bytes row.0)) ++ versions_in_rows app rows
+    listed (rest_after app (string_bytes row.0)) ++ versions_in_rows app rows
 
 module _ (rows : Rows) (app version : List ℕ) where
   -- all counts of one kind of a version

@@ -50,9 +50,9 @@ pub(crate) fn moment_of(drawn: Series<'_>, name: &str) -> Option<u64>
     ensures moment { result ≡ specs.moment_of (specs.drawn_by drawn.entry) name.now }
     ensures within { IfSome result (λ n. n ≤ 4223371679) }
 {
-    let name = behind(drawn.what, name)?;
-    let name = behind(drawn.app, name)?;
-    let text = behind_any(drawn.version, name)?;
+    let name = rest_after(drawn.what, name)?;
+    let name = rest_after(drawn.app, name)?;
+    let text = rest_after_any(drawn.version, name)?;
     moment_in(text)
 }
 
@@ -109,8 +109,8 @@ pub(crate) fn added(n: u64, more: u64) -> Result<u64, AllocError>
 // ---- the texts of a name
 
 /// The rest of the name, if its first text is `text`.
-pub(crate) fn behind<'a>(text: &str, name: &'a str) -> Option<&'a str>
-    ensures { option_copied result ≡ specs.rest_behind text.now name.now }
+pub(crate) fn rest_after<'a>(text: &str, name: &'a str) -> Option<&'a str>
+    ensures { option_copied result ≡ specs.rest_after text.now name.now }
 {
     if first(name) == text {
         Some(rest(name))
@@ -119,11 +119,11 @@ pub(crate) fn behind<'a>(text: &str, name: &'a str) -> Option<&'a str>
     }
 }
 
-fn behind_any<'a>(text: Option<&str>, name: &'a str) -> Option<&'a str>
-    ensures { option_copied result ≡ specs.behind_any (option_copied text.entry) name.now }
+fn rest_after_any<'a>(text: Option<&str>, name: &'a str) -> Option<&'a str>
+    ensures { option_copied result ≡ specs.rest_after_any (option_copied text.entry) name.now }
 {
     match text {
-        Some(text) => behind(text, name),
+        Some(text) => rest_after(text, name),
         None => Some(rest(name)),
     }
 }

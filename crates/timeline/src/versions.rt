@@ -3,7 +3,7 @@
 ghost use Rattle.std.specs.Prelude.{◌≡◌, IfOk, map, string_bytes};
 ghost use Rattle.timeline.specs.Versions as specs;
 
-use crate::marks::behind;
+use crate::marks::rest_after;
 use std::alloc::{AllocError, Global};
 use std::collections::BTreeMap;
 
@@ -19,7 +19,7 @@ pub(crate) fn versions_in_rows(
 {
     let mut versions = Vec::new(alloc);
     for (name, _count) in rows.iter() {
-        if let Some(version) = behind(app, name.as_str()) {
+        if let Some(version) = rest_after(app, name.as_str()) {
             versions.push(String::from_str(alloc, version)?)?;
         }
     }

@@ -5,8 +5,8 @@ use Rattle.dry_run.specs.Meanings.{AreOpenedWhy}
 use Rattle.dry_run.specs.declared.why_files.OpenedWhy.{OpenedWhy}
 use Rattle.tool_commands.specs.DryRuns.{IsReplyFault}
 use Rattle.tool_commands.specs.Whys.{IsUnansweredWhy, IsWhyRefusal}
-use Rattle.tool_commands.specs.declared.fault.Fault.{Fault}
-use Rattle.tool_commands.specs.declared.fault.Fault.TheVariants.{DryRun}
+use Rattle.tool_commands.specs.declared.tool_fault.Fault.{Fault}
+use Rattle.tool_commands.specs.declared.tool_fault.Fault.TheVariants.{DryRun}
 use Rattle.tool_words.specs.declared.args.AskArgs.{AskArgs}
 
 by_files : (known : KnownFiles) (args : AskArgs) (fault : Fault)

@@ -4,8 +4,8 @@ use Rattle.bounded_files.specs.Files.{KnownFiles}
 use Rattle.manifest_diff.specs.Opened.{AreOpened}
 use Rattle.manifest_diff.specs.declared.opened.OpenedBoth.{OpenedBoth}
 use Rattle.tool_commands.specs.Diffs.{IsDiffRefusal, IsUncompared, PreventsDiff}
-use Rattle.tool_commands.specs.declared.fault.Fault.{Fault}
-use Rattle.tool_commands.specs.declared.fault.Fault.TheVariants.{Diff}
+use Rattle.tool_commands.specs.declared.tool_fault.Fault.{Fault}
+use Rattle.tool_commands.specs.declared.tool_fault.Fault.TheVariants.{Diff}
 use Rattle.tool_words.specs.declared.args.DiffArgs.{DiffArgs}
 
 by_words : (known : KnownFiles) (args : DiffArgs) (fault : Fault)

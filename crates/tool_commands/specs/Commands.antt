@@ -7,7 +7,7 @@ use Rattle.command_line.specs.Printed.{refused_line}
 use Rattle.tool_commands.specs.Outputs.{IsOutput}
 use Rattle.tool_commands.specs.Texts.{fault_text, output_text, passes, refusal_reason}
 use Rattle.tool_commands.specs.Texts.{warnings_of}
-use Rattle.tool_commands.specs.declared.fault.Fault.{Fault}
+use Rattle.tool_commands.specs.declared.tool_fault.Fault.{Fault}
 use Rattle.tool_commands.specs.declared.output.ToolOutput.{ToolOutput}
 use Rattle.tool_words.specs.Requests.{AskFor, AskForHelp, AskForNothing}
 use Rattle.tool_words.specs.Tools.{tools}

@@ -7,12 +7,12 @@ use Rattle.manifest_diff.specs.Outputs.{IsDiffFault, IsDiffOutput}
 use Rattle.manifest_diff.specs.declared.opened.OpenedBoth.{OpenedBoth}
 use Rattle.manifest_diff.specs.declared.output.DiffOptions.{DiffOptions}
 use Rattle.manifest_diff.specs.declared.output.DiffOutput.{DiffOutput}
-use Rattle.operator.specs.Done.{IsAskRefusal}
+use Rattle.operator.specs.Done.{IsRequestRefusal}
 use Rattle.operator_request.specs.declared.request.OperatorRequest.TheVariants as sent
 use Rattle.cell_assignments.specs.Assignments.{Assignment}
 use Rattle.tool_commands.specs.DryRuns.{AreServed}
-use Rattle.tool_commands.specs.declared.fault.Fault.{Fault}
-use Rattle.tool_commands.specs.declared.fault.Fault.TheVariants.{Ask, Diff, Resource}
+use Rattle.tool_commands.specs.declared.tool_fault.Fault.{Fault}
+use Rattle.tool_commands.specs.declared.tool_fault.Fault.TheVariants.{Ask, Diff, Resource}
 use Rattle.tool_words.specs.declared.args.DiffArgs.{DiffArgs}
 
 abbrev pub options_of : DiffArgs → DiffOptions
@@ -34,7 +34,7 @@ pub record HasDiffed (known : KnownFiles) (args : DiffArgs) (output : DiffOutput
 -- is claimed for out of memory
 abbrev pub PreventsDiff : OpenedBoth → DiffArgs → Fault → Type 0
 PreventsDiff both args (Diff why) = IsDiffFault both args.cells.items (options_of args) why
-PreventsDiff both args (Ask why) = IsSome args.operator × IsAskRefusal sent.Cells why
+PreventsDiff both args (Ask why) = IsSome args.operator × IsRequestRefusal sent.Cells why
 PreventsDiff both args (Resource resource.Memory) = Unit {0}
 PreventsDiff both args why = ⊥
 

@@ -7,12 +7,12 @@ use Rattle.bounded_files.specs.declared.resource_fault.ResourceFault.TheVariants
 use Rattle.cells.specs.declared.array.CellArray.{CellArray}
 use Rattle.dry_run.specs.Files.{AreOpened, IsOpenFault}
 use Rattle.dry_run.specs.OnCounters.{IsUnanswered, RepliesOnCounters}
-use Rattle.operator.specs.Done.{IsAskRefusal, IsDoneAs}
+use Rattle.operator.specs.Done.{IsRequestRefusal, IsDoneAs}
 use Rattle.operator_request.specs.declared.request.OperatorRequest.TheVariants as sent
 use Rattle.ruleset.specs.Rules.{Rules}
 use Rattle.cell_assignments.specs.Assignments.{Assignment, assignments_in}
-use Rattle.tool_commands.specs.declared.fault.Fault.{Fault}
-use Rattle.tool_commands.specs.declared.fault.Fault.TheVariants.{Ask, DryRun, Resource}
+use Rattle.tool_commands.specs.declared.tool_fault.Fault.{Fault}
+use Rattle.tool_commands.specs.declared.tool_fault.Fault.TheVariants.{Ask, DryRun, Resource}
 use Rattle.tool_words.specs.declared.args.AskArgs.{AskArgs}
 
 -- ---- from a ruleset with its arrays, for a body
@@ -43,7 +43,7 @@ abbrev pub IsReplyFault : List CellArray → (body : List ℕ) → AskArgs → F
 IsReplyFault arrays body args (DryRun why) =
     (served : List Assignment) × AreServed args.operator served
     × IsUnanswered arrays body served args.cells.items why
-IsReplyFault arrays body args (Ask why) = IsSome args.operator × IsAskRefusal sent.Cells why
+IsReplyFault arrays body args (Ask why) = IsSome args.operator × IsRequestRefusal sent.Cells why
 IsReplyFault arrays body args (Resource resource.Memory) = Unit {0}
 IsReplyFault arrays body args why = ⊥
 

@@ -20,8 +20,8 @@ use Rattle.tool_commands.specs.Clients.{client_of}
 use Rattle.tool_commands.specs.Diffs.{HasDiffed, IsDiffRefusal}
 use Rattle.tool_commands.specs.DryRuns.{HasDryRun, IsDryRunRefusal}
 use Rattle.tool_commands.specs.Whys.{HasWhy, IsWhyRefusal}
-use Rattle.tool_commands.specs.declared.fault.Fault.{Fault}
-use Rattle.tool_commands.specs.declared.fault.Fault.TheVariants as fault
+use Rattle.tool_commands.specs.declared.tool_fault.Fault.{Fault}
+use Rattle.tool_commands.specs.declared.tool_fault.Fault.TheVariants as fault
 use Rattle.tool_commands.specs.declared.output.ToolOutput.{ToolOutput}
 use Rattle.tool_commands.specs.declared.output.ToolOutput.TheVariants as output
 use Rattle.tool_words.specs.declared.args.ReportArgs.{ReportArgs}

@@ -8,12 +8,12 @@ use Rattle.dry_run.specs.Texts.{dry_run_text}
 use Rattle.log_tools.specs.Faults.{report_fault_text}
 use Rattle.manifest_diff.specs.Texts.{diff_fault_text}
 use Rattle.manifest_tools.specs.Manifests as manifest
-use Rattle.manifest_tools.specs.declared.fault.ManifestToolFault.TheVariants as tool
-use Rattle.operator.specs.Texts.{ask_text}
+use Rattle.manifest_tools.specs.declared.manifest_tool_fault.ManifestToolFault.TheVariants as tool
+use Rattle.operator.specs.Texts.{request_fault_text}
 use Rattle.program_tools.specs.Texts as program
 use Rattle.ruleset.specs.Texts.{line}
-use Rattle.tool_commands.specs.declared.fault.Fault.{Fault}
-use Rattle.tool_commands.specs.declared.fault.Fault.TheVariants as fault
+use Rattle.tool_commands.specs.declared.tool_fault.Fault.{Fault}
+use Rattle.tool_commands.specs.declared.tool_fault.Fault.TheVariants as fault
 use Rattle.tool_commands.specs.declared.output.ToolOutput.{ToolOutput}
 use Rattle.tool_commands.specs.declared.output.ToolOutput.TheVariants as output
 
@@ -65,4 +65,4 @@ fault_text (fault.DryRun why) = dry_run_text why
 fault_text (fault.Diff why) = diff_fault_text why
 fault_text (fault.Report why) = report_fault_text why
 -- also the words of a server, or of another program that listens at its port
-fault_text (fault.Ask why) = ask_text why
+fault_text (fault.Ask why) = request_fault_text why

@@ -3,13 +3,13 @@ use Rattle.std.specs.Prelude.{◌≡◌, ◌⊎◌, ℕ, ℤ, List, ◌++◌}
 use Rattle.bounded_files.specs.Files.{KnownFiles}
 use Rattle.dry_run.specs.Files.{IsOpenFault}
 use Rattle.dry_run.specs.Meanings.{AreOpenedWhy}
-use Rattle.dry_run.specs.Why.{TellsWhy}
+use Rattle.dry_run.specs.Why.{IsWhyText}
 use Rattle.dry_run.specs.declared.why_files.OpenedWhy.{OpenedWhy}
 use Rattle.manifest_tools.specs.Checks.{digest_line}
 use Rattle.cell_assignments.specs.Assignments.{Assignment}
 use Rattle.tool_commands.specs.DryRuns.{AreServed, IsAt, IsReplyFault}
-use Rattle.tool_commands.specs.declared.fault.Fault.{Fault}
-use Rattle.tool_commands.specs.declared.fault.Fault.TheVariants.{DryRun}
+use Rattle.tool_commands.specs.declared.tool_fault.Fault.{Fault}
+use Rattle.tool_commands.specs.declared.tool_fault.Fault.TheVariants.{DryRun}
 use Rattle.tool_words.specs.declared.args.AskArgs.{AskArgs}
 
 -- the reasons for the request in the body and for each of its apps, at the given moment, with that
@@ -20,7 +20,7 @@ pub record IsWhyBy (opened : OpenedWhy) (args : AskArgs) (text : List ℕ) : Typ
   pub served : List Assignment
   pub counters : AreServed args.operator served
   pub lines : List ℕ
-  pub tells : TellsWhy opened moment served args.cells.items lines
+  pub why_is : IsWhyText opened moment served args.cells.items lines
   pub text_is : text ≡ lines ++ digest_line opened.digest
 
 -- the reasons, from the files

@@ -1,7 +1,7 @@
 //! The second line of a refusal: the path or the port that it is about, and why, or what exists
 //! instead of what the words name.
 
-use crate::fault::Fault;
+use crate::tool_fault::Fault;
 use bounded_files::{Disk, ResourceFault};
 use dry_run::DryRunFault;
 use log_tools::ReportFault;

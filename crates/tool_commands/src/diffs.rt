@@ -6,8 +6,8 @@ ghost use Rattle.tool_commands.specs.Diffs as specs;
 ghost use Rattle.tool_commands.specs.Outputs.{IsOutput, IsRefused};
 
 use crate::dry_runs::served_reply;
-use crate::fault::Fault;
 use crate::output::ToolOutput;
+use crate::tool_fault::Fault;
 use bounded_files::{Disk, ResourceFault};
 use cell_assignments::read_assignments;
 use manifest_diff::{DiffOptions, DiffOutput, OpenedBoth, diff_manifests, open_both};

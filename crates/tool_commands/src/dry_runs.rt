@@ -3,13 +3,13 @@
 ghost use Rattle.std.specs.Prelude.{IfOk, IfErr, IsSome};
 ghost use Rattle.std.specs.String.{string_bytes};
 ghost use Rattle.std.specs.Str.Lines.{lines};
-ghost use Rattle.operator.specs.Done.{IsAskRefusal};
+ghost use Rattle.operator.specs.Done.{IsRequestRefusal};
 ghost use Rattle.cell_assignments.specs.Assignments.{assignments_in};
 ghost use Rattle.tool_commands.specs.DryRuns as specs;
 ghost use Rattle.tool_commands.specs.Outputs.{IsOutput, IsRefused};
 
-use crate::fault::Fault;
 use crate::output::ToolOutput;
+use crate::tool_fault::Fault;
 use crate::whys::why_of;
 use attrs::Moment;
 use bounded_files::{Disk, ResourceFault};
@@ -93,7 +93,8 @@ where
     R: AllocGlobal + Net<Stream = TcpStream>,
     ensures served { IfOk result
         (λ t. specs.AreServed port (assignments_in (lines (string_bytes t)))) }
-    ensures fault { IfErr result (λ fault. IsSome port × IsAskRefusal OperatorRequest.Cells fault) }
+    ensures fault { IfErr result
+        (λ fault. IsSome port × IsRequestRefusal OperatorRequest.Cells fault) }
 {
     match port {
         Some(port) => ask_server(rt, OperatorRequest::Cells, port),

@@ -12,7 +12,6 @@
 mod details;
 mod diffs;
 mod dry_runs;
-mod fault;
 mod output;
 mod programs;
 mod reports;
@@ -20,6 +19,7 @@ mod requests;
 mod simulations;
 mod stages;
 mod status;
+mod tool_fault;
 mod whys;
 
 pub use status::command;

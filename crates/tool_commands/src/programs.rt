@@ -4,8 +4,8 @@ ghost use Rattle.std.specs.Prelude.{IfOk, IfErr};
 ghost use Rattle.tool_commands.specs.Outputs.{IsExplainedOutput, IsExplainedRefusal, IsOutput};
 ghost use Rattle.tool_commands.specs.Outputs.{IsRefused};
 
-use crate::fault::Fault;
 use crate::output::ToolOutput;
+use crate::tool_fault::Fault;
 use bounded_files::Disk;
 use command_line::{DeclaredShape, RunArgs};
 use program_inspection::{ExplainedProgram, explain_file, trace_file};

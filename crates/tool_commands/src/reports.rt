@@ -4,8 +4,8 @@ ghost use Rattle.std.specs.Prelude.{IfOk, IfErr};
 ghost use Rattle.bounded_files.specs.Files.{KnownFiles};
 ghost use Rattle.tool_commands.specs.Outputs.{IsOutput, IsRefused};
 
-use crate::fault::Fault;
 use crate::output::ToolOutput;
+use crate::tool_fault::Fault;
 use bounded_files::Disk;
 use log_tools::{ReportForm, report_logs, report_on_state};
 use manifest_tools::check_files;

@@ -5,12 +5,12 @@ ghost use Rattle.tool_commands.specs.Outputs.{IsOutput, IsRefused};
 
 use crate::diffs::diffed;
 use crate::dry_runs::dry_run_of;
-use crate::fault::Fault;
 use crate::output::ToolOutput;
 use crate::programs::{explained, traced};
 use crate::reports::{checked, reported};
 use crate::simulations::simulated;
 use crate::stages::{completed, staged};
+use crate::tool_fault::Fault;
 use bounded_files::Disk;
 use program_inspection::order_file;
 use std::fs::File;

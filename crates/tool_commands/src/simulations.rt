@@ -4,8 +4,8 @@ ghost use Rattle.std.specs.Prelude.{◌≡◌, IfOk, IfErr};
 ghost use Rattle.tool_commands.specs.Clients.{client_of};
 ghost use Rattle.tool_commands.specs.Outputs.{IsOutput, IsRefused};
 
-use crate::fault::Fault;
 use crate::output::ToolOutput;
+use crate::tool_fault::Fault;
 use bounded_files::{Disk, ResourceFault};
 use command_line::AppArgs;
 use manifest_tools::{ManifestToolFault, simulate_files};

@@ -7,9 +7,9 @@ ghost use Rattle.tool_commands.specs.Commands.{AreWrong, IsAnswered, IsDone, IsF
 ghost use Rattle.tool_commands.specs.Texts.{output_text, passes, warnings_of};
 
 use crate::details::{print_details, print_unread_checked};
-use crate::fault::Fault;
 use crate::output::ToolOutput;
 use crate::requests::output_of;
+use crate::tool_fault::Fault;
 use bounded_files::{Disk, ResourceFault};
 use command_line::{print_lines, print_refusal, refused, usage};
 use std::convert::AsStr;

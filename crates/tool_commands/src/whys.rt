@@ -9,7 +9,7 @@ ghost use Rattle.dry_run.specs.Meanings.{HaveMeanings};
 ghost use Rattle.manifest_tools.specs.Checks.{digest_line};
 
 use crate::dry_runs::{moment_of, served_reply};
-use crate::fault::Fault;
+use crate::tool_fault::Fault;
 use bounded_files::{Disk, ResourceFault};
 use cell_assignments::read_assignments;
 use dry_run::{OpenedWhy, open_why, why_on_counters};
@@ -48,7 +48,7 @@ where
 fn why_from<R>(rt: &R, opened: &OpenedWhy, args: &AskArgs<'_>) -> Result<String, Fault>
 where
     R: AllocGlobal + Clock + Net<Stream = TcpStream>,
-    requires { HaveMeanings opened.now.rules.apps opened.now.known_rules.items }
+    requires { HaveMeanings opened.now.rules.apps opened.now.optional_rules.items }
     ensures why { IfOk result (λ text.
         specs.IsWhyBy opened.now args.now (string_bytes text)) }
     ensures fault { IfErr result

@@ -14,7 +14,7 @@ use Rattle.bpf_semantics.specs.Laws.{IsNext}
 use Rattle.bpf_semantics.specs.Outcome.{Going, Done, Trap}
 use Rattle.bpf_semantics.specs.Program.{ShapedProgram}
 use Rattle.bpf_semantics.specs.Run.{Ends}
-use Rattle.bpf_semantics.specs.Run.Ends.{last, more, asked}
+use Rattle.bpf_semantics.specs.Run.Ends.{last, more, operated}
 use Rattle.bpf_semantics.specs.State.{State}
 use Rattle.bpf_semantics.specs.Step.{step}
 use Rattle.bpf_verify.specs.Covers.{IsCovered, IsSafeOutcome, StepsAreSafe}
@@ -50,9 +50,9 @@ module _ (p : ShapedProgram) where
     pub counted : s.count ≤ s.slot
     pub goes_on : GoesOn first old text jump s values
 
-  pub told_nothing : (first : State) (old : List ℕ) → IsCovered p first
+  pub covered_at_start : (first : State) (old : List ℕ) → IsCovered p first
       → first.count ≤ first.slot → IsTold first old [] None first old
-  told_nothing first old covered counted = record {
+  covered_at_start first old covered counted = record {
     covered = covered;
     counted = counted;
     goes_on = λ events choice count left rest grown fits lawful. record {
@@ -89,11 +89,11 @@ module _ (p : ShapedProgram) where
   went safe first old text longer jump later s t values after law told is grown latest same =
       let ahead = subst (IsSafeOutcome p s) is (safe s told.covered) in
       let count = (subst (IsNext s) is law).count in
-      let told_count = told.counted in
+      let count_before = told.counted in
       let further = ahead.0 in
       rw (grown, latest, same) (record {
         covered = ahead.1;
-        counted = omega (arith, count, told_count, further);
+        counted = omega (arith, count, count_before, further);
         goes_on = λ events choice number left rest legal fits lawful.
             moved_over first old left choice number text (line_between p s None t)
             (trace_of p t events choice number rest) jump (jump_between p s t)
@@ -109,23 +109,23 @@ module _ (p : ShapedProgram) where
       (option_or (jump_between p s (was.next e.reply)) jump) (was.next e.reply) after
   unfolding trace_of last_jump_of
   asked_there safe first old text jump s values after e t law told was event =
-      let asks = subst (IsSafeOutcome p s) was.asks (safe s told.covered) in
-      let ahead = asks.1 e.reply was.fits in
-      let count = (subst (IsNext s) was.asks law e.reply).count in
-      let told_count = told.counted in
+      let operates = subst (IsSafeOutcome p s) was.operates (safe s told.covered) in
+      let ahead = operates.1 e.reply was.fits in
+      let count = (subst (IsNext s) was.operates law e.reply).count in
+      let count_before = told.counted in
       let further = ahead.0 in
       record {
         covered = ahead.1;
-        counted = omega (arith, count, told_count, further);
+        counted = omega (arith, count, count_before, further);
         goes_on = λ events choice number left rest legal fits lawful.
             moved_over first old left choice number text
             (line_between p s (Some e) (was.next e.reply))
             (trace_of p (was.next e.reply) events choice number rest) jump
             (jump_between p s (was.next e.reply))
             (last_jump_of p (was.next e.reply) events choice number rest)
-            (told.goes_on (e ∷ events) choice number left (asked was.asks rest)
+            (told.goes_on (e ∷ events) choice number left (operated was.operates rest)
             (after, event, legal) (All-cons HasPossibleReply e events was.fits fits)
-            (All-cons (λ d. IsLawful p.shape d.cell d.op) e events asks.0 lawful));
+            (All-cons (λ d. IsLawful p.shape d.cell d.op) e events operates.0 lawful));
       }
 
   pub replied : StepsAreSafe p → (first : State) (old text longer : List ℕ)
@@ -162,4 +162,4 @@ module _ (p : ShapedProgram) where
   pub ahead_asked : StepsAreSafe p → (s t : State) (e : CellEvent) → IsCovered p s
       → IsEventStep p s e t → s.slot < t.slot
   ahead_asked safe s t e covered was =
-      rw was.state ((subst (IsSafeOutcome p s) was.asks (safe s covered)).1 e.reply was.fits).0
+      rw was.state ((subst (IsSafeOutcome p s) was.operates (safe s covered)).1 e.reply was.fits).0

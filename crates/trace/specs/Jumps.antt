@@ -8,7 +8,7 @@ use Rattle.bpf_insn.specs.declared.insn.Insn.TheVariants.{Jump as Ja, JumpIf}
 use Rattle.bpf_insn.specs.Program.{at, ◌>>=◌}
 use Rattle.bpf_semantics.specs.Program.{ShapedProgram}
 use Rattle.bpf_semantics.specs.Run.{Ends}
-use Rattle.bpf_semantics.specs.Run.Ends.{last, more, asked}
+use Rattle.bpf_semantics.specs.Run.Ends.{last, more, operated}
 use Rattle.bpf_semantics.specs.State.{State}
 use Rattle.cells.specs.declared.event.CellEvent.{CellEvent}
 use Rattle.trace.specs.declared.jump.Jump.{Jump}
@@ -33,6 +33,6 @@ unfoldable pub last_jump_of : (p : ShapedProgram) (s : State) (events : List Cel
 last_jump_of p s events choice count (last step is_count) = None
 last_jump_of p s events choice count (more {t = t} step rest) =
     option_or (last_jump_of p t events choice count rest) (jump_between p s t)
-last_jump_of p s events choice count (asked {next = next} {e = e} {es = es} step rest) =
+last_jump_of p s events choice count (operated {next = next} {e = e} {es = es} step rest) =
     option_or (last_jump_of p (next e.reply) es choice count rest)
     (jump_between p s (next e.reply))

@@ -3,7 +3,7 @@ use Rattle.std.specs.Prelude.{◌≡◌, ℕ, List, ◌++◌, All, Option, Some,
 use Rattle.attrs.specs.Attributes.{Attributes}
 use Rattle.bpf_semantics.specs.Program.{ShapedProgram}
 use Rattle.bpf_semantics.specs.Run.{Ends}
-use Rattle.bpf_semantics.specs.Run.Ends.{last, more, asked}
+use Rattle.bpf_semantics.specs.Run.Ends.{last, more, operated}
 use Rattle.bpf_semantics.specs.State.{State, opening}
 use Rattle.bpf_verify.specs.Covers.{AreLawful, HasPossibleReply}
 use Rattle.cells.specs.Events.{AreZeros, IsEvent}
@@ -20,7 +20,7 @@ unfoldable pub trace_of : (p : ShapedProgram) (s : State) (events : List CellEve
 trace_of p s events choice count (last step is_count) = line_between p s None s
 trace_of p s events choice count (more {t = t} step rest) =
     line_between p s None t ++ trace_of p t events choice count rest
-trace_of p s events choice count (asked {next = next} {e = e} {es = es} step rest) =
+trace_of p s events choice count (operated {next = next} {e = e} {es = es} step rest) =
     line_between p s (Some e) (next e.reply) ++ trace_of p (next e.reply) es choice count rest
 
 -- a run from a state that changes the counters' values from `old` to `new`, with its trace and the

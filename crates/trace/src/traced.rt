@@ -58,9 +58,9 @@ pub fn trace_on(
     ensures short { IfOk result (λ t. t.count ≤ length program.now.code) }
     ensures release { IfOk result (λ t. t.choice ≤ program.now.shape.releases) }
 {
-    program.keeps();
+    program.invariant_law();
     let facts: &Attrs = &attrs;
-    facts.keeps();
+    facts.invariant_law();
     counts_instructions();
     let code = slots_of(alloc, program)?;
     let shape = program.shape();

@@ -64,36 +64,36 @@ abbrev pub moved : Attributes → ℕ → Attributes
 moved a bucket = record a { context = record a.context { bucket = bucket } }
 
 -- with its bucket set, `a` is the plain app of that bucket
-abbrev pub IsAsker : List ℕ → Option (List ℕ) → Attributes → Type 0
-IsAsker appid version a = (bucket : ℕ) → moved a bucket ≡ plain appid version bucket
+abbrev pub AreClients : List ℕ → Option (List ℕ) → Attributes → Type 0
+AreClients appid version a = (bucket : ℕ) → moved a bucket ≡ plain appid version bucket
 
 pub begins : (appid : List ℕ) (version : Option (List ℕ)) (a : Attributes)
-    → a ≡ plain appid version 0 → IsAsker appid version a
+    → a ≡ plain appid version 0 → AreClients appid version a
 begins appid version a is bucket = ap (λ (x : Attributes). moved x bucket) is
 
 pub moves : (appid : List ℕ) (version : Option (List ℕ)) (a b : Attributes) (k : ℕ)
-    → IsAsker appid version a → b ≡ moved a k → IsAsker appid version b
-moves appid version a b k asker is bucket =
-    ap (λ (x : Attributes). moved x bucket) is ∙ asker bucket
+    → AreClients appid version a → b ≡ moved a k → AreClients appid version b
+moves appid version a b k clients is bucket =
+    ap (λ (x : Attributes). moved x bucket) is ∙ clients bucket
 
-there : (asks : Attributes → Bool) (appid : List ℕ) (version : Option (List ℕ))
-    (a b : Attributes) (k : ℕ) (got : Bool) → IsAsker appid version a → b ≡ moved a k
-    → got ≡ asks b → asks (plain appid version k) ≡ got
-there asks appid version a b k got asker is answers =
-    ap asks (sym (is ∙ asker k)) ∙ sym answers
+there : (question : Attributes → Bool) (appid : List ℕ) (version : Option (List ℕ))
+    (a b : Attributes) (k : ℕ) (got : Bool) → AreClients appid version a → b ≡ moved a k
+    → got ≡ question b → question (plain appid version k) ≡ got
+there question appid version a b k got clients is answers =
+    ap question (sym (is ∙ clients k)) ∙ sym answers
 
-pub found : (r : RuleOfApp) (asks : Attributes → Bool) (version : Option (List ℕ))
-    (a b : Attributes) (k : ℕ) (got : Bool) → IsAsker r.appid version a → b ≡ moved a k
-    → k < 10000 → got ≡ asks b → got ≡ true → true ≡ in_some_bucket r asks version
-found r asks version a b k got asker is within answers holds =
-    sym (any_found (λ bucket. asks (plain r.appid version bucket)) k 10000 within
-    (there asks r.appid version a b k got asker is answers ∙ holds))
+pub found : (r : RuleOfApp) (question : Attributes → Bool) (version : Option (List ℕ))
+    (a b : Attributes) (k : ℕ) (got : Bool) → AreClients r.appid version a → b ≡ moved a k
+    → k < 10000 → got ≡ question b → got ≡ true → true ≡ in_some_bucket r question version
+found r question version a b k got clients is within answers holds =
+    sym (any_found (λ bucket. question (plain r.appid version bucket)) k 10000 within
+    (there question r.appid version a b k got clients is answers ∙ holds))
 
-pub not_found : (asks : Attributes → Bool) (appid : List ℕ) (version : Option (List ℕ))
-    (a b : Attributes) (k : ℕ) (got : Bool) → IsAsker appid version a → b ≡ moved a k
-    → got ≡ asks b → got ≡ false
-    → any_below (λ bucket. asks (plain appid version bucket)) k ≡ false
-    → any_below (λ bucket. asks (plain appid version bucket)) (k + 1) ≡ false
-not_found asks appid version a b k got asker is answers fails before =
-    none_more (λ bucket. asks (plain appid version bucket)) k before
-    (there asks appid version a b k got asker is answers ∙ fails)
+pub not_found : (question : Attributes → Bool) (appid : List ℕ) (version : Option (List ℕ))
+    (a b : Attributes) (k : ℕ) (got : Bool) → AreClients appid version a → b ≡ moved a k
+    → got ≡ question b → got ≡ false
+    → any_below (λ bucket. question (plain appid version bucket)) k ≡ false
+    → any_below (λ bucket. question (plain appid version bucket)) (k + 1) ≡ false
+not_found question appid version a b k got clients is answers fails before =
+    none_more (λ bucket. question (plain appid version bucket)) k before
+    (there question appid version a b k got clients is answers ∙ fails)

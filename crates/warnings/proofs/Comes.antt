@@ -16,7 +16,7 @@ use Rattle.cells.specs.declared.event.CellEvent.{CellEvent}
 use Rattle.rule_lang.specs.declared.test.Comparison.{Comparison}
 use Rattle.rule_lang.specs.declared.test.Test.{Test}
 use Rattle.rule_lang.specs.declared.test.Test.TheVariants as test
-use Rattle.rule_lang.specs.Meaning.{Behaviour, HasTrace, allows, asks_then, bucket_by}
+use Rattle.rule_lang.specs.Meaning.{Behaviour, HasTrace, allows, add_one_then, bucket_by}
 use Rattle.rule_lang.specs.Meaning.{remainder, test_holds, test_then, version_cmp}
 use Rattle.rule_lang.specs.Shapes.{array_named, cell_of}
 use Rattle.warnings.specs.declared.possible.Possible.{Possible}
@@ -67,14 +67,14 @@ by_reply true m u choice h = inl (refl, h)
 by_reply false m u choice h = inr (refl, h)
 
 after_take : (cell : ℕ) (holds : ℕ → Bool) (m u : Behaviour) (choice : ℕ)
-    → Leads (asks_then (Some cell) (λ reply. cond (holds reply) m u)) choice
+    → Leads (add_one_then (Some cell) (λ reply. cond (holds reply) m u)) choice
     → ((true ≡ true) × Leads m choice) ⊎ ((true ≡ true) × Leads u choice)
 after_take cell holds m u choice ([], h) = absurd h
 after_take cell holds m u choice (e ∷ events, h) =
     by_reply (holds e.reply) m u choice (events, h.3)
 
 by_take : (cell : ℕ) (holds : ℕ → Bool)
-    → Comes undecided (λ m u. asks_then (Some cell) (λ reply. cond (holds reply) m u))
+    → Comes undecided (λ m u. add_one_then (Some cell) (λ reply. cond (holds reply) m u))
 by_take cell holds = record {
   no_met = λ h m n u. absurd cc;
   no_unmet = λ h m u v. absurd cc;

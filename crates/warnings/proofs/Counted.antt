@@ -13,7 +13,7 @@ use Rattle.rule_lang.specs.declared.test.Comparison.TheVariants.{Le, Lt}
 use Rattle.rule_lang.specs.declared.test.Test.TheVariants as test
 use Rattle.rule_lang.specs.Meaning.{allows, bucket_by}
 use Rattle.warnings.specs.RuleWarnings.{is_above_all, is_few}
-use Rattle.warnings.specs.Runs.{AlwaysHolds, IsSoOfTest, MayAsk, TestsAreSo, buckets_that}
+use Rattle.warnings.specs.Runs.{AlwaysHolds, IsSoOfTest, MaySend, TestsAreSo, buckets_that}
 use Rattle.warnings.specs.Runs as so
 use Rattle.warnings.specs.Warnings.{warned, warned_if}
 use Rattle.warnings.specs.declared.warning.WarningPlace.TheVariants as place
@@ -79,7 +79,7 @@ up_to n = record {
 remainder_within : (n : ℕ) → n % 10000 < 10000
 remainder_within n = omega arith
 
-bucket_within : (a : Attributes) → MayAsk a → (salt : Option ℕ) → bucket_by a salt < 10000
+bucket_within : (a : Attributes) → MaySend a → (salt : Option ℕ) → bucket_by a salt < 10000
 bucket_within a may None = may.ranges.bucket
 bucket_within a may (Some salt) = remainder_within _
 

@@ -12,7 +12,7 @@ use Rattle.rule_lang.specs.declared.condition.Step.TheVariants as step
 use Rattle.rule_lang.specs.declared.rule.Statement.{Statement}
 use Rattle.rule_lang.specs.declared.rule.Statement.TheVariants.{Count, When}
 use Rattle.rule_lang.specs.declared.test.Test.{Test}
-use Rattle.rule_lang.specs.Meaning.{Asks, Chooses, behaviour, decide_steps}
+use Rattle.rule_lang.specs.Meaning.{Operates, Chooses, behaviour, decide_steps}
 use Rattle.rule_lang.specs.Shapes.{array_named, cell_of}
 use Rattle.rule_lang.specs.Trees.{Tree, Leaf, Negated, Both, Either, trees_from}
 use Rattle.warnings.specs.declared.possible.Possible.{Possible}
@@ -88,7 +88,7 @@ module _ (of : Test → Possible) (a : Attributes) (s : AppShape) where
       → behaviour a s (before ++ rest) ≡ behaviour a s (before ++ other)
   never_past [] all never rest other = absurd cc
   never_past (Count name index ∷ before) all never rest other =
-      ap (λ b. Asks (cell_of (array_named name s.arrays) index) (Add 1) (λ reply. b))
+      ap (λ b. Operates (cell_of (array_named name s.arrays) index) (Add 1) (λ reply. b))
       (never_past before all never rest other)
   never_past (When steps release ∷ before) all never rest other =
       let comes = steps_come steps all.0 in
@@ -104,7 +104,7 @@ module _ (of : Test → Possible) (a : Attributes) (s : AppShape) where
       → behaviour a s (before ++ rest) ≡ behaviour a s (before ++ other)
   behind [] rest other same = same
   behind (Count name index ∷ before) rest other same =
-      ap (λ b. Asks (cell_of (array_named name s.arrays) index) (Add 1) (λ reply. b))
+      ap (λ b. Operates (cell_of (array_named name s.arrays) index) (Add 1) (λ reply. b))
       (behind before rest other same)
   behind (When steps release ∷ before) rest other same =
       ap (decide_steps a s steps (Chooses release)) (behind before rest other same)

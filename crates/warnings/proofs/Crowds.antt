@@ -7,28 +7,28 @@ use Rattle.std.proofs.lemmas.Bool.{and_parts}
 use Rattle.attrs.specs.Attributes.{Attributes, plain}
 use Rattle.rule_lang.specs.declared.rule.Statement.{Statement}
 use Rattle.rule_lang.specs.declared.rule.Statement.TheVariants.{Count, When}
-use Rattle.warnings.specs.declared.possible.Asker.{Asker}
-use Rattle.warnings.specs.declared.possible.Asker.TheVariants.{AllAt}
+use Rattle.warnings.specs.declared.possible.Clients.{Clients}
+use Rattle.warnings.specs.declared.possible.Clients.TheVariants.{AllAt}
 use Rattle.warnings.specs.declared.spot.Spot.{Spot}
 use Rattle.warnings.specs.Evaluation.{RuleOfApp, any_below, arrives, in_some_bucket, may_end}
 use Rattle.warnings.specs.Evaluation.{someone}
 use Rattle.warnings.specs.Marks.{AreMarked, Crowd, each_by, is_count, is_ended, is_reached, nobody}
 use Rattle.warnings.specs.Marks.{with_buckets, with_one}
-use Rattle.warnings.proofs.Buckets.{IsAsker, moved, moves, none_below_zero}
+use Rattle.warnings.proofs.Buckets.{AreClients, moved, moves, none_below_zero}
 use Rattle.warnings.proofs.Each.{len_each, same_each}
 use Rattle.warnings.proofs.Someone.{any_grows, any_more}
 
-abbrev Asks : Type 0
-Asks = Asker → Attributes → Bool
+abbrev Operates : Type 0
+Operates = Clients → Attributes → Bool
 
 module _ (r : RuleOfApp) where
-  reach_same : (crowd other : Crowd) → ((asks : Asks) → crowd asks ≡ other asks)
+  reach_same : (crowd other : Crowd) → ((question : Operates) → crowd question ≡ other question)
       → (before : List Statement) (st : Statement)
       → is_reached r crowd before st ≡ is_reached r other before st
   reach_same crowd other same before (Count name index) = refl
   reach_same crowd other same before (When steps release) = same (arrives r before)
 
-  end_same : (crowd other : Crowd) → ((asks : Asks) → crowd asks ≡ other asks)
+  end_same : (crowd other : Crowd) → ((question : Operates) → crowd question ≡ other question)
       → (before : List Statement) (st : Statement)
       → is_ended r crowd before st ≡ is_ended r other before st
   end_same crowd other same before (Count name index) = refl
@@ -36,7 +36,7 @@ module _ (r : RuleOfApp) where
       same (may_end r before (When steps release))
 
   pub same_marks : (crowd other : Crowd) (reached ends : List Bool)
-      → ((asks : Asks) → crowd asks ≡ other asks) → AreMarked r crowd reached ends
+      → ((question : Operates) → crowd question ≡ other question) → AreMarked r crowd reached ends
       → AreMarked r other reached ends
   same_marks crowd other reached ends same h = record {
     reached_are = h.reached_are
@@ -60,13 +60,15 @@ module _ (r : RuleOfApp) where
       ∙ ap (λ (l : List Bool). g before st ∷ l)
       (set_stay f g (before ++ st ∷ []) rest more both.1)
 
-  reach_more : (crowd other : Crowd) → ((asks : Asks) → crowd asks ≡ true → other asks ≡ true)
+  reach_more : (crowd other : Crowd)
+      → ((question : Operates) → crowd question ≡ true → other question ≡ true)
       → (before : List Statement) (st : Statement) → is_reached r crowd before st ≡ true
       → is_reached r other before st ≡ true
   reach_more crowd other more before (Count name index) h = refl
   reach_more crowd other more before (When steps release) h = more (arrives r before) h
 
-  end_more : (crowd other : Crowd) → ((asks : Asks) → crowd asks ≡ true → other asks ≡ true)
+  end_more : (crowd other : Crowd)
+      → ((question : Operates) → crowd question ≡ true → other question ≡ true)
       → (before : List Statement) (st : Statement) → is_ended r crowd before st ≡ true
       → is_ended r other before st ≡ true
   end_more crowd other more before (Count name index) h = refl
@@ -74,7 +76,7 @@ module _ (r : RuleOfApp) where
       more (may_end r before (When steps release)) h
 
   all_stay : (crowd other : Crowd) (reached ends : List Bool)
-      → ((asks : Asks) → crowd asks ≡ true → other asks ≡ true)
+      → ((question : Operates) → crowd question ≡ true → other question ≡ true)
       → list_all (λ (m : Bool). m) reached ≡ true → list_all (λ (m : Bool). m) ends ≡ true
       → AreMarked r crowd reached ends → AreMarked r other reached ends
   all_stay crowd other reached ends more all_reached all_ended h = record {
@@ -122,31 +124,31 @@ module _ (r : RuleOfApp) where
   -- ---- the buckets of a spot so far
 
   abbrev with_below : Crowd → Spot → ℕ → Crowd
-  with_below crowd spot n asks =
-      crowd asks || any_below (λ k. asks (AllAt spot) (plain r.appid None k)) n
+  with_below crowd spot n question =
+      crowd question || any_below (λ k. question (AllAt spot) (plain r.appid None k)) n
 
   pub record AreBucketsMarked (reached_first ends_first : List Bool) (spot : Spot) (a : Attributes)
       (n : ℕ) (reached ends : List Bool) : Type 0 where
     pub within : n ≤ 10000
-    pub asker : IsAsker r.appid None a
+    pub clients : AreClients r.appid None a
     pub reached_length : length reached ≡ length r.rule
     pub ends_length : length ends ≡ length r.rule
     pub so_far : (crowd : Crowd) → AreMarked r crowd reached_first ends_first
         → AreMarked r (with_below crowd spot n) reached ends
 
   module _ (reached_first ends_first : List Bool) (spot : Spot) where
-    pub no_bucket : (a : Attributes) → IsAsker r.appid None a
+    pub no_bucket : (a : Attributes) → AreClients r.appid None a
         → length reached_first ≡ length r.rule → length ends_first ≡ length r.rule
         → AreBucketsMarked reached_first ends_first spot a 0 reached_first ends_first
-    no_bucket a asker reached_length ends_length = record {
+    no_bucket a clients reached_length ends_length = record {
       within = omega arith;
-      asker = asker;
+      clients = clients;
       reached_length = reached_length;
       ends_length = ends_length;
       so_far = λ crowd h. same_marks crowd (with_below crowd spot 0) reached_first ends_first
-          (λ asks. sym (ap (λ b. crowd asks || b)
-          (none_below_zero (λ k. asks (AllAt spot) (plain r.appid None k)))
-          ∙ or-false (crowd asks))) h;
+          (λ question. sym (ap (λ b. crowd question || b)
+          (none_below_zero (λ k. question (AllAt spot) (plain r.appid None k)))
+          ∙ or-false (crowd question))) h;
     }
 
     pub next_bucket : (a b : Attributes) (n : ℕ) (reached ends reached_now ends_now : List Bool)
@@ -159,19 +161,20 @@ module _ (r : RuleOfApp) where
         marked =
         record {
           within = omega (arith, more);
-          asker = moves r.appid None a b n h.asker is;
+          clients = moves r.appid None a b n h.clients is;
           reached_length = reached_length ∙ h.reached_length;
           ends_length = ends_length ∙ h.ends_length;
           so_far = λ crowd first.
               same_marks (with_one (with_below crowd spot n) (AllAt spot) b)
               (with_below crowd spot (n + 1)) reached_now ends_now
-              (λ asks. or_assoc (crowd asks)
-              (any_below (λ k. asks (AllAt spot) (plain r.appid None k)) n) (asks (AllAt spot) b)
-              ∙ ap (λ (x : Attributes). crowd asks
-              || (any_below (λ k. asks (AllAt spot) (plain r.appid None k)) n
-              || asks (AllAt spot) x)) (is ∙ h.asker n)
-              ∙ ap (λ y. crowd asks || y)
-              (sym (any_more (λ k. asks (AllAt spot) (plain r.appid None k)) n)))
+              (λ question. or_assoc (crowd question)
+              (any_below (λ k. question (AllAt spot) (plain r.appid None k)) n)
+              (question (AllAt spot) b)
+              ∙ ap (λ (x : Attributes). crowd question
+              || (any_below (λ k. question (AllAt spot) (plain r.appid None k)) n
+              || question (AllAt spot) x)) (is ∙ h.clients n)
+              ∙ ap (λ y. crowd question || y)
+              (sym (any_more (λ k. question (AllAt spot) (plain r.appid None k)) n)))
               (marked (with_below crowd spot n) (h.so_far crowd first));
         }
 
@@ -191,7 +194,8 @@ module _ (r : RuleOfApp) where
         → AreMarked r (with_buckets r crowd spot) reached ends
     no_more_buckets a n reached ends h all_reached all_ended crowd first =
         all_stay (with_below crowd spot n) (with_buckets r crowd spot) reached ends
-        (λ asks some. grows (crowd asks) (λ k. asks (AllAt spot) (plain r.appid None k)) some)
+        (λ question some. grows (crowd question)
+        (λ k. question (AllAt spot) (plain r.appid None k)) some)
         all_reached all_ended (h.so_far crowd first)
       where
         grows : (c : Bool) (p : ℕ → Bool) → (c || any_below p n) ≡ true
@@ -204,11 +208,12 @@ module _ (r : RuleOfApp) where
   pub record AreSpotsMarked (spots left : List Spot) (reached ends : List Bool) : Type 0 where
     pub crowd : Crowd
     pub marked : AreMarked r crowd reached ends
-    pub rest : (asks : Asks) → (crowd asks || someone r left asks) ≡ someone r spots asks
+    pub rest : (question : Operates) → (crowd question || someone r left question)
+        ≡ someone r spots question
 
   pub no_spot : (spots : List Spot) (reached ends : List Bool) → AreMarked r nobody reached ends
       → AreSpotsMarked spots spots reached ends
-  no_spot spots reached ends h = record { crowd = nobody; marked = h; rest = λ asks. refl }
+  no_spot spots reached ends h = record { crowd = nobody; marked = h; rest = λ question. refl }
 
   pub next_spot : (spots left others : List Spot) (spot : Spot)
       (reached ends reached_now ends_now : List Bool) → left ≡ spot ∷ others
@@ -219,15 +224,17 @@ module _ (r : RuleOfApp) where
   next_spot spots left others spot reached ends reached_now ends_now stands h marked = record {
     crowd = with_buckets r h.crowd spot;
     marked = marked h.crowd h.marked;
-    rest = λ asks. or_assoc (h.crowd asks) (in_some_bucket r (asks (AllAt spot)) None)
-        (someone r others asks)
-        ∙ ap (λ (l : List Spot). h.crowd asks || someone r l asks) (sym stands) ∙ h.rest asks;
+    rest = λ question. or_assoc (h.crowd question) (in_some_bucket r (question (AllAt spot)) None)
+        (someone r others question)
+        ∙ ap (λ (l : List Spot). h.crowd question || someone r l question) (sym stands)
+        ∙ h.rest question;
   }
 
   pub all_spots : (spots left : List Spot) (reached ends : List Bool) → left ≡ []
       → AreSpotsMarked spots left reached ends → AreMarked r (someone r spots) reached ends
   all_spots spots left reached ends none h =
       same_marks h.crowd (someone r spots) reached ends
-      (λ asks. sym (or-false (h.crowd asks))
-      ∙ ap (λ (l : List Spot). h.crowd asks || someone r l asks) (sym none) ∙ h.rest asks)
+      (λ question. sym (or-false (h.crowd question))
+      ∙ ap (λ (l : List Spot). h.crowd question || someone r l question) (sym none)
+      ∙ h.rest question)
       h.marked

@@ -11,7 +11,7 @@ use Rattle.cells.specs.declared.event.CellOp.TheVariants.{Add}
 use Rattle.rule_lang.specs.declared.rule.Statement.{Statement}
 use Rattle.rule_lang.specs.declared.rule.Statement.TheVariants.{Count, When}
 use Rattle.rule_lang.specs.declared.test.Test.{Test}
-use Rattle.rule_lang.specs.Meaning.{Asks, Behaviour, Chooses, HasTrace, asks_then, behaviour}
+use Rattle.rule_lang.specs.Meaning.{Operates, Behaviour, Chooses, HasTrace, add_one_then, behaviour}
 use Rattle.rule_lang.specs.Meaning.{cell_used, decide, decide_one, test_holds, test_then}
 use Rattle.rule_lang.specs.Shapes.{array_named, cell_of}
 use Rattle.rule_lang.specs.Trees.{Tree, Leaf, Negated, Both, Either, trees_from}
@@ -45,9 +45,9 @@ abbrev accessed_once : ℕ → CellEvent
 accessed_once cell = record { cell = cell; op = Add 1; reply = 0 }
 
 -- a cell that replies 0, and the run after it
-asks_on : (cell : ℕ) (next : ℕ → Behaviour) (choice : ℕ) → LeadsFresh (next 0) choice
-    → LeadsFresh (Asks cell (Add 1) next) choice
-asks_on cell next choice h = record {
+reply_zero_on : (cell : ℕ) (next : ℕ → Behaviour) (choice : ℕ) → LeadsFresh (next 0) choice
+    → LeadsFresh (Operates cell (Add 1) next) choice
+reply_zero_on cell next choice h = record {
   events = accessed_once cell ∷ h.events;
   fresh = All-cons (λ (e : CellEvent). e.reply ≡ 0) (accessed_once cell) h.events refl h.fresh;
   run = (refl, refl, lit< tt, h.run);
@@ -83,17 +83,17 @@ by_truth false = record {
 }
 
 by_reply : (cell : ℕ) (holds : ℕ → Bool)
-    → Goes (decided (holds 0)) (λ m u. Asks cell (Add 1) (λ reply. cond (holds reply) m u))
+    → Goes (decided (holds 0)) (λ m u. Operates cell (Add 1) (λ reply. cond (holds reply) m u))
 by_reply cell holds = record {
   sure = refl;
-  met = λ is m u choice h. asks_on cell (λ reply. cond (holds reply) m u) choice
+  met = λ is m u choice h. reply_zero_on cell (λ reply. cond (holds reply) m u) choice
       (subst (λ b. LeadsFresh (cond b m u) choice) (sym is) h);
-  unmet = λ is m u choice h. asks_on cell (λ reply. cond (holds reply) m u) choice
+  unmet = λ is m u choice h. reply_zero_on cell (λ reply. cond (holds reply) m u) choice
       (subst (λ b. LeadsFresh (cond b m u) choice) (sym (twice_not (holds 0) ∙ ap not is)) h);
 }
 
 by_cell : (cell : Option ℕ) (holds : ℕ → Bool)
-    → Goes (decided (holds 0)) (λ m u. asks_then cell (λ reply. cond (holds reply) m u))
+    → Goes (decided (holds 0)) (λ m u. add_one_then cell (λ reply. cond (holds reply) m u))
 by_cell None holds = by_truth (holds 0)
 by_cell (Some cell) holds = by_reply cell holds
 
@@ -167,7 +167,7 @@ module _ (a : Attributes) (s : AppShape) where
       → LeadsFresh (behaviour a s rule) (first_offer (comes_of a s) rule)
   first_chosen [] = here 0
   first_chosen (Count name index ∷ rest) =
-      asks_on (cell_of (array_named name s.arrays) index) (λ reply. behaviour a s rest)
+      reply_zero_on (cell_of (array_named name s.arrays) index) (λ reply. behaviour a s rest)
       (first_offer (comes_of a s) rest) (first_chosen rest)
   first_chosen (When steps release ∷ rest) =
       let goes = by_trees (trees_from [] steps) in

@@ -10,7 +10,7 @@ use Rattle.std.proofs.lemmas.List.Folds.{list_all-append}
 use Rattle.attrs.specs.Attributes.{Attributes}
 use Rattle.rule_lang.specs.declared.rule.Statement.{Statement}
 use Rattle.rule_lang.specs.declared.rule.Statement.TheVariants.{Count, When}
-use Rattle.warnings.specs.declared.possible.Asker.{Asker}
+use Rattle.warnings.specs.declared.possible.Clients.{Clients}
 use Rattle.warnings.specs.declared.possible.Possible.{Possible}
 use Rattle.warnings.specs.Evaluation.{RuleOfApp, arrives, may_end, tests_for}
 use Rattle.warnings.specs.Course.{statement_possible}
@@ -25,26 +25,26 @@ pub went_on : (fails : Bool) → not fails ≡ false → fails ≡ true
 went_on true h = refl
 went_on false h = absurd cc
 
-module _ (r : RuleOfApp) (asker : Asker) (a : Attributes) where
+module _ (r : RuleOfApp) (clients : Clients) (a : Attributes) where
   reached_now : (crowd : Crowd) (before : List Statement) (st : Statement)
-      → arrives r before asker a ≡ true → true ≡ is_reached r (with_one crowd asker a) before st
+      → arrives r before clients a ≡ true → true ≡ is_reached r (with_one crowd clients a) before st
   reached_now crowd before (Count name index) goes = refl
   reached_now crowd before (When steps release) goes =
-      sym (or_right (crowd (arrives r before)) (arrives r before asker a) goes)
+      sym (or_right (crowd (arrives r before)) (arrives r before clients a) goes)
 
   ended_now : (crowd : Crowd) (before : List Statement) (st : Statement)
-      → arrives r before asker a ≡ true
-      → (statement_possible (tests_for r asker a) st).holds ≡ true
-      → true ≡ is_ended r (with_one crowd asker a) before st
+      → arrives r before clients a ≡ true
+      → (statement_possible (tests_for r clients a) st).holds ≡ true
+      → true ≡ is_ended r (with_one crowd clients a) before st
   ended_now crowd before (Count name index) goes holds = refl
   ended_now crowd before (When steps release) goes holds =
       let st = When steps release in
-      sym (or_right (crowd (may_end r before st)) (may_end r before st asker a)
-      (ap (λ b. b && (statement_possible (tests_for r asker a) st).holds) goes ∙ holds))
+      sym (or_right (crowd (may_end r before st)) (may_end r before st clients a)
+      (ap (λ b. b && (statement_possible (tests_for r clients a) st).holds) goes ∙ holds))
 
   same_end : (crowd : Crowd) (before : List Statement) (st : Statement)
-      → may_end r before st asker a ≡ false
-      → is_ended r crowd before st ≡ is_ended r (with_one crowd asker a) before st
+      → may_end r before st clients a ≡ false
+      → is_ended r crowd before st ≡ is_ended r (with_one crowd clients a) before st
   same_end crowd before (Count name index) never = refl
   same_end crowd before (When steps release) never =
       let st = When steps release in
@@ -52,23 +52,23 @@ module _ (r : RuleOfApp) (asker : Asker) (a : Attributes) where
       ∙ or-false (crowd (may_end r before st)))
 
   ended_not : (crowd : Crowd) (before : List Statement) (st : Statement)
-      → (statement_possible (tests_for r asker a) st).holds ≡ false
-      → is_ended r crowd before st ≡ is_ended r (with_one crowd asker a) before st
+      → (statement_possible (tests_for r clients a) st).holds ≡ false
+      → is_ended r crowd before st ≡ is_ended r (with_one crowd clients a) before st
   ended_not crowd before st fails =
       same_end crowd before st
-      (ap (λ b. arrives r before asker a && b) fails ∙ and-false (arrives r before asker a))
+      (ap (λ b. arrives r before clients a && b) fails ∙ and-false (arrives r before clients a))
 
   -- a client reaches nothing after the statement that ends the rule for it
-  never_more : (before more : List Statement) → arrives r before asker a ≡ false
-      → arrives r (before ++ more) asker a ≡ false
+  never_more : (before more : List Statement) → arrives r before clients a ≡ false
+      → arrives r (before ++ more) clients a ≡ false
   never_more before more never =
       list_all-append
-      (λ (st : Statement). (statement_possible (tests_for r asker a) st).fails) before more
-      ∙ ap (λ b. b && arrives r more asker a) never
+      (λ (st : Statement). (statement_possible (tests_for r clients a) st).fails) before more
+      ∙ ap (λ b. b && arrives r more clients a) never
 
   same_reach : (crowd : Crowd) (before : List Statement) (st : Statement)
-      → arrives r before asker a ≡ false
-      → is_reached r crowd before st ≡ is_reached r (with_one crowd asker a) before st
+      → arrives r before clients a ≡ false
+      → is_reached r crowd before st ≡ is_reached r (with_one crowd clients a) before st
   same_reach crowd before (Count name index) never = refl
   same_reach crowd before (When steps release) never =
       sym (ap (λ b. crowd (arrives r before) || b) never ∙ or-false (crowd (arrives r before)))
@@ -77,9 +77,9 @@ module _ (r : RuleOfApp) (asker : Asker) (a : Attributes) where
   pub record AreHalfMarked (crowd : Crowd) (before left : List Statement)
       (reached ends : List Bool) : Type 0 where
     pub reached_are : reached
-        ≡ half (is_reached r crowd) (is_reached r (with_one crowd asker a)) before left
+        ≡ half (is_reached r crowd) (is_reached r (with_one crowd clients a)) before left
     pub ends_are : ends
-        ≡ half (is_ended r crowd) (is_ended r (with_one crowd asker a)) before left
+        ≡ half (is_ended r crowd) (is_ended r (with_one crowd clients a)) before left
 
   -- the client has reached this statement
   pub record IsOnWay (reached_first ends_first : List Bool) (place : ℕ) (left : List Statement)
@@ -87,7 +87,7 @@ module _ (r : RuleOfApp) (asker : Asker) (a : Attributes) where
     pub before : List Statement
     pub whole : before ++ left ≡ r.rule
     pub place_is : length before ≡ place
-    pub goes : arrives r before asker a ≡ true
+    pub goes : arrives r before clients a ≡ true
     pub within : place + length left ≡ length r.rule
     pub reached_length : length reached ≡ length r.rule
     pub ends_length : length ends ≡ length r.rule
@@ -109,8 +109,8 @@ module _ (r : RuleOfApp) (asker : Asker) (a : Attributes) where
 
   half_marked : (crowd : Crowd) (before rest : List Statement) (st : Statement) (place : ℕ)
       (p : Possible) (reached ends reached_now_are ends_now_are : List Bool)
-      → length before ≡ place → arrives r before asker a ≡ true
-      → p ≡ statement_possible (tests_for r asker a) st
+      → length before ≡ place → arrives r before clients a ≡ true
+      → p ≡ statement_possible (tests_for r clients a) st
       → reached_now_are ≡ slice_set reached place true
       → ends_now_are ≡ (if p.holds then slice_set ends place true else ends)
       → AreHalfMarked crowd before (st ∷ rest) reached ends
@@ -118,27 +118,27 @@ module _ (r : RuleOfApp) (asker : Asker) (a : Attributes) where
   half_marked crowd before rest st place p reached ends reached_now_are ends_now_are at goes is
       set_reached set_ends h = record {
         reached_are = set_reached
-            ∙ half_set (is_reached r crowd) (is_reached r (with_one crowd asker a)) before rest st
+            ∙ half_set (is_reached r crowd) (is_reached r (with_one crowd clients a)) before rest st
             place true reached at h.reached_are (reached_now crowd before st goes);
         ends_are = by_holding p.holds set_ends (ap (λ (q : Possible). q.holds) (sym is));
       }
     where
       by_holding : (holds : Bool)
           → ends_now_are ≡ (if holds then slice_set ends place true else ends)
-          → (statement_possible (tests_for r asker a) st).holds ≡ holds
+          → (statement_possible (tests_for r clients a) st).holds ≡ holds
           → ends_now_are
-          ≡ half (is_ended r crowd) (is_ended r (with_one crowd asker a)) (before ++ st ∷ []) rest
+          ≡ half (is_ended r crowd) (is_ended r (with_one crowd clients a)) (before ++ st ∷ []) rest
       by_holding true are holds =
-          are ∙ half_set (is_ended r crowd) (is_ended r (with_one crowd asker a)) before rest st
+          are ∙ half_set (is_ended r crowd) (is_ended r (with_one crowd clients a)) before rest st
           place true ends at h.ends_are (ended_now crowd before st goes holds)
       by_holding false are fails =
-          half_kept (is_ended r crowd) (is_ended r (with_one crowd asker a)) before rest st
+          half_kept (is_ended r crowd) (is_ended r (with_one crowd clients a)) before rest st
           ends_now_are (are ∙ h.ends_are) (ended_not crowd before st fails)
 
   module _ (reached_first ends_first : List Bool) (place : ℕ) (left rest : List Statement)
       (st : Statement) (p : Possible) (reached ends reached_now_are ends_now_are : List Bool)
       (h : IsOnWay reached_first ends_first place left reached ends) (stands : left ≡ st ∷ rest)
-      (is : p ≡ statement_possible (tests_for r asker a) st)
+      (is : p ≡ statement_possible (tests_for r clients a) st)
       (set_reached : reached_now_are ≡ slice_set reached place true)
       (set_ends : ends_now_are ≡ (if p.holds then slice_set ends place true else ends)) where
     whole_still : (h.before ++ st ∷ []) ++ rest ≡ r.rule
@@ -154,11 +154,11 @@ module _ (r : RuleOfApp) (asker : Asker) (a : Attributes) where
         (subst (λ (l : List Statement). AreHalfMarked crowd h.before l reached ends) stands
         (h.so_far crowd marked))
 
-    passed : (fails : Bool) → p.fails ≡ fails → arrives r (h.before ++ st ∷ []) asker a ≡ fails
+    passed : (fails : Bool) → p.fails ≡ fails → arrives r (h.before ++ st ∷ []) clients a ≡ fails
     passed fails which =
         list_all-append
-        (λ (s : Statement). (statement_possible (tests_for r asker a) s).fails) h.before (st ∷ [])
-        ∙ ap (λ b. b && arrives r (st ∷ []) asker a) h.goes
+        (λ (s : Statement). (statement_possible (tests_for r clients a) s).fails) h.before (st ∷ [])
+        ∙ ap (λ b. b && arrives r (st ∷ []) clients a) h.goes
         ∙ ap (λ (q : Possible). q.fails && true) (sym is)
         ∙ ap (λ b. b && true) which ∙ and-true fails
 
@@ -177,19 +177,19 @@ module _ (r : RuleOfApp) (asker : Asker) (a : Attributes) where
     }
 
     pub stops : p.fails ≡ false → (crowd : Crowd) → AreMarked r crowd reached_first ends_first
-        → AreMarked r (with_one crowd asker a) reached_now_are ends_now_are
+        → AreMarked r (with_one crowd clients a) reached_now_are ends_now_are
     stops never crowd marked =
         let half_are = marked_so_far crowd marked in
         let gone = passed false never in
         record {
-          reached_are = half_whole (is_reached r crowd) (is_reached r (with_one crowd asker a))
+          reached_are = half_whole (is_reached r crowd) (is_reached r (with_one crowd clients a))
               (h.before ++ st ∷ []) rest r.rule reached_now_are half_are.reached_are whole_still
               (λ more s. same_reach crowd ((h.before ++ st ∷ []) ++ more) s
               (never_more (h.before ++ st ∷ []) more gone));
-          ends_are = half_whole (is_ended r crowd) (is_ended r (with_one crowd asker a))
+          ends_are = half_whole (is_ended r crowd) (is_ended r (with_one crowd clients a))
               (h.before ++ st ∷ []) rest r.rule ends_now_are half_are.ends_are whole_still
               (λ more s. same_end crowd ((h.before ++ st ∷ []) ++ more) s
-              (ap (λ b. b && (statement_possible (tests_for r asker a) s).holds)
+              (ap (λ b. b && (statement_possible (tests_for r clients a) s).holds)
               (never_more (h.before ++ st ∷ []) more gone)));
         }
 
@@ -197,7 +197,7 @@ module _ (r : RuleOfApp) (asker : Asker) (a : Attributes) where
   pub arrived : (reached_first ends_first : List Bool) (place : ℕ) (left : List Statement)
       (reached ends : List Bool) → IsOnWay reached_first ends_first place left reached ends
       → left ≡ [] → (crowd : Crowd) → AreMarked r crowd reached_first ends_first
-      → AreMarked r (with_one crowd asker a) reached ends
+      → AreMarked r (with_one crowd clients a) reached ends
   arrived reached_first ends_first place left reached ends h none crowd marked =
       let half_are = subst (λ (l : List Statement). AreHalfMarked crowd h.before l reached ends)
       none (h.so_far crowd marked) in
@@ -205,7 +205,8 @@ module _ (r : RuleOfApp) (asker : Asker) (a : Attributes) where
       sym (append-nil h.before) ∙ ap (λ (l : List Statement). h.before ++ l) (sym none) ∙ h.whole in
       record {
         reached_are = half_are.reached_are ∙ append-nil _
-            ∙ ap (λ (l : List Statement). each_by (is_reached r (with_one crowd asker a)) [] l) all;
+            ∙ ap (λ (l : List Statement). each_by (is_reached r (with_one crowd clients a)) [] l)
+            all;
         ends_are = half_are.ends_are ∙ append-nil _
-            ∙ ap (λ (l : List Statement). each_by (is_ended r (with_one crowd asker a)) [] l) all;
+            ∙ ap (λ (l : List Statement). each_by (is_ended r (with_one crowd clients a)) [] l) all;
       }

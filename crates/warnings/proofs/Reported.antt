@@ -50,15 +50,15 @@ module _ (app : ℕ) (r : RuleOfApp) (spots : List Spot) (first : List Warning) 
   }
 
   pub next_reported : (left others : List Statement) (st : Statement)
-      (reached ends reached_behind ends_after : List Bool) (reach end : Bool)
-      (text new : List Warning) → left ≡ st ∷ others → reached ≡ reach ∷ reached_behind
+      (reached ends later_reached ends_after : List Bool) (reach end : Bool)
+      (text new : List Warning) → left ≡ st ∷ others → reached ≡ reach ∷ later_reached
       → ends ≡ end ∷ ends_after → new ≡ text ++ marked_warning app end reach st
-      → AreReported left reached ends text → AreReported others reached_behind ends_after new
-  next_reported left others st reached ends reached_behind ends_after reach end text new stands
+      → AreReported left reached ends text → AreReported others later_reached ends_after new
+  next_reported left others st reached ends later_reached ends_after reach end text new stands
       reached_stand ends_stand is h =
       let of_reached = is_reached r (someone r spots) in
       let of_ends = is_ended r (someone r spots) in
-      let reaches : reach ∷ reached_behind ≡ each_by of_reached h.before (st ∷ others) =
+      let reaches : reach ∷ later_reached ≡ each_by of_reached h.before (st ∷ others) =
       sym reached_stand ∙ h.reached_are
       ∙ ap (λ (l : List Statement). each_by of_reached h.before l) stands in
       let ending : end ∷ ends_after ≡ each_by of_ends h.before (st ∷ others) =

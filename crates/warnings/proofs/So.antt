@@ -8,15 +8,15 @@ use Rattle.rule_lang.specs.declared.rule.Statement.{Statement}
 use Rattle.rule_lang.specs.declared.rule.Statement.TheVariants.{When}
 use Rattle.rule_lang.specs.declared.test.Comparison.{Comparison}
 use Rattle.rule_lang.specs.declared.test.Test.{Test}
-use Rattle.warnings.specs.declared.possible.Asker.{Asker}
-use Rattle.warnings.specs.declared.possible.Asker.TheVariants.{AllAt, One}
+use Rattle.warnings.specs.declared.possible.Clients.{Clients}
+use Rattle.warnings.specs.declared.possible.Clients.TheVariants.{AllAt, One}
 use Rattle.warnings.specs.declared.possible.Possible.{Possible}
 use Rattle.warnings.specs.RuleWarnings.{ungiven_warning, when_warning}
 use Rattle.warnings.specs.Evaluation.{RuleOfApp, arrives, gets, in_some_bucket, may_end, may_give}
 use Rattle.warnings.specs.Evaluation.{someone, tests_for}
 use Rattle.warnings.specs.Course.{first_offer}
 use Rattle.warnings.specs.Runs.{IsNeverChosen, IsNeverPassed, IsSoOfRelease, IsSoOfVersion}
-use Rattle.warnings.specs.Runs.{IsSoOfWhen, MayAsk, MayGet, NeverHolds, ReleasesAreSo}
+use Rattle.warnings.specs.Runs.{IsSoOfWhen, MaySend, MayGet, NeverHolds, ReleasesAreSo}
 use Rattle.warnings.specs.Runs.{VersionsAreSo, WhensAreSo}
 use Rattle.warnings.specs.Runs as so
 use Rattle.warnings.specs.Spots.{spots_of}
@@ -44,7 +44,7 @@ day_within moment = within_days (elapsed moment) (elapsed_within moment)
 
 -- ---- an app that a server may evaluate a rule for
 
-module _ (r : RuleOfApp) (a : Attributes) (may : MayAsk a) where
+module _ (r : RuleOfApp) (a : Attributes) (may : MaySend a) where
   -- the spot that represents its version, and the app that was evaluated for it
   place : Highest (spots_of r.rule) a.context.version
   place = highest (spots_of r.rule) a.context.version (has_lowest r.rule)
@@ -69,24 +69,24 @@ module _ (r : RuleOfApp) (a : Attributes) (may : MayAsk a) where
       (all_alike r.rule a.context.version place)
 
   -- what no client does this client doesn't do
-  nor_it : (asks : Asker → Attributes → Bool) → someone r (spots_of r.rule) asks ≡ false
-      → asks (AllAt place.spot) evaluated ≡ false
-  nor_it asks nobody =
-      none_at (λ bucket. asks (AllAt place.spot) (plain r.appid None bucket)) 10000
+  nor_it : (question : Clients → Attributes → Bool) → someone r (spots_of r.rule) question ≡ false
+      → question (AllAt place.spot) evaluated ≡ false
+  nor_it question nobody =
+      none_at (λ bucket. question (AllAt place.spot) (plain r.appid None bucket)) 10000
       a.context.bucket may.ranges.bucket
-      (place.among (λ spot. in_some_bucket r (asks (AllAt spot)) None) nobody)
+      (place.among (λ spot. in_some_bucket r (question (AllAt spot)) None) nobody)
 
 -- ---- a `when`
 
 module _ (r : RuleOfApp) (before rest : List Statement) (steps : List Step) (release : ℕ)
     (is : r.rule ≡ before ++ When steps release ∷ rest) where
-  tests_before : (a : Attributes) (may : MayAsk a)
+  tests_before : (a : Attributes) (may : MaySend a)
       → RuleTests (TestComes (of_tests r a may) a r.shape) before
   tests_before a may =
       let P = TestComes (of_tests r a may) a r.shape in
       of_before P steps release rest before (subst (RuleTests P) is (all_come r a may))
 
-  tests_here : (a : Attributes) (may : MayAsk a)
+  tests_here : (a : Attributes) (may : MaySend a)
       → StepsTests (TestComes (of_tests r a may) a r.shape) steps
   tests_here a may =
       let P = TestComes (of_tests r a may) a r.shape in

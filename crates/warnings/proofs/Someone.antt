@@ -11,8 +11,8 @@ use Rattle.std.proofs.lemmas.List.Folds.{list_all-append}
 use Rattle.attrs.specs.Attributes.{Attributes, plain}
 use Rattle.rule_lang.specs.declared.rule.Statement.{Statement}
 use Rattle.rule_lang.specs.declared.rule.Statement.TheVariants.{Count, When}
-use Rattle.warnings.specs.declared.possible.Asker.{Asker}
-use Rattle.warnings.specs.declared.possible.Asker.TheVariants.{AllAt}
+use Rattle.warnings.specs.declared.possible.Clients.{Clients}
+use Rattle.warnings.specs.declared.possible.Clients.TheVariants.{AllAt}
 use Rattle.warnings.specs.declared.spot.Spot.{Spot}
 use Rattle.warnings.specs.Evaluation.{RuleOfApp, any_below, arrives, in_some_bucket, may_end}
 use Rattle.warnings.specs.Evaluation.{may_give}
@@ -21,8 +21,8 @@ use Rattle.warnings.specs.Course.{may_offer, offered, statement_possible}
 use Rattle.warnings.specs.Marks.{AreMarked, each_by, is_ended, is_given}
 use Rattle.warnings.proofs.Buckets.{any_found, some_at}
 
-abbrev Asks : Type 0
-Asks = Asker → Attributes → Bool
+abbrev Operates : Type 0
+Operates = Clients → Attributes → Bool
 
 -- ---- some number
 
@@ -92,7 +92,8 @@ none_given ends (st ∷ rest) release none = absurd cc
 -- ---- some client
 
 module _ (r : RuleOfApp) (spots : List Spot) where
-  same_someone : (f g : Asks) → ((asker : Asker) (a : Attributes) → f asker a ≡ g asker a)
+  same_someone : (f g : Operates)
+      → ((clients : Clients) (a : Attributes) → f clients a ≡ g clients a)
       → someone r spots f ≡ someone r spots g
   same_someone f g same =
       spot_same (λ spot. in_some_bucket r (f (AllAt spot)) None)
@@ -102,8 +103,8 @@ module _ (r : RuleOfApp) (spots : List Spot) where
       (λ k. same (AllAt spot) (plain r.appid None k)) 10000)
       spots
 
-  someone_or : (f g : Asks)
-      → someone r spots (λ asker a. f asker a || g asker a)
+  someone_or : (f g : Operates)
+      → someone r spots (λ clients a. f clients a || g clients a)
       ≡ (someone r spots f || someone r spots g)
   someone_or f g =
       spot_same (λ spot. in_some_bucket r (λ a. f (AllAt spot) a || g (AllAt spot) a) None)
@@ -114,41 +115,41 @@ module _ (r : RuleOfApp) (spots : List Spot) where
       ∙ spot_or (λ spot. in_some_bucket r (f (AllAt spot)) None)
       (λ spot. in_some_bucket r (g (AllAt spot)) None) spots
 
-  someone_none : someone r spots (λ asker a. false) ≡ false
+  someone_none : someone r spots (λ clients a. false) ≡ false
   someone_none =
       spot_same (λ spot. in_some_bucket r (λ a. false) None) (λ spot. false)
       (λ spot. any_none 10000) spots
       ∙ spot_none spots
 
-  someone_and : (f : Asks) (c : Bool)
-      → someone r spots (λ asker a. f asker a && c) ≡ (someone r spots f && c)
+  someone_and : (f : Operates) (c : Bool)
+      → someone r spots (λ clients a. f clients a && c) ≡ (someone r spots f && c)
   someone_and f true =
-      same_someone (λ asker a. f asker a && true) f (λ asker a. and-true (f asker a))
+      same_someone (λ clients a. f clients a && true) f (λ clients a. and-true (f clients a))
       ∙ sym (and-true (someone r spots f))
   someone_and f false =
-      same_someone (λ asker a. f asker a && false) (λ asker a. false)
-      (λ asker a. and-false (f asker a))
+      same_someone (λ clients a. f clients a && false) (λ clients a. false)
+      (λ clients a. and-false (f clients a))
       ∙ someone_none ∙ sym (and-false (someone r spots f))
 
   -- ---- a release that is given
 
   -- a client that reaches these statements may get the release from them
-  abbrev gives_on : (before rest : List Statement) → ℕ → Asks
-  gives_on before rest release asker a =
-      arrives r before asker a && may_offer (tests_for r asker a) rest release
+  abbrev gives_on : (before rest : List Statement) → ℕ → Operates
+  gives_on before rest release clients a =
+      arrives r before clients a && may_offer (tests_for r clients a) rest release
 
   by_one : (a h c f m : Bool) → (a && ((h && c) || (f && m))) ≡ (((a && h) && c) || ((a && f) && m))
   by_one true h c f m = refl
   by_one false h c f m = refl
 
-  arrives_more : (before : List Statement) (st : Statement) (asker : Asker) (a : Attributes)
-      → arrives r (before ++ st ∷ []) asker a
-      ≡ (arrives r before asker a && (statement_possible (tests_for r asker a) st).fails)
-  arrives_more before st asker a =
+  arrives_more : (before : List Statement) (st : Statement) (clients : Clients) (a : Attributes)
+      → arrives r (before ++ st ∷ []) clients a
+      ≡ (arrives r before clients a && (statement_possible (tests_for r clients a) st).fails)
+  arrives_more before st clients a =
       list_all-append
-      (λ (s : Statement). (statement_possible (tests_for r asker a) s).fails) before (st ∷ [])
-      ∙ ap (λ b. arrives r before asker a && b)
-      (and-true (statement_possible (tests_for r asker a) st).fails)
+      (λ (s : Statement). (statement_possible (tests_for r clients a) s).fails) before (st ∷ [])
+      ∙ ap (λ b. arrives r before clients a && b)
+      (and-true (statement_possible (tests_for r clients a) st).fails)
 
   gives_next : (before rest : List Statement) (st : Statement) (release : ℕ)
       → someone r spots (gives_on before (st ∷ rest) release)
@@ -157,16 +158,16 @@ module _ (r : RuleOfApp) (spots : List Spot) where
   gives_next before rest st release =
       let le = nat_le release (offered st) in
       same_someone (gives_on before (st ∷ rest) release)
-      (λ asker a. (may_end r before st asker a && le)
-      || gives_on (before ++ st ∷ []) rest release asker a)
-      (λ asker a. by_one (arrives r before asker a)
-      (statement_possible (tests_for r asker a) st).holds le
-      (statement_possible (tests_for r asker a) st).fails
-      (may_offer (tests_for r asker a) rest release)
-      ∙ ap (λ b. (may_end r before st asker a && le)
-      || (b && may_offer (tests_for r asker a) rest release))
-      (sym (arrives_more before st asker a)))
-      ∙ someone_or (λ asker a. may_end r before st asker a && le)
+      (λ clients a. (may_end r before st clients a && le)
+      || gives_on (before ++ st ∷ []) rest release clients a)
+      (λ clients a. by_one (arrives r before clients a)
+      (statement_possible (tests_for r clients a) st).holds le
+      (statement_possible (tests_for r clients a) st).fails
+      (may_offer (tests_for r clients a) rest release)
+      ∙ ap (λ b. (may_end r before st clients a && le)
+      || (b && may_offer (tests_for r clients a) rest release))
+      (sym (arrives_more before st clients a)))
+      ∙ someone_or (λ clients a. may_end r before st clients a && le)
       (gives_on (before ++ st ∷ []) rest release)
       ∙ ap (λ b. b || someone r spots (gives_on (before ++ st ∷ []) rest release))
       (someone_and (may_end r before st) le)
@@ -187,8 +188,8 @@ module _ (r : RuleOfApp) (spots : List Spot) where
       → is_given (each_by (is_ended r (someone r spots)) before rest) rest release
       ≡ someone r spots (gives_on before rest release)
   given_from before [] release some =
-      sym (same_someone (gives_on before [] release) (λ asker a. false)
-      (λ asker a. and-false (arrives r before asker a)) ∙ someone_none)
+      sym (same_someone (gives_on before [] release) (λ clients a. false)
+      (λ clients a. and-false (arrives r before clients a)) ∙ someone_none)
   given_from before (st ∷ rest) release some =
       ap (λ b. b || is_given (each_by (is_ended r (someone r spots)) (before ++ st ∷ []) rest) rest
       release) (sym (end_gives before st release some))

@@ -11,8 +11,8 @@ use Rattle.rule_lang.specs.declared.test.Comparison.{Comparison}
 use Rattle.rule_lang.specs.declared.test.Test.{Test}
 use Rattle.rule_lang.specs.Meaning.{allows, version_cmp}
 use Rattle.warnings.specs.declared.evaluating.EvaluatedRule.{EvaluatedRule}
-use Rattle.warnings.specs.declared.possible.Asker.{Asker}
-use Rattle.warnings.specs.declared.possible.Asker.TheVariants.{AllAt}
+use Rattle.warnings.specs.declared.possible.Clients.{Clients}
+use Rattle.warnings.specs.declared.possible.Clients.TheVariants.{AllAt}
 use Rattle.warnings.specs.declared.possible.Possible.{Possible}
 use Rattle.warnings.specs.declared.spot.Spot.{Spot}
 use Rattle.warnings.specs.Course.{first_offer, goes_past, may_offer, statement_possible}
@@ -36,8 +36,8 @@ rule_of a = record {
 -- ---- one client
 
 -- the possible results of each test for this client
-abbrev pub tests_for : RuleOfApp → Asker → Attributes → Test → Possible
-tests_for r asker a = test_possible asker a r.shape
+abbrev pub tests_for : RuleOfApp → Clients → Attributes → Test → Possible
+tests_for r clients a = test_possible clients a r.shape
 
 -- whether the numbers of two version texts compare by `by`
 abbrev pub numbers_compare : Comparison → Option (List ℕ) → Option (List ℕ) → Bool
@@ -56,22 +56,22 @@ choice_compares by releases version choice =
     if choice == 0 then false else release_compares by (slice_get releases (choice - 1)) version
 
 -- the rule may continue after these statements
-abbrev pub arrives : RuleOfApp → (before : List Statement) → Asker → Attributes → Bool
-arrives r before asker a = goes_past (tests_for r asker a) before
+abbrev pub arrives : RuleOfApp → (before : List Statement) → Clients → Attributes → Bool
+arrives r before clients a = goes_past (tests_for r clients a) before
 
 -- the statement after `before` may end the rule
-abbrev pub may_end : RuleOfApp → (before : List Statement) → Statement → Asker → Attributes → Bool
-may_end r before statement asker a =
-    arrives r before asker a && (statement_possible (tests_for r asker a) statement).holds
+abbrev pub may_end : RuleOfApp → (before : List Statement) → Statement → Clients → Attributes → Bool
+may_end r before statement clients a =
+    arrives r before clients a && (statement_possible (tests_for r clients a) statement).holds
 
 -- the rule may end with this release or a later one
-abbrev pub may_give : RuleOfApp → (release : ℕ) → Asker → Attributes → Bool
-may_give r release asker a = may_offer (tests_for r asker a) r.rule release
+abbrev pub may_give : RuleOfApp → (release : ℕ) → Clients → Attributes → Bool
+may_give r release clients a = may_offer (tests_for r clients a) r.rule release
 
 -- the rule ends with a release whose version compares by `by` with this version
-abbrev pub gets : RuleOfApp → Comparison → (version : List ℕ) → Asker → Attributes → Bool
-gets r by version asker a =
-    choice_compares by r.releases version (first_offer (tests_for r asker a) r.rule)
+abbrev pub gets : RuleOfApp → Comparison → (version : List ℕ) → Clients → Attributes → Bool
+gets r by version clients a =
+    choice_compares by r.releases version (first_offer (tests_for r clients a) r.rule)
 
 -- ---- all clients
 
@@ -85,9 +85,9 @@ all_buckets = 10000
 
 -- whether it holds in some bucket, for a client that sends only this version
 abbrev pub in_some_bucket : RuleOfApp → (Attributes → Bool) → (version : Option (List ℕ)) → Bool
-in_some_bucket r asks version =
-    any_below (λ bucket. asks (plain r.appid version bucket)) all_buckets
+in_some_bucket r question version =
+    any_below (λ bucket. question (plain r.appid version bucket)) all_buckets
 
 -- whether it holds in some bucket, for versions at one of these spots
-abbrev pub someone : RuleOfApp → List Spot → (Asker → Attributes → Bool) → Bool
-someone r spots asks = list_any (λ spot. in_some_bucket r (asks (AllAt spot)) None) spots
+abbrev pub someone : RuleOfApp → List Spot → (Clients → Attributes → Bool) → Bool
+someone r spots question = list_any (λ spot. in_some_bucket r (question (AllAt spot)) None) spots

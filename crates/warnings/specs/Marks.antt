@@ -4,8 +4,8 @@ use Rattle.std.specs.Prelude.{None}
 use Rattle.attrs.specs.Attributes.{Attributes}
 use Rattle.rule_lang.specs.declared.rule.Statement.{Statement}
 use Rattle.rule_lang.specs.declared.rule.Statement.TheVariants.{Count, When}
-use Rattle.warnings.specs.declared.possible.Asker.{Asker}
-use Rattle.warnings.specs.declared.possible.Asker.TheVariants.{AllAt}
+use Rattle.warnings.specs.declared.possible.Clients.{Clients}
+use Rattle.warnings.specs.declared.possible.Clients.TheVariants.{AllAt}
 use Rattle.warnings.specs.declared.spot.Spot.{Spot}
 use Rattle.warnings.specs.Evaluation.{RuleOfApp, arrives, in_some_bucket, may_end}
 use Rattle.warnings.specs.Course.{offered}
@@ -13,18 +13,18 @@ use Rattle.warnings.specs.Course.{offered}
 -- ---- a crowd: for a property of clients, whether one of the clients so far has it
 
 abbrev pub Crowd : Type 0
-Crowd = (Asker → Attributes → Bool) → Bool
+Crowd = (Clients → Attributes → Bool) → Bool
 
 abbrev pub nobody : Crowd
-nobody asks = false
+nobody question = false
 
 -- the crowd with one more client
-abbrev pub with_one : Crowd → Asker → Attributes → Crowd
-with_one crowd asker a asks = crowd asks || asks asker a
+abbrev pub with_one : Crowd → Clients → Attributes → Crowd
+with_one crowd clients a question = crowd question || question clients a
 
 -- the crowd with the clients of each bucket whose version lies at `spot`
 abbrev pub with_buckets : RuleOfApp → Crowd → Spot → Crowd
-with_buckets r crowd spot asks = crowd asks || in_some_bucket r (asks (AllAt spot)) None
+with_buckets r crowd spot question = crowd question || in_some_bucket r (question (AllAt spot)) None
 
 -- ---- marks
 

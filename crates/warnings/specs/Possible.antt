@@ -12,8 +12,8 @@ use Rattle.rule_lang.specs.declared.test.Test.TheVariants as test
 use Rattle.rule_lang.specs.Meaning.{allows, test_holds}
 use Rattle.rule_lang.specs.Trees.{Tree, Leaf, Negated, Both, Either, trees_from}
 use Rattle.warnings.specs.declared.possible.Possible.{Possible}
-use Rattle.warnings.specs.declared.possible.Asker.{Asker}
-use Rattle.warnings.specs.declared.possible.Asker.TheVariants.{AllAt, One}
+use Rattle.warnings.specs.declared.possible.Clients.{Clients}
+use Rattle.warnings.specs.declared.possible.Clients.TheVariants.{AllAt, One}
 use Rattle.warnings.specs.declared.spot.Spot.{Spot}
 use Rattle.warnings.specs.Spots.{spot_at, spot_cmp}
 
@@ -55,7 +55,7 @@ open_possible spot a s (test.Today r n) = day_possible last_today r n
 open_possible spot a s (test.Installed r n) = day_possible last_install_day r n
 open_possible spot a s t = undecided
 
-abbrev pub test_possible : Asker → Attributes → AppShape → Test → Possible
+abbrev pub test_possible : Clients → Attributes → AppShape → Test → Possible
 test_possible (AllAt spot) a s t = open_possible spot a s t
 test_possible One a s t = decided (test_holds a s 0 t)
 

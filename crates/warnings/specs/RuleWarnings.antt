@@ -15,7 +15,7 @@ use Rattle.rule_lang.specs.declared.test.Comparison.{Comparison}
 use Rattle.rule_lang.specs.declared.test.Comparison.TheVariants.{Eq, Le, Lt}
 use Rattle.rule_lang.specs.declared.test.Test.{Test}
 use Rattle.rule_lang.specs.declared.test.Test.TheVariants as test
-use Rattle.warnings.specs.declared.possible.Asker.TheVariants.{One}
+use Rattle.warnings.specs.declared.possible.Clients.TheVariants.{One}
 use Rattle.warnings.specs.declared.spot.Spot.{Spot}
 use Rattle.warnings.specs.declared.warning.WarningPlace.{WarningPlace}
 use Rattle.warnings.specs.declared.warning.WarningPlace.TheVariants as place

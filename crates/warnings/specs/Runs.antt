@@ -28,7 +28,7 @@ use Rattle.warnings.specs.declared.warning.WarningKind.TheVariants as kind
 
 -- an app that a server may evaluate a rule for: its context is in the ranges of that type, and its
 -- day is that of a moment
-pub record MayAsk (a : Attributes) : Type 0 where
+pub record MaySend (a : Attributes) : Type 0 where
   pub ranges : HasContextRanges a.context
   pub moment : ℤ
   pub today : a.context.today ≡ elapsed_days moment
@@ -42,7 +42,7 @@ buckets_that r n = count_by (λ bucket. allows r (nat_cmp bucket n)) (range_with
 -- the test holds for every client
 abbrev pub AlwaysHolds : Test → Type 0
 AlwaysHolds t =
-    (a : Attributes) → MayAsk a → (s : AppShape) (met unmet : Behaviour)
+    (a : Attributes) → MaySend a → (s : AppShape) (met unmet : Behaviour)
     → test_then a s t met unmet ≡ met
 
 -- ---- what no run does
@@ -50,20 +50,20 @@ AlwaysHolds t =
 -- the statements after these don't affect the behaviour
 abbrev pub IsNeverPassed : AppShape → List Statement → Type 0
 IsNeverPassed s before =
-    (a : Attributes) → MayAsk a → (rest other : List Statement)
+    (a : Attributes) → MaySend a → (rest other : List Statement)
     → behaviour a s (before ++ rest) ≡ behaviour a s (before ++ other)
 
 -- the release of a `when` with this condition, after `before`, doesn't affect the behaviour
 abbrev pub NeverHolds : AppShape → (before : List Statement) → List Step → Type 0
 NeverHolds s before steps =
-    (a : Attributes) → MayAsk a → (rest : List Statement) (release other : ℕ)
+    (a : Attributes) → MaySend a → (rest : List Statement) (release other : ℕ)
     → behaviour a s (before ++ When steps release ∷ rest)
     ≡ behaviour a s (before ++ When steps other ∷ rest)
 
 -- no run chooses it, whatever counters reply
 abbrev pub IsNeverChosen : AppShape → List Statement → (release : ℕ) → Type 0
 IsNeverChosen s rule release =
-    (a : Attributes) → MayAsk a → (events : List CellEvent)
+    (a : Attributes) → MaySend a → (events : List CellEvent)
     → HasTrace (behaviour a s rule) events release → ⊥
 
 -- ---- what some run does

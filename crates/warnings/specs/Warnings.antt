@@ -72,37 +72,37 @@ part_text (kind.SharedArray first second) =
 part_text k = []
 
 -- what comes after the place, and after a test's part or the apps
-unfoldable pub said_of : WarningKind → List ℕ
-said_of kind.UnprintedAppid = codes ".appid: it has a character that isn't printed"
-said_of kind.UnusedArray = codes ": no program uses it, and no rule"
-said_of (kind.SharedArray first second) =
+unfoldable pub kind_text_of : WarningKind → List ℕ
+kind_text_of kind.UnprintedAppid = codes ".appid: it has a character that isn't printed"
+kind_text_of kind.UnusedArray = codes ": no program uses it, and no rule"
+kind_text_of (kind.SharedArray first second) =
     codes " use it, so a mistake in one changes the counts and quotas of both"
-said_of kind.SameVersion = codes ".version: a later release has it, too"
-said_of kind.CodebaseSlash =
+kind_text_of kind.SameVersion = codes ".version: a later release has it, too"
+kind_text_of kind.CodebaseSlash =
     codes ".codebase: no / ends it, and a client joins it with a package's name"
-said_of kind.CodebaseScheme = codes ".codebase: it begins with neither https:// nor http://"
-said_of kind.EmptyFile = codes ".package: one has the size 0"
-said_of kind.PackageName =
+kind_text_of kind.CodebaseScheme = codes ".codebase: it begins with neither https:// nor http://"
+kind_text_of kind.EmptyFile = codes ".package: one has the size 0"
+kind_text_of kind.PackageName =
     codes ".package: one has a name that is empty, begins with .. or has a blank"
-said_of (kind.FewBuckets up_to number buckets) =
+kind_text_of (kind.FewBuckets up_to number buckets) =
     codes " of the bucket numbers: one percent is 100 of them"
-said_of (kind.AllBuckets up_to number) =
+kind_text_of (kind.AllBuckets up_to number) =
     codes " of the bucket numbers: one percent is 100 of them"
-said_of kind.TakeBeforeVersion =
+kind_text_of kind.TakeBeforeVersion =
     codes ": this take stands before the version, so it is done whatever the version is"
-said_of kind.NoCohort = codes ": a reply's cohort is b: and four digits"
-said_of kind.EarlyDay = codes ": this day is before 2026, as days are counted from 2007-01-01"
-said_of kind.NeverReached = codes ": this when is never reached"
-said_of kind.NeverHolds = codes ": this when never holds"
-said_of kind.NoBucket = codes ": no bucket gets it"
-said_of kind.OfferedAgain = codes ".version: in some bucket who has it may get it again"
-said_of kind.OfferedLower = codes ".version: in some bucket who has it may get a lower one"
-said_of kind.NotEvaluated =
+kind_text_of kind.NoCohort = codes ": a reply's cohort is b: and four digits"
+kind_text_of kind.EarlyDay = codes ": this day is before 2026, as days are counted from 2007-01-01"
+kind_text_of kind.NeverReached = codes ": this when is never reached"
+kind_text_of kind.NeverHolds = codes ": this when never holds"
+kind_text_of kind.NoBucket = codes ": no bucket gets it"
+kind_text_of kind.OfferedAgain = codes ".version: in some bucket who has it may get it again"
+kind_text_of kind.OfferedLower = codes ".version: in some bucket who has it may get a lower one"
+kind_text_of kind.NotEvaluated =
     codes ".rule: not asked which releases it gives, since that would take long"
 
 -- its place, and what it says
 abbrev pub warning_text : Warning → List ℕ
-warning_text w = place_text w.place ++ part_text w.kind ++ said_of w.kind
+warning_text w = place_text w.place ++ part_text w.kind ++ kind_text_of w.kind
 
 abbrev pub line_start : WarningKind → List ℕ
 line_start k = codes "warning " ++ name_of k ++ codes ": "

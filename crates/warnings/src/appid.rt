@@ -9,7 +9,11 @@ use std::alloc::AllocError;
 
 /// A warning on an appid that has an unprintable character. Apps are numbered from 1.
 // open: whether an allocation fails.
-pub fn tell_appid(warnings: &mut Vec<Warning>, app: usize, appid: &str) -> Result<(), AllocError>
+pub fn push_appid_warning(
+    warnings: &mut Vec<Warning>,
+    app: usize,
+    appid: &str,
+) -> Result<(), AllocError>
     ensures { OnOk result (warnings.new.items
         ≡ warnings.old.items ++ specs.appid_warning app appid.now) }
 {

@@ -15,7 +15,7 @@ fn step_count(statement: &Statement) -> u64
     }
 }
 
-fn budget_behind_one(versions: u64, budget: u64, statement: &Statement) -> Option<u64>
+fn budget_after_one(versions: u64, budget: u64, statement: &Statement) -> Option<u64>
     ensures { result ≡ specs.budget_less (versions * specs.step_count statement.now) budget }
 {
     let Some(taken) = versions.checked_mul(step_count(statement)) else {
@@ -26,13 +26,13 @@ fn budget_behind_one(versions: u64, budget: u64, statement: &Statement) -> Optio
 
 /// What is left of the budget after evaluating a rule at `versions` versions, or `None` if the
 /// budget is too small.
-pub(crate) fn budget_behind(versions: u64, budget: u64, statements: &[Statement]) -> Option<u64>
+pub(crate) fn remaining_budget(versions: u64, budget: u64, statements: &[Statement]) -> Option<u64>
     ensures { result ≡ specs.budget_less (specs.budget_taken versions statements.now) budget }
 {
     let mut budget = budget;
     let mut left = statements;
     while let [statement, others @ ..] = left {
-        let Some(behind) = budget_behind_one(versions, budget, statement) else {
+        let Some(behind) = budget_after_one(versions, budget, statement) else {
             return None;
         };
         budget = behind;

@@ -6,7 +6,7 @@ ghost use Rattle.warnings.specs.Possible as possible;
 ghost use Rattle.warnings.specs.Stack as specs;
 
 use crate::holding::test_possible;
-use crate::possible::{Asker, Possible};
+use crate::possible::{Clients, Possible};
 use attrs::Attrs;
 use cells::Shape;
 use rule_lang::Step;
@@ -64,16 +64,17 @@ fn add_test(stack: &mut Vec<Possible>, test: Possible) -> Result<bool, AllocErro
 
 fn take_step(
     stack: &mut Vec<Possible>,
-    asker: Asker,
+    clients: Clients,
     attrs: &Attrs,
     shape: &Shape,
     step: &Step,
 ) -> Result<bool, AllocError>
-    ensures { IfOk result (λ done. specs.stepped (test_possible asker attrs.now shape.now) step.now
+    ensures { IfOk result
+        (λ done. specs.stepped (test_possible clients attrs.now shape.now) step.now
         (reverse stack.old.items) ≡ (if done then Some (reverse stack.new.items) else None)) }
 {
     match step {
-        Step::Test { test, .. } => add_test(stack, test_possible(asker, attrs, shape, test)),
+        Step::Test { test, .. } => add_test(stack, test_possible(clients, attrs, shape, test)),
         Step::Not => negate(stack),
         Step::And => join_both(stack),
         Step::Or => join_either(stack),
@@ -92,18 +93,18 @@ fn one_left(stack: &[Possible]) -> Possible
 
 fn run_steps(
     stack: &mut Vec<Possible>,
-    asker: Asker,
+    clients: Clients,
     attrs: &Attrs,
     shape: &Shape,
     steps: &[Step],
 ) -> Result<Possible, AllocError>
     ensures { IfOk result (λ p. p ≡ specs.one_left
-        (specs.after_steps (test_possible asker attrs.now shape.now) [] steps.now)) }
+        (specs.after_steps (test_possible clients attrs.now shape.now) [] steps.now)) }
 {
     stack.clear();
     let mut left = steps;
     while let [step, others @ ..] = left {
-        if !take_step(stack, asker, attrs, shape, step)? {
+        if !take_step(stack, clients, attrs, shape, step)? {
             return Ok(Possible::decided(false));
         }
         left = others;
@@ -115,13 +116,13 @@ fn run_steps(
 #[tactic(auto, using(crate::proofs::Stacks::condition))]
 pub(crate) fn condition_possible(
     stack: &mut Vec<Possible>,
-    asker: Asker,
+    clients: Clients,
     attrs: &Attrs,
     shape: &Shape,
     steps: &[Step],
 ) -> Result<Possible, AllocError>
     ensures { IfOk result (λ p.
-        p ≡ steps_possible (test_possible asker attrs.now shape.now) steps.now) }
+        p ≡ steps_possible (test_possible clients attrs.now shape.now) steps.now) }
 {
-    run_steps(stack, asker, attrs, shape, steps)
+    run_steps(stack, clients, attrs, shape, steps)
 }

@@ -4,7 +4,7 @@ ghost use Rattle.std.specs.Prelude.{◌≡◌, IfOk, Some, option_copied};
 ghost use Rattle.warnings.specs.Evaluation as specs;
 
 use crate::course::first_offer;
-use crate::possible::{Asker, Possible};
+use crate::possible::{Clients, Possible};
 use attrs::{Attrs, Bucket, read_version};
 use cells::Shape;
 use releases::Release;
@@ -74,11 +74,11 @@ fn gets(
     attrs: &Attrs,
 ) -> Result<bool, AllocError>
     ensures { IfOk result (λ yes.
-        yes ≡ specs.gets (specs.rule_of evaluated.now) by version.now Asker.One attrs.now) }
+        yes ≡ specs.gets (specs.rule_of evaluated.now) by version.now Clients.One attrs.now) }
 {
     let choice = first_offer(
         stack,
-        Asker::One,
+        Clients::One,
         attrs,
         evaluated.shape,
         evaluated.statements,
@@ -95,7 +95,7 @@ pub(crate) fn gets_in_some_bucket(
     version: &str,
 ) -> Result<bool, AllocError>
     ensures { IfOk result (λ yes. yes ≡ specs.in_some_bucket (specs.rule_of evaluated.now)
-        (specs.gets (specs.rule_of evaluated.now) by version.now Asker.One) (Some version.now)) }
+        (specs.gets (specs.rule_of evaluated.now) by version.now Clients.One) (Some version.now)) }
 {
     let Ok(mut attrs) = Attrs::plain(alloc, evaluated.appid, Some(version), 0) else {
         return Err(AllocError);

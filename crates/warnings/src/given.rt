@@ -16,7 +16,7 @@ use std::alloc::{AllocError, Global};
 
 // A warning if a client that sends only this version gets a release whose version compares by `by`
 // with it.
-fn tell_got(
+fn push_got_warning(
     alloc: Global,
     warnings: &mut Vec<Warning>,
     place: WarningPlace,
@@ -32,7 +32,7 @@ fn tell_got(
     warn_if(warnings, got, place, what)
 }
 
-fn tell_release(
+fn push_given_warning(
     alloc: Global,
     warnings: &mut Vec<Warning>,
     app: usize,
@@ -51,7 +51,7 @@ fn tell_release(
     let version = release.version();
     warn_if(warnings, !given, place, WarningKind::NoBucket)?;
     let again = WarningKind::OfferedAgain;
-    tell_got(
+    push_got_warning(
         alloc,
         warnings,
         place,
@@ -61,7 +61,7 @@ fn tell_release(
         again,
     )?;
     let lower = WarningKind::OfferedLower;
-    tell_got(
+    push_got_warning(
         alloc,
         warnings,
         place,
@@ -73,7 +73,7 @@ fn tell_release(
 }
 
 /// Warnings on the releases of an app, in their order, by the marks of its rule.
-pub(crate) fn tell_all_releases(
+pub(crate) fn push_given_warnings(
     alloc: Global,
     warnings: &mut Vec<Warning>,
     app: usize,
@@ -91,7 +91,7 @@ pub(crate) fn tell_all_releases(
     let mut left = evaluated.releases;
     while let [release, later @ ..] = left {
         let given = is_given(marks.ends.as_slice(), evaluated.statements, number);
-        tell_release(alloc, warnings, app, number, evaluated, given, release)?;
+        push_given_warning(alloc, warnings, app, number, evaluated, given, release)?;
         number += 1;
         left = later;
     }

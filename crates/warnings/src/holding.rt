@@ -4,7 +4,7 @@
 ghost use Rattle.std.specs.Prelude.{◌≡◌};
 ghost use Rattle.warnings.specs.Possible as specs;
 
-use crate::possible::{Asker, Possible};
+use crate::possible::{Clients, Possible};
 use crate::spot::Spot;
 use attrs::{Attrs, Context, Elapsed};
 use cells::Shape;
@@ -53,11 +53,11 @@ fn open_possible(spot: Spot, attrs: &Attrs, shape: &Shape, test: &Test) -> Possi
 }
 
 /// The possible results of a test.
-pub(crate) fn test_possible(asker: Asker, attrs: &Attrs, shape: &Shape, test: &Test) -> Possible
-    ensures { result ≡ specs.test_possible asker attrs.now shape.now test.now }
+pub(crate) fn test_possible(clients: Clients, attrs: &Attrs, shape: &Shape, test: &Test) -> Possible
+    ensures { result ≡ specs.test_possible clients attrs.now shape.now test.now }
 {
-    match asker {
-        Asker::AllAt(spot) => open_possible(spot, attrs, shape, test),
-        Asker::One => Possible::decided(test_holds(attrs, shape, 0, test)),
+    match clients {
+        Clients::AllAt(spot) => open_possible(spot, attrs, shape, test),
+        Clients::One => Possible::decided(test_holds(attrs, shape, 0, test)),
     }
 }

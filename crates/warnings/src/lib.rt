@@ -51,11 +51,11 @@ mod warning_lines;
 mod warning_names;
 mod whens;
 
-pub use appid::tell_appid;
+pub use appid::push_appid_warning;
 pub use evaluating::EvaluatedRule;
 pub use laws::{warnings_are_named, warnings_are_so};
-pub use release::tell_releases;
-pub use rule_warnings::tell_rule;
+pub use release::push_release_warnings;
+pub use rule_warnings::push_rule_warnings;
 pub use warning::{Warning, WarningKind, WarningPlace, warn_if};
 pub use warning_lines::{push_warning_text, push_warnings};
 pub use warning_names::{is_warning_name, some_counts};

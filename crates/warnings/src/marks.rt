@@ -9,7 +9,7 @@ ghost use Rattle.warnings.specs.Marks as specs;
 
 use crate::course::{offered, statement_possible};
 use crate::evaluating::EvaluatedRule;
-use crate::possible::{Asker, Possible};
+use crate::possible::{Clients, Possible};
 use crate::spot::Spot;
 use attrs::{Attrs, Bucket};
 use rule_lang::Statement;
@@ -43,7 +43,7 @@ fn mark_place(reached: &mut [bool], ends: &mut [bool], place: usize, holds: bool
 fn mark_way(
     stack: &mut Vec<Possible>,
     evaluated: &EvaluatedRule<'_>,
-    asker: Asker,
+    clients: Clients,
     attrs: &Attrs,
     reached: &mut [bool],
     ends: &mut [bool],
@@ -51,13 +51,13 @@ fn mark_way(
     requires reached { length reached.old ≡ length evaluated.now.statements.now }
     requires ends { length ends.old ≡ length evaluated.now.statements.now }
     ensures { (crowd : Crowd) → AreMarked (rule_of evaluated.now) crowd reached.old ends.old
-        → OnOk result (AreMarked (rule_of evaluated.now) (with_one crowd asker attrs.now)
+        → OnOk result (AreMarked (rule_of evaluated.now) (with_one crowd clients attrs.now)
         reached.new ends.new) }
 {
     let mut place = 0;
     let mut left = evaluated.statements;
     while let [statement, others @ ..] = left {
-        let possible = statement_possible(stack, asker, attrs, evaluated.shape, statement)?;
+        let possible = statement_possible(stack, clients, attrs, evaluated.shape, statement)?;
         mark_place(reached, ends, place, possible.holds);
         if !possible.fails {
             return Ok(());
@@ -117,7 +117,7 @@ fn mark_buckets(
         mark_way(
             &mut stack,
             evaluated,
-            Asker::AllAt(spot),
+            Clients::AllAt(spot),
             &attrs,
             reached,
             ends,

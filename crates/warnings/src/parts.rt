@@ -5,7 +5,7 @@
 ghost use Rattle.std.specs.Prelude.{◌≡◌, ◌++◌, OnOk};
 ghost use Rattle.warnings.specs.RuleWarnings as specs;
 
-use crate::takes::tell_takes;
+use crate::takes::push_take_warnings;
 use crate::warning::{Warning, WarningKind, WarningPlace, warn_if};
 use attrs::{Attribute, Bucket, cohort_bucket};
 use rule_lang::{Comparison, Statement, Step, Test};
@@ -25,7 +25,7 @@ fn is_above_all(number: u32) -> bool
 
 // Warns if a test with this sign and number, which holds for `buckets` buckets, covers few buckets
 // or all of them.
-fn tell_part(
+fn push_part_warning(
     warnings: &mut Vec<Warning>,
     place: WarningPlace,
     up_to: bool,
@@ -48,7 +48,7 @@ fn tell_part(
     }
 }
 
-fn tell_test(
+fn push_test_warning(
     warnings: &mut Vec<Warning>,
     app: usize,
     line: usize,
@@ -64,13 +64,13 @@ fn tell_test(
             comparison: Comparison::Lt,
             number,
             ..
-        } => tell_part(warnings, place, false, *number, *number as u64),
+        } => push_part_warning(warnings, place, false, *number, *number as u64),
         Test::Bucket {
             modulus: None,
             comparison: Comparison::Le,
             number,
             ..
-        } => tell_part(warnings, place, true, *number, *number as u64 + 1),
+        } => push_part_warning(warnings, place, true, *number, *number as u64 + 1),
         _ => Ok(()),
     }
 }
@@ -88,7 +88,7 @@ fn is_no_cohort(text: &str) -> bool
 }
 
 // Warns of a day or a cohort that is probably wrong.
-fn tell_value(
+fn push_value_warning(
     warnings: &mut Vec<Warning>,
     app: usize,
     line: usize,
@@ -113,26 +113,34 @@ fn tell_value(
     }
 }
 
-fn tell_step(warnings: &mut Vec<Warning>, app: usize, step: &Step) -> Result<(), AllocError>
+fn push_parts_of_step(
+    warnings: &mut Vec<Warning>,
+    app: usize,
+    step: &Step,
+) -> Result<(), AllocError>
     ensures { OnOk result
         (warnings.new.items ≡ warnings.old.items ++ specs.parts_of_step app step.now) }
 {
     match step {
         Step::Test { line, test } => {
-            tell_test(warnings, app, *line, test)?;
-            tell_value(warnings, app, *line, test)
+            push_test_warning(warnings, app, *line, test)?;
+            push_value_warning(warnings, app, *line, test)
         }
         _ => Ok(()),
     }
 }
 
-fn tell_steps(warnings: &mut Vec<Warning>, app: usize, steps: &[Step]) -> Result<(), AllocError>
+fn push_parts_of_steps(
+    warnings: &mut Vec<Warning>,
+    app: usize,
+    steps: &[Step],
+) -> Result<(), AllocError>
     ensures { OnOk result
         (warnings.new.items ≡ warnings.old.items ++ specs.parts_of_steps app steps.now) }
 {
     let mut left = steps;
     while let [step, others @ ..] = left {
-        tell_step(warnings, app, step)?;
+        push_parts_of_step(warnings, app, step)?;
         left = others;
     }
     Ok(())
@@ -141,7 +149,7 @@ fn tell_steps(warnings: &mut Vec<Warning>, app: usize, steps: &[Step]) -> Result
 /// Warnings on the tests of a rule, `when` by `when`: on tests that hold for few buckets or whose
 /// number is above 10,000, on days before 2026, on cohorts that begin with `b:` and aren't a
 /// reply's, and on takes before a test of the version.
-pub(crate) fn tell_parts_of_rule(
+pub(crate) fn push_parts_of_rule(
     warnings: &mut Vec<Warning>,
     app: usize,
     statements: &[Statement],
@@ -152,8 +160,8 @@ pub(crate) fn tell_parts_of_rule(
     let mut left = statements;
     while let [statement, others @ ..] = left {
         if let Statement::When { condition, .. } = statement {
-            tell_steps(warnings, app, condition.steps())?;
-            tell_takes(warnings, app, condition.steps())?;
+            push_parts_of_steps(warnings, app, condition.steps())?;
+            push_take_warnings(warnings, app, condition.steps())?;
         }
         left = others;
     }

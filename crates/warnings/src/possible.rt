@@ -14,7 +14,7 @@ pub(crate) struct Possible {
 
 /// The client for which a rule is evaluated.
 #[derive(Clone, Copy, Debug)]
-pub(crate) enum Asker {
+pub(crate) enum Clients {
     /// All clients whose version lies at this spot, with any other attributes and any counter
     /// replies.
     AllAt(Spot),

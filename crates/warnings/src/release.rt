@@ -89,7 +89,7 @@ fn have_odd_name(packages: &[Package]) -> bool
 }
 
 // Warnings on a release; `later` are the releases after it.
-fn tell_release(
+fn push_one_release(
     warnings: &mut Vec<Warning>,
     app: usize,
     number: usize,
@@ -129,7 +129,7 @@ fn tell_release(
 /// size 0, or with a name that is empty, begins with `..` or has a blank. Apps and releases are
 /// numbered from 1.
 // open: whether an allocation fails.
-pub fn tell_releases(
+pub fn push_release_warnings(
     warnings: &mut Vec<Warning>,
     app: usize,
     releases: &[Release],
@@ -140,7 +140,7 @@ pub fn tell_releases(
     let mut number = 1;
     let mut left = releases;
     while let [release, later @ ..] = left {
-        tell_release(warnings, app, number, release, later)?;
+        push_one_release(warnings, app, number, release, later)?;
         number += 1;
         left = later;
     }

@@ -5,17 +5,17 @@ ghost use Rattle.warnings.specs.RuleWarnings as specs;
 ghost use Rattle.warnings.specs.Evaluation.{rule_of};
 ghost use Rattle.warnings.specs.Spots as places;
 
-use crate::budget::budget_behind;
+use crate::budget::remaining_budget;
 use crate::evaluating::EvaluatedRule;
-use crate::given::tell_all_releases;
+use crate::given::push_given_warnings;
 use crate::marks::marks_of;
-use crate::parts::tell_parts_of_rule;
+use crate::parts::push_parts_of_rule;
 use crate::spot::{Spot, spots_of};
 use crate::warning::{Warning, WarningKind, WarningPlace};
-use crate::whens::tell_statements;
+use crate::whens::push_when_warnings;
 use std::alloc::{AllocError, Global};
 
-fn tell_answers(
+fn push_answer_warnings(
     alloc: Global,
     warnings: &mut Vec<Warning>,
     app: usize,
@@ -27,12 +27,12 @@ fn tell_answers(
         ≡ warnings.old.items ++ specs.evaluated_warnings app (rule_of evaluated.now)) }
 {
     let marks = marks_of(alloc, evaluated, spots)?;
-    tell_statements(warnings, app, evaluated, &marks)?;
-    tell_all_releases(alloc, warnings, app, evaluated, &marks)
+    push_when_warnings(warnings, app, evaluated, &marks)?;
+    push_given_warnings(alloc, warnings, app, evaluated, &marks)
 }
 
 // Warnings that need evaluation, if the budget is enough.
-fn tell_evaluated(
+fn push_evaluated_warnings(
     alloc: Global,
     warnings: &mut Vec<Warning>,
     app: usize,
@@ -46,9 +46,9 @@ fn tell_evaluated(
 {
     let spots = spots_of(alloc, evaluated.statements)?;
     let versions = (spots.len() + evaluated.releases.len()) as u64;
-    match budget_behind(versions, budget, evaluated.statements) {
+    match remaining_budget(versions, budget, evaluated.statements) {
         Some(left) => {
-            tell_answers(alloc, warnings, app, evaluated, spots.as_slice())?;
+            push_answer_warnings(alloc, warnings, app, evaluated, spots.as_slice())?;
             Ok(left)
         }
         None => {
@@ -79,7 +79,7 @@ fn tell_evaluated(
 /// nothing, and the warning says so. Its tests are still read.
 // open: whether an allocation fails; that a rule with such a `when` or release has its warning: one
 // may be missing.
-pub fn tell_rule(
+pub fn push_rule_warnings(
     alloc: Global,
     warnings: &mut Vec<Warning>,
     app: usize,
@@ -90,6 +90,6 @@ pub fn tell_rule(
         ≡ warnings.old.items ++ specs.rule_warnings app budget (rule_of evaluated.now)) }
     ensures budget { IfOk result (λ left. left ≡ specs.budget_left budget (rule_of evaluated.now)) }
 {
-    tell_parts_of_rule(warnings, app, evaluated.statements)?;
-    tell_evaluated(alloc, warnings, app, evaluated, budget)
+    push_parts_of_rule(warnings, app, evaluated.statements)?;
+    push_evaluated_warnings(alloc, warnings, app, evaluated, budget)
 }

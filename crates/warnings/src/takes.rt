@@ -34,7 +34,7 @@ fn some_test_version(steps: &[Step]) -> bool
     false
 }
 
-fn tell_take(
+fn push_take_warning(
     warnings: &mut Vec<Warning>,
     app: usize,
     step: &Step,
@@ -56,7 +56,7 @@ fn tell_take(
 }
 
 /// A warning on each take before the first test of the version, if there is one.
-pub(crate) fn tell_takes(
+pub(crate) fn push_take_warnings(
     warnings: &mut Vec<Warning>,
     app: usize,
     steps: &[Step],
@@ -69,7 +69,7 @@ pub(crate) fn tell_takes(
         if tests_version(step) {
             return Ok(());
         }
-        tell_take(warnings, app, step, some_test_version(others))?;
+        push_take_warning(warnings, app, step, some_test_version(others))?;
         left = others;
     }
     Ok(())

@@ -37,9 +37,9 @@ impl WarningKind {
         }
     }
 
-    #[tactic(auto, unfolding(crate::specs::Warnings::said_of))]
-    fn said(self) -> &'static str
-        ensures { result.now ≡ specs.said_of self }
+    #[tactic(auto, unfolding(crate::specs::Warnings::kind_text_of))]
+    fn kind_text(self) -> &'static str
+        ensures { result.now ≡ specs.kind_text_of self }
     {
         match self {
             WarningKind::UnprintedAppid => ".appid: it has a character that isn't printed",
@@ -147,7 +147,7 @@ pub fn push_warning_text(text: &mut String, warning: &Warning) -> Result<(), All
 {
     push_place(text, warning.place)?;
     push_part(text, warning.kind)?;
-    text.push_str(warning.kind.said())
+    text.push_str(warning.kind.kind_text())
 }
 
 fn push_name(text: &mut String, kind: WarningKind) -> Result<(), AllocError>

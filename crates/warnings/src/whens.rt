@@ -21,7 +21,7 @@ fn first_line(steps: &[Step]) -> usize
     }
 }
 
-fn tell_never(
+fn push_never_warning(
     warnings: &mut Vec<Warning>,
     app: usize,
     reached: bool,
@@ -43,7 +43,7 @@ fn tell_never(
     Ok(())
 }
 
-fn tell_when(
+fn push_when_warning(
     warnings: &mut Vec<Warning>,
     app: usize,
     ends: bool,
@@ -59,12 +59,12 @@ fn tell_when(
     if ends {
         return Ok(());
     }
-    tell_never(warnings, app, reached, condition.steps())
+    push_never_warning(warnings, app, reached, condition.steps())
 }
 
 /// Warnings on the `when`s of a rule, in their order, by its marks. There are two marks for each
 /// statement; with fewer there would be no warnings.
-pub(crate) fn tell_statements(
+pub(crate) fn push_when_warnings(
     warnings: &mut Vec<Warning>,
     app: usize,
     evaluated: &EvaluatedRule<'_>,
@@ -80,15 +80,15 @@ pub(crate) fn tell_statements(
     let mut reached = marks.reached.as_slice();
     let mut ends = marks.ends.as_slice();
     while let [statement, others @ ..] = left {
-        let [is_reached, reached_behind @ ..] = reached else {
+        let [is_reached, later_reached @ ..] = reached else {
             return Err(AllocError);
         };
         let [is_ended, ends_after @ ..] = ends else {
             return Err(AllocError);
         };
-        tell_when(warnings, app, *is_ended, *is_reached, statement)?;
+        push_when_warning(warnings, app, *is_ended, *is_reached, statement)?;
         left = others;
-        reached = reached_behind;
+        reached = later_reached;
         ends = ends_after;
     }
     Ok(())

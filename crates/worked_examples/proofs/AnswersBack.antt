@@ -13,7 +13,7 @@ use Rattle.abs_value.specs.declared.value.Abs.TheVariants.{MayCell, Cell}
 use Rattle.abs_value.specs.Stack.{slot_at}
 use Rattle.abs_value.specs.States.{register_at}
 use Rattle.abs_value.specs.Covers.{Returns, Answered, AreBefore, Includes, CoversValue}
-use Rattle.abs_value.specs.Covers.{CoversSlot, Covers, IsStoodFor, bytes_of}
+use Rattle.abs_value.specs.Covers.{CoversSlot, Covers, IsRepresented, bytes_of}
 use Rattle.bpf_verify.specs.Accepted.{entry_of}
 use Rattle.worked_examples.specs.LooksBack.{LooksBack, SlotLooksBack, StateLooksBack}
 use Rattle.worked_examples.proofs.EntriesBack.{entries_back}
@@ -64,7 +64,7 @@ none_from s g call from =
 
 pub covers_before : (p : ShapedProgram) (s : State) (e : AbsState) (by : ℕ → Option ℕ)
     → entry_of p s.slot ≡ Some e → Covers (record { shape = p.shape; by = by }) e s
-    → IsStoodFor p.shape e s
+    → IsRepresented p.shape e s
 covers_before p s e by is h =
     let g : Returns = record { shape = p.shape; by = by } in
     record {

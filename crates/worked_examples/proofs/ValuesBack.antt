@@ -33,7 +33,7 @@ use Rattle.abs_value.specs.Values.{alu_value, copied_value, negated_value, exten
 use Rattle.abs_value.specs.Values.{reordered_value, loaded_value, refined, numbers}
 use Rattle.abs_value.specs.Values.{same_lookup, is_found_by, same_origin, join_values}
 use Rattle.abs_value.specs.Lookups.{answer_of, with_answer, lookup_value, value_given, call_value}
-use Rattle.bpf_checks.specs.Arrays.{cell_behind, fixed_cell, wide_abs}
+use Rattle.bpf_checks.specs.Arrays.{cell_after, fixed_cell, wide_abs}
 use Rattle.worked_examples.specs.LooksBack.{LooksBack, OfNoLookup}
 
 pub later : (s t : ℕ) (v : Abs) → s ≤ t → LooksBack s v → LooksBack t v
@@ -96,9 +96,9 @@ a_cell s None = tt
 a_cell s (Some cell) = tt
 
 cell_of : (s n : ℕ) (o : Option CellArray)
-    → LooksBack s (or_unusable (o >>= λ a. option_map fixed_cell (cell_behind a n)))
+    → LooksBack s (or_unusable (o >>= λ a. option_map fixed_cell (cell_after a n)))
 cell_of s n None = tt
-cell_of s n (Some a) = a_cell s (cell_behind a n)
+cell_of s n (Some a) = a_cell s (cell_after a n)
 
 pub wide_loads : (shape : AppShape) (value : WideValue)
     → OfNoLookup (or_unusable (wide_abs shape value))

@@ -26,7 +26,7 @@ use Rattle.abs_value.specs.Stack.{slot_at, loaded_from}
 use Rattle.abs_value.specs.States.{value_at, operand_value, with_value, with_stored}
 use Rattle.abs_value.specs.States.{opening_state, join_states}
 use Rattle.abs_value.specs.Lookups.{refined_state, called}
-use Rattle.abs_value.specs.Covers.{Covers, IsStoodFor}
+use Rattle.abs_value.specs.Covers.{Covers, IsRepresented}
 use Rattle.bpf_checks.specs.Arrays.{wide_abs}
 use Rattle.bpf_checks.specs.Transfer.{jumping, going_on}
 use Rattle.bpf_verify.specs.Accepted.{entry_of}
@@ -145,4 +145,4 @@ abbrev pub CoversAreBefore : Type 0
 CoversAreBefore =
     (p : ShapedProgram) (s : State) (e : AbsState) (by : ℕ → Option ℕ)
     → entry_of p s.slot ≡ Some e → Covers (record { shape = p.shape; by = by }) e s
-    → IsStoodFor p.shape e s
+    → IsRepresented p.shape e s

@@ -77,7 +77,7 @@ fn returned<P: Drop>(
     ensures published { IsPublished result.published result.generation }
     ensures directory { IsDirectory control.now.arrays }
 {
-    control.keeps();
+    control.invariant_law();
     let (operator, end) = operator;
     Returned {
         operator,

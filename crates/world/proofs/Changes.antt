@@ -8,8 +8,8 @@ use Rattle.std.proofs.lemmas.List.{set-get_or}
 use Rattle.std.proofs.lemmas.Option.{slice_get-get_or, slice_get_read, get_or_from_slice_get}
 use Rattle.world.specs.World.{WorldState, Worker, Idle, IsWorker, with_worker}
 use Rattle.world.specs.Happens.{Answer}
-use Rattle.world.specs.Seats.{SeatStandsFor, IsSoundSeat, SeatIsOffered, StaysOffered}
-use Rattle.world.specs.StandsFor.{Parts, WorldStandsFor, AreKept, seat_at}
+use Rattle.world.specs.Seats.{SeatRepresents, IsSoundSeat, SeatIsOffered, StaysOffered}
+use Rattle.world.specs.Represents.{Parts, WorldRepresents, AreKept, seat_at}
 use Rattle.world.specs.declared.seat.Seat.{Seat}
 use Rattle.world.specs.declared.seat.Seat.TheVariants.{Empty}
 
@@ -23,10 +23,10 @@ with_cells w cells k worker = record (with_worker w k worker) { cells = cells }
 abbrev pub worker_at : WorldState → ℕ → Worker
 worker_at w k = slice_index_or w.workers k Idle
 
-pub is_worker : (parts : Parts) (w : WorldState) (k : ℕ) → WorldStandsFor parts w
+pub is_worker : (parts : Parts) (w : WorldState) (k : ℕ) → WorldRepresents parts w
     → k < length parts.seats → IsWorker w k (worker_at w k)
-is_worker parts w k stands within =
-    let many = stands.as_many in slice_get-get_or w.workers k Idle (omega (arith, many, within))
+is_worker parts w k represents within =
+    let many = represents.as_many in slice_get-get_or w.workers k Idle (omega (arith, many, within))
 
 pub seat_found : (parts : Parts) (k : ℕ) (seat : Seat) → k < length parts.seats
     → seat ≡ get_or parts.seats k seat → seat_at parts k ≡ seat
@@ -35,11 +35,12 @@ seat_found parts k seat within found =
     (slice_get_read parts.seats (length parts.seats) k seat refl within found)
 
 -- the seat represents the worker of its number
-pub found_stands : (parts : Parts) (w : WorldState) (k : ℕ) (seat : Seat) → WorldStandsFor parts w
-    → k < length parts.seats → seat ≡ get_or parts.seats k seat → SeatStandsFor seat (worker_at w k)
-found_stands parts w k seat stands within found =
-    subst (λ (s : Seat). SeatStandsFor s (worker_at w k)) (seat_found parts k seat within found)
-    (stands.each k)
+pub found_stands : (parts : Parts) (w : WorldState) (k : ℕ) (seat : Seat) → WorldRepresents parts w
+    → k < length parts.seats → seat ≡ get_or parts.seats k seat
+    → SeatRepresents seat (worker_at w k)
+found_stands parts w k seat represents within found =
+    subst (λ (s : Seat). SeatRepresents s (worker_at w k)) (seat_found parts k seat within found)
+    (represents.each k)
 
 -- ---- one seat is changed
 
@@ -65,15 +66,16 @@ each_with {A} {B} P xs ys k a d b e many within here each j = elim (cases_eq j k
 
 pub stands_with : (parts : Parts) (w : WorldState) (old new : List ℕ) (k : ℕ) (seat : Seat)
     (y : Worker)
-    → k < length parts.seats → WorldStandsFor parts w → old ≡ new → SeatStandsFor seat y
-    → WorldStandsFor (with_seat parts old k seat) (with_cells w new k y)
-stands_with parts w old new k seat y within stands same here = record {
-  rulesets = stands.rulesets;
+    → k < length parts.seats → WorldRepresents parts w → old ≡ new → SeatRepresents seat y
+    → WorldRepresents (with_seat parts old k seat) (with_cells w new k y)
+stands_with parts w old new k seat y within represents same here = record {
+  rulesets = represents.rulesets;
   cells = same;
-  as_many = length-set parts.seats k seat ∙ stands.as_many ∙ sym (length-set w.workers k y);
+  as_many = length-set parts.seats k seat ∙ represents.as_many ∙ sym (length-set w.workers k y);
   each =
-      each_with SeatStandsFor parts.seats w.workers k seat Empty y Idle stands.as_many within here
-      stands.each;
+      each_with SeatRepresents parts.seats w.workers k seat Empty y Idle represents.as_many
+      within here
+      represents.each;
 }
 
 pub kept_with : (parts : Parts) (cells : List ℕ) (k : ℕ) (seat : Seat) → k < length parts.seats

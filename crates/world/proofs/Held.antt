@@ -9,9 +9,9 @@ use Rattle.cells.specs.Events.{AreCells}
 use Rattle.ruleset.specs.Rules.{Rules, IsRuleset, appid_of}
 use Rattle.world.specs.World.{WorldState, Worker, Idle, Running, Ended, HasProgram}
 use Rattle.world.specs.Safe.{IsSafeWorld}
-use Rattle.bpf_machine.specs.StandsFor.{Held}
-use Rattle.world.specs.Seats.{SeatStandsFor, IsSoundSeat, SeatIsOffered, ContinuesAs, EndedAs}
-use Rattle.world.specs.StandsFor.{Parts, WorldStandsFor, AreKept, seat_at}
+use Rattle.bpf_machine.specs.Represents.{Held}
+use Rattle.world.specs.Seats.{SeatRepresents, IsSoundSeat, SeatIsOffered, ContinuesAs, EndedAs}
+use Rattle.world.specs.Represents.{Parts, WorldRepresents, AreKept, seat_at}
 use Rattle.world.specs.Headline.{IsOnTheWay}
 use Rattle.world.specs.declared.seat.Seat.{Seat}
 use Rattle.world.specs.declared.seat.Seat.TheVariants.{Empty, Taken}
@@ -27,36 +27,37 @@ offered_as rulesets n m appid text p q number same program offered =
     (subst (λ (i : ℕ). HasProgram rulesets i appid p) number offered))
 
 held_safe : (rulesets : List Rules) (seat : Seat) (x : Worker) → IsSoundSeat seat
-    → SeatIsOffered rulesets seat → SeatStandsFor seat x → SafeWorker rulesets x
-held_safe rulesets Empty Idle keeps offered stands = tt
-held_safe rulesets (Taken run n None) (Running number program s) keeps offered stands =
+    → SeatIsOffered rulesets seat → SeatRepresents seat x → SafeWorker rulesets x
+held_safe rulesets Empty Idle keeps offered represents = tt
+held_safe rulesets (Taken run n None) (Running number program s) keeps offered represents =
     let appid : appid_of run.attributes ≡ appid_of s.attributes =
-    ap (λ (a : Attributes). appid_of a) (sym stands.stands.shows.attributes) in (
+    ap (λ (a : Attributes). appid_of a) (sym represents.represents.shows.attributes) in (
       offered_as rulesets n number (appid_of run.attributes) (appid_of s.attributes) run.program
-          program stands.number_is appid stands.program_is offered,
-      subst (λ (p : ShapedProgram). EndsWell p s) stands.program_is (keeps.ends s stands.stands),
+          program represents.number_is appid represents.program_is offered,
+      subst (λ (p : ShapedProgram). EndsWell p s) represents.program_is
+          (keeps.ends s represents.represents),
     )
 held_safe rulesets (Taken run n (Some chosen)) (Ended number program a choice instructions) keeps
-    offered stands = (
+    offered represents = (
       offered_as rulesets n number (appid_of run.attributes) (appid_of a) run.program program
-          stands.number_is (ap (λ (b : Attributes). appid_of b) stands.attributes_are)
-          stands.program_is offered,
-      subst (λ (p : ShapedProgram). choice ≤ p.shape.releases) stands.program_is
-          (subst (λ (c : ℕ). c ≤ run.program.shape.releases) stands.choice_is keeps.release),
-      subst (λ (p : ShapedProgram). instructions ≤ length p.code) stands.program_is
-          (subst (λ (c : ℕ). c ≤ length run.program.code) stands.count_is keeps.short),
+          represents.number_is (ap (λ (b : Attributes). appid_of b) represents.attributes_are)
+          represents.program_is offered,
+      subst (λ (p : ShapedProgram). choice ≤ p.shape.releases) represents.program_is
+          (subst (λ (c : ℕ). c ≤ run.program.shape.releases) represents.choice_is keeps.release),
+      subst (λ (p : ShapedProgram). instructions ≤ length p.code) represents.program_is
+          (subst (λ (c : ℕ). c ≤ length run.program.code) represents.count_is keeps.short),
     )
-held_safe rulesets seat x keeps offered stands = absurd stands
+held_safe rulesets seat x keeps offered represents = absurd represents
 
 pub stands_safe : (parts : Parts) (w : WorldState) → AreCells parts.cells → AreKept parts
-    → WorldStandsFor parts w → AllSafe w
-stands_safe parts w fit kept stands = record {
-  cells = subst AreCells stands.cells fit;
-  rulesets = subst (λ (rs : List Rules). All IsRuleset rs) stands.rulesets kept.sound;
+    → WorldRepresents parts w → AllSafe w
+stands_safe parts w fit kept represents = record {
+  cells = subst AreCells represents.cells fit;
+  rulesets = subst (λ (rs : List Rules). All IsRuleset rs) represents.rulesets kept.sound;
   workers = λ k x is.
-      let found = subst (SeatStandsFor (seat_at parts k))
-      (get_or_from_slice_get w.workers k x Idle is) (stands.each k) in
-      subst (λ (rs : List Rules). SafeWorker rs x) stands.rulesets
+      let found = subst (SeatRepresents (seat_at parts k))
+      (get_or_from_slice_get w.workers k x Idle is) (represents.each k) in
+      subst (λ (rs : List Rules). SafeWorker rs x) represents.rulesets
       (held_safe parts.rulesets (seat_at parts k) x (kept.kept k) (kept.offered k) found);
 }
 
@@ -66,7 +67,7 @@ pub safe_on_the_way : Laws → (parts : Parts) (events : List Event) (u : WorldS
 safe_on_the_way law parts events u fit kept way =
     is_safe law u
     (plays_safe law way.opening u (take way.count events) way.answers
-    (stands_safe parts way.opening fit kept way.stands) way.plays)
+    (stands_safe parts way.opening fit kept way.represents) way.plays)
 
 -- ---- there is a world
 
@@ -80,31 +81,31 @@ ended_as run n choice = record {
   count_is = refl;
 }
 
-worker_for : (seat : Seat) → IsSoundSeat seat → (x : Worker) × SeatStandsFor seat x
+worker_for : (seat : Seat) → IsSoundSeat seat → (x : Worker) × SeatRepresents seat x
 worker_for Empty keeps = (Idle, tt)
 worker_for (Taken run n None) keeps =
-    let run_is : ContinuesAs run n n run.program keeps.stands.0 =
-    record { number_is = refl; program_is = refl; stands = keeps.stands.1 } in
-    (Running n run.program keeps.stands.0, run_is)
+    let run_is : ContinuesAs run n n run.program keeps.represents.0 =
+    record { number_is = refl; program_is = refl; represents = keeps.represents.1 } in
+    (Running n run.program keeps.represents.0, run_is)
 worker_for (Taken run n (Some choice)) keeps =
     (Ended n run.program run.attributes choice (run.count + 1), ended_as run n choice)
 
 workers_for : (seats : List Seat) → ((k : ℕ) → IsSoundSeat (get_or seats k Empty))
     → (ws : List Worker) × (length seats ≡ length ws) ×
-    ((k : ℕ) → SeatStandsFor (get_or seats k Empty) (get_or ws k Idle))
+    ((k : ℕ) → SeatRepresents (get_or seats k Empty) (get_or ws k Idle))
 workers_for [] keeps = ([], refl, λ k. tt)
 workers_for (s ∷ ss) keeps =
     let first = worker_for s (keeps 0) in
     let rest = workers_for ss (λ k. keeps (suc k)) in
     (first.0 ∷ rest.0, ap suc rest.1, each s first.0 ss rest.0 first.1 rest.2)
   where
-    each : (s : Seat) (x : Worker) (ss : List Seat) (xs : List Worker) → SeatStandsFor s x
-        → ((k : ℕ) → SeatStandsFor (get_or ss k Empty) (get_or xs k Idle)) → (k : ℕ)
-        → SeatStandsFor (get_or (s ∷ ss) k Empty) (get_or (x ∷ xs) k Idle)
+    each : (s : Seat) (x : Worker) (ss : List Seat) (xs : List Worker) → SeatRepresents s x
+        → ((k : ℕ) → SeatRepresents (get_or ss k Empty) (get_or xs k Idle)) → (k : ℕ)
+        → SeatRepresents (get_or (s ∷ ss) k Empty) (get_or (x ∷ xs) k Idle)
     each s x ss xs here later zero = here
     each s x ss xs here later (suc k) = later k
 
-pub some_world : (parts : Parts) → AreKept parts → (w : WorldState) × WorldStandsFor parts w
+pub some_world : (parts : Parts) → AreKept parts → (w : WorldState) × WorldRepresents parts w
 some_world parts kept =
     let workers = workers_for parts.seats kept.kept in (
       record { rulesets = parts.rulesets; cells = parts.cells; workers = workers.0 },

@@ -10,7 +10,7 @@ use Rattle.std.proofs.lemmas.Option.{slice_get_read}
 use Rattle.cells.specs.Events.{AreZeros}
 use Rattle.ruleset.specs.Rules.{Rules, IsRuleset}
 use Rattle.world.specs.World.{Idle, ruleset_at, newest, zeros}
-use Rattle.world.specs.StandsFor.{AreKept, IsOpening, parts_of, Parts}
+use Rattle.world.specs.Represents.{AreKept, IsOpening, parts_of, Parts}
 use Rattle.world.specs.declared.world.World.TheInside.{Inside}
 use Rattle.world.proofs.Rulesets.{sound_alone}
 use Rattle.world.specs.declared.seat.Seat.{Seat}

@@ -5,12 +5,12 @@ use Rattle.std.specs.Prelude.{slice_index, slice_set}
 use Rattle.std.proofs.lemmas.Nat.{pow_pos}
 use Rattle.bpf_semantics.specs.Program.{ShapedProgram}
 use Rattle.bpf_semantics.specs.State.{State}
-use Rattle.bpf_semantics.specs.Outcome.{Outcome, Going, Asks, Done, Trap}
+use Rattle.bpf_semantics.specs.Outcome.{Outcome, Going, Operates, Done, Trap}
 use Rattle.bpf_semantics.specs.Step.{step}
 use Rattle.bpf_semantics.specs.Run.{Ends, last, more}
 use Rattle.bpf_semantics.specs.Run as run
 use Rattle.bpf_semantics.specs.Laws.{Follows, IsNext}
-use Rattle.bpf_verify.specs.Covers.{EndsWell, ends, goes, asks}
+use Rattle.bpf_verify.specs.Covers.{EndsWell, ends, goes, operates}
 use Rattle.cells.specs.declared.event.CellOp.{CellOp}
 use Rattle.cells.specs.declared.event.CellOp.TheVariants.{Load, Store, Add, Or, And, Xor, Swap}
 use Rattle.cells.specs.declared.event.CellOp.TheVariants.{CompareExchange}
@@ -33,7 +33,7 @@ same_state s t same = cc
 pub follows : (cells : List ℕ) (s t : State) (o : Outcome) → IsNext s o → answered cells o ≡ Going t
     → Follows s t
 follows cells s t (Going u) next going = subst (Follows s) (same_state u t going) next
-follows cells s t (Asks cell op f) next going =
+follows cells s t (Operates cell op f) next going =
     let reply = reply_of (slice_index cells cell) op in
     subst (Follows s) (same_state (f reply) t going) (next reply)
 follows cells s t (Done choice) next going = absurd cc
@@ -55,7 +55,7 @@ reply_fits law cells cell op fit = (event_fits law cells cell op fit).reply
 pub cells_kept : Laws → (cells : List ℕ) (o : Outcome) → AreCells cells
     → AreCells (cells_after cells o)
 cells_kept law cells (Going t) fit = fit
-cells_kept law cells (Asks cell op next) fit = (event_fits law cells cell op fit).cells
+cells_kept law cells (Operates cell op next) fit = (event_fits law cells cell op fit).cells
 cells_kept law cells (Done choice) fit = fit
 cells_kept law cells Trap fit = fit
 
@@ -64,7 +64,7 @@ cells_kept law cells Trap fit = fit
 pub no_trap : (p : ShapedProgram) (s : State) → EndsWell p s → step p s ≢ Trap
 no_trap p s (ends e release short) trap = cc
 no_trap p s (goes e rest) trap = cc
-no_trap p s (asks e rest) trap = cc
+no_trap p s (operates e rest) trap = cc
 
 zero_fits : (cell : ℕ) (op : CellOp) → CanReply cell op 0
 zero_fits cell Load = pow_pos (width cell)
@@ -84,7 +84,7 @@ is_short law p s (goes {t = t} e rest) =
     let next : Follows s t = subst (IsNext s) e (law.counts p s) in
     let count = next.count in
     omega (arith, later, count)
-is_short law p s (asks {cell = cell} {op = op} {next = next} e rest) =
+is_short law p s (operates {cell = cell} {op = op} {next = next} e rest) =
     let later = is_short law p (next 0) (rest 0 (zero_fits cell op)) in
     let all : (reply : ℕ) → Follows s (next reply) = subst (IsNext s) e (law.counts p s) in
     let count = (all 0).count in
@@ -97,7 +97,7 @@ goes_well law cells p s t fit (ends {choice = choice} e release short) going =
     let both : Done choice ≡ Going t = sym (ap (answered cells) e) ∙ going in absurd cc
 goes_well law cells p s t fit (goes {t = u} e rest) going =
     subst (EndsWell p) (same_state u t (sym (ap (answered cells) e) ∙ going)) rest
-goes_well law cells p s t fit (asks {cell = cell} {op = op} {next = next} e rest) going =
+goes_well law cells p s t fit (operates {cell = cell} {op = op} {next = next} e rest) going =
     let reply = reply_of (slice_index cells cell) op in
     subst (EndsWell p) (same_state (next reply) t (sym (ap (answered cells) e) ∙ going))
     (rest reply (reply_fits law cells cell op fit))
@@ -108,7 +108,7 @@ pub ends_here : (p : ShapedProgram) (s : State) (chosen : ℕ) → EndsWell p s 
 ends_here p s chosen (ends {choice = choice} e release short) done =
     let same : choice ≡ chosen = cc in (omega (arith, same, release), short)
 ends_here p s chosen (goes e rest) done = absurd cc
-ends_here p s chosen (asks e rest) done = absurd cc
+ends_here p s chosen (operates e rest) done = absurd cc
 
 -- ---- a whole run on replies that fit
 
@@ -123,7 +123,7 @@ all_fit (e ∷ es) ds first second = (first.0, all_fit es ds first.1 second)
 pub accesses_fit : Laws → (cells : List ℕ) (o : Outcome) → AreCells cells
     → AllFit (accesses cells o)
 accesses_fit law cells (Going t) fit = tt
-accesses_fit law cells (Asks cell op next) fit = (reply_fits law cells cell op fit, tt)
+accesses_fit law cells (Operates cell op next) fit = (reply_fits law cells cell op fit, tt)
 accesses_fit law cells (Done choice) fit = tt
 accesses_fit law cells Trap fit = tt
 
@@ -134,17 +134,17 @@ ends_well p s es choice count fit (ends {choice = chosen} e release short) (last
     let same : chosen ≡ choice = cc in
     (omega (arith, same, release), omega (arith, counted, short))
 ends_well p s es choice count fit (ends e release short) (more f rest) = absurd cc
-ends_well p s es choice count fit (ends e release short) (run.asked f rest) = absurd cc
+ends_well p s es choice count fit (ends e release short) (run.operated f rest) = absurd cc
 ends_well p s es choice count fit (goes e well) (last f counted) = absurd cc
 ends_well p s es choice count fit (goes {t = t} e well) (more {t = u} f rest) =
     let same : u ≡ t = cc in
     ends_well p t es choice count fit well
     (subst (λ (x : State). Ends p x es choice count) same rest)
-ends_well p s es choice count fit (goes e well) (run.asked f rest) = absurd cc
-ends_well p s es choice count fit (asks e well) (last f counted) = absurd cc
-ends_well p s es choice count fit (asks e well) (more f rest) = absurd cc
-ends_well p s es choice count fit (asks {cell = cell} {op = op} {next = next} e well)
-    (run.asked {next = after} {e = event} {es = tail} f rest) =
+ends_well p s es choice count fit (goes e well) (run.operated f rest) = absurd cc
+ends_well p s es choice count fit (operates e well) (last f counted) = absurd cc
+ends_well p s es choice count fit (operates e well) (more f rest) = absurd cc
+ends_well p s es choice count fit (operates {cell = cell} {op = op} {next = next} e well)
+    (run.operated {next = after} {e = event} {es = tail} f rest) =
     let cell_is : event.cell ≡ cell = cc in
     let op_is : event.op ≡ op = cc in
     let next_is : after ≡ next = cc in
@@ -163,9 +163,9 @@ pub goes_from : (cells : List ℕ) (p : ShapedProgram) (s t : State) (o : Outcom
     → Ends p s (accesses cells o ++ es) choice count
 goes_from cells p s t (Going u) es choice count e going rest =
     more e (subst (λ (x : State). Ends p x es choice count) (sym (same_state u t going)) rest)
-goes_from cells p s t (Asks cell op next) es choice count e going rest =
+goes_from cells p s t (Operates cell op next) es choice count e going rest =
     let reply = reply_of (slice_index cells cell) op in
-    run.asked {e = record { cell = cell; op = op; reply = reply }} e
+    run.operated {e = record { cell = cell; op = op; reply = reply }} e
     (subst (λ (x : State). Ends p x es choice count) (sym (same_state (next reply) t going)) rest)
 goes_from cells p s t (Done chosen) es choice count e going rest = absurd cc
 goes_from cells p s t Trap es choice count e going rest = absurd cc
@@ -175,5 +175,5 @@ pub ends_from : (cells : List ℕ) (p : ShapedProgram) (s : State) (o : Outcome)
     → step p s ≡ o → o ≡ Done choice → Ends p s (accesses cells o) choice (s.count + 1)
 ends_from cells p s (Done chosen) choice e done = last (e ∙ done) refl
 ends_from cells p s (Going t) choice e done = absurd cc
-ends_from cells p s (Asks cell op next) choice e done = absurd cc
+ends_from cells p s (Operates cell op next) choice e done = absurd cc
 ends_from cells p s Trap choice e done = absurd cc

@@ -4,16 +4,16 @@ use Rattle.std.proofs.Common.{subst, ◌∙◌}
 use Rattle.std.specs.Prelude.{slice_index}
 use Rattle.bpf_semantics.specs.Program.{ShapedProgram}
 use Rattle.bpf_semantics.specs.State.{State}
-use Rattle.bpf_semantics.specs.Outcome.{Outcome, Going, Asks, Done, Trap}
+use Rattle.bpf_semantics.specs.Outcome.{Outcome, Going, Operates, Done, Trap}
 use Rattle.bpf_semantics.specs.Step.{step}
-use Rattle.bpf_machine.specs.StandsFor.{Held, RunStandsFor, Agrees, Steps}
+use Rattle.bpf_machine.specs.Represents.{Held, RunRepresents, Agrees, Steps}
 use Rattle.bpf_machine.specs.declared.progress.Progress.TheVariants as progress
 use Rattle.cells.specs.Events.{IsEvent, reply_of, after}
 use Rattle.cells.specs.Grown.{GrewBy}
 use Rattle.cells.specs.declared.event.CellEvent.{CellEvent}
 use Rattle.world.specs.World.{Worker, Idle, Running, Ended}
 use Rattle.world.specs.Counters.{answered, cells_after}
-use Rattle.world.specs.Seats.{SeatStandsFor, WorkerSteps, SeatSteps}
+use Rattle.world.specs.Seats.{SeatRepresents, WorkerSteps, SeatSteps}
 use Rattle.world.specs.declared.seat.Seat.{Seat}
 use Rattle.world.specs.declared.seat.Seat.TheVariants.{Taken}
 use Rattle.world.specs.declared.event.Effect.TheVariants as effect
@@ -25,14 +25,14 @@ record HasGone (old new : List ℕ) (o : Outcome) (run : Held) : Type 0 where
   to : State
   goes_on : answered old o ≡ Going to
   cells_are : new ≡ cells_after old o
-  stands : RunStandsFor run to
+  represents : RunRepresents run to
 
 gone_at : (old new : List ℕ) (o : Outcome) (es : List CellEvent) (run : Held)
     → GrewBy IsEvent old es new
     → Agrees o es progress.Going run → HasGone old new o run
 gone_at old new (Going t) [] run grown agrees =
-    record { to = t; goes_on = refl; cells_are = grown; stands = agrees }
-gone_at old new (Asks cell op next) (e ∷ []) run grown agrees =
+    record { to = t; goes_on = refl; cells_are = grown; represents = agrees }
+gone_at old new (Operates cell op next) (e ∷ []) run grown agrees =
     let event = grown.1 in
     let reply : e.reply ≡ reply_of (slice_index old cell) op =
     event.reply_is ∙ ap (λ (c : ℕ). reply_of (slice_index old c) e.op) agrees.0.cell_is
@@ -41,11 +41,11 @@ gone_at old new (Asks cell op next) (e ∷ []) run grown agrees =
       to = next e.reply;
       goes_on = ap (λ (r : ℕ). Going (next r)) (sym reply);
       cells_are = grown.2 ∙ event.values_are ∙ rw (agrees.0.cell_is, agrees.0.op_is) refl;
-      stands = agrees.1;
+      represents = agrees.1;
     }
 gone_at old new (Going t) (e ∷ es) run grown agrees = absurd agrees
-gone_at old new (Asks cell op next) [] run grown agrees = absurd agrees
-gone_at old new (Asks cell op next) (e ∷ f ∷ es) run grown agrees = absurd agrees
+gone_at old new (Operates cell op next) [] run grown agrees = absurd agrees
+gone_at old new (Operates cell op next) (e ∷ f ∷ es) run grown agrees = absurd agrees
 gone_at old new (Done n) [] run grown agrees = absurd agrees
 gone_at old new (Done n) (e ∷ es) run grown agrees = absurd agrees
 gone_at old new Trap [] run grown agrees = absurd agrees
@@ -64,9 +64,9 @@ stopped_at old new (Done n) [] choice run grown agrees =
 stopped_at old new (Done n) (e ∷ es) choice run grown agrees = absurd agrees
 stopped_at old new (Going t) [] choice run grown agrees = absurd agrees
 stopped_at old new (Going t) (e ∷ es) choice run grown agrees = absurd agrees
-stopped_at old new (Asks cell op next) [] choice run grown agrees = absurd agrees
-stopped_at old new (Asks cell op next) (e ∷ []) choice run grown agrees = absurd agrees
-stopped_at old new (Asks cell op next) (e ∷ f ∷ es) choice run grown agrees = absurd agrees
+stopped_at old new (Operates cell op next) [] choice run grown agrees = absurd agrees
+stopped_at old new (Operates cell op next) (e ∷ []) choice run grown agrees = absurd agrees
+stopped_at old new (Operates cell op next) (e ∷ f ∷ es) choice run grown agrees = absurd agrees
 stopped_at old new Trap [] choice run grown agrees = absurd agrees
 stopped_at old new Trap (e ∷ es) choice run grown agrees = absurd agrees
 
@@ -74,49 +74,51 @@ stopped_at old new Trap (e ∷ es) choice run grown agrees = absurd agrees
 
 goes_on_from : (old new : List ℕ) (run after : Held) (n : ℕ) (x : Worker)
     → Steps IsEvent run after old new progress.Going → after.program ≡ run.program
-    → SeatStandsFor (Taken run n None) x
-    → (y : Worker) × WorkerSteps old x (Ok effect.Stepped) new y × SeatStandsFor
+    → SeatRepresents (Taken run n None) x
+    → (y : Worker) × WorkerSteps old x (Ok effect.Stepped) new y × SeatRepresents
     (Taken after n None) y
-goes_on_from old new run after n Idle stepped same stands = absurd stands
-goes_on_from old new run after n (Ended number program a choice instructions) stepped same stands =
-    absurd stands
-goes_on_from old new run after n (Running number program s) stepped same stands =
-    let gone = subst (λ (p : ShapedProgram). HasGone old new (step p s) after) stands.program_is
+goes_on_from old new run after n Idle stepped same represents = absurd represents
+goes_on_from old new run after n (Ended number program a choice instructions) stepped same
+    represents =
+    absurd represents
+goes_on_from old new run after n (Running number program s) stepped same represents =
+    let gone = subst (λ (p : ShapedProgram). HasGone old new (step p s) after) represents.program_is
     (gone_at old new (step run.program s) stepped.events after stepped.grown
-    (stepped.agrees s stands.stands)) in (
+    (stepped.agrees s represents.represents)) in (
       Running number program gone.to,
       record { to = gone.to; goes_on = gone.goes_on; cells_are = gone.cells_are; after = refl },
       record {
-        number_is = stands.number_is;
-        program_is = same ∙ stands.program_is;
-        stands = gone.stands;
+        number_is = represents.number_is;
+        program_is = same ∙ represents.program_is;
+        represents = gone.represents;
       },
     )
 
 ends_from : (old new : List ℕ) (run after : Held) (n choice : ℕ) (x : Worker)
     → Steps IsEvent run after old new (progress.Done choice) → after.program ≡ run.program
     → after.attributes ≡ run.attributes → after.count ≡ run.count
-    → SeatStandsFor (Taken run n None) x
+    → SeatRepresents (Taken run n None) x
     → (y : Worker) × WorkerSteps old x (Ok (effect.Ended choice)) new y
-    × SeatStandsFor (Taken after n (Some choice)) y
-ends_from old new run after n choice Idle stepped same attributes count stands = absurd stands
+    × SeatRepresents (Taken after n (Some choice)) y
+ends_from old new run after n choice Idle stepped same attributes count represents =
+    absurd represents
 ends_from old new run after n choice (Ended number program a chosen instructions) stepped same
-    attributes count stands =
-    absurd stands
+    attributes count represents =
+    absurd represents
 ends_from old new run after n choice (Running number program s) stepped same attributes count
-    stands =
+    represents =
     let stopped = subst (λ (p : ShapedProgram). HasStopped old new (step p s) choice)
-    stands.program_is
+    represents.program_is
     (stopped_at old new (step run.program s) stepped.events choice after stepped.grown
-    (stepped.agrees s stands.stands)) in (
+    (stepped.agrees s represents.represents)) in (
       Ended number program s.attributes choice (s.count + 1),
       record { ends = stopped.done; cells_are = stopped.cells_are; after = refl },
       record {
-        number_is = stands.number_is;
-        program_is = same ∙ stands.program_is;
-        attributes_are = attributes ∙ sym stands.stands.shows.attributes;
+        number_is = represents.number_is;
+        program_is = same ∙ represents.program_is;
+        attributes_are = attributes ∙ sym represents.represents.shows.attributes;
         choice_is = refl;
-        count_is = ap (λ (n : ℕ). n + 1) (count ∙ stands.stands.counted);
+        count_is = ap (λ (n : ℕ). n + 1) (count ∙ represents.represents.counted);
       },
     )
 
@@ -124,17 +126,17 @@ ends_from old new run after n choice (Running number program s) stepped same att
 pub goes_on : (old new : List ℕ) (seat : Seat) (run after : Held) (n : ℕ) (o : Option ℕ)
     → seat ≡ Taken run n o → o ≡ None → Steps IsEvent run after old new progress.Going
     → after.program ≡ run.program → SeatSteps old seat (Ok effect.Stepped) new (Taken after n o)
-goes_on old new seat run after n o is none stepped same x stands =
+goes_on old new seat run after n o is none stepped same x represents =
     let seat_is = is ∙ ap (Taken run n) none in
     rw none
     (goes_on_from old new run after n x stepped same
-    (subst (λ (s : Seat). SeatStandsFor s x) seat_is stands))
+    (subst (λ (s : Seat). SeatRepresents s x) seat_is represents))
 
 pub ends_now : (old new : List ℕ) (seat : Seat) (run after : Held) (n choice : ℕ) (o : Option ℕ)
     → seat ≡ Taken run n o → o ≡ None → Steps IsEvent run after old new (progress.Done choice)
     → after.program ≡ run.program → after.attributes ≡ run.attributes → after.count ≡ run.count
     → SeatSteps old seat (Ok (effect.Ended choice)) new (Taken after n (Some choice))
-ends_now old new seat run after n choice o is none stepped same attributes count x stands =
+ends_now old new seat run after n choice o is none stepped same attributes count x represents =
     let seat_is = is ∙ ap (Taken run n) none in
     ends_from old new run after n choice x stepped same attributes count
-    (subst (λ (s : Seat). SeatStandsFor s x) seat_is stands)
+    (subst (λ (s : Seat). SeatRepresents s x) seat_is represents)

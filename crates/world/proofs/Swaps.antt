@@ -10,7 +10,7 @@ use Rattle.world.specs.Happens.{Answer, Happens}
 use Rattle.world.specs.Headline.{IsApplied}
 use Rattle.world.specs.Course.{RulesetsStay}
 use Rattle.world.specs.Seats.{SeatIsOffered}
-use Rattle.world.specs.StandsFor.{Parts, AreKept, parts_of, seat_at}
+use Rattle.world.specs.Represents.{Parts, AreKept, parts_of, seat_at}
 use Rattle.world.specs.declared.seat.Seat.{Seat}
 use Rattle.world.specs.declared.seat.Seat.TheVariants.{Empty, Taken}
 use Rattle.world.specs.declared.event.Event.{Event}
@@ -42,15 +42,15 @@ as_many old new pushed sent n grown same number =
 pub swapped : (parts : Parts) (rules : Arc Rules Global) (n : ℕ) → IsRuleset (arc_value rules)
     → n ≡ length (parts.rulesets ++ arc_value rules ∷ [])
     → IsApplied parts (Swap rules) (Ok (effect.Swapped n)) (with_rules parts (arc_value rules))
-swapped parts rules n sound number w stands =
-    let longer = ap (λ (rs : List Rules). rs ++ arc_value rules ∷ []) stands.rulesets in (
+swapped parts rules n sound number w represents =
+    let longer = ap (λ (rs : List Rules). rs ++ arc_value rules ∷ []) represents.rulesets in (
       with_ruleset w (arc_value rules),
       record { sound = sound; after = refl; number_is = number ∙ ap length longer },
       record {
         rulesets = longer;
-        cells = stands.cells;
-        as_many = stands.as_many;
-        each = stands.each;
+        cells = represents.cells;
+        as_many = represents.as_many;
+        each = represents.each;
       },
     )
 

@@ -6,16 +6,16 @@ use Rattle.std.specs.declared.sync.Arc.{Arc}
 use Rattle.attrs.specs.Attributes.{Attributes}
 use Rattle.bpf_semantics.specs.Program.{ShapedProgram}
 use Rattle.bpf_semantics.specs.State.{opening}
-use Rattle.bpf_machine.specs.StandsFor.{Held}
+use Rattle.bpf_machine.specs.Represents.{Held}
 use Rattle.ruleset.specs.Rules.{Rules, Offers, appid_of}
 use Rattle.world.specs.World.{WorldState, Worker, Idle, Running, Ended, IsWorker, IsIdle}
 use Rattle.world.specs.World.{HasProgram, with_worker}
 use Rattle.world.specs.World.{ruleset_at, newest}
 use Rattle.world.specs.Happens.{Answer, Happens}
 use Rattle.world.specs.Headline.{IsApplied}
-use Rattle.world.specs.Seats.{SeatStandsFor, WorkerSteps, WorkerFinishes, SeatSteps, SeatFinishes}
+use Rattle.world.specs.Seats.{SeatRepresents, WorkerSteps, WorkerFinishes, SeatSteps, SeatFinishes}
 use Rattle.world.specs.Seats.{Opens}
-use Rattle.world.specs.StandsFor.{Parts, WorldStandsFor}
+use Rattle.world.specs.Represents.{Parts, WorldRepresents}
 use Rattle.world.specs.declared.seat.Seat.{Seat}
 use Rattle.world.specs.declared.seat.Seat.TheVariants.{Empty, Taken}
 use Rattle.world.specs.declared.event.Event.TheVariants.{Start, Step, Finish}
@@ -55,14 +55,15 @@ pub stepped : (parts : Parts) (cells : List ℕ) (k : ℕ) (before after : Seat)
     → k < length parts.seats → before ≡ get_or parts.seats k before
     → SeatSteps parts.cells before r cells after
     → IsApplied parts (Step k) r (with_seat parts cells k after)
-stepped parts cells k before after r within found steps w stands =
-    let next = steps (worker_at w k) (found_stands parts w k before stands within found) in
-    let made = subst (λ (old : List ℕ). WorkerSteps old (worker_at w k) r cells next.0) stands.cells
+stepped parts cells k before after r within found steps w represents =
+    let next = steps (worker_at w k) (found_stands parts w k before represents within found) in
+    let made = subst (λ (old : List ℕ). WorkerSteps old (worker_at w k) r cells next.0)
+    represents.cells
     next.1 in (
       with_cells w cells k next.0,
-      steps_of w cells k (worker_at w k) r next.0 (is_worker parts w k stands within)
+      steps_of w cells k (worker_at w k) r next.0 (is_worker parts w k represents within)
           (same_world w cells k next.0) made,
-      stands_with parts w cells cells k after next.0 within stands refl next.2,
+      stands_with parts w cells cells k after next.0 within represents refl next.2,
     )
 
 -- ---- Finish
@@ -87,63 +88,64 @@ finishes_of w k x r y is same finishes = absurd finishes
 pub finished : (parts : Parts) (k : ℕ) (before after : Seat) (r : Answer) → k < length parts.seats
     → before ≡ get_or parts.seats k before → SeatFinishes before r after
     → IsApplied parts (Finish k) r (with_seat parts parts.cells k after)
-finished parts k before after r within found finishes w stands =
-    let next = finishes (worker_at w k) (found_stands parts w k before stands within found) in (
+finished parts k before after r within found finishes w represents =
+    let next = finishes (worker_at w k) (found_stands parts w k before represents within found) in (
       with_worker w k next.0,
-      finishes_of w k (worker_at w k) r next.0 (is_worker parts w k stands within)
+      finishes_of w k (worker_at w k) r next.0 (is_worker parts w k represents within)
           (same_world w w.cells k next.0 refl) next.1,
-      stands_with parts w parts.cells w.cells k after next.0 within stands stands.cells next.2,
+      stands_with parts w parts.cells w.cells k after next.0 within represents
+          represents.cells next.2,
     )
 
 -- ---- Start
 
-empty_idle : (x : Worker) → SeatStandsFor Empty x → x ≡ Idle
-empty_idle Idle stands = refl
-empty_idle (Running number program s) stands = absurd stands
-empty_idle (Ended number program a choice instructions) stands = absurd stands
+empty_idle : (x : Worker) → SeatRepresents Empty x → x ≡ Idle
+empty_idle Idle represents = refl
+empty_idle (Running number program s) represents = absurd represents
+empty_idle (Ended number program a choice instructions) represents = absurd represents
 
 pub busy : (parts : Parts) (k : ℕ) (attrs : Arc Attributes Global) (seat : Seat)
     → k < length parts.seats → seat ≡ get_or parts.seats k seat
-    → ((x : Worker) → SeatStandsFor seat x → IsIdle x → ⊥)
+    → ((x : Worker) → SeatRepresents seat x → IsIdle x → ⊥)
     → IsApplied parts (Start k attrs) (Err fault.Busy) parts
-busy parts k attrs seat within found taken w stands = (
+busy parts k attrs seat within found taken w represents = (
   w,
   (
     (
       worker_at w k,
-      is_worker parts w k stands within,
+      is_worker parts w k represents within,
       taken (worker_at w k)
-          (found_stands parts w k seat stands within found),
+          (found_stands parts w k seat represents within found),
     ),
     refl,
   ),
-  stands,
+  represents,
 )
 
-is_idle : (parts : Parts) (w : WorldState) (k : ℕ) (seat : Seat) → WorldStandsFor parts w
+is_idle : (parts : Parts) (w : WorldState) (k : ℕ) (seat : Seat) → WorldRepresents parts w
     → k < length parts.seats → seat ≡ get_or parts.seats k seat → seat ≡ Empty → IsWorker w k Idle
-is_idle parts w k seat stands within found empty =
+is_idle parts w k seat represents within found empty =
     let is = seat_found parts k seat within found ∙ empty in
-    is_worker parts w k stands within ∙ ap Some
+    is_worker parts w k represents within ∙ ap Some
     (empty_idle (worker_at w k)
-    (subst (λ (s : Seat). SeatStandsFor s (worker_at w k)) is (stands.each k)))
+    (subst (λ (s : Seat). SeatRepresents s (worker_at w k)) is (represents.each k)))
 
 -- the program of the newest ruleset
 has_program : (parts : Parts) (w : WorldState) (rules : Rules) (appid : List ℕ)
-    (program : ShapedProgram) → WorldStandsFor parts w
+    (program : ShapedProgram) → WorldRepresents parts w
     → ruleset_at parts.rulesets (newest parts.rulesets) ≡ Some rules → Offers rules appid program
     → HasProgram w.rulesets (newest w.rulesets) appid program
-has_program parts w rules appid program stands is offers =
-    subst (λ (rs : List Rules). HasProgram rs (newest rs) appid program) stands.rulesets
+has_program parts w rules appid program represents is offers =
+    subst (λ (rs : List Rules). HasProgram rs (newest rs) appid program) represents.rulesets
     (offered_at parts.rulesets (newest parts.rulesets) rules appid program is offers)
 
 offers_of : (parts : Parts) (w : WorldState) (rules : Rules) (appid : List ℕ)
     (program : ShapedProgram)
-    → WorldStandsFor parts w → ruleset_at parts.rulesets (newest parts.rulesets) ≡ Some rules
+    → WorldRepresents parts w → ruleset_at parts.rulesets (newest parts.rulesets) ≡ Some rules
     → HasProgram w.rulesets (newest w.rulesets) appid program → Offers rules appid program
-offers_of parts w rules appid program stands is has =
+offers_of parts w rules appid program represents is has =
     let there = subst (λ (rs : List Rules). HasProgram rs (newest rs) appid program)
-    (sym stands.rulesets) has in
+    (sym represents.rulesets) has in
     subst (λ (r : Rules). Offers r appid program)
     (some_rules there.has.rules rules (sym there.has.ruleset_is ∙ is))
     (record { app = there.app; known = there.has.known; program_is = there.program_is })
@@ -152,33 +154,33 @@ pub unopened : (parts : Parts) (k : ℕ) (attrs : Arc Attributes Global) (rules 
     (e : WorldFault) → k < length parts.seats → seat ≡ get_or parts.seats k seat → seat ≡ Empty
     → ruleset_at parts.rulesets (newest parts.rulesets) ≡ Some rules
     → Opens rules (arc_value attrs) (Err e) → IsApplied parts (Start k attrs) (Err e) parts
-unopened parts k attrs rules seat fault.NoApp within found empty newest_is opens w stands = (
+unopened parts k attrs rules seat fault.NoApp within found empty newest_is opens w represents = (
   w,
   (
     record {
-      idle = is_idle parts w k seat stands within found empty;
+      idle = is_idle parts w k seat represents within found empty;
       none = λ program has.
           opens program
-          (offers_of parts w rules (appid_of (arc_value attrs)) program stands newest_is has);
+          (offers_of parts w rules (appid_of (arc_value attrs)) program represents newest_is has);
     },
     refl,
   ),
-  stands,
+  represents,
 )
-unopened parts k attrs rules seat fault.Memory within found empty newest_is opens w stands = (
+unopened parts k attrs rules seat fault.Memory within found empty newest_is opens w represents = (
   w,
   (
     record {
-      idle = is_idle parts w k seat stands within found empty;
+      idle = is_idle parts w k seat represents within found empty;
       program = opens.0;
-      offered = has_program parts w rules (appid_of (arc_value attrs)) opens.0 stands newest_is
+      offered = has_program parts w rules (appid_of (arc_value attrs)) opens.0 represents newest_is
           opens.1;
     },
     refl,
   ),
-  stands,
+  represents,
 )
-unopened parts k attrs rules seat e within found empty newest_is opens w stands = absurd opens
+unopened parts k attrs rules seat e within found empty newest_is opens w represents = absurd opens
 
 pub opened : (parts : Parts) (k n : ℕ) (attrs : Arc Attributes Global) (rules : Rules) (seat : Seat)
     (run : Held) → k < length parts.seats → seat ≡ get_or parts.seats k seat → seat ≡ Empty
@@ -186,22 +188,23 @@ pub opened : (parts : Parts) (k n : ℕ) (attrs : Arc Attributes Global) (rules 
     → n ≡ length parts.rulesets → Opens rules (arc_value attrs) (Ok run)
     → IsApplied parts (Start k attrs) (Ok effect.Started)
     (with_seat parts parts.cells k (Taken run n None))
-opened parts k n attrs rules seat run within found empty newest_is number opens w stands =
+opened parts k n attrs rules seat run within found empty newest_is number opens w represents =
     let next : Worker = Running (newest w.rulesets) run.program (opening (arc_value attrs)) in (
       with_worker w k next,
       record {
         program = run.program;
-        idle = is_idle parts w k seat stands within found empty;
-        offered = has_program parts w rules (appid_of (arc_value attrs)) run.program stands
+        idle = is_idle parts w k seat represents within found empty;
+        offered = has_program parts w rules (appid_of (arc_value attrs)) run.program represents
             newest_is opens.offered;
         texts_are_short = opens.texts_are_short;
         after = refl;
       },
-      stands_with parts w parts.cells w.cells k (Taken run n None) next within stands stands.cells
+      stands_with parts w parts.cells w.cells k (Taken run n None) next within represents
+          represents.cells
           (record {
-            number_is = number ∙ ap length stands.rulesets;
+            number_is = number ∙ ap length represents.rulesets;
             program_is = refl;
-            stands =
-                opens.stands;
+            represents =
+                opens.represents;
           }),
     )

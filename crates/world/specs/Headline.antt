@@ -3,25 +3,25 @@ use Rattle.std.specs.Prelude.{ℕ, List, take}
 use Rattle.world.specs.World.{WorldState}
 use Rattle.world.specs.Happens.{Answer, Happens, Plays}
 use Rattle.world.specs.Safe.{IsSafeWorld, IsOfItsRun}
-use Rattle.world.specs.StandsFor.{Parts, WorldStandsFor}
+use Rattle.world.specs.Represents.{Parts, WorldRepresents}
 use Rattle.world.specs.declared.event.Event.{Event}
 
 -- from every world that the parts represented, the event with its result leads to one that they
 -- represent
 abbrev pub IsApplied : Parts → Event → Answer → Parts → Type 0
-IsApplied before event answer after = (w : WorldState) → WorldStandsFor before w
-    → (v : WorldState) × Happens w event answer v × WorldStandsFor after v
+IsApplied before event answer after = (w : WorldState) → WorldRepresents before w
+    → (v : WorldState) × Happens w event answer v × WorldRepresents after v
 
 -- the same for a list of events with their results: they are a run of the world
 abbrev pub ArePlayed : Parts → List Event → List Answer → Parts → Type 0
-ArePlayed before events answers after = (w : WorldState) → WorldStandsFor before w
-    → (v : WorldState) × Plays w events answers v × WorldStandsFor after v
+ArePlayed before events answers after = (w : WorldState) → WorldRepresents before w
+    → (v : WorldState) × Plays w events answers v × WorldRepresents after v
 
 -- a world on the way: the first events lead to it, with some results, from a world that the parts
 -- represent
 pub record IsOnTheWay (parts : Parts) (events : List Event) (u : WorldState) : Type 0 where
   pub opening : WorldState
-  pub stands : WorldStandsFor parts opening
+  pub represents : WorldRepresents parts opening
   pub count : ℕ
   pub answers : List Answer
   pub plays : Plays opening (take count events) answers u

@@ -3,7 +3,7 @@ pub mod Counters
 pub mod Happens
 pub mod History
 pub mod Seats
-pub mod StandsFor
+pub mod Represents
 pub mod Safe
 pub mod InTime
 pub mod OwnRun

@@ -6,8 +6,8 @@ use Rattle.bpf_semantics.specs.Step.{step}
 use Rattle.bpf_semantics.specs.Outcome.{Going, Done}
 use Rattle.bpf_semantics.specs.Program.{ShapedProgram}
 use Rattle.bpf_verify.specs.Covers.{EndsWell}
-use Rattle.bpf_machine.specs.StandsFor.{Held}
-use Rattle.bpf_machine.specs.StandsFor as machine
+use Rattle.bpf_machine.specs.Represents.{Held}
+use Rattle.bpf_machine.specs.Represents as machine
 use Rattle.ruleset.specs.Rules.{Rules, Offers, OffersNone, appid_of}
 use Rattle.world.specs.World.{Worker, Idle, Running, Ended, IsRunning, IsIdle, HasProgram}
 use Rattle.world.specs.Happens.{Answer}
@@ -23,7 +23,7 @@ pub record ContinuesAs (run : Held) (held number : ℕ) (program : ShapedProgram
     (s : State) : Type 0 where
   pub number_is : held ≡ number
   pub program_is : run.program ≡ program
-  pub stands : machine.RunStandsFor run s
+  pub represents : machine.RunRepresents run s
 
 -- a seat's run and its choice represent a worker's run that has ended; its last instruction also
 -- counts
@@ -35,19 +35,19 @@ pub record EndedAs (run : Held) (held chosen number : ℕ) (program : ShapedProg
   pub choice_is : chosen ≡ choice
   pub count_is : run.count + 1 ≡ instructions
 
-abbrev pub SeatStandsFor : Seat → Worker → Type 0
-SeatStandsFor Empty Idle = Unit {0}
-SeatStandsFor (Taken run held None) (Running number program s) =
+abbrev pub SeatRepresents : Seat → Worker → Type 0
+SeatRepresents Empty Idle = Unit {0}
+SeatRepresents (Taken run held None) (Running number program s) =
     ContinuesAs run held number program s
-SeatStandsFor (Taken run held (Some chosen)) (Ended number program a choice instructions) =
+SeatRepresents (Taken run held (Some chosen)) (Ended number program a choice instructions) =
     EndedAs run held chosen number program a choice instructions
-SeatStandsFor seat worker = ⊥
+SeatRepresents seat worker = ⊥
 
 -- a run that continues, represents a state, and ends well from each state that it represents
 pub record GoesWell (run : Held) : Type 0 where
   pub going : run.is_done ≡ false
-  pub stands : (s : State) × machine.RunStandsFor run s
-  pub ends : (s : State) → machine.RunStandsFor run s → EndsWell run.program s
+  pub represents : (s : State) × machine.RunRepresents run s
+  pub ends : (s : State) → machine.RunRepresents run s → EndsWell run.program s
 
 -- a run that has ended with its choice, none or a release, in time
 pub record EndedWithChoice (run : Held) (choice : ℕ) : Type 0 where
@@ -110,17 +110,17 @@ WorkerFinishes x answer y = ⊥
 
 -- the counters had the values `old`, and have the values `new`
 abbrev pub SeatSteps : List ℕ → Seat → Answer → List ℕ → Seat → Type 0
-SeatSteps old before answer new after = (x : Worker) → SeatStandsFor before x
-    → (y : Worker) × WorkerSteps old x answer new y × SeatStandsFor after y
+SeatSteps old before answer new after = (x : Worker) → SeatRepresents before x
+    → (y : Worker) × WorkerSteps old x answer new y × SeatRepresents after y
 
 abbrev pub SeatFinishes : Seat → Answer → Seat → Type 0
-SeatFinishes before answer after = (x : Worker) → SeatStandsFor before x
-    → (y : Worker) × WorkerFinishes x answer y × SeatStandsFor after y
+SeatFinishes before answer after = (x : Worker) → SeatRepresents before x
+    → (y : Worker) × WorkerFinishes x answer y × SeatRepresents after y
 
 -- the result of a finish: then the worker is idle, or as it was
 abbrev pub SeatReturns : Seat → Answer → Type 0
-SeatReturns seat (Ok e) = (x : Worker) → SeatStandsFor seat x → WorkerFinishes x (Ok e) Idle
-SeatReturns seat (Err e) = (x : Worker) → SeatStandsFor seat x → WorkerFinishes x (Err e) x
+SeatReturns seat (Ok e) = (x : Worker) → SeatRepresents seat x → WorkerFinishes x (Ok e) Idle
+SeatReturns seat (Err e) = (x : Worker) → SeatRepresents seat x → WorkerFinishes x (Err e) x
 
 -- for any rulesets: if the run's program is its ruleset's program for the app, it stays so
 abbrev pub StaysOffered : Seat → Seat → Type 0
@@ -134,7 +134,7 @@ pub record IsOpened (rules : Rules) (a : Attributes) (run : Held) : Type 0 where
   pub offered : Offers rules (appid_of a) run.program
   pub texts_are_short : AreShort a.texts
   pub attributes_are : run.attributes ≡ a
-  pub stands : machine.RunStandsFor run (opening a)
+  pub represents : machine.RunRepresents run (opening a)
   pub goes : GoesWell run
 
 -- refused if the ruleset doesn't have the app, or if an allocation fails

@@ -27,7 +27,7 @@ pub fn play(
     ensures memory { IfErr result (λ e. e ≡ WorldFault.Memory) }
     ensures unplayed { IfErr result (λ e. world.new ≡ world.old) }
 {
-    world.keeps();
+    world.invariant_law();
     let Ok(mut answers) = Vec::with_capacity(alloc, events.len()) else {
         return Err(WorldFault::Memory);
     };

@@ -20,12 +20,12 @@ pub enum Seat {
 
 impl Seat {
     ghost use Rattle.world.specs.World.{Worker, IsIdle};
-    ghost use Rattle.world.specs.Seats.{SeatStandsFor, IsSoundSeat, StaysOffered};
+    ghost use Rattle.world.specs.Seats.{SeatRepresents, IsSoundSeat, StaysOffered};
     ghost use Rattle.world.specs.Seats.{SeatSteps, SeatFinishes, SeatReturns};
 
     /// Whether it has a run, even one that has ended.
     pub fn is_taken(&self) -> bool
-        ensures taken { IsTrue result → (x : Worker) → SeatStandsFor self.now x → ¬ IsIdle x }
+        ensures taken { IsTrue result → (x : Worker) → SeatRepresents self.now x → ¬ IsIdle x }
         ensures empty { IsFalse result → self.now ≡ Seat.Empty }
     {
         match self {
@@ -50,10 +50,10 @@ impl Seat {
                 choice: choice @ None,
                 ..
             } => {
-                run.keeps();
+                run.invariant_law();
                 match run.step(cells, pass) {
                     Progress::Going => {
-                        run.keeps();
+                        run.invariant_law();
                         Ok(Effect::Stepped)
                     }
                     Progress::Done(chosen) => {
@@ -93,7 +93,7 @@ impl Seat {
                 number,
                 choice: Some(choice),
             } => {
-                run.keeps();
+                run.invariant_law();
                 Ok(Effect::Finished {
                     choice: *choice,
                     instructions: run.count() + 1,

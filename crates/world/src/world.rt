@@ -30,7 +30,7 @@ pub struct World {
 }
 
 impl Model for World {
-    ghost use Rattle.world.specs.StandsFor.{Parts, AreKept, parts_of};
+    ghost use Rattle.world.specs.Represents.{Parts, AreKept, parts_of};
 
     ghost Value = { Parts };
 
@@ -42,7 +42,7 @@ impl Model for World {
 impl World {
     ghost use Rattle.ruleset.specs.Rules.{IsRuleset};
     ghost use Rattle.world.specs.World.{WorldState, ruleset_at, newest};
-    ghost use Rattle.world.specs.StandsFor.{WorldStandsFor, IsOpening};
+    ghost use Rattle.world.specs.Represents.{WorldRepresents, IsOpening};
     ghost use Rattle.world.specs.Headline.{IsApplied, AllWorldsAreSafe, EachFinishIsOfItsRun};
     ghost use Rattle.world.specs.declared.event.Event.{Event};
 
@@ -56,7 +56,7 @@ impl World {
         ensures memory { IfErr result (λ e. e ≡ WorldFault.Memory) }
     {
         let rules: &Ruleset = &first;
-        rules.keeps();
+        rules.invariant_law();
         let mut rulesets = Vec::with_capacity(alloc, 1).map_err(|_| WorldFault::Memory)?;
         rulesets.push(first).map_err(|_| WorldFault::Memory)?;
         let mut seats = Vec::with_capacity(alloc, workers).map_err(|_| WorldFault::Memory)?;
@@ -73,9 +73,9 @@ impl World {
     }
 
     /// Law: the type's invariant.
-    pub fn keeps(&self)
+    pub fn invariant_law(&self)
         // It represents at least one world.
-        ensures stands { (w : WorldState) × WorldStandsFor self.now w }
+        ensures represents { (w : WorldState) × WorldRepresents self.now w }
         // In each of its rulesets an appid has one app, whose runs end with 0 or a release of it.
         ensures sound { All IsRuleset self.now.rulesets }
         // Whatever is played, each world on the way is safe,
@@ -83,7 +83,7 @@ impl World {
         // and the result of a Finish is of its worker's run.
         ensures releases { (events : List Event) → EachFinishIsOfItsRun self.now events }
     {
-        self.pass.keeps();
+        self.pass.invariant_law();
         counts_instructions();
         events_fit();
     }
@@ -156,7 +156,7 @@ impl World {
         ensures same { IfErr result (λ e. self.new ≡ self.old) }
     {
         let sent: &Ruleset = rules;
-        sent.keeps();
+        sent.invariant_law();
         let Ok(rules) = Arc::try_clone(rules) else {
             return Err(WorldFault::Memory);
         };
@@ -190,8 +190,8 @@ fn open_run(rules: &Ruleset, attrs: &Arc<Attrs>) -> Result<Run, WorldFault>
         return Err(WorldFault::Memory);
     };
     let sent: &Attrs = &attrs;
-    sent.keeps();
+    sent.invariant_law();
     let run = Run::start(program, attrs);
-    run.keeps();
+    run.invariant_law();
     Ok(run)
 }

@@ -17,9 +17,9 @@ use Rattle.rule_lang.specs.Reader.Drafts.{Pending, begin, denied, opened, tested
 use Rattle.rule_lang.specs.Reader.Drafts.{closed, term_done, is_empty}
 use Rattle.rule_lang.specs.Lexed.{Placed}
 use Rattle.rule_lang.specs.Parts.{OrFault, ◌>>?◌, part, release, out_of_range}
-use Rattle.rule_lang.specs.Phrases.{behind, misplaced, count_phrase, offer_phrase}
+use Rattle.rule_lang.specs.Phrases.{tokens_after, misplaced, count_phrase, offer_phrase}
 use Rattle.rule_lang.specs.Phrases.{otherwise_phrase}
-use Rattle.rule_lang.specs.Says.{count_of}
+use Rattle.rule_lang.specs.Values.{count_of}
 use Rattle.rule_lang.specs.Tests.{row, test_phrase, kind_of}
 use Rattle.rule_lang.specs.Tokens.{Token}
 
@@ -99,11 +99,11 @@ counted (Err e) d = with_fault e d
 abbrev pub statement_next : AppShape → Draft → Token → (line : ℕ) → (ts after : List Placed)
     → Next
 statement_next s d (token.Keyword keyword.Count) line ts after =
-    behind count_phrase ts >>? λ rest. Ok (counted (count_of s ts) d, rest)
+    tokens_after count_phrase ts >>? λ rest. Ok (counted (count_of s ts) d, rest)
 statement_next s d (token.Keyword keyword.When) line ts after =
     Ok (in_mode mode.Fact (with_condition begin d), after)
 statement_next s d (token.Keyword keyword.Otherwise) line ts after =
-    behind otherwise_phrase ts >>? λ rest. Ok (in_mode mode.Done d, rest)
+    tokens_after otherwise_phrase ts >>? λ rest. Ok (in_mode mode.Done d, rest)
 statement_next s d t line ts after = Err (misplaced line)
 
 -- ---- conditions
@@ -119,8 +119,8 @@ with_test line (Err e) d = with_fault e d
 abbrev pub test_next : AppShape → Draft → (line : ℕ) → Option TestKind → List Placed → Next
 test_next s d line None ts = Err (misplaced line)
 test_next s d line (Some k) ts =
-    behind (test_phrase k) ts >>? λ rest.
-    Ok (in_mode mode.Operator (with_test line ((row k).says s ts) d), rest)
+    tokens_after (test_phrase k) ts >>? λ rest.
+    Ok (in_mode mode.Operator (with_test line ((row k).spelled s ts) d), rest)
 
 abbrev pub fact_next : AppShape → Draft → Token → Placed → (ts after : List Placed) → Next
 fact_next s d (token.Keyword keyword.Not) p ts after =
@@ -142,7 +142,7 @@ offered (Err e) d = with_fault e d
 abbrev pub offer_next : AppShape → Draft → Bool → (line : ℕ) → List Placed → Next
 offer_next s d false line ts = Err (misplaced line)
 offer_next s d true line ts =
-    behind offer_phrase ts >>? λ rest.
+    tokens_after offer_phrase ts >>? λ rest.
     Ok (
       in_mode mode.Statement (offered (release s (part ts 1)) (with_condition (term_done
           d.condition) d)),

@@ -22,13 +22,13 @@ const ROWS: [(&str, &str); 7] = [
 #[test]
 fn moments_have_times(rt: HostRuntime) -> Result<(), Fail> {
     for (text, wanted) in &ROWS {
-        let told = told_of(rt.alloc(), text)?;
-        assert_eq!(rt; told.as_str(), *wanted);
+        let shown = report_text(rt.alloc(), text)?;
+        assert_eq!(rt; shown.as_str(), *wanted);
     }
     Ok(())
 }
 
-fn told_of(alloc: Global, text: &str) -> Result<String, Fail> {
+fn report_text(alloc: Global, text: &str) -> Result<String, Fail> {
     let Ok(now) = Timestamp::from_nanosecond(NOW) else {
         return Ok(String::new(alloc));
     };

@@ -24,21 +24,21 @@ width = 64 / length = 4096 / [[app]] | M7 Cells N1 CellsFull in array 2
 "#;
 
 /// The changes of a row, and the result.
-fn asked_and_told(row: &str) -> Result<(&str, &str), Fail> {
+fn changes_and_result(row: &str) -> Result<(&str, &str), Fail> {
     let (_name, rest) = halves(row.trim_end(), " | ")?;
     halves(rest, " | ")
 }
 
 /// Checks the result of a load, how many files it couldn't read, and the result of the same load
 /// again. A refused load declares no arrays.
-fn must_tell_twice(
+fn must_give_twice(
     alloc: Global,
     loader: &mut Loader,
     row: &str,
     manifest: &str,
     want: &str,
 ) -> Result<(), Fail> {
-    loader.must_tell(alloc, row, manifest, want)?;
+    loader.must_give(alloc, row, manifest, want)?;
     let arrays = loader.directory.arrays().len();
     must(row, "arrays", (arrays == 1) == (want == "ok"))?;
     let (unread, _rest) = halves(row, " ")?;
@@ -47,21 +47,21 @@ fn must_tell_twice(
         "failures",
         unread.parse().ok() == Some(loader.files.failures()),
     )?;
-    loader.must_tell(alloc, row, manifest, want)
+    loader.must_give(alloc, row, manifest, want)
 }
 
-fn is_told_twice(alloc: Global, row: &str) -> Result<(), Fail> {
+fn has_result_twice(alloc: Global, row: &str) -> Result<(), Fail> {
     let (_unread, rest) = halves(row, " ")?;
-    let (changes, want) = asked_and_told(rest)?;
+    let (changes, want) = changes_and_result(rest)?;
     let manifest = changed(alloc, SAMPLE, changes)?;
     let mut loader = Loader::new(alloc)?;
-    must_tell_twice(alloc, &mut loader, row, manifest.as_str(), want)
+    must_give_twice(alloc, &mut loader, row, manifest.as_str(), want)
 }
 
 #[test]
 fn each_way(rt: HostRuntime) -> Result<(), Fail> {
     for row in ROWS.split("\n- ").skip(1) {
-        is_told_twice(rt.alloc(), row)?;
+        has_result_twice(rt.alloc(), row)?;
     }
     Ok(())
 }
@@ -77,10 +77,10 @@ width = 64 / length = 1
 - the same once more |  | ok
 "#;
 
-fn is_told_later(alloc: Global, loader: &mut Loader, row: &str) -> Result<(), Fail> {
-    let (changes, want) = asked_and_told(row)?;
+fn has_result_later(alloc: Global, loader: &mut Loader, row: &str) -> Result<(), Fail> {
+    let (changes, want) = changes_and_result(row)?;
     let manifest = changed(alloc, SAMPLE, changes)?;
-    loader.must_tell(alloc, row, manifest.as_str(), want)?;
+    loader.must_give(alloc, row, manifest.as_str(), want)?;
     must(row, "arrays", loader.directory.arrays().len() == 1)
 }
 
@@ -88,7 +88,7 @@ fn is_told_later(alloc: Global, loader: &mut Loader, row: &str) -> Result<(), Fa
 fn after_a_good_one(rt: HostRuntime) -> Result<(), Fail> {
     let mut loader = Loader::new(rt.alloc())?;
     for row in LATER.split("\n- ").skip(1) {
-        is_told_later(rt.alloc(), &mut loader, row)?;
+        has_result_later(rt.alloc(), &mut loader, row)?;
     }
     Ok(())
 }

@@ -48,7 +48,7 @@ fn wanted_of(row: &str) -> Option<Wanted<'_>> {
 }
 
 /// The line of the opcode, with dst 1 and this offset; or its fault.
-fn told(alloc: Global, opcode: u8, offset: i16) -> Result<String, AllocError> {
+fn result_text(alloc: Global, opcode: u8, offset: i16) -> Result<String, AllocError> {
     let [low, high] = offset.to_le_bytes();
     match listing(alloc, &[opcode, 1, low, high, 0, 0, 0, 0]) {
         Ok(line) => Ok(line),
@@ -57,7 +57,7 @@ fn told(alloc: Global, opcode: u8, offset: i16) -> Result<String, AllocError> {
 }
 
 /// Whether it is the line of one instruction, or the fault of slot 0.
-fn is_told(found: &str, want: &str) -> bool {
+fn has_result(found: &str, want: &str) -> bool {
     let rest = found.strip_prefix(want).unwrap_or("");
     rest == "\n" || rest == " at slot 0"
 }
@@ -70,8 +70,8 @@ fn has_its_offsets(alloc: Global, row: &str) -> Result<(), Fail> {
             1 => wanted.one,
             _ => wanted.other,
         };
-        let found = told(alloc, wanted.opcode, offset)?;
-        must(row, found.as_str(), is_told(found.as_str(), want))?;
+        let found = result_text(alloc, wanted.opcode, offset)?;
+        must(row, found.as_str(), has_result(found.as_str(), want))?;
     }
     Ok(())
 }

@@ -1,7 +1,7 @@
 //! The longest texts of each kind of chain, which loops read and drop.
 
 use crate::programs::must;
-use crate::rules::told::must_tell;
+use crate::rules::told::must_give;
 use crate::rules::{chain, halves};
 use std::alloc::{AllocError, Global};
 use std::test::Fail;
@@ -44,24 +44,24 @@ fn links_of(row: &str) -> Option<(&str, &str, &str)> {
 }
 
 /// Checks the result for the longest text, and that one byte more is too long.
-fn must_tell_both(alloc: Global, text: &mut String, want: &str) -> Result<(), Fail> {
+fn must_give_both(alloc: Global, text: &mut String, want: &str) -> Result<(), Fail> {
     must(want, "another length", text.len() == MOST_BYTES)?;
-    must_tell(alloc, text.as_str(), 1, want)?;
+    must_give(alloc, text.as_str(), 1, want)?;
     text.push('@')?;
-    must_tell(alloc, text.as_str(), 1, "L4 Range at line 1")
+    must_give(alloc, text.as_str(), 1, "L4 Range at line 1")
 }
 
-fn is_told(alloc: Global, row: &str) -> Result<(), Fail> {
+fn has_result(alloc: Global, row: &str) -> Result<(), Fail> {
     let (links, want) = halves(row, " => ")?;
     let (front, link, back) = links_of(links).ok_or("a row of another form")?;
     let mut text = filled(alloc, front, link, back)?;
-    must_tell_both(alloc, &mut text, want)
+    must_give_both(alloc, &mut text, want)
 }
 
 #[test]
 fn longest(rt: HostRuntime) -> Result<(), Fail> {
     for row in CHAINS.lines().skip(1) {
-        is_told(rt.alloc(), row)?;
+        has_result(rt.alloc(), row)?;
     }
     Ok(())
 }

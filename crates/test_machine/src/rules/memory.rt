@@ -4,7 +4,7 @@
 
 use crate::programs::must;
 use crate::rules::halves;
-use crate::rules::told::{told, told_as_read};
+use crate::rules::told::{read_result, result_text};
 use std::alloc::{AllocError, Global};
 use std::test::Fail;
 
@@ -21,13 +21,13 @@ when attr ap is "abc" and not take(q, 0) offer 1; otherwise none; => 20 slots
 "#;
 
 /// Whether an allocation failed: in a call, which is then printed, or in the test itself.
-fn is_refused<R: Print>(rt: &R, told: &Result<String, AllocError>) -> Result<bool, Fail> {
-    match told {
-        Ok(told) if told.as_str() == "L5 Memory" => {
+fn is_refused<R: Print>(rt: &R, outcome: &Result<String, AllocError>) -> Result<bool, Fail> {
+    match outcome {
+        Ok(outcome) if outcome.as_str() == "L5 Memory" => {
             println!(rt; "parse: L5 Memory")?;
             Ok(true)
         }
-        Ok(told) if told.as_str() == "C2 Memory" => {
+        Ok(outcome) if outcome.as_str() == "C2 Memory" => {
             println!(rt; "compile: C2 Memory")?;
             Ok(true)
         }
@@ -37,17 +37,17 @@ fn is_refused<R: Print>(rt: &R, told: &Result<String, AllocError>) -> Result<boo
 }
 
 fn read_again<R: Print>(rt: &R, alloc: Global, text: &str) -> Result<String, Fail> {
-    let mut answer = told_as_read(alloc, text, 1);
+    let mut answer = read_result(alloc, text, 1);
     if is_refused(rt, &answer)? {
-        answer = told_as_read(alloc, text, 1);
+        answer = read_result(alloc, text, 1);
     }
     Ok(answer?)
 }
 
 fn compiled_again<R: Print>(rt: &R, alloc: Global, text: &str) -> Result<String, Fail> {
-    let mut answer = told(alloc, text);
+    let mut answer = result_text(alloc, text);
     if is_refused(rt, &answer)? {
-        answer = told(alloc, text);
+        answer = result_text(alloc, text);
     }
     Ok(answer?)
 }

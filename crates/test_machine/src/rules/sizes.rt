@@ -76,7 +76,7 @@ fn slots_of_opposite(alloc: Global, condition: &str) -> Result<usize, Fail> {
     slots_of(alloc, opposite.as_str())
 }
 
-fn is_told(alloc: Global, row: &str) -> Result<(), Fail> {
+fn has_result(alloc: Global, row: &str) -> Result<(), Fail> {
     let (want, condition) = halves(row, " | ")?;
     let met = slots_of(alloc, condition)?;
     let unmet = slots_of_opposite(alloc, condition)?;
@@ -87,7 +87,7 @@ fn is_told(alloc: Global, row: &str) -> Result<(), Fail> {
 #[test]
 fn slots(rt: HostRuntime) -> Result<(), Fail> {
     for row in ROWS.lines().skip(1) {
-        is_told(rt.alloc(), row)?;
+        has_result(rt.alloc(), row)?;
     }
     Ok(())
 }

@@ -26,7 +26,7 @@ fn statements_of(alloc: Global, text: &str, shape: &Shape) -> Result<Option<usiz
     })
 }
 
-fn told_over(alloc: Global, text: &str, shape: &Shape) -> Result<String, AllocError> {
+fn read_result_over(alloc: Global, text: &str, shape: &Shape) -> Result<String, AllocError> {
     match statements_of(alloc, text, shape) {
         Ok(Some(count)) => format!(in alloc; "{count}"),
         Ok(None) => String::from_str(alloc, UNFIT),
@@ -36,16 +36,16 @@ fn told_over(alloc: Global, text: &str, shape: &Shape) -> Result<String, AllocEr
 
 /// The result of reading a text for an app with `releases` releases: the number of its rule's
 /// statements, or the fault.
-pub(crate) fn told_as_read(alloc: Global, text: &str, releases: u8) -> Result<String, AllocError> {
+pub(crate) fn read_result(alloc: Global, text: &str, releases: u8) -> Result<String, AllocError> {
     match shape(alloc, releases) {
-        Ok(shape) => told_over(alloc, text, &shape),
+        Ok(shape) => read_result_over(alloc, text, &shape),
         Err(_) => Err(AllocError),
     }
 }
 
 /// Fails unless reading the text has this result.
-pub(crate) fn must_tell(alloc: Global, text: &str, releases: u8, want: &str) -> Result<(), Fail> {
-    let found = told_as_read(alloc, text, releases)?;
+pub(crate) fn must_give(alloc: Global, text: &str, releases: u8, want: &str) -> Result<(), Fail> {
+    let found = read_result(alloc, text, releases)?;
     must(text, found.as_str(), found.as_str() == want)
 }
 
@@ -69,7 +69,7 @@ pub(crate) fn program(alloc: Global, text: &str) -> Result<Verified, Fail> {
     program_over(alloc, text, &shape)
 }
 
-fn told_of_rule(alloc: Global, rule: &Rule, shape: &Shape) -> Result<String, AllocError> {
+fn compiled_text(alloc: Global, rule: &Rule, shape: &Shape) -> Result<String, AllocError> {
     match compiled(alloc, rule, shape) {
         Ok(Some(program)) => format!(in alloc; "{} slots", program.len()),
         Ok(None) => String::from_str(alloc, UNFIT),
@@ -77,17 +77,17 @@ fn told_of_rule(alloc: Global, rule: &Rule, shape: &Shape) -> Result<String, All
     }
 }
 
-fn told_of_text(alloc: Global, text: &str, shape: &Shape) -> Result<String, AllocError> {
+fn compiled_text_of(alloc: Global, text: &str, shape: &Shape) -> Result<String, AllocError> {
     match read(alloc, text, shape) {
-        Ok(rule) => told_of_rule(alloc, &rule, shape),
+        Ok(rule) => compiled_text(alloc, &rule, shape),
         Err(fault) => format!(in alloc; "{fault}"),
     }
 }
 
 /// The result of compiling a text: the slots of its program, or the fault.
-pub(crate) fn told(alloc: Global, text: &str) -> Result<String, AllocError> {
+pub(crate) fn result_text(alloc: Global, text: &str) -> Result<String, AllocError> {
     match shape(alloc, 1) {
-        Ok(shape) => told_of_text(alloc, text, &shape),
+        Ok(shape) => compiled_text_of(alloc, text, &shape),
         Err(_) => Err(AllocError),
     }
 }

@@ -57,8 +57,8 @@ returns-clause-finds g c =
     grows_found (g.C.CellSteps.grew) rules' facts' c.args.turn.now.moment.now _ _ app' choice
     (Some c.new-2.result) is
     (grows_ran (g.C.CellSteps.grew) _ _ _ _ _ _ c.in-Some.known.now c.in-Ok.run' _ _ asks
-    knows c.keeps.ensures
+    knows c.invariant_law.ensures
     (rw c.appid.ensures at c.in-Some.ensures.known)
     (c.in-Ok.ensures.program ∙ c.program.ensures)
-    c.in-Ok.ensures.stands c.run-choice.ensures.runs c.run-choice.ensures.short
+    c.in-Ok.ensures.represents c.run-choice.ensures.runs c.run-choice.ensures.short
     c.run-choice.ensures.choice)

@@ -12,7 +12,7 @@ returns-clause-runs c =
     let program : c.start.result.program ≡ c.args.program.now.value =
     c.start.ensures.program ∙ c.in_ok-program.ensures in
     let events : List CellEvent = c.run.ensures.runs.events in
-    let end = c.run.ensures.runs.ends (opening c.in_ok-app.app.value) c.start.ensures.stands in
+    let end = c.run.ensures.runs.ends (opening c.in_ok-app.app.value) c.start.ensures.represents in
     record {
       events = events;
       grew = c.run.ensures.runs.grown;

@@ -5,5 +5,6 @@ use Rattle.block_order.proofs.order.copied.Goals as goal
 pub returns-clause-program : goal.returns-clause-program
 returns-clause-program c =
     let same : c.in_ok-copy.copy.items ≡ c.args.bytes.now = search rules in
-    ordered_itself c.args.bytes.now c.in_ok-copy.copy.items c.args.flow.now c.keeps.ensures.flow
-    c.keeps.ensures.forward c.keeps.ensures.read c.requires same
+    ordered_itself c.args.bytes.now c.in_ok-copy.copy.items c.args.flow.now
+    c.invariant_law.ensures.flow
+    c.invariant_law.ensures.forward c.invariant_law.ensures.read c.requires same

@@ -9,29 +9,29 @@ use Rattle.bpf_verify.proofs.sweep.carry_on.Goals as goal
 pub returns-then-not-entries-clause-swept : goal.returns-then-not-entries-clause-swept
 returns-then-not-entries-clause-swept c =
     passed_over (shaped c.args.flow.now c.args.shape.now) c.args.slot c.args.insn.now
-    c.keeps.ensures.forward c.requires.place
+    c.invariant_law.ensures.forward c.requires.place
     (at_hand c.args.entries.now) c.args.entries.now.waiting c.requires.here
     (rw c.if-not-entries.true refl)
 
 pub jump-requires-clause-slot : goal.jump-requires-clause-slot
 jump-requires-clause-slot c =
     let lt = at_within c.args.flow.now c.args.slot (rw c.requires.place refl) in
-    omega (arith, lt, c.keeps.ensures.flow.short)
+    omega (arith, lt, c.invariant_law.ensures.flow.short)
 
 pub jump-requires-clause-target : goal.jump-requires-clause-target
 jump-requires-clause-target c = within_length c.args.flow.now c.args.slot c.args.insn.now
-    (length c.args.entries.now.waiting.entries) c.keeps.ensures.forward c.requires.place
+    (length c.args.entries.now.waiting.entries) c.invariant_law.ensures.forward c.requires.place
     (c.requires.here.gave.len ∙ c.requires.here.swept.len)
 
 pub go_on-requires : goal.go_on-requires
 go_on-requires c =
     let lt = at_within c.args.flow.now c.args.slot (rw c.requires.place refl) in
-    omega (arith, lt, c.keeps.ensures.flow.short)
+    omega (arith, lt, c.invariant_law.ensures.flow.short)
 
 pub returns-clause-swept : goal.returns-clause-swept
 returns-clause-swept c =
     gone_on (shaped c.args.flow.now c.args.shape.now) c.args.slot c.args.insn.now
-    c.keeps.ensures.forward c.requires.place
+    c.invariant_law.ensures.forward c.requires.place
     (at_hand c.args.entries.now) c.args.entries.now.waiting c.requires.here
     c.args.entries.now.here (rw c.if-not-entries.false refl)
     (at_hand c.go_on.new.self) c.go_on.new.self.waiting c.requires.fine

@@ -24,7 +24,7 @@ returns-in-Err-clause-refused c = record {
   numbers = c.loop-before.numbers.items;
   declared = rw c.in-Err.ensures.same c.loop-before.invariant;
   d = c.index-declarations-before.result;
-  stands = slice_get_read c.args.declarations.now _ c.loop-before.before _ refl
+  declaration_is = slice_get_read c.args.declarations.now _ c.loop-before.before _ refl
       c.loop-before-test.true c.index-declarations-before.is;
   refused = rw c.in-Err.ensures.same c.in-Err.ensures.refused;
 }

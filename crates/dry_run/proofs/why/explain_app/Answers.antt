@@ -1,22 +1,22 @@
 use Rattle.std.proofs.Common.{◌∙◌, List, ap}
-use Rattle.dry_run.proofs.Explaining.{run_told, unasked_told, unknown_told}
-use Rattle.app_rules.specs.Rules.{KnownRule}
-use Rattle.dry_run.specs.Meanings.{known_rule_of}
+use Rattle.dry_run.proofs.Explaining.{run_explained, unasked_explained, unknown_explained}
+use Rattle.app_rules.specs.Rules.{OptionalRule}
+use Rattle.dry_run.specs.Meanings.{optional_rule_of}
 use Rattle.dry_run.proofs.why.explain_app.Goals as goal
 
 pub returns-in_default : goal.returns-in_default
 returns-in_default c =
-    unknown_told c.args.why.now.rules c.args.why.now.known_rules.items c.args.facts.now
+    unknown_explained c.args.why.now.rules c.args.why.now.optional_rules.items c.args.facts.now
     c.args.moment.now c.args.app.now c.appid-appid.result.now c.args.note.now c.args.counters.now _
     c.appid-appid.ensures c.in_default.ensures.found c.in_ok-text.ensures
 
-pub returns-then-not-said : goal.returns-then-not-said
-returns-then-not-said c =
-    unasked_told c.args.why.now.rules c.args.why.now.known_rules.items c.args.facts.now
-    c.args.moment.now c.args.app.now c.facts-said.result.now c.appid-appid.result.now
+pub returns-then-not-stated : goal.returns-then-not-stated
+returns-then-not-stated c =
+    unasked_explained c.args.why.now.rules c.args.why.now.optional_rules.items c.args.facts.now
+    c.args.moment.now c.args.app.now c.facts-stated.result.now c.appid-appid.result.now
     c.args.note.now c.args.counters.now _ c.in-Some.known.now c.in-Ok.attrs c.context.result
-    c.appid-appid.ensures c.in-Some.ensures.found c.facts-said.ensures c.in-Ok.ensures
-    c.context.ensures c.if-not-said.true c.in_ok-text-2.ensures
+    c.appid-appid.ensures c.in-Some.ensures.found c.facts-stated.ensures c.in-Ok.ensures
+    c.context.ensures c.if-not-stated.true c.in_ok-text-2.ensures
 
 pub returns : goal.returns
 returns c =
@@ -24,10 +24,10 @@ returns c =
     let appid = c.appid-appid.result.now in
     let ruled =
     c.rule_of-rule.ensures
-    ∙ ap (λ (all : List KnownRule). known_rule_of apps all appid) c.deref.ensures.value in
-    run_told c.args.why.now.rules c.args.why.now.known_rules.items c.args.facts.now
+    ∙ ap (λ (all : List OptionalRule). optional_rule_of apps all appid) c.deref.ensures.value in
+    run_explained c.args.why.now.rules c.args.why.now.optional_rules.items c.args.facts.now
     c.args.moment.now
-    c.args.app.now c.facts-said.result.now appid c.args.note.now c.args.counters.now _ _
+    c.args.app.now c.facts-stated.result.now appid c.args.note.now c.args.counters.now _ _
     c.in-Some.known.now _ c.in-Ok.attrs apps c.apps.ensures c.appid-appid.ensures
-    c.facts-said.ensures c.in-Ok.ensures ruled c.if-not-said.false c.in-Some.ensures.found
-    c.keeps.ensures c.in-Some.ensures.known c.in_ok-text-3.ensures
+    c.facts-stated.ensures c.in-Ok.ensures ruled c.if-not-stated.false c.in-Some.ensures.found
+    c.invariant_law.ensures c.in-Some.ensures.known c.in_ok-text-3.ensures

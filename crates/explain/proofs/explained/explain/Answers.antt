@@ -11,6 +11,6 @@ returns-clause-assembles c =
     assembles (shaped c.args.flow.now c.args.shape.now)
     (string_bytes c.in_ok-explained.explained.text) c.remarks_are_skipped.ensures
     (named_plainly c.args.shape.now.arrays
-    (subst (λ (found : List CellArray). HaveNames found) c.arrays.ensures c.keep_names.ensures))
-    (λ s j e. c.keeps.ensures.forward.encodable s j e) c.keeps.ensures.flow.short
+    (subst (λ (found : List CellArray). HaveNames found) c.arrays.ensures c.have_names.ensures))
+    (λ s j e. c.invariant_law.ensures.forward.encodable s j e) c.invariant_law.ensures.flow.short
     c.in_ok-explained.ensures.text

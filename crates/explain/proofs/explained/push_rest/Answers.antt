@@ -2,7 +2,7 @@ use Rattle.std.proofs.Common.{None, List, ℕ, ◌++◌, ◌∙◌, ap, arith, c
 use Rattle.bpf_text.specs.Listing.{bare_line}
 use Rattle.bpf_semantics.specs.Program.{shaped}
 use Rattle.explain.proofs.Texts.{bare_gathered}
-use Rattle.explain.proofs.Walking.{place_there, parts_next, tells_next, tells_whole}
+use Rattle.explain.proofs.Walking.{place_there, parts_next, explains_next, explains_whole}
 use Rattle.explain.proofs.explained.push_rest.Goals as goal
 
 pub insn-insn-requires : goal.insn-insn-requires
@@ -15,15 +15,16 @@ loop-slot-preserved c =
     rw (c.slots-slot.ensures.slots, c.width.ensures) (
       parts_next c.args.flow.now c.loop-slot.slot c.loop-slot.invariant.0 c.insn-insn.result.now
           c.insn-insn.ensures,
-      λ shape told. tells_next (shaped c.args.flow.now shape) None c.loop-slot.slot
+      λ shape so_far. explains_next (shaped c.args.flow.now shape) None c.loop-slot.slot
           c.insn-insn.result.now (string_bytes c.loop-slot.text) (string_bytes c.push_str.new.self)
-          (c.loop-slot.invariant.1 shape told) c.insn-insn.ensures
+          (c.loop-slot.invariant.1 shape so_far) c.insn-insn.ensures
           (c.in_ok-push_str.ensures.bytes
           ∙ ap (λ (t : List ℕ). t ++ codes "\n") c.in_ok-push_bare_line.ensures
           ∙ bare_gathered (string_bytes c.loop-slot.text) (bare_line c.insn-insn.result.now)),
     )
 
 pub returns : goal.returns
-returns c = λ shape told.
-    tells_whole (shaped c.args.flow.now shape) None c.loop-slot.slot (string_bytes c.loop-slot.text)
-    (c.loop-slot.invariant.1 shape told) (omega (arith, c.loop-slot-test.false, c.len.ensures))
+returns c = λ shape so_far.
+    explains_whole (shaped c.args.flow.now shape) None c.loop-slot.slot
+    (string_bytes c.loop-slot.text)
+    (c.loop-slot.invariant.1 shape so_far) (omega (arith, c.loop-slot-test.false, c.len.ensures))

@@ -9,7 +9,7 @@ insn-insn-requires c =
 
 pub loop-slot-init : goal.loop-slot-init
 loop-slot-init c = (
-  first_parts c.args.flow.now c.keeps.ensures.flow.program,
+  first_parts c.args.flow.now c.invariant_law.ensures.flow.program,
   c.requires,
 )
 

@@ -11,5 +11,5 @@ returns g c = record {
   served = simulation_alike c.args.client.now c.simulation_of.new.client c.args.serving
       (option_copied c.args.appid) c.in_ok-now.now c.simulation_of.ensures.client
       c.in_ok-now.ensures.simulated;
-  tells = c.in_ok-output.ensures c.args.client.now (c.deref.ensures ∙ c.in_ok-clients.ensures);
+  formats = c.in_ok-output.ensures c.args.client.now (c.deref.ensures ∙ c.in_ok-clients.ensures);
 }

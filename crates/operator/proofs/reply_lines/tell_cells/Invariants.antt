@@ -1,6 +1,6 @@
 use Rattle.std.proofs.Common.{◌≤◌}
 use Rattle.std.specs.String.{string_bytes}
-use Rattle.operator.specs.Counters.{ReadsCells, Tells}
+use Rattle.operator.specs.Counters.{ReadsCells, Describes}
 use Rattle.operator.proofs.reply_lines.tell_cells.Given as goal
 use Rattle.cells.specs.Grown.{Grows}
 
@@ -10,4 +10,4 @@ invariant-loop-index g l =
     g.C.CellSteps.belongs l.cells l.pass
     × (l.index ≤ l.array.length)
     × Grows (g.C.CellSteps.grew) l.initial.pass l.pass
-    (Tells (ReadsCells l.array l.index) (string_bytes l.initial.text) (string_bytes l.text))
+    (Describes (ReadsCells l.array l.index) (string_bytes l.initial.text) (string_bytes l.text))

@@ -14,7 +14,7 @@ returns-clause-run c =
     let program : c.start.result.program ≡ c.args.program =
     c.start.ensures.program ∙ c.in-Ok-new.ensures.ok in
     let events : List CellEvent = c.run.ensures.runs.events in
-    let end = c.run.ensures.runs.ends (opening a) c.start.ensures.stands in
+    let end = c.run.ensures.runs.ends (opening a) c.start.ensures.represents in
     let end_of_program = subst (λ (p : ShapedProgram).
     Ends p (opening a) events c.run.result.0 c.run.result.1) program end in
     record {
@@ -26,9 +26,9 @@ returns-clause-run c =
       ends = subst (λ (b : Attributes).
           Ends c.args.program (opening b) events c.run.result.0 c.run.result.1)
           c.in_ok-attrs.ensures end_of_program;
-      lawful = c.keeps-2.ensures.lawful (opening a) events
-          c.run.result.0 c.run.result.1 (c.keeps-2.ensures.opens a
-          (rw c.deref-facts.ensures at c.keeps.ensures.texts))
-          (all_fit c.events_fit.ensures c.in-Ok.pass events c.run.new.pass c.keeps-3.ensures
+      lawful = c.invariant_law-2.ensures.lawful (opening a) events
+          c.run.result.0 c.run.result.1 (c.invariant_law-2.ensures.opens a
+          (rw c.deref-facts.ensures at c.invariant_law.ensures.texts))
+          (all_fit c.events_fit.ensures c.in-Ok.pass events c.run.new.pass c.invariant_law-3.ensures
           c.run.ensures.runs.grown) end_of_program;
     }

@@ -11,8 +11,8 @@ invariant-loop-rest l = record {
       position_from specs.is_malformed 1 (map (λ line. line.now) l.lines)
       ≡ position_from specs.is_malformed l.number (map (λ line. line.now) l.rest);
   events :
-      filter_map specs.said_by (map (λ line. line.now) l.lines)
-      ≡ l.events.items ++ filter_map specs.said_by (map (λ line. line.now) l.rest);
+      filter_map specs.line_event (map (λ line. line.now) l.lines)
+      ≡ l.events.items ++ filter_map specs.line_event (map (λ line. line.now) l.rest);
   lines : l.number + length l.rest ≡ length l.lines + 1;
 }
 

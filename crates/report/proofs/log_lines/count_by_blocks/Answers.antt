@@ -1,6 +1,6 @@
 use Rattle.std.proofs.Common.{List, ℕ, [], ◌++◌, rules, sym, subst, take}
 use Rattle.std.specs.Io.KnownBytes.{Consumes, IsAtEnd}
-use Rattle.report.specs.Lines.{lines_behind}
+use Rattle.report.specs.Lines.{lines_after}
 use Rattle.report.specs.Reading.{CountsLines, ReadsBlock}
 use Rattle.report.proofs.Read.{at_none, at_some, consumes_both, consumes_none, log_read}
 use Rattle.report.proofs.Read.{reads_both, reads_none}
@@ -23,7 +23,7 @@ returns-in-None g c =
     (at_none _ (IsAtEnd (g.R.Read.remaining c.loop.reader)) c.in-None.is
     c.in_ok-read.ensures.end)
     c.loop.invariant.reads
-    (subst (λ (b : List ℕ). CountsLines c.args.window.now (lines_behind b []) c.loop.report
+    (subst (λ (b : List ℕ). CountsLines c.args.window.now (lines_after b []) c.loop.report
     c.count_last.new.report) c.as_slice.ensures.value c.in_ok-count_last-in-None.ensures)
 
 pub loop-preserved : goal.loop-preserved

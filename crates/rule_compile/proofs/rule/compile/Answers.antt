@@ -6,15 +6,15 @@ use Rattle.rule_compile.proofs.rule.compile.Goals as goal
 pub flow_of-requires : goal.flow_of-requires
 flow_of-requires c =
     written_flow c.args.shape.now c.args.rule.now c.statements.result.now c.in_ok-code.code
-    c.statements.ensures c.keeps.ensures c.requires c.in_ok-code.ensures.range
+    c.statements.ensures c.invariant_law.ensures c.requires c.in_ok-code.ensures.range
     c.in_ok-code.ensures.made
     c.in_ok-code.ensures.code (laid c.into_slots.result.items) c.into_slots.ensures
-    c.keeps-2.ensures
+    c.invariant_law-2.ensures
 
 pub known-requires : goal.known-requires
 known-requires c =
     written_accepted c.args.shape.now c.args.rule.now c.statements.result.now c.in_ok-code.code
-    c.statements.ensures c.keeps.ensures c.requires c.in_ok-code.ensures.range
+    c.statements.ensures c.invariant_law.ensures c.requires c.in_ok-code.ensures.range
     c.in_ok-code.ensures.made
     c.in_ok-code.ensures.code c.table_is_enough.ensures c.in_ok-flow.flow
     (c.in_ok-flow.ensures ∙ c.into_slots.ensures)
@@ -22,7 +22,7 @@ known-requires c =
 pub returns-clause-meaning : goal.returns-clause-meaning
 returns-clause-meaning c =
     written_means c.args.shape.now c.args.rule.now c.statements.result.now c.in_ok-code.code
-    c.statements.ensures c.keeps.ensures c.requires c.in_ok-code.ensures.range
+    c.statements.ensures c.invariant_law.ensures c.requires c.in_ok-code.ensures.range
     c.in_ok-code.ensures.made
     c.in_ok-code.ensures.code c.in_ok-known.field-0
     (c.in_ok-known.ensures.0 ∙ c.in_ok-flow.ensures ∙ c.into_slots.ensures) c.in_ok-known.ensures.1

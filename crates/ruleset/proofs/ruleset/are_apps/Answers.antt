@@ -13,7 +13,7 @@ loop-app-preserved c =
     take_more apps i app c.loop-app-test.true
     ∙ ap (λ (x : AppRule). take i apps ++ x ∷ []) (sym c.app-item.is) in
     All-same IsApp (take (i + 1) apps) (take i apps ++ app ∷ []) longer
-    (All-push IsApp (take i apps) app c.loop-app.invariant c.keeps.ensures)
+    (All-push IsApp (take i apps) app c.loop-app.invariant c.invariant_law.ensures)
 
 pub returns : goal.returns
 returns c =

@@ -8,7 +8,7 @@ loop-bucket-init c = rw c.in_ok-choices.ensures.items
 
 pub loop-bucket-preserved : goal.loop-bucket-preserved
 loop-bucket-preserved c = one_more (arc_value c.args.program.now) c.args.client.now
-    c.loop-bucket.client c.move_to.new.self c.args.pass.now c.loop-bucket.pass c.ask.new.pass
+    c.loop-bucket.client c.move_to.new.self c.args.pass.now c.loop-bucket.pass c.choose.new.pass
     c.loop-bucket.bucket c.in_ok-choice.choice c.loop-bucket.choices.items c.push.new.self.items
     c.loop-bucket.invariant c.loop-bucket-test.true c.in_ok-move_to.ensures.moves
     c.in_ok-choice.ensures.chooses c.in_ok-choice.ensures.release c.in_ok-push.ensures.items

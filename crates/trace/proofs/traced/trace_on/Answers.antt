@@ -6,21 +6,21 @@ use Rattle.bpf_semantics.specs.State.{State, opening}
 use Rattle.bpf_semantics.specs.Step.{step}
 use Rattle.reference.specs.Observed.{IsEventStep}
 use Rattle.reference.specs.Marks.{state_of}
-use Rattle.trace.proofs.Steps.{told_nothing, went, replied, ended, ahead, ahead_asked}
+use Rattle.trace.proofs.Steps.{covered_at_start, went, replied, ended, ahead, ahead_asked}
 use Rattle.trace.proofs.Texts.{place_within, line_is, jump_is, whole}
 use Rattle.trace.proofs.traced.trace_on.Goals as goal
 
 pub steps-init : goal.steps-init
 steps-init c = rw (c.new-text.ensures.bytes, c.start-run.ensures)
-    (told_nothing c.args.program.now (opening (arc_value c.args.attrs)) c.args.counters.now
-    (c.keeps.ensures.opens (arc_value c.args.attrs)
-    (rw c.deref-facts.ensures at c.keeps-2.ensures.texts)) (omega arith))
+    (covered_at_start c.args.program.now (opening (arc_value c.args.attrs)) c.args.counters.now
+    (c.invariant_law.ensures.opens (arc_value c.args.attrs)
+    (rw c.deref-facts.ensures at c.invariant_law-2.ensures.texts)) (omega arith))
 
 pub step-requires-clause-count : goal.step-requires-clause-count
 step-requires-clause-count c =
     let within = place_within c.args.program.now.code (state_of c.steps.run).slot
     c.steps.invariant.covered.place in
-    let short = c.keeps.ensures.short in
+    let short = c.invariant_law.ensures.short in
     let counted = c.steps.invariant.counted in
     omega (arith, within, short, counted)
 
@@ -28,7 +28,7 @@ pub steps-smaller-in-Going : goal.steps-smaller-in-Going
 steps-smaller-in-Going c =
     let within = place_within c.args.program.now.code (state_of c.steps.run).slot
     c.steps.invariant.covered.place in
-    let further = ahead c.args.program.now c.keeps.ensures.sound (state_of c.steps.run)
+    let further = ahead c.args.program.now c.invariant_law.ensures.sound (state_of c.steps.run)
     (state_of c.step.new.self) c.steps.invariant.covered
     (subst (λ (q : ShapedProgram). step q (state_of c.steps.run)
     ≡ Going (state_of c.step.new.self)) (whole c.args.program.now
@@ -47,7 +47,7 @@ steps-preserved-in-Going c =
     let jumped = jump_is c.args.program.now (state_of c.steps.run) (state_of c.step.new.self)
     c.slot-slot.result c.insn-insn.result.now c.steps.last_jump c.latest_jump-last_jump.result
     c.slot-slot.ensures c.insn-insn.ensures c.latest_jump-last_jump.ensures in
-    went c.args.program.now c.keeps.ensures.sound (opening (arc_value c.args.attrs))
+    went c.args.program.now c.invariant_law.ensures.sound (opening (arc_value c.args.attrs))
     c.args.counters.now (string_bytes c.steps.text) (string_bytes c.push_step.new.text)
     c.steps.last_jump c.latest_jump-last_jump.result (state_of c.steps.run)
     (state_of c.step.new.self) c.steps.counters c.step.new.pass
@@ -66,7 +66,7 @@ pub steps-smaller : goal.steps-smaller
 steps-smaller c =
     let within = place_within c.args.program.now.code (state_of c.steps.run).slot
     c.steps.invariant.covered.place in
-    let further = ahead_asked c.args.program.now c.keeps.ensures.sound
+    let further = ahead_asked c.args.program.now c.invariant_law.ensures.sound
     (state_of c.steps.run) (state_of c.step.new.self) c.in-Event.event
     c.steps.invariant.covered
     (subst (λ (q : ShapedProgram). IsEventStep q (state_of c.steps.run) c.in-Event.event
@@ -87,7 +87,7 @@ steps-preserved c =
     c.slot-slot.result c.insn-insn.result.now c.steps.last_jump
     c.latest_jump-last_jump-in-Event.result
     c.slot-slot.ensures c.insn-insn.ensures c.latest_jump-last_jump-in-Event.ensures in
-    replied c.args.program.now c.keeps.ensures.sound (opening (arc_value c.args.attrs))
+    replied c.args.program.now c.invariant_law.ensures.sound (opening (arc_value c.args.attrs))
     c.args.counters.now (string_bytes c.steps.text) (string_bytes c.push_step-in-Event.new.text)
     c.steps.last_jump c.latest_jump-last_jump-in-Event.result
     (state_of c.steps.run) (state_of c.step.new.self) c.steps.counters c.step.new.pass
@@ -107,7 +107,7 @@ pub overflow_cast-result-in-Done : goal.overflow_cast-result-in-Done
 overflow_cast-result-in-Done c =
     let within = place_within c.args.program.now.code (state_of c.steps.run).slot
     c.steps.invariant.covered.place in
-    let short = c.keeps.ensures.short in
+    let short = c.invariant_law.ensures.short in
     let counted = c.steps.invariant.counted in
     let same = c.count.ensures ∙ ap (λ (s : State). s.count) c.in-Done.ensures.step.1 in
     omega (arith, within, short, counted, same)
@@ -116,7 +116,7 @@ pub overflow_add-result : goal.overflow_add-result
 overflow_add-result c =
     let within = place_within c.args.program.now.code (state_of c.steps.run).slot
     c.steps.invariant.covered.place in
-    let short = c.keeps.ensures.short in
+    let short = c.invariant_law.ensures.short in
     let counted = c.steps.invariant.counted in
     let same = c.count.ensures ∙ ap (λ (s : State). s.count) c.in-Done.ensures.step.1 in
     omega (arith, within, short, counted, same)

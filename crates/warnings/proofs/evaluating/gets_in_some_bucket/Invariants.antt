@@ -1,7 +1,7 @@
 use Rattle.std.proofs.Common.{◌≡◌, ◌≤◌, ◌-◌, ℕ, false}
 use Rattle.std.specs.Prelude.{Some}
 use Rattle.attrs.specs.Attributes.{plain}
-use Rattle.warnings.specs.declared.possible.Asker.TheVariants.{One}
+use Rattle.warnings.specs.declared.possible.Clients.TheVariants.{One}
 use Rattle.warnings.specs.Evaluation.{any_below, gets, rule_of}
 use Rattle.warnings.proofs.evaluating.gets_in_some_bucket.Given as goal
 
@@ -9,7 +9,7 @@ use Rattle.warnings.proofs.evaluating.gets_in_some_bucket.Given as goal
 abbrev pub invariant-loop-bucket : goal.invariant-loop-bucket
 invariant-loop-bucket l = record {
   within : l.bucket ≤ 10000;
-  asker : (bucket : ℕ)
+  clients : (bucket : ℕ)
       → record l.attrs { context = record l.attrs.context { bucket = bucket } }
       ≡ plain l.evaluated.appid.now (Some l.version) bucket;
   none : any_below (λ bucket. gets (rule_of l.evaluated) l.by l.version One

@@ -6,7 +6,7 @@ use Rattle.warnings.proofs.marks.mark_way.Goals as goal
 
 pub loop-left-init : goal.loop-left-init
 loop-left-init c =
-    sets_out (rule_of c.args.evaluated.now) c.args.asker c.args.attrs.now c.args.reached.now
+    sets_out (rule_of c.args.evaluated.now) c.args.clients c.args.attrs.now c.args.reached.now
     c.args.ends.now c.requires.reached c.requires.ends
 
 pub mark_place-requires-clause-reached : goal.mark_place-requires-clause-reached
@@ -21,7 +21,7 @@ mark_place-requires-clause-ends c =
 
 pub returns-then-not-possible : goal.returns-then-not-possible
 returns-then-not-possible c =
-    stops (rule_of c.args.evaluated.now) c.args.asker c.args.attrs.now _ _ c.loop-left.place
+    stops (rule_of c.args.evaluated.now) c.args.clients c.args.attrs.now _ _ c.loop-left.place
     c.loop-left.left.now _ c.statement-item.result c.in_ok-possible.possible _ _ _ _
     c.loop-left.invariant
     (first_rest c.loop-left.left.now c.statement-item.result (omega arith) c.statement-item.is)
@@ -30,7 +30,7 @@ returns-then-not-possible c =
 
 pub loop-left-preserved : goal.loop-left-preserved
 loop-left-preserved c =
-    goes_on (rule_of c.args.evaluated.now) c.args.asker c.args.attrs.now _ _ c.loop-left.place
+    goes_on (rule_of c.args.evaluated.now) c.args.clients c.args.attrs.now _ _ c.loop-left.place
     c.loop-left.left.now _ c.statement-item.result c.in_ok-possible.possible _ _ _ _
     c.loop-left.invariant
     (first_rest c.loop-left.left.now c.statement-item.result (omega arith) c.statement-item.is)
@@ -40,5 +40,5 @@ loop-left-preserved c =
 
 pub returns : goal.returns
 returns c =
-    arrived (rule_of c.args.evaluated.now) c.args.asker c.args.attrs.now _ _ c.loop-left.place
+    arrived (rule_of c.args.evaluated.now) c.args.clients c.args.attrs.now _ _ c.loop-left.place
     c.loop-left.left.now _ _ c.loop-left.invariant (none_left c.loop-left.left.now (omega arith))

@@ -5,7 +5,7 @@ use Rattle.warnings.proofs.marks.mark_way.Given as goal
 
 abbrev pub invariant-loop-left : goal.invariant-loop-left
 invariant-loop-left l =
-    IsOnWay (rule_of l.evaluated) l.asker l.attrs l.initial.reached l.initial.ends l.place l.left
+    IsOnWay (rule_of l.evaluated) l.clients l.attrs l.initial.reached l.initial.ends l.place l.left
     l.reached l.ends
 
 abbrev pub decreases-loop-left : goal.decreases-loop-left

@@ -7,5 +7,5 @@ use Rattle.bpf_verify.proofs.walk.Walk.start.Goals as goal
 pub returns : goal.returns
 returns c = λ shape.
     swept_start (shaped c.args.flow.now shape) (at_hand c.in-Ok.entries) c.in-Ok.entries.waiting
-    c.keeps.ensures.forward c.in-Ok.ensures.here
+    c.invariant_law.ensures.forward c.in-Ok.ensures.here
     (c.in-Ok.ensures.none ∙ ap (λ n. replicate n None) c.len.ensures) c.in-Ok.ensures.most

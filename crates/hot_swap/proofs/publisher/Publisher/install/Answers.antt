@@ -13,7 +13,7 @@ invariant_of-self-2 g c =
     let listed : c.in-Some.known.rulesets
     ≡ operation.known.rulesets ++ arc_value operation.rules ∷ [] = search rules in
     let same : c.deref.result.now ≡ next = cc in
-    let sound : IsRuleset next = subst IsRuleset same c.keeps.ensures.sound in
+    let sound : IsRuleset next = subst IsRuleset same c.invariant_law.ensures.sound in
     let all : All IsRuleset (old ++ next ∷ []) =
     All-append IsRuleset old (next ∷ []) c.self.invariant.sound
     (All-cons IsRuleset next [] sound (All-nil IsRuleset)) in

@@ -9,7 +9,7 @@ invariant_of-result g c =
     let first = arc_value c.args.first in
     let listed : c.in-Some.known.rulesets ≡ first ∷ [] = search rules in
     let same : c.deref.result.now ≡ first = cc in
-    let sound : IsRuleset first = subst IsRuleset same c.keeps.ensures.sound in
+    let sound : IsRuleset first = subst IsRuleset same c.invariant_law.ensures.sound in
     record {
       last = rw listed refl;
       sound = rw listed (All-cons IsRuleset first [] sound (All-nil IsRuleset));

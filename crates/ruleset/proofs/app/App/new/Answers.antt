@@ -7,9 +7,10 @@ pub invariant_of-result : goal.invariant_of-result
 unfolding AlwaysEndsWell
 invariant_of-result c = record {
   named = c.requires.named;
-  opens = rw (← c.deref-accepted.ensures) c.keeps.ensures.opens;
-  sound = rw (← c.deref-accepted.ensures) c.keeps.ensures.sound;
+  opens = rw (← c.deref-accepted.ensures) c.invariant_law.ensures.opens;
+  sound = rw (← c.deref-accepted.ensures) c.invariant_law.ensures.sound;
   ends = rw (← c.deref-accepted.ensures)
-      (λ a short. c.keeps.ensures.ends (opening a) (c.keeps.ensures.opens a short) (omega arith));
+      (λ a short. c.invariant_law.ensures.ends (opening a) (c.invariant_law.ensures.opens a short)
+      (omega arith));
   all = c.requires.all;
 }

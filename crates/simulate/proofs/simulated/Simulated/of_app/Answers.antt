@@ -8,7 +8,7 @@ pub returns-clause-picked : goal.returns-clause-picked
 returns-clause-picked g c =
     let place = c.in-Some.place in
     let one : place + 1 - place ≡ 1 = omega arith in
-    let stands = subst (λ (apps : List AppRule). IsPlaceOf apps c.args.appid.now place)
+    let represents = subst (λ (apps : List AppRule). IsPlaceOf apps c.args.appid.now place)
     c.apps.ensures c.in-Some.ensures.some in
-    picked _ place c.in_ok-chosen.ensures.choices stands
+    picked _ place c.in_ok-chosen.ensures.choices represents
     (ap (λ n. take n (drop place c.args.rules.apps)) one) c.in_ok-chosen-2.ensures

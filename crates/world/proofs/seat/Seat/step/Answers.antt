@@ -1,5 +1,5 @@
 use Rattle.std.proofs.Common.{rules, ◌≡◌, None, refl, ap}
-use Rattle.bpf_machine.specs.StandsFor.{Held}
+use Rattle.bpf_machine.specs.Represents.{Held}
 use Rattle.world.proofs.Seats.{goes_on, ends_now}
 use Rattle.world.proofs.seat.Seat.step.Goals as goal
 

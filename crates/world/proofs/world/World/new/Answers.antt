@@ -7,7 +7,7 @@ pub invariant_of-result : goal.invariant_of-result
 invariant_of-result c =
     opening_kept c.args.first _ c.in_ok-cells.pass c.loop.seats.items c.loop.counter
     (search rules) c.loop.invariant
-    (rw c.deref-rules.ensures at c.keeps.ensures.sound)
+    (rw c.deref-rules.ensures at c.invariant_law.ensures.sound)
 
 pub returns-clause-opening : goal.returns-clause-opening
 returns-clause-opening c =

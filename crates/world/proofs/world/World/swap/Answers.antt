@@ -7,7 +7,8 @@ pub invariant_of-self-2 : goal.invariant_of-self-2
 invariant_of-self-2 c =
     rw (held_with c.self.inside.rulesets.items c.push.new.self.items c.in-Ok.rules c.args.rules.now
     c.self.inside.pass c.self.inside.seats.items c.in-Ok-push.ensures.items c.in-Ok.ensures)
-    (kept_with_rules (inside_of c.self.inside) _ (rw c.deref-sent.ensures at c.keeps.ensures.sound)
+    (kept_with_rules (inside_of c.self.inside) _
+    (rw c.deref-sent.ensures at c.invariant_law.ensures.sound)
     c.self.invariant)
 
 pub returns-clause-happens : goal.returns-clause-happens
@@ -20,6 +21,6 @@ returns-clause-happens c =
           c.in-Ok-push.ensures.items c.in-Ok.ensures,
     )
     (swapped (inside_of c.self.inside) c.args.rules.now c.len.result
-    (rw c.deref-sent.ensures at c.keeps.ensures.sound)
+    (rw c.deref-sent.ensures at c.invariant_law.ensures.sound)
     (as_many c.self.inside.rulesets.items c.push.new.self.items c.in-Ok.rules c.args.rules.now
     c.len.result c.in-Ok-push.ensures.items c.in-Ok.ensures number))

@@ -1,9 +1,0 @@
-use Rattle.bpf_checks.proofs.Steps.{first_stands, second_stands, opening_stands}
-use Rattle.bpf_checks.proofs.laws.states_are_stood_for.Goals as goal
-
-pub returns : goal.returns
-returns c = record {
-  first = first_stands c.joins_cover.ensures.first;
-  second = second_stands c.joins_cover.ensures.second;
-  opening = opening_stands c.registers_cover.ensures.opening;
-}

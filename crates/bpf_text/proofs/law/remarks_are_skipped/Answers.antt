@@ -1,5 +1,0 @@
-use Rattle.bpf_text.proofs.Remarks.{remarks_are_skipped}
-use Rattle.bpf_text.proofs.law.remarks_are_skipped.Goals as goal
-
-pub returns : goal.returns
-returns c = remarks_are_skipped

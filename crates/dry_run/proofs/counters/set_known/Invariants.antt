@@ -1,9 +1,0 @@
-use Rattle.std.proofs.Common.{◌≡◌, drop}
-use Rattle.dry_run.specs.Counters.{with_known}
-use Rattle.dry_run.proofs.counters.set_known.Given as goal
-
--- setting the known cells that are left sets all known cells
-abbrev pub invariant-loop-cell : goal.invariant-loop-cell
-invariant-loop-cell l =
-    with_known l.arrays l.counters (drop l.cell-index l.told)
-    ≡ with_known l.arrays l.initial.counters l.told

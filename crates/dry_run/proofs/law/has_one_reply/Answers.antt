@@ -1,5 +1,0 @@
-use Rattle.dry_run.proofs.Requests.{one_reply_to_body}
-use Rattle.dry_run.proofs.law.has_one_reply.Goals as goal
-
-pub returns : goal.returns
-returns c = one_reply_to_body

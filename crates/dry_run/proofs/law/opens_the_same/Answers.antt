@@ -1,5 +1,0 @@
-use Rattle.dry_run.proofs.Opening.{opens_the_same}
-use Rattle.dry_run.proofs.law.opens_the_same.Goals as goal
-
-pub returns : goal.returns
-returns c = opens_the_same c.sources_are_made.ensures

@@ -1,0 +1,5 @@
+use Rattle.dry_run.proofs.Opening.{opens_the_same}
+use Rattle.dry_run.proofs.laws.opens_the_same.Goals as goal
+
+pub returns : goal.returns
+returns c = opens_the_same c.sources_are_made.ensures

@@ -1,4 +1,0 @@
-use Rattle.hot_swap.proofs.publisher.Publisher.keeps.Goals as goal
-
-pub returns-clause-sound : goal.returns-clause-sound
-returns-clause-sound c = rw (← c.self.view_is) c.self.invariant.sound

@@ -1,8 +1,0 @@
-use Rattle.operator.proofs.control.Control.keeps.Goals as goal
-
-pub returns-clause-sound : goal.returns-clause-sound
-returns-clause-sound c = rw (← c.self.view_is) c.keeps.ensures.sound
-
-pub returns-clause-directory : goal.returns-clause-directory
-returns-clause-directory c =
-    rw (← c.self.view_is, ← c.arrays-arrays.ensures.arrays) c.arrays-arrays.ensures.directory
