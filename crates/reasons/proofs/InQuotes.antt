@@ -5,18 +5,18 @@ use Rattle.std.proofs.Common.{Bool, true, false, ◌==◌, if◌then◌else◌}
 use Rattle.std.proofs.Common.{nat_lt, encode_utf8, encode_utf8_all}
 use Rattle.std.proofs.lemmas.Bool.{or_parts}
 use Rattle.std.proofs.lemmas.Str.{encode_ascii, encodes-chars, encodes_same}
-use Rattle.std.specs.Fmt.{decimal, digit_glyph, digits, digits_onto}
+use Rattle.std.specs.Fmt.{digit_glyph, digits, digits_onto}
 use Rattle.std.specs.Str.{NoCharPasses, NonePass}
 use Rattle.printing.specs.Printed.{escape, printed_char}
 use Rattle.reasons.specs.Quoted.{QuotesEndTexts, escaped, is_kept_out, is_shown_by_number}
 
 -- ---- the digits of a number: 0 to 9 and a to f lie among these bytes
 
-abbrev pub AreGlyphs : List ℕ → Type 0
+abbrev AreGlyphs : List ℕ → Type 0
 AreGlyphs [] = Unit {0}
 AreGlyphs (b ∷ bs) = (48 ≤ b) × (b ≤ 102) × AreGlyphs bs
 
-pub record HasGlyphs (bs : List ℕ) : Type 0 where
+record HasGlyphs (bs : List ℕ) : Type 0 where
   pub all : AreGlyphs bs
 
 either : (b : Bool) {xs ys : List ℕ} → HasGlyphs xs → HasGlyphs ys
@@ -46,17 +46,13 @@ digits_are_glyphs base low (suc k) n after glyphs =
     either (n / base == 0) more
     (digits_are_glyphs base low k (n / base) (digit_glyph false (n % base) ∷ after) more)
 
-pub hexadecimal : (n : ℕ) → HasGlyphs (digits 16 false n)
+hexadecimal : (n : ℕ) → HasGlyphs (digits 16 false n)
 unfolding digits
 hexadecimal n = digits_are_glyphs 16 (λ m. omega arith) 64 n [] (record { all = tt })
 
-pub in_decimal : (n : ℕ) → HasGlyphs (decimal n)
-unfolding digits
-in_decimal n = digits_are_glyphs 10 (λ m. omega arith) 64 n [] (record { all = tt })
-
 -- ---- bytes that may be between quotes
 
-abbrev pub MayOccur : List ℕ → Type 0
+abbrev MayOccur : List ℕ → Type 0
 MayOccur [] = Unit {0}
 MayOccur (b ∷ bs) = (b < 128) × (is_kept_out b ≡ false) × MayOccur bs
 
@@ -82,10 +78,10 @@ escape_stands c =
     (glyphs_stand (digits 16 false c) (hexadecimal c).all))
     (omega arith, refl, tt)
 
-pub others_are_low : (c : ℕ) → is_shown_by_number c ≡ false → c < 128
+others_are_low : (c : ℕ) → is_shown_by_number c ≡ false → c < 128
 others_are_low c is = grind arith
 
-pub others_are_spelled : (c : ℕ) → is_shown_by_number c ≡ false → encode_utf8 c ≡ c ∷ []
+others_are_spelled : (c : ℕ) → is_shown_by_number c ≡ false → encode_utf8 c ≡ c ∷ []
 others_are_spelled c is = encode_ascii c (others_are_low c is)
 
 one_stands : (c : ℕ) (b : Bool) → is_shown_by_number c ≡ b
@@ -95,7 +91,7 @@ one_stands c false is =
     subst MayOccur (sym (others_are_spelled c is))
     (others_are_low c is, (or_parts (is_kept_out c) (c == 92) is).0, tt)
 
-pub all_stand : (cs : List ℕ) → MayOccur (flat_map (printed_char is_shown_by_number) cs)
+all_stand : (cs : List ℕ) → MayOccur (flat_map (printed_char is_shown_by_number) cs)
 all_stand [] = tt
 all_stand (c ∷ cs) =
     both_stand (printed_char is_shown_by_number c) (flat_map (printed_char is_shown_by_number) cs)

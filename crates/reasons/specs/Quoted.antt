@@ -1,6 +1,6 @@
 -- A client's text in quotes. A quote, a backslash and anything but printable ASCII is escaped by
 -- its code point.
-use Rattle.std.specs.Prelude.{◌≡◌, ℕ, List, ◌++◌, codes, IsUtf8, Bool, not, ◌||◌, ◌==◌}
+use Rattle.std.specs.Prelude.{ℕ, List, ◌++◌, codes, Bool, not, ◌||◌, ◌==◌}
 use Rattle.printing.specs.Laws.{EscapesAll, KeepsOthers}
 use Rattle.printing.specs.Printed.{is_between, printed_by}
 
@@ -27,9 +27,3 @@ quoted text = codes "\"" ++ escaped text ++ codes "\""
 pub record QuotesEndTexts : Type 0 where
   pub none_there : EscapesAll is_kept_out escaped
   pub others_there : KeepsOthers is_shown_by_number escaped
-
--- two texts look the same in quotes only if they are equal, whatever follows them: so no text
--- passes for another, or for another part of a line
-abbrev pub QuotesAreDistinct : Type 0
-QuotesAreDistinct = (text other following more : List ℕ) → IsUtf8 text → IsUtf8 other
-    → quoted text ++ following ≡ quoted other ++ more → (text ≡ other) × (following ≡ more)

@@ -1,23 +1,18 @@
 -- The report on a rule: a line for each `when`, up to the one that chooses.
-use Rattle.std.specs.Prelude.{◌≡◌, ℕ, List, [], ◌∷◌, ◌++◌, codes, decimal, flat_map, All, Ok}
+use Rattle.std.specs.Prelude.{◌≡◌, ℕ, List, [], ◌∷◌, ◌++◌, codes, decimal, flat_map}
 use Rattle.std.specs.Prelude.{Bool, true, false, if◌then◌else◌}
-use Rattle.std.specs.Str.{NoCharPasses}
-use Rattle.std.specs.Str.Lines.{lines}
 use Rattle.attrs.specs.Attributes.{Attributes}
 use Rattle.cells.specs.Arrays.{AppShape}
 use Rattle.cells.specs.Events.{AreCells}
 use Rattle.cells.specs.declared.event.CellOp.TheVariants.{Add}
 use Rattle.rule_lang.specs.Meaning.{behaviour, Behaviour, cell_used, decide, test_then}
 use Rattle.rule_lang.specs.Shapes.{array_named, cell_of}
-use Rattle.rule_lang.specs.Tokens.{Text}
 use Rattle.rule_lang.specs.Trees.{Tree}
-use Rattle.rule_lang.specs.Verdicts.{IsVerdict}
 use Rattle.rule_lang.specs.declared.condition.Step.{Step}
 use Rattle.rule_lang.specs.declared.condition.Step.TheVariants as step
 use Rattle.rule_lang.specs.declared.rule.Statement.{Statement}
 use Rattle.rule_lang.specs.declared.rule.Statement.TheVariants.{Count, When}
 use Rattle.rule_lang.specs.declared.test.Test.{Test}
-use Rattle.printing.specs.Printed.{is_control}
 use Rattle.reasons.specs.Ending.{IsMeant, counters_after, ending, ending_on, holds_on, left_at}
 use Rattle.reasons.specs.Reading.{read_steps, read_tree}
 
@@ -135,15 +130,3 @@ abbrev pub LastLineChooses : Type 0
 LastLineChooses = (a : Attributes) (s : AppShape) (rule : List Statement) (old : List ℕ)
     (choice : ℕ) (new : List ℕ) → IsMeant a s rule old choice new
     → ChoosesByLastLine a s old rule (rule_lines a s old rule) choice new
-
--- `str::lines` divides a text into these lines, and none of them has a control
-pub record HasTheseLines (text : List ℕ) (report : List (List ℕ)) : Type 0 where
-  pub lines_are : lines text ≡ report
-  pub no_control : All (NoCharPasses is_control) report
-
--- for a rule that some text spells, the reported lines are the lines of the report: so a `when` is
--- one line, and the rule chooses by the report's last line
-abbrev pub WhensAreLines : Type 0
-WhensAreLines = (a : Attributes) (s : AppShape) (text : Text) (rule : List Statement)
-    → IsVerdict s text (Ok rule) → (old : List ℕ)
-    → HasTheseLines (rule_text a s old rule) (rule_lines a s old rule)

@@ -25,12 +25,6 @@ pub fn last_line_chooses()
     ensures { specs.LastLineChooses }
 {}
 
-/// Law: for a rule that some text spells, the report has exactly the reported lines, without
-/// controls. So a `when` is one line, whatever texts the rule and the client have.
-pub fn whens_are_lines()
-    ensures { specs.WhensAreLines }
-{}
-
 /// Law: evaluating a rule on counters gives what the rule means.
 pub fn endings_are_meant()
     ensures { specs.EndingsAreMeant }
@@ -39,9 +33,4 @@ pub fn endings_are_meant()
 /// Law: a quoted text has no quote inside, so it ends at the next quote.
 pub fn quotes_end_texts()
     ensures { quoted.QuotesEndTexts }
-{}
-
-/// Law: two texts look the same in quotes only if they are equal, whatever follows them.
-pub fn quotes_are_distinct()
-    ensures { quoted.QuotesAreDistinct }
 {}

@@ -10,10 +10,8 @@
 // appears. If that part turns out not to count, its text is dropped, and what its takes added is
 // undone. For this a part keeps the cells that it took from, with their previous values.
 //
-// Laws of the definitions (`laws.rt`): each reported truth is that of its test; a `when` is one
-// line; the rule chooses by the last line; different texts of clients look different in quotes. No
-// line has a control: numbers and words have none, a rule's own texts are printable ASCII, and a
-// client's texts are quoted.
+// Laws of the definitions (`laws.rt`): each reported truth is that of its test; the rule chooses by
+// the last line; a client's text, which is quoted, has no quote and no control inside.
 
 mod condition;
 mod counters;
@@ -27,8 +25,8 @@ mod test_text;
 mod words;
 
 pub use laws::{
-    conditions_are_so, endings_are_meant, last_line_chooses, quotes_are_distinct, quotes_end_texts,
-    truths_are_so, whens_are_lines, whens_decide,
+    conditions_are_so, endings_are_meant, last_line_chooses, quotes_end_texts, truths_are_so,
+    whens_decide,
 };
 pub use quoted::push_quoted;
 pub use rule_report::explain_rule;

@@ -11,7 +11,8 @@ use std::fmt::Write;
 /// Adds a text in quotes. A quote, a backslash and anything but printable ASCII is escaped by its
 /// code point, such as `\u{22}`. So the text ends at the next quote, different texts look
 /// different, and invisible characters are visible.
-// open: whether an allocation fails, which is its one error, and what the text is then.
+// open: whether an allocation fails, which is its one error, and what the text is then; that
+// different texts look different: rows.
 pub fn push_quoted(text: &mut String, client: &str) -> Result<(), AllocError>
     ensures { OnOk result (Puts text.old text.new (specs.quoted client.now)) }
 {

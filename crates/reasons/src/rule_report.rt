@@ -19,7 +19,7 @@ use std::alloc::{AllocError, Global};
 /// the `when` that chooses, or to `otherwise none`. Returns the rule's choice, 0 for none, and
 /// leaves the counters as the rule leaves them.
 // open: whether an allocation fails, which is its one error, and what the text and the counters are
-// then.
+// then; that no text of a rule or a client breaks a line: rows.
 pub fn explain_rule(
     alloc: Global,
     text: &mut String,
