@@ -1,10 +1,7 @@
 mod Parts
 mod Slots
 mod AppWarnings
-mod OneReport
-mod OneDigest
 mod Passing
-mod Checks
 mod Judged
 mod Declared
 mod FaultReports

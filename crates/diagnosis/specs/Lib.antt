@@ -12,4 +12,3 @@ pub mod Others
 pub mod Further
 pub mod Reported
 pub mod Check
-pub mod OneCheck

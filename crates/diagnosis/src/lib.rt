@@ -24,7 +24,6 @@ mod checking;
 mod file;
 mod inside;
 mod later_faults;
-mod laws;
 mod others;
 mod reason;
 mod refusal_lines;
@@ -37,5 +36,4 @@ mod warned_app;
 
 pub use accepted::CheckedManifest;
 pub use checking::{check, too_long};
-pub use laws::one_check;
 pub use refused::{FaultReport, Refused};
