@@ -1,9 +1,6 @@
 mod Texts
 mod Top
-mod Walking
-mod Reasons
 mod Registers
 mod Plain
-mod PlainSentences
-mod Naming
+mod Walking
 mod Skipped

@@ -1,24 +1,12 @@
 -- A text that is written part by part is written as a whole.
-use Rattle.std.proofs.Common.{◌≡◌, ℕ, zero, suc, ◌-◌, ◌<◌, List, [], ◌∷◌, ◌++◌, replicate}
-use Rattle.std.proofs.Common.{refl, sym, ap, ◌∙◌, append_assoc, arith}
+use Rattle.std.proofs.Common.{◌≡◌, ℕ, List, [], ◌∷◌, ◌++◌}
+use Rattle.std.proofs.Common.{refl, sym, ap, ◌∙◌, append_assoc}
 use Rattle.std.proofs.lemmas.List.{append-nil}
-use native.Mathlib.Numerals.{unary_clauses}
 
 pub line_gathered : (o line blanks mark text ends : List ℕ)
     → o ++ (line ++ blanks) ++ mark ++ text ++ ends
     ≡ o ++ (line ++ (blanks ++ mark ++ text) ++ ends)
 line_gathered o line blanks mark text ends = simp append_assoc refl
-
--- one of `n` blanks, and then the others
-pub one_blank : (o : List ℕ) (n : ℕ) → 0 < n
-    → (o ++ (32 ∷ [])) ++ replicate (n - 1) 32 ≡ o ++ replicate n 32
-one_blank o zero lt = absurd (omega (arith, lt))
-one_blank o (suc n) lt = simp unary_clauses (append_assoc o (32 ∷ []) (replicate n 32))
-
-pub blank_pushed : (o new : List ℕ) (n : ℕ) → 0 < n → new ≡ o ++ (32 ∷ [])
-    → new ++ replicate (n - 1) 32 ≡ o ++ replicate n 32
-blank_pushed o new n lt pushed =
-    ap (λ (u : List ℕ). u ++ replicate (n - 1) 32) pushed ∙ one_blank o n lt
 
 -- a line without a remark
 pub bare_gathered : (o line : List ℕ)

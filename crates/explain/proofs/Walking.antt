@@ -1,7 +1,8 @@
 -- A program is explained place by place, from its first slot to its end.
 use Rattle.std.proofs.Common.{◌≡◌, ℕ, ◌+◌, ◌<◌, ◌≤◌, List, [], ◌∷◌, ◌++◌, length, codes}
 use Rattle.std.proofs.Common.{Option, Some, None, refl, sym, ap, ◌∙◌, subst, arith}
-use Rattle.std.proofs.Common.{append_assoc, length-append}
+use Rattle.std.proofs.Common.{append_assoc, length-append, max, ◌-◌}
+use Rattle.std.specs.Fmt.{decimal}
 use Rattle.std.specs.Prelude.{IsSome, is_some}
 use Rattle.std.proofs.Math.Seq.{append_snoc}
 use Rattle.std.proofs.lemmas.List.{append-nil}
@@ -11,7 +12,7 @@ use Rattle.bpf_insn.specs.declared.insn.Insn.TheVariants.{Wide}
 use Rattle.bpf_insn.specs.Program.{Program, at, layout, slots}
 use Rattle.bpf_insn.specs.Spelling.{width_of, slots_of}
 use Rattle.bpf_text.specs.Listing.{bare_line}
-use Rattle.bpf_text.specs.Remarks.{remarked_listing}
+use Rattle.bpf_text.specs.Remarks.{IsRemark, remarked_listing}
 use Rattle.flow_check.specs.Edges.{next_of}
 use Rattle.flow_check.specs.Flow.{IsLayout}
 use Rattle.bpf_semantics.specs.Program.{ShapedProgram, shaped}
@@ -24,8 +25,9 @@ use Rattle.bpf_checks.specs.declared.refusal.VerifierRule.{VerifierRule}
 use Rattle.cells.specs.Arrays.{AppShape}
 use Rattle.explain.specs.declared.way.Way.{Way}
 use Rattle.explain.specs.Lines.{remark_at, way_on, way_from, way_unless, way_past_entry}
-use Rattle.explain.specs.Lines.{comment, line_with, lines_from, IsExplained, WalkParts}
-use Rattle.explain.specs.Lines.{ExplainsUpTo}
+use Rattle.explain.specs.Lines.{comment, shown_text, line_with, lines_from, AddsLine, AreRemarks}
+use Rattle.explain.specs.Lines.{IsPlain, IsExplained, WalkParts, ExplainsUpTo}
+use Rattle.explain.proofs.Plain.{comment_remark}
 use Rattle.explain.specs.Way.{still, way_past}
 
 -- ---- a list of instructions and its slots
@@ -109,41 +111,51 @@ first_parts code is = record { front = []; rest = is.0; code_is = is.1; slot_is 
 
 -- ---- the text
 
-pub explains_first : (p : ShapedProgram) → IsLayout p.code → ExplainsUpTo p (Some still) 0 []
+pub explains_first : (p : ShapedProgram) (why : List ℕ) → IsLayout p.code
+    → ExplainsUpTo p why (Some still) 0 []
 unfolding first_parts
-explains_first p is = record { parts = first_parts p.code is; text_is = refl }
+explains_first p why is =
+    record { parts = first_parts p.code is; text_is = refl; remarks = λ all. all }
 
-pub explains_next : (p : ShapedProgram) (way : Option Way) (slot : ℕ) (i : Insn)
-    (text more : List ℕ)
-    → ExplainsUpTo p way slot text → at p.code slot ≡ Some i
-    → more ≡ text ++ (bare_line i ++ remark_at p way slot i ++ codes "\n")
-    → ExplainsUpTo p (way_on p way slot i) (next_of slot i) more
+pub explains_next : (p : ShapedProgram) (why : List ℕ) (way : Option Way) (slot : ℕ) (i : Insn)
+    (text more : List ℕ) → ExplainsUpTo p why way slot text → at p.code slot ≡ Some i
+    → IsRemark (remark_at p why way slot i)
+    → more ≡ text ++ (bare_line i ++ remark_at p why way slot i ++ codes "\n")
+    → ExplainsUpTo p why (way_on p way slot i) (next_of slot i) more
 unfolding parts_next rest_at
-explains_next p way slot i text more t e grown =
+explains_next p why way slot i text more t e remark grown =
     let r = rest_at p.code slot t.parts i e in
-    let line = bare_line i ++ remark_at p way slot i ++ codes "\n" in
-    let later = remarked_listing (lines_from p (way_on p way slot i) (next_of slot i) r.0) in
+    let line = bare_line i ++ remark_at p why way slot i ++ codes "\n" in
+    let later = remarked_listing (lines_from p why (way_on p way slot i) (next_of slot i) r.0) in
+    let same = ap (λ (is : List Insn). t.parts.front ++ is) r.1
+    ∙ sym (append_snoc t.parts.front i r.0) in
     record {
       parts = parts_next p.code slot t.parts i e;
       text_is = ap (λ (u : List ℕ). u ++ later) grown
           ∙ append_assoc text line later
-          ∙ ap (λ (is : List Insn). text ++ remarked_listing (lines_from p way slot is)) (sym r.1)
+          ∙ ap (λ (is : List Insn). text ++ remarked_listing (lines_from p why way slot is))
+          (sym r.1)
           ∙ t.text_is
-          ∙ ap (λ (is : List Insn). remarked_listing (lines_from p (Some still) 0 is))
-          (ap (λ (is : List Insn). t.parts.front ++ is) r.1
-          ∙ sym (append_snoc t.parts.front i r.0));
+          ∙ ap (λ (is : List Insn). remarked_listing (lines_from p why (Some still) 0 is)) same;
+      remarks = λ all. subst (λ (is : List Insn). AreRemarks (lines_from p why (Some still) 0 is))
+          same (t.remarks (subst (λ (is : List Insn). AreRemarks (lines_from p why way slot is))
+          (sym r.1) (remark, all)));
     }
 
-pub explains_whole : (p : ShapedProgram) (way : Option Way) (slot : ℕ) (text : List ℕ)
-    → ExplainsUpTo p way slot text → length p.code ≤ slot → IsExplained p text
-explains_whole p way slot text t le = whole t.parts.rest refl
+pub explains_whole : (p : ShapedProgram) (why : List ℕ) (way : Option Way) (slot : ℕ)
+    (text : List ℕ)
+    → ExplainsUpTo p why way slot text → length p.code ≤ slot → IsExplained p text
+explains_whole p why way slot text t le = whole t.parts.rest refl
   where
     whole : (is : List Insn) → t.parts.rest ≡ is → IsExplained p text
     whole [] e = record {
       insns = t.parts.front ++ t.parts.rest;
       code_is = t.parts.code_is;
+      why = why;
+      remarks = t.remarks (subst (λ (js : List Insn). AreRemarks (lines_from p why way slot js))
+          (sym e) tt);
       text_is = sym (append-nil text)
-          ∙ ap (λ (js : List Insn). text ++ remarked_listing (lines_from p way slot js)) (sym e)
+          ∙ ap (λ (js : List Insn). text ++ remarked_listing (lines_from p why way slot js)) (sym e)
           ∙ t.text_is;
     }
     whole (i ∷ is) e =
@@ -164,15 +176,18 @@ explains_whole p way slot text t le = whole t.parts.rest refl
 -- ---- the way on
 
 -- the line that is written is the line of the place
-pub line_grown : (p : ShapedProgram) (s : ℕ) (i : Insn) (way : Way) (o : Option AbsState)
-    (text new : List ℕ) → o ≡ entry_of p s → new ≡ text ++ line_with i (comment p.shape s o i way)
-    → new ≡ text ++ (bare_line i ++ remark_at p (Some way) s i ++ codes "\n")
-line_grown p s i way o text new is grown =
-    grown
-    ∙ ap (λ (x : Option AbsState). text ++ line_with i (comment p.shape s x i way)) is
+line_at : (p : ShapedProgram) (s : ℕ) (i : Insn) (way : Way) (why : List ℕ) (text new : List ℕ)
+    → ExplainsUpTo p why (Some way) s text → at p.code s ≡ Some i
+    → IsPlain (comment p.shape s (entry_of p s) i way why)
+    → new ≡ text ++ line_with i (comment p.shape s (entry_of p s) i way why)
+    → ExplainsUpTo p why (way_on p (Some way) s i) (next_of s i) new
+line_at p s i way why text new t there plain grown =
+    explains_next p why (Some way) s i text new t there
+    (comment_remark (max (22 - length (bare_line i)) 1)
+    (comment p.shape s (entry_of p s) i way why) plain) grown
 
 -- if no rule fails
-pub fine_way : (p : ShapedProgram) (s : ℕ) (i : Insn) (way : Way) → IsFine p s
+fine_way : (p : ShapedProgram) (s : ℕ) (i : Insn) (way : Way) → IsFine p s
     → at p.code s ≡ Some i
     → way_on p (Some way) s i ≡ Some (way_past_entry p.shape s (entry_of p s) i)
 fine_way p s i way fine there = each (entry_of p s) refl
@@ -184,6 +199,36 @@ fine_way p s i way fine there = each (entry_of p s) refl
         let none : first_rule p.shape f i ≡ None = fine f i e there in
         ap (λ (r : Option VerifierRule). way_unless r (way_past p.shape s f i)) none
 
+-- then the comment cites none
+fine_comment : (p : ShapedProgram) (s : ℕ) (i : Insn) (way : Way) (why other : List ℕ)
+    → IsFine p s → at p.code s ≡ Some i
+    → comment p.shape s (entry_of p s) i way why ≡ comment p.shape s (entry_of p s) i way other
+fine_comment p s i way why other fine there = each (entry_of p s) refl
+  where
+    each : (o : Option AbsState) → entry_of p s ≡ o
+        → comment p.shape s o i way why ≡ comment p.shape s o i way other
+    each None e = refl
+    each (Some f) e =
+        let none : first_rule p.shape f i ≡ None = fine f i e there in
+        ap (λ (r : Option VerifierRule).
+        decimal s ++ codes ":" ++ shown_text p.shape f i way r why) none
+        ∙ ap (λ (r : Option VerifierRule).
+        decimal s ++ codes ":" ++ shown_text p.shape f i way r other) (sym none)
+
+pub fine_line : (p : ShapedProgram) (s : ℕ) (i : Insn) (way : Way) (o : Option AbsState)
+    (text new : List ℕ) → ((why : List ℕ) → ExplainsUpTo p why (Some way) s text)
+    → at p.code s ≡ Some i → o ≡ entry_of p s → AddsLine p.shape s o i way text new → IsFine p s
+    → (why : List ℕ)
+    → ExplainsUpTo p why (Some (way_past_entry p.shape s (entry_of p s) i)) (next_of s i) new
+fine_line p s i way o text new t there is added fine why =
+    let same : comment p.shape s o i way added.why ≡ comment p.shape s (entry_of p s) i way why =
+    ap (λ (x : Option AbsState). comment p.shape s x i way added.why) is
+    ∙ fine_comment p s i way added.why why fine there in
+    subst (λ (w : Option Way). ExplainsUpTo p why w (next_of s i) new)
+    (fine_way p s i way fine there)
+    (line_at p s i way why text new (t why) there (subst IsPlain same added.plain)
+    (added.text_is ∙ ap (λ (c : List ℕ). text ++ line_with i c) same))
+
 -- if a rule fails
 failed_way : (p : ShapedProgram) (s : ℕ) (i : Insn) (way : Way) (rule : VerifierRule)
     → Fails p s rule → at p.code s ≡ Some i → way_on p (Some way) s i ≡ None
@@ -193,10 +238,27 @@ failed_way p s i way rule f there =
     ∙ ap (λ (r : Option VerifierRule). way_unless r (way_past p.shape s f.entry i))
     (ap (λ (j : Insn). first_rule p.shape f.entry j) (sym same) ∙ f.rule_is)
 
-pub refused_way : (code : Program) (shape : AppShape) (s : ℕ) (i : Insn) (way : Way) (r : Refusal)
+refused_way : (code : Program) (shape : AppShape) (s : ℕ) (i : Insn) (way : Way) (r : Refusal)
     → IsRefusal code shape r → FailsAt s r → at code s ≡ Some i
     → way_on (shaped code shape) (Some way) s i ≡ None
 refused_way code shape s i way (refusal.Rule t rule) refused here there =
     failed_way (shaped code shape) s i way rule
     (subst (λ (n : ℕ). Fails (shaped code shape) n rule) here refused.fails) there
 refused_way code shape s i way refusal.Memory refused here there = absurd here
+
+pub refused_line : (code : Program) (shape : AppShape) (s : ℕ) (i : Insn) (way : Way)
+    (o : Option AbsState) (r : Refusal) (text new : List ℕ)
+    → ((why : List ℕ) → ExplainsUpTo (shaped code shape) why (Some way) s text)
+    → at code s ≡ Some i → o ≡ entry_of (shaped code shape) s
+    → AddsLine shape s o i way text new → IsRefusal code shape r → FailsAt s r
+    → (why : List ℕ) × ExplainsUpTo (shaped code shape) why None (next_of s i) new
+refused_line code shape s i way o r text new t there is added refused here =
+    let p = shaped code shape in
+    let same = ap (λ (x : Option AbsState). comment shape s x i way added.why) is in (
+      added.why,
+      subst (λ (w : Option Way). ExplainsUpTo p added.why w (next_of s i) new)
+          (refused_way code shape s i way r refused here there)
+          (line_at p s i way added.why text new (t added.why) there
+          (subst IsPlain same added.plain)
+          (added.text_is ∙ ap (λ (c : List ℕ). text ++ line_with i c) same)),
+    )

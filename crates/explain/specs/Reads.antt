@@ -1,5 +1,5 @@
--- The registers that an instruction reads, and the memory that it accesses, each as one value.
-use Rattle.std.specs.Prelude.{◌≡◌, ℕ, ℤ, Bool, false, ◌||◌, ◌==◌, if◌then◌else◌}
+-- The registers that an instruction reads, as one value.
+use Rattle.std.specs.Prelude.{◌≡◌, Bool, false, ◌||◌, ◌==◌}
 use Rattle.std.specs.Prelude.{Option, Some, None, ◌++◌, option_to_list, List}
 use Rattle.bpf_insn.specs.declared.insn.Insn.{Insn}
 use Rattle.bpf_insn.specs.declared.insn.Insn.TheVariants.{Alu, Mov, MovSx, Neg, Atomic, Wide}
@@ -13,13 +13,11 @@ use Rattle.bpf_insn.specs.declared.operand.Operand.TheVariants.{Imm, Register}
 use Rattle.bpf_insn.specs.declared.reg.Reg.{Reg}
 use Rattle.bpf_insn.specs.declared.reg.Reg.TheVariants.{R0, R1, R2, R3}
 use Rattle.bpf_insn.specs.Table.{number_of}
-use Rattle.bpf_checks.specs.declared.access.Access.{Access}
 use Rattle.bpf_semantics.specs.declared.helpers.Prototype.{Prototype}
 use Rattle.bpf_semantics.specs.declared.helpers.Prototype.TheVariants.{OfMap, OfText, OfNumber}
 use Rattle.bpf_semantics.specs.Helpers.{called_prototype}
-use Rattle.bpf_checks.specs.Reads.{reads, access}
+use Rattle.bpf_checks.specs.Reads.{reads}
 use Rattle.explain.specs.declared.reads.ReadRegisters.{ReadRegisters}
-use Rattle.explain.specs.declared.reads.TouchedMemory.{TouchedMemory}
 
 -- ---- registers
 
@@ -83,28 +81,3 @@ is_register r (Some x) = number_of x == number_of r
 
 abbrev pub is_among : Reg → ReadRegisters → Bool
 is_among r rs = is_register r rs.first || is_register r rs.second || is_register r rs.third
-
-abbrev pub if_such : (Reg → Bool) → Option Reg → Option Reg
-if_such test None = None
-if_such test (Some r) = if test r then Some r else None
-
-abbrev pub or_next : Option Reg → Option Reg → Option Reg
-or_next None next = next
-or_next (Some r) next = Some r
-
--- the first of the registers that passes a test
-abbrev pub first_such : (Reg → Bool) → ReadRegisters → Option Reg
-first_such test rs =
-    or_next (if_such test rs.first) (or_next (if_such test rs.second) (if_such test rs.third))
-
--- ---- memory
-
-abbrev pub touching : Reg → ℤ → ℕ → Option TouchedMemory
-touching base offset count = Some (record { base = base; offset = offset; count = count })
-
-abbrev pub touched_by : Option Access → Option TouchedMemory
-touched_by None = None
-touched_by (Some a) = touching a.base a.offset a.count
-
-abbrev pub touched : Insn → Option TouchedMemory
-touched i = touched_by (access i)

@@ -4,10 +4,9 @@ use Rattle.std.specs.Prelude.{Bool, ◌&&◌, not, ◌==◌, nat_le, nat_lt, if�
 use Rattle.std.specs.Prelude.{Option, Some, None, slice_get}
 use Rattle.std.specs.Fmt.{decimal}
 use Rattle.std.specs.Int.{bit_at}
-use Rattle.std.specs.List.{AllByRecursion, find}
+use Rattle.std.specs.List.{find}
 use Rattle.bpf_semantics.specs.Memory.{stack_size}
 use Rattle.cells.specs.Arrays.{AppShape}
-use Rattle.cells.specs.Names.{IsName}
 use Rattle.cells.specs.declared.array.CellArray.{CellArray}
 use Rattle.abs_value.specs.declared.number.Number.{Number}
 use Rattle.abs_value.specs.declared.origin.Lookup.{Lookup}
@@ -57,9 +56,6 @@ abbrev pub number_text : Number → List ℕ
 number_text a = range_text a.range.lo a.range.hi ++ bits_text a (bits_beyond_range a 64)
 
 -- ---- arrays and counters, by name if there is one
-
-abbrev pub HaveNames : List CellArray → Type 0
-HaveNames arrays = AllByRecursion (λ a. IsName a.name) arrays
 
 abbrev pub name_or : Option CellArray → ℕ → List ℕ
 name_or None index = decimal index

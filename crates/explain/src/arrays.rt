@@ -65,15 +65,3 @@ fn holds_cell(array: &CellArray, cell: u16) -> bool
 {
     array.base <= cell && (cell as u32) < array.base as u32 + array.length as u32
 }
-
-/// Law: the names of arrays are names.
-#[tactic(auto, using(crate::proofs::Naming::one_name_more))]
-pub fn have_names(arrays: &[CellArray])
-    ensures { specs.HaveNames arrays.now }
-{
-    let mut left = arrays;
-    while let [array, rest @ ..] = left {
-        let _name = array.name.as_str();
-        left = rest;
-    }
-}

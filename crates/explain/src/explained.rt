@@ -1,6 +1,6 @@
 //! A whole program, place by place, with the verifier's entries.
 
-ghost use Rattle.std.specs.Prelude.{◌≡◌, ◌<◌, ◌+◌, IfOk, OnOk, Some, None};
+ghost use Rattle.std.specs.Prelude.{◌≡◌, ◌<◌, ◌+◌, ℕ, List, IfOk, OnOk, Some, None};
 ghost use Rattle.std.specs.Prelude.{string_bytes, option_copied};
 ghost use Rattle.std.specs.Prelude.{Ok};
 ghost use Rattle.bpf_text.specs.Assembly.{Assembles};
@@ -11,7 +11,6 @@ ghost use Rattle.cells.specs.Arrays.{AppShape};
 ghost use Rattle.explain.specs.Lines.{IsExplained, IsFinding, WalkParts, ExplainsUpTo};
 ghost use Rattle.explain.specs.Lines as specs;
 
-use crate::arrays::have_names;
 use crate::insn_line::push_line;
 use crate::way::Way;
 use abs_value::AbsState;
@@ -42,8 +41,8 @@ fn way_past(shape: &Shape, slot: usize, entry: Option<&AbsState>, insn: &Insn) -
 // The lines of the instructions from the slot on, without comments.
 fn push_rest(text: &mut String, flow: &Flow, slot: usize) -> Result<(), AllocError>
     requires { WalkParts flow.now slot }
-    ensures { OnOk result ((shape : AppShape)
-        → ExplainsUpTo (shaped flow.now shape) None slot (string_bytes text.old)
+    ensures { OnOk result ((shape : AppShape) (why : List ℕ)
+        → ExplainsUpTo (shaped flow.now shape) why None slot (string_bytes text.old)
         → IsExplained (shaped flow.now shape) (string_bytes text.new)) }
 {
     flow.invariant_law();
@@ -111,7 +110,7 @@ fn explain_walk(
 /// The listing of a program with a comment on each instruction: what is known before it, up to the
 /// first instruction that breaks a rule. There the comment has the rule, and what is known instead
 /// of what it requires. A returned refusal is never V15.
-// open: whether an allocation fails.
+// open: whether an allocation fails, its one error; the words about a broken rule: rows.
 pub fn explain(alloc: Global, flow: &Flow, shape: &Shape) -> Result<Explained, AllocError>
     ensures text { IfOk result
         (λ x. IsExplained (shaped flow.now shape.now) (string_bytes x.text)) }
@@ -121,7 +120,6 @@ pub fn explain(alloc: Global, flow: &Flow, shape: &Shape) -> Result<Explained, A
 {
     flow.invariant_law();
     remarks_are_skipped();
-    have_names(shape.arrays());
     let explained = tell(alloc, flow, shape)?;
     Ok(explained)
 }

@@ -7,24 +7,22 @@
 // The comment at a program point describes the definition's entry (abstract state) there; a walk
 // over the program points lends it (`bpf_verify`). It has the registers that the instruction reads,
 // those that changed if the previous instruction continues to it, and the stack slot that a load
-// reads. At the refused place it has the rule, and what is known instead of what the rule requires.
-// After that nothing is known, so the listing continues without comments.
+// reads. At the refused place it has the rule, and words that no clause fixes. After that nothing
+// is known, so the listing continues without comments.
 
+mod accesses;
 mod arrays;
 mod bits;
-mod called;
+mod calls;
 mod explained;
 mod insn_line;
 mod laws;
-mod operands;
 mod reads;
 mod refused;
 mod register_texts;
-mod requirements;
 mod sentence;
 mod values;
 mod way;
-mod wrong;
 
 pub use arrays::push_counter;
 pub use explained::{Explained, explain};

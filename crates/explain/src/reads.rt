@@ -3,7 +3,6 @@
 ghost use Rattle.std.specs.Prelude.{◌≡◌};
 ghost use Rattle.bpf_semantics.specs.Helpers.{called_prototype};
 ghost use Rattle.explain.specs.Reads as specs;
-ghost use Rattle.explain.specs.Sentences as sentences;
 
 use abs_value::AbsState;
 use bpf_insn::{AtomicOp, Insn, Operand, Reg};
@@ -135,23 +134,25 @@ impl ReadRegisters {
     }
 
     /// The first of these registers about which nothing is known.
-    pub fn unusable(&self, e: &AbsState) -> Option<Reg>
-        ensures { result ≡ sentences.first_unusable e.now self.now }
-    {
-        or_next(
-            if_unusable(e, self.first),
-            or_next(if_unusable(e, self.second), if_unusable(e, self.third)),
-        )
+    pub(crate) fn unusable(&self, e: &AbsState) -> Option<Reg> {
+        for found in [self.first, self.second, self.third] {
+            match found {
+                Some(r) if e.value(r).is_unusable() => return Some(r),
+                _ => {}
+            }
+        }
+        None
     }
 
     /// The first of these registers that is a pointer.
-    pub fn pointer(&self, e: &AbsState) -> Option<Reg>
-        ensures { result ≡ sentences.first_pointer e.now self.now }
-    {
-        or_next(
-            if_pointer(e, self.first),
-            or_next(if_pointer(e, self.second), if_pointer(e, self.third)),
-        )
+    pub(crate) fn pointer(&self, e: &AbsState) -> Option<Reg> {
+        for found in [self.first, self.second, self.third] {
+            match found {
+                Some(r) if e.value(r).is_pointer() => return Some(r),
+                _ => {}
+            }
+        }
+        None
     }
 }
 
@@ -164,72 +165,38 @@ fn is_register(r: Reg, found: Option<Reg>) -> bool
     }
 }
 
-fn or_next(found: Option<Reg>, next: Option<Reg>) -> Option<Reg>
-    ensures { result ≡ specs.or_next found next }
-{
-    match found {
-        Some(r) => Some(r),
-        None => next,
-    }
-}
-
-fn if_unusable(e: &AbsState, found: Option<Reg>) -> Option<Reg>
-    ensures { result ≡ specs.if_such (sentences.unusable_in e.now) found }
-{
-    match found {
-        Some(r) if e.value(r).is_unusable() => Some(r),
-        _ => None,
-    }
-}
-
-fn if_pointer(e: &AbsState, found: Option<Reg>) -> Option<Reg>
-    ensures { result ≡ specs.if_such (sentences.pointer_in e.now) found }
-{
-    match found {
-        Some(r) if e.value(r).is_pointer() => Some(r),
-        _ => None,
-    }
-}
-
-fn touching(base: Reg, offset: i16, count: u16) -> Option<TouchedMemory>
-    ensures { result ≡ specs.touching base offset count }
-{
-    Some(TouchedMemory {
-        base,
-        offset,
-        count,
-    })
-}
-
 /// The memory that an instruction accesses by an address.
-pub fn touched(insn: Insn) -> Option<TouchedMemory>
-    ensures { result ≡ specs.touched insn }
-{
-    match insn {
+pub(crate) fn touched(insn: Insn) -> Option<TouchedMemory> {
+    let (base, offset, count) = match insn {
         Insn::Load {
             kind,
             src,
             offset,
             ..
-        } => touching(src, offset, load_count(kind)),
+        } => (src, offset, load_count(kind)),
         Insn::StoreImm {
             size,
             dst,
             offset,
             ..
-        } => touching(dst, offset, byte_count(size)),
+        } => (dst, offset, byte_count(size)),
         Insn::Store {
             size,
             dst,
             offset,
             ..
-        } => touching(dst, offset, byte_count(size)),
+        } => (dst, offset, byte_count(size)),
         Insn::Atomic {
             size,
             dst,
             offset,
             ..
-        } => touching(dst, offset, atomic_count(size)),
-        _ => None,
-    }
+        } => (dst, offset, atomic_count(size)),
+        _ => return None,
+    };
+    Some(TouchedMemory {
+        base,
+        offset,
+        count,
+    })
 }

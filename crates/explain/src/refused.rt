@@ -1,15 +1,13 @@
 //! Where and why a program is refused, in a sentence: for the first instruction that breaks a rule,
 //! what the rule requires, and what is known instead.
 
-ghost use Rattle.std.specs.Prelude.{◌≡◌, IfOk, IfSome, Ok, None, Some};
-ghost use Rattle.std.specs.Prelude.{option_copied, string_bytes};
-ghost use Rattle.bpf_insn.specs.Program.{at};
+ghost use Rattle.std.specs.Prelude.{◌≡◌, IfOk, IfSome, Ok, None, string_bytes};
 ghost use Rattle.bpf_semantics.specs.Program.{shaped};
-ghost use Rattle.bpf_verify.specs.Accepted.{FailsAt, IsAccepted, IsRefusal, entry_of};
+ghost use Rattle.bpf_verify.specs.Accepted.{IsAccepted, IsRefusal};
 ghost use Rattle.bpf_verify.specs.Walk.{IsWalkBefore};
 ghost use Rattle.explain.specs.RefusedPlace.{IsRefusedPlace};
 
-use crate::sentence::push_cited_rule;
+use crate::sentence::cited_rule;
 use abs_value::AbsState;
 use bpf_insn::Insn;
 use bpf_verify::{Refusal, Walk, end_is_accepted};
@@ -30,27 +28,23 @@ fn explain_refusal(
     alloc: Global,
     flow: &Flow,
     shape: &Shape,
-    place: (usize, &Insn),
+    insn: &Insn,
     entry: Option<&AbsState>,
     refusal: Refusal,
 ) -> Result<RefusedPlace, AllocError>
-    requires here { FailsAt place.0 refusal }
-    requires refused { IsRefusal flow.now shape.now refusal }
-    requires insn { at flow.now place.0 ≡ Some place.1.now }
-    requires entry { option_copied entry ≡ entry_of (shaped flow.now shape.now) place.0 }
+    requires { IsRefusal flow.now shape.now refusal }
     ensures { IfOk result (λ spot.
         IsRefusedPlace (shaped flow.now shape.now) spot.slot (string_bytes spot.sentence)) }
 {
     let (Some(e), Refusal::Rule { slot, rule }) = (entry, refusal) else {
         return Err(AllocError);
     };
-    let mut sentence = String::new(alloc);
-    push_cited_rule(&mut sentence, shape, e, *place.1, rule)?;
+    let sentence = cited_rule(alloc, shape, e, *insn, rule)?;
     Ok(RefusedPlace { slot, sentence })
 }
 
 /// Where and why `verify` refuses a program with a shape; None if it accepts the program.
-// open: whether an allocation fails.
+// open: whether an allocation fails; the words about the broken rule: rows.
 pub fn refused_place(
     alloc: Global,
     flow: &Flow,
@@ -85,7 +79,7 @@ fn first_refused(
         let insn = flow.insn(slot);
         walk.arrive(slot)?;
         if let Err(refusal) = walk.judge(flow, shape, slot, insn) {
-            let spot = explain_refusal(alloc, flow, shape, (slot, insn), walk.entry(), refusal)?;
+            let spot = explain_refusal(alloc, flow, shape, insn, walk.entry(), refusal)?;
             return Ok(Some(spot));
         }
         walk.carry_on(flow, shape, slot, insn)?;
