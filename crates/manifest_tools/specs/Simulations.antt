@@ -3,10 +3,9 @@
 use Rattle.std.specs.Prelude.{◌≡◌, ◌++◌, ℕ, List, [], Option, Some, None, IsSome, is_none}
 use Rattle.std.specs.Prelude.{Bool, true, false, is_some}
 use Rattle.std.specs.String.{string_bytes}
-use Rattle.simulate.specs.Moving.{is_lossy, moves_text}
+use Rattle.simulate.specs.Moving.{is_lossy}
 use Rattle.simulate.specs.Objects.{comparison_object, json_line, simulation_object}
 use Rattle.simulate.specs.Picked.{HasPicked}
-use Rattle.simulate.specs.Shares.{shares_text}
 use Rattle.simulate.specs.Shown.{Simulation}
 use Rattle.simulate.specs.Course.{IsSimulated}
 use Rattle.simulate.specs.declared.client.Client.{Client}
@@ -39,27 +38,28 @@ abbrev pub lacks_app : (appid : Option (List ℕ)) → Rules → Bool
 lacks_app None rules = false
 lacks_app (Some appid) rules = is_none (app_in rules.apps appid)
 
--- how many get which release of each app, as lines or as JSON
-abbrev pub text_alone : (json : Bool) → Simulation → List ℕ
-text_alone false next = shares_text next
-text_alone true next = json_line (simulation_object next)
+-- how many get which release of each app, as some tables or as JSON
+abbrev pub IsTextAlone : (json : Bool) → Simulation → List ℕ → Type 0
+IsTextAlone false next text = Unit {0}
+IsTextAlone true next text = text ≡ json_line (simulation_object next)
 
 -- the same, and how many move from which release to which, below the line of the clients
-abbrev pub text_against : (json : Bool) → Client → (now next : Simulation) → List ℕ
-text_against false client now next = client_line client ++ shares_text next ++ moves_text now next
-text_against true client now next = json_line (comparison_object now next)
+abbrev pub IsTextAgainst : (json : Bool) → Client → (now next : Simulation) → List ℕ → Type 0
+IsTextAgainst false client now next text =
+    (tables : List ℕ) × (text ≡ client_line client ++ tables)
+IsTextAgainst true client now next text = text ≡ json_line (comparison_object now next)
 
 -- the report on a simulation, and a picture, if a file is named for it
 pub record FormatsAlone (json : Bool) (next : Simulation) (file : Option (List ℕ))
     (output : SimulationOutput) : Type 0 where
-  pub text_is : string_bytes output.text ≡ text_alone json next
+  pub text_is : IsTextAlone json next (string_bytes output.text)
   pub picture : HasPicture (is_some file) output.picture
   pub loses_is : output.loses ≡ false
 
 -- compared with another one
 pub record FormatsAgainst (json : Bool) (client : Client) (next now : Simulation)
     (file : Option (List ℕ)) (output : SimulationOutput) : Type 0 where
-  pub text_is : string_bytes output.text ≡ text_against json client now next
+  pub text_is : IsTextAgainst json client now next (string_bytes output.text)
   pub picture : HasPicture (is_some file) output.picture
   pub loses_is : output.loses ≡ is_lossy now next
 

@@ -41,7 +41,7 @@ pub(crate) fn format_alone(
 
 // As lines, or as JSON.
 fn text_alone(alloc: Global, next: &Simulated, json: bool) -> Result<String, AllocError>
-    ensures { IfOk result (λ text. string_bytes text ≡ specs.text_alone json next.now) }
+    ensures { IfOk result (λ text. specs.IsTextAlone json next.now (string_bytes text)) }
 {
     if json {
         return shares_json(alloc, next);
@@ -81,14 +81,16 @@ fn text_against(
     json: bool,
 ) -> Result<String, AllocError>
     ensures { (client : the_client.Client) → clients.now ≡ client_line client → IfOk result
-        (λ text. string_bytes text ≡ specs.text_against json client now.now next.now) }
+        (λ text. specs.IsTextAgainst json client now.now next.now (string_bytes text)) }
 {
     if json {
         return moves_json(alloc, now, next);
     }
+    let mut tables = String::new(alloc);
+    push_shares(&mut tables, next)?;
+    push_moves(alloc, &mut tables, now, next)?;
     let mut text = String::from_str(alloc, clients)?;
-    push_shares(&mut text, next)?;
-    push_moves(alloc, &mut text, now, next)?;
+    text.push_str(tables.as_str())?;
     Ok(text)
 }
 

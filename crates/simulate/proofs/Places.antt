@@ -7,14 +7,6 @@ use Rattle.std.specs.Str.{bytes_eq}
 use Rattle.ruleset.specs.Rules.{AppRule, app_in}
 use Rattle.simulate.specs.Picked.{IsPlaceOf}
 
--- a list that isn't empty begins with its first item
-pub first_left : {X : Type 0} (left : List X) (x : X) → 0 < length left → x ≡ get_or left 0 x
-    → left ≡ x ∷ take (length left - 1) (drop 1 left)
-first_left [] x some first = absurd (omega (arith, some))
-first_left (y ∷ rest) x some first =
-    ap (λ z. z ∷ rest) (sym first)
-    ∙ ap (λ ys. x ∷ ys) (sym (take_all (length (y ∷ rest) - 1) rest (omega arith)))
-
 pub none_left : {X : Type 0} (left : List X) → length left < 1 → left ≡ []
 none_left [] few = refl
 none_left (x ∷ rest) few = absurd (omega (arith, few))

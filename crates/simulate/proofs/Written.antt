@@ -1,18 +1,13 @@
 -- A text that is written part by part is written as a whole.
-use Rattle.std.proofs.Common.{Bool, None, ap₂}
-use Rattle.std.proofs.Common.{◌≡◌, ◌∙◌, refl, sym, ap, ℕ, zero, suc, ◌+◌, ◌-◌, ◌<◌, ◌≤◌}
-use Rattle.std.proofs.Common.{List, [], ◌∷◌, ◌++◌, append_assoc, arith, length, replicate}
+use Rattle.std.proofs.Common.{◌≡◌, ◌∙◌, refl, sym, ap, None, ℕ, suc, ◌+◌, ◌-◌, ◌<◌, ◌≤◌}
+use Rattle.std.proofs.Common.{List, [], ◌∷◌, ◌++◌, append_assoc, arith, length}
 use Rattle.std.proofs.lemmas.List.{append-nil}
 use Rattle.std.specs.List.{flat_map, range_with_len}
 use Rattle.serde_json.specs.Data.{Data}
-use Rattle.simulate.specs.Moving.{move_if_any}
 use Rattle.simulate.specs.Objects.{move_object_if_any, share_if_any}
-use Rattle.simulate.specs.Shares.{row_if_any}
 use Rattle.simulate.specs.Shown.{no_offer, offer_in, offered}
-use Rattle.simulate.specs.declared.moves.MoveWidths.{MoveWidths}
 use Rattle.simulate.specs.Counts.{choices_or_none}
 use Rattle.ruleset.specs.Rules.{AppRule}
-use native.Mathlib.Numerals.{unary_clauses}
 
 -- one part further, and at the end
 pub one_further : {A : Type 0} (o part rest new whole : List A) → new ≡ o ++ part
@@ -23,17 +18,6 @@ one_further {A} o part rest new whole grown is =
 pub at_end : {A : Type 0} (o whole : List A) → o ++ [] ≡ whole → o ≡ whole
 at_end o whole is = sym (append-nil o) ∙ is
 
--- one of `n` marks, and then the others
-one_mark : (o : List ℕ) (c n : ℕ) → 0 < n
-    → (o ++ (c ∷ [])) ++ replicate (n - 1) c ≡ o ++ replicate n c
-one_mark o c zero some = absurd (omega (arith, some))
-one_mark o c (suc n) some = simp unary_clauses (append_assoc o (c ∷ []) (replicate n c))
-
-pub mark_written : (o new : List ℕ) (c n : ℕ) → 0 < n → new ≡ o ++ (c ∷ [])
-    → new ++ replicate (n - 1) c ≡ o ++ replicate n c
-mark_written o new c n some grown =
-    ap (λ (t : List ℕ). t ++ replicate (n - 1) c) grown ∙ one_mark o c n some
-
 -- ---- loops over numbers
 
 next_number : (i n : ℕ) → i ≤ n
@@ -42,9 +26,6 @@ next_number i n within =
     let more : n + 1 - i ≡ suc (n + 1 - (i + 1)) = omega arith in
     ap (range_with_len i) more
 
-no_number : (i n : ℕ) → n < i → range_with_len i (n + 1 - i) ≡ []
-no_number i n past = let none : n + 1 - i ≡ zero = omega arith in ap (range_with_len i) none
-
 pub number_further : {A : Type 0} (f : ℕ → List A) (i n : ℕ) (o new whole : List A) → i ≤ n
     → new ≡ o ++ f i → o ++ flat_map f (range_with_len i (n + 1 - i)) ≡ whole
     → new ++ flat_map f (range_with_len (i + 1) (n + 1 - (i + 1))) ≡ whole
@@ -52,25 +33,7 @@ number_further f i n o new whole within grown is =
     one_further o (f i) (flat_map f (range_with_len (i + 1) (n + 1 - (i + 1)))) new whole grown
     (ap (λ (l : List ℕ). o ++ flat_map f l) (sym (next_number i n within)) ∙ is)
 
-pub numbers_done : {A : Type 0} (f : ℕ → List A) (i n : ℕ) (o whole : List A) → n < i
-    → o ++ flat_map f (range_with_len i (n + 1 - i)) ≡ whole → o ≡ whole
-numbers_done f i n o whole past is =
-    at_end o whole
-    (ap (λ (l : List ℕ). o ++ flat_map f l) (sym (no_number i n past)) ∙ is)
-
--- the row of a count is that of the equal number
-pub row_counted : (width own : ℕ) (label : List ℕ) (count n : ℕ) (old new : List ℕ)
-    → new ≡ old ++ row_if_any width label count → width ≡ own → count ≡ n
-    → new ≡ old ++ row_if_any own label n
-row_counted width own label count n old new grown is_width is_count =
-    grown ∙ ap₂ (λ (w m : ℕ). old ++ row_if_any w label m) is_width is_count
-
-pub move_counted : (widths : MoveWidths) (from to : List ℕ) (count n : ℕ) (lost : Bool)
-    (old new : List ℕ) → new ≡ old ++ move_if_any widths from to count lost → count ≡ n
-    → new ≡ old ++ move_if_any widths from to n lost
-move_counted widths from to count n lost old new grown is_count =
-    grown ∙ ap (λ (m : ℕ). old ++ move_if_any widths from to m lost) is_count
-
+-- the object of a count is that of the equal number
 pub share_counted : (versions : List (List ℕ)) (choice count n : ℕ) (old new : List Data)
     → new ≡ old ++ share_if_any versions choice count → count ≡ n
     → new ≡ old ++ share_if_any versions choice n

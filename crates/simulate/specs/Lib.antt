@@ -4,6 +4,5 @@ pub mod Counts
 pub mod Columns
 pub mod Shown
 pub mod Picked
-pub mod Shares
 pub mod Moving
 pub mod Objects

@@ -34,11 +34,6 @@ version_in versions place = slice_index_or versions place []
 abbrev pub version_at : List (List ℕ) → (choice : ℕ) → List ℕ
 version_at versions choice = version_in versions (choice - 1)
 
--- the name of a choice without its number: none, or its version
-abbrev pub choice_name : List (List ℕ) → ℕ → List ℕ
-choice_name versions choice =
-    if choice == 0 then codes "none" else version_at versions choice
-
 -- ---- an app by its appid
 
 -- the releases of an app, by their versions, and a choice for each bucket

@@ -1,7 +1,6 @@
 //! Columns of a table: blanks, counts in percent and bars.
 
-ghost use Rattle.std.specs.Prelude.{◌≡◌, ◌≤◌, OnOk};
-ghost use Rattle.std.specs.Fmt.{decimal};
+ghost use Rattle.std.specs.Prelude.{◌≡◌, OnOk};
 ghost use Rattle.printing.specs.Pushed.{Puts};
 ghost use Rattle.simulate.specs.Columns as specs;
 
@@ -37,56 +36,32 @@ pub fn push_left(text: &mut String, width: usize, more: &str) -> Result<(), Allo
 }
 
 /// Appends a text, preceded by the blanks that fill it up to a width.
-pub fn push_right(text: &mut String, width: usize, more: &str) -> Result<(), AllocError>
-    ensures { OnOk result (Puts text.old text.new (specs.at_right width more.now)) }
-{
+pub(crate) fn push_right(text: &mut String, width: usize, more: &str) -> Result<(), AllocError> {
     push_blanks(text, width.saturating_sub(width_of(more)))?;
     text.push_str(more)
 }
 
-/// Appends a number at the left of a column.
-pub fn push_number_left(text: &mut String, width: usize, number: usize) -> Result<(), AllocError>
-    ensures { OnOk result (Puts text.old text.new (specs.at_left width (decimal number))) }
-{
-    let digits = number.to_string(*text.allocator())?;
-    push_left(text, width, digits.as_str())
-}
-
-pub fn push_number_right(text: &mut String, width: usize, number: u32) -> Result<(), AllocError>
-    ensures { OnOk result (Puts text.old text.new (specs.at_right width (decimal number))) }
-{
+/// Appends a number at the right of a column.
+pub(crate) fn push_number_right(
+    text: &mut String,
+    width: usize,
+    number: u32,
+) -> Result<(), AllocError> {
     let digits = number.to_string(*text.allocator())?;
     push_right(text, width, digits.as_str())
 }
 
-/// Appends a count out of 10000, in percent.
-pub fn push_percent(text: &mut String, count: u32) -> Result<(), AllocError>
-    ensures { OnOk result (Puts text.old text.new (specs.percent count)) }
-{
+/// Appends a count out of 10000, in percent with two decimals.
+pub(crate) fn push_percent(text: &mut String, count: u32) -> Result<(), AllocError> {
     let whole = count / 100;
-    let tenths = count / 10 % 10;
-    let hundredths = count % 10;
-    write!(text, "{whole}.{tenths}{hundredths}")
+    let hundredths = count % 100;
+    write!(text, "{whole}.{hundredths:02}")
 }
 
-/// Appends a percentage with two decimals at the right of a column with this width.
-pub fn push_percent_right(text: &mut String, width: usize, count: u32) -> Result<(), AllocError>
-    ensures { OnOk result (Puts text.old text.new (specs.at_right width (specs.percent count))) }
-{
-    let mut percent = String::new(*text.allocator());
-    push_percent(&mut percent, count)?;
-    push_right(text, width, percent.as_str())
-}
-
-/// Appends the bar of a count out of 10000.
-pub fn push_bar(text: &mut String, count: u32) -> Result<(), AllocError>
-    requires { count ≤ 10000 }
-    ensures { OnOk result (Puts text.old text.new (specs.bar count)) }
-{
-    let mut left = ((count + 125) / 250).max(1);
-    while left > 0 {
+/// Appends the bar of a count out of 10000: a mark for each 250, rounded, but at least one.
+pub(crate) fn push_bar(text: &mut String, count: u32) -> Result<(), AllocError> {
+    for _mark in 0..(count.saturating_add(125) / 250).max(1) {
         text.push_str("#")?;
-        left -= 1;
     }
     Ok(())
 }
