@@ -126,8 +126,3 @@ separator (f ∷ g ∷ fs) = codes ", "
 abbrev pub listed : List Follower → Text
 listed [] = []
 listed (f ∷ fs) = shown f ++ separator fs ++ listed fs
-
--- a test is expected if the word `flag` is
-abbrev pub is_flag_word : Follower → Bool
-is_flag_word follower.Flag = true
-is_flag_word f = false

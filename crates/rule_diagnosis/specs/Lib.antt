@@ -1,5 +1,4 @@
 pub mod Lexemes
 pub mod Places
 pub mod Followers
-pub mod Sentences
 pub mod Message

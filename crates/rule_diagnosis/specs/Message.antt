@@ -1,16 +1,13 @@
--- The message about a refused rule: line and column, what is there and what is expected, and the
--- line itself with a caret.
+-- The message about a refused rule: line and column, some words, and the line itself with a caret.
+-- If a token is misplaced, the words say what is expected.
 use Rattle.std.specs.Prelude.{◌≡◌, ◌⊎◌, ◌<◌, ◌≤◌, ℕ, ◌+◌, ◌-◌, List, [], ◌++◌, codes, decimal}
-use Rattle.std.specs.Prelude.{length, take, Err, Bool, if◌then◌else◌}
-use Rattle.std.specs.List.{list_any}
+use Rattle.std.specs.Prelude.{length, take, Err}
 use Rattle.cells.specs.Arrays.{AppShape}
 use Rattle.printing.specs.Printed.{printed_lines}
 use Rattle.rule_diagnosis.specs.declared.follower.Follower.{Follower}
-use Rattle.rule_diagnosis.specs.Followers.{AreFollowers, is_flag_word, listed}
+use Rattle.rule_diagnosis.specs.Followers.{AreFollowers, listed}
 use Rattle.rule_diagnosis.specs.Lexemes.{spread, lexeme_start}
 use Rattle.rule_diagnosis.specs.Places.{line_text, line_at, pad_at}
-use Rattle.rule_diagnosis.specs.Sentences.{lexeme_text, token_sentence, name_sentence}
-use Rattle.rule_diagnosis.specs.Sentences.{misplaced_hint, parts_digits, range_sentence, test_hint}
 use Rattle.rule_lang.specs.declared.rule_fault.RuleFault.TheVariants.{At}
 use Rattle.rule_lang.specs.declared.rule_fault.RuleFaultKind.{RuleFaultKind}
 use Rattle.rule_lang.specs.declared.rule_fault.RuleFaultKind.TheVariants as kind
@@ -26,10 +23,6 @@ pub record LiesAt (s : AppShape) (text : Text) (line : ℕ) (k : RuleFaultKind) 
   pub from : 2 ≤ row
   pub fault : IsVerdict s (spread text) (Err (At row k))
   pub line_is : line_at (take (lexeme_start (row - 2) text) text) ≡ line
-
--- the lexeme in a row; the rows before it have the previous lexemes
-abbrev pub lexeme : Text → ℕ → Text
-lexeme text row = line_text row (spread text)
 
 -- how many bytes come before the lexeme in a row
 abbrev pub row_start : Text → ℕ → ℕ
@@ -55,38 +48,29 @@ lines_at text place sentence =
     lines_of (line_at before) (length (pad_at before) + 1)
     (printed_lines (line_text (line_at before) text)) (pad_at (printed_lines before)) sentence
 
--- the sentence about a misplaced token, which may be a comma between digits
-abbrev pub shape_hint : (parted : Bool) → (found : Text) → List Follower → Text
-shape_hint parted found fs =
-    if list_any is_flag_word fs then test_hint found else misplaced_hint parted found
+-- the sentence about a misplaced token: what is there, what may be there, and a hint
+abbrev pub expected_sentence : (found : Text) → List Follower → (hint : Text) → Text
+expected_sentence found fs hint =
+    found ++ codes " stands where " ++ listed fs ++ codes " is expected" ++ hint
 
-unfoldable pub shape_sentence : (parted : Bool) → (found : Text) → List Follower → Text
-shape_sentence parted found fs =
-    lexeme_text found ++ codes " stands where " ++ listed fs ++ codes " is expected"
-    ++ shape_hint parted found fs
+-- some words about the lexeme in a row
+abbrev pub IsAbout : Text → (row : ℕ) → (message : Text) → Type 0
+IsAbout text row message =
+    (sentence : Text) × (message ≡ lines_at text (row_start text row) sentence)
 
-abbrev pub misplaced : Text → ℕ → List Follower → Text
-misplaced text row fs =
-    shape_sentence (parts_digits text (row_start text row)) (lexeme text row) fs
-
--- the sentences about the other kinds, by rows with one lexeme each
-abbrev pub sentence_in : AppShape → (rows : Text) → RuleFaultKind → ℕ → Text
-sentence_in s rows kind.Token row = token_sentence (line_text row rows)
-sentence_in s rows kind.Shape row = []
-sentence_in s rows kind.Name row =
-    name_sentence s (line_text (row - 1) rows) (line_text row rows)
-sentence_in s rows kind.Range row =
-    range_sentence s (line_text (row - 2) rows) (line_text (row - 1) rows) (line_text row rows)
-
-abbrev pub sentence : AppShape → Text → RuleFaultKind → ℕ → Text
-sentence s text k row = sentence_in s (spread text) k row
+-- for a misplaced token these say what may be there
+pub record SaysExpected (s : AppShape) (text : Text) (row : ℕ) (message : Text) : Type 0 where
+  pub followers : List Follower
+  pub are : AreFollowers s (take (row_start text row) text) followers
+  pub found : Text
+  pub hint : Text
+  pub message_is :
+      message ≡ lines_at text (row_start text row) (expected_sentence found followers hint)
 
 -- the lines of the message, by the row of the lexeme
 abbrev pub AreLines : AppShape → Text → RuleFaultKind → ℕ → Text → Type 0
-AreLines s text kind.Shape row message =
-    (fs : List Follower) × AreFollowers s (take (row_start text row) text) fs
-    × (message ≡ lines_at text (row_start text row) (misplaced text row fs))
-AreLines s text k row message = message ≡ lines_at text (row_start text row) (sentence s text k row)
+AreLines s text kind.Shape row message = SaysExpected s text row message
+AreLines s text k row message = IsAbout text row message
 
 -- ---- the message about a text whose fault has this line and kind
 

@@ -1,7 +1,6 @@
 //! The words and kinds of words that may follow the beginning of a rule, and how they are printed.
 
 ghost use Rattle.std.specs.Prelude.{◌≡◌, ◌++◌, OnOk, option_map};
-ghost use Rattle.std.specs.List.{list_any};
 ghost use Rattle.printing.specs.Pushed.{Puts};
 ghost use Rattle.rule_diagnosis.specs.Followers as followers;
 
@@ -179,25 +178,12 @@ fn push_listed_follower(
     text.push_str(separator(rest))
 }
 
-fn is_flag_word(follower: Follower) -> bool
-    ensures { result ≡ followers.is_flag_word follower }
-{
-    match follower {
-        Follower::Flag => true,
-        _ => false,
-    }
-}
-
-/// Whether a test is expected.
-pub fn expects_test(listed: &[Follower]) -> bool
-    ensures { result ≡ list_any followers.is_flag_word listed.now }
-{
-    let mut left = listed;
-    while let [first, rest @ ..] = left {
-        if is_flag_word(*first) {
+/// Whether a test is expected: then the word `flag` is.
+pub(crate) fn expects_test(listed: &[Follower]) -> bool {
+    for follower in listed {
+        if let Follower::Flag = *follower {
             return true;
         }
-        left = rest;
     }
     false
 }

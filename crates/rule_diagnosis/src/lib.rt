@@ -27,7 +27,6 @@ mod hint;
 mod lexeme;
 mod place;
 mod quoting;
-mod range;
 mod rule_message;
 mod sentence;
 mod spread;

@@ -1,19 +1,16 @@
 //! The message about a refused rule.
 
 ghost use Rattle.std.specs.Prelude.{◌≡◌, ◌↔◌, ◌≤◌, ◌<◌, ℕ, List, Err, length};
-ghost use Rattle.std.specs.Prelude.{IfSome, IsTrue, OnOk, string_bytes};
-ghost use Rattle.printing.specs.Pushed.{Puts};
-ghost use Rattle.rule_diagnosis.specs.Lexemes as lexemes;
+ghost use Rattle.std.specs.Prelude.{IfOk, IfSome, IsTrue, string_bytes};
 ghost use Rattle.rule_diagnosis.specs.Message as specs;
 ghost use Rattle.rule_lang.specs.Verdicts.{IsVerdict};
 
 use crate::caret::message_at;
 use crate::follower::{Follower, expects_test, push_followers};
-use crate::hint::{misplaced_hint, parts_digits, push_test_hint};
+use crate::hint::misplaced_hint;
 use crate::place::{front, line_at, line_text};
 use crate::quoting::push_lexeme;
-use crate::range::push_range_sentence;
-use crate::sentence::{push_name_sentence, push_token_sentence};
+use crate::sentence::push_sentence;
 use crate::spread::{lexeme_start, spread};
 use crate::trial::followers_of;
 use cells::Shape;
@@ -34,7 +31,7 @@ use std::str;
 /// except for a tab. Returns `None` if an allocation fails, if this isn't the text's fault, or if
 /// the text's words, one to a line, are more than 65536 bytes.
 // open: that there is a result: it is None if an allocation fails, if the fault isn't this text's,
-// and if its words, a line each, are over 65536 bytes.
+// and if its words, a line each, are over 65536 bytes; the words besides what is expected: rows.
 pub fn rule_fault_message(
     alloc: Global,
     text: &str,
@@ -109,46 +106,40 @@ fn is_same(kind: RuleFaultKind, other: RuleFaultKind) -> bool
 
 // Explains a misplaced token.
 fn shape_message(alloc: Global, text: &str, shape: &Shape, rows: &str, row: usize) -> Option<String>
-    requires { rows.now ≡ lexemes.spread text.now }
-    ensures { IfSome result (λ message. specs.AreLines shape.now text.now RuleFaultKind.Shape row
-        (string_bytes message)) }
+    ensures { IfSome result
+        (λ message. specs.SaysExpected shape.now text.now row (string_bytes message)) }
 {
     let at = lexeme_start(row.saturating_sub(2), text.as_bytes());
     let Some(found) = followers_of(alloc, shape, front(text.as_bytes(), at)) else {
         return None;
     };
-    let parted = parts_digits(text.as_bytes(), at);
-    let mut sentence = String::new(alloc);
-    match push_shape_sentence(
-        &mut sentence,
-        parted,
-        line_text(row, rows),
-        found.as_slice(),
-    ) {
-        Ok(()) => message_at(alloc, text, at, sentence.as_str()),
+    let lexeme = line_text(row, rows);
+    let is_test = expects_test(found.as_slice());
+    let Ok(hint) = misplaced_hint(alloc, text.as_bytes(), at, lexeme, is_test) else {
+        return None;
+    };
+    match expected_sentence(alloc, lexeme, found.as_slice(), hint.as_str()) {
+        Ok(sentence) => message_at(alloc, text, at, sentence.as_str()),
         Err(_) => None,
     }
 }
 
-#[tactic(auto, unfolding(crate::specs::Message::shape_sentence))]
-fn push_shape_sentence(
-    text: &mut String,
-    parted: bool,
+fn expected_sentence(
+    alloc: Global,
     lexeme: &str,
-    found: &[Follower],
-) -> Result<(), AllocError>
-    ensures { OnOk result
-        (Puts text.old text.new (specs.shape_sentence parted lexeme.now found.now)) }
+    followers: &[Follower],
+    hint: &str,
+) -> Result<String, AllocError>
+    ensures { IfOk result (λ sentence. (found : List ℕ) × (string_bytes sentence
+        ≡ specs.expected_sentence found followers.now hint.now)) }
 {
-    push_lexeme(text, lexeme)?;
+    let mut text = String::new(alloc);
+    push_lexeme(&mut text, lexeme)?;
     text.push_str(" stands where ")?;
-    push_followers(text, found)?;
+    push_followers(&mut text, followers)?;
     text.push_str(" is expected")?;
-    if expects_test(found) {
-        push_test_hint(text, lexeme)
-    } else {
-        text.push_str(misplaced_hint(parted, lexeme))
-    }
+    text.push_str(hint)?;
+    Ok(text)
 }
 
 // Explains a fault of another kind.
@@ -160,9 +151,7 @@ fn other_message(
     row: usize,
     kind: RuleFaultKind,
 ) -> Option<String>
-    requires { rows.now ≡ lexemes.spread text.now }
-    ensures { IfSome result (λ message. string_bytes message ≡ specs.lines_at text.now
-        (specs.row_start text.now row) (specs.sentence shape.now text.now kind row)) }
+    ensures { IfSome result (λ message. specs.IsAbout text.now row (string_bytes message)) }
 {
     let mut sentence = String::new(alloc);
     match push_sentence(&mut sentence, shape, rows, row, kind) {
@@ -171,25 +160,5 @@ fn other_message(
             message_at(alloc, text, at, sentence.as_str())
         }
         Err(_) => None,
-    }
-}
-
-fn push_sentence(
-    text: &mut String,
-    shape: &Shape,
-    rows: &str,
-    row: usize,
-    kind: RuleFaultKind,
-) -> Result<(), AllocError>
-    ensures { OnOk result (Puts text.old text.new (specs.sentence_in shape.now rows.now kind row)) }
-{
-    let found = line_text(row, rows);
-    let before = line_text(row.saturating_sub(1), rows);
-    let earlier = line_text(row.saturating_sub(2), rows);
-    match kind {
-        RuleFaultKind::Token => push_token_sentence(text, found),
-        RuleFaultKind::Shape => Ok(()),
-        RuleFaultKind::Name => push_name_sentence(text, shape, before, found),
-        RuleFaultKind::Range => push_range_sentence(text, shape, earlier, before, found),
     }
 }

@@ -1,128 +1,123 @@
-//! Sentences about an unknown lexeme (L1), an unknown name (L3), or a name of the wrong kind.
-
-ghost use Rattle.std.specs.Prelude.{◌≡◌, OnOk, flat_map};
-ghost use Rattle.printing.specs.Pushed.{Puts};
-ghost use Rattle.rule_diagnosis.specs.Sentences as sentences;
-ghost use Rattle.rule_lang.specs.Shapes as shapes;
+//! The words about an unknown lexeme (L1), a wrong name (L3), or a number, a `not` or a parenthesis
+//! out of range (L4). No clause says which; rows compare them.
 
 use crate::hint::hint;
+use crate::place::line_text;
 use crate::quoting::push_lexeme;
-use cells::{CellArray, Shape};
-use rule_lang::array_named;
+use cells::Shape;
+use rule_lang::{RuleFaultKind, array_named};
 use std::alloc::AllocError;
 use std::fmt::Write;
 
-/// Adds the sentence about an L1.
-pub fn push_token_sentence(text: &mut String, found: &str) -> Result<(), AllocError>
-    ensures { OnOk result (Puts text.old text.new (sentences.token_sentence found.now)) }
-{
+/// Adds the words about the lexeme in a row; there is one lexeme a row.
+pub(crate) fn push_sentence(
+    text: &mut String,
+    shape: &Shape,
+    rows: &str,
+    row: usize,
+    kind: RuleFaultKind,
+) -> Result<(), AllocError> {
+    let found = line_text(row, rows);
+    let before = line_text(row.saturating_sub(1), rows);
+    let earlier = line_text(row.saturating_sub(2), rows);
     push_lexeme(text, found)?;
-    text.push_str(no_word())?;
-    text.push_str(hint(found))
-}
-
-#[tactic(auto, unfolding(crate::specs::Sentences::no_word))]
-fn no_word() -> &'static str
-    ensures { result.now ≡ sentences.no_word }
-{
-    " is no word of a rule"
-}
-
-#[tactic(auto, unfolding(crate::specs::Sentences::flags))]
-fn flags() -> &'static str
-    ensures { result.now ≡ sentences.flags }
-{
-    "version_known, updatecheck, ping, event, cohort_known, installdate_known"
-}
-
-#[tactic(auto, unfolding(crate::specs::Sentences::attributes))]
-fn attributes() -> &'static str
-    ensures { result.now ≡ sentences.attributes }
-{
-    "appid, version, brand, ap, lang, cohort, platform"
-}
-
-#[tactic(auto, unfolding(crate::specs::Sentences::no_quota_hint))]
-fn no_quota_hint() -> &'static str
-    ensures { result.now ≡ sentences.no_quota_hint }
-{
-    " has no quota: count adds to it, and take doesn't"
-}
-
-#[tactic(auto, unfolding(crate::specs::Sentences::quota_hint))]
-fn quota_hint() -> &'static str
-    ensures { result.now ≡ sentences.quota_hint }
-{
-    " has a quota: take adds to it, and count doesn't"
-}
-
-fn push_other_names(text: &mut String, arrays: &[CellArray]) -> Result<(), AllocError>
-    ensures { OnOk result (Puts text.old text.new (flat_map sentences.next_name arrays.now)) }
-{
-    for array in arrays {
-        push_next_name(text, array)?;
-    }
-    Ok(())
-}
-
-fn push_next_name(text: &mut String, array: &CellArray) -> Result<(), AllocError>
-    ensures { OnOk result (Puts text.old text.new (sentences.next_name array.now)) }
-{
-    let name = array.name.as_str();
-    write!(text, ", {name}")
-}
-
-fn push_array_names(text: &mut String, arrays: &[CellArray]) -> Result<(), AllocError>
-    ensures { OnOk result (Puts text.old text.new (sentences.array_names arrays.now)) }
-{
-    match arrays {
-        [] => text.push_str("none"),
-        [first, others @ ..] => {
-            text.push_str(first.name.as_str())?;
-            push_other_names(text, others)
+    match kind {
+        RuleFaultKind::Token => {
+            text.push_str(" is no word of a rule")?;
+            text.push_str(hint(found))
+        }
+        RuleFaultKind::Shape => Ok(()),
+        RuleFaultKind::Name => push_name_sentence(text, shape, before, found),
+        RuleFaultKind::Range => {
+            text.push_str(" is out of range: ")?;
+            push_range_sentence(text, shape, earlier, before, found)
         }
     }
 }
 
-// Adds the sentence about a wrong name of an array.
-fn push_array_sentence(text: &mut String, shape: &Shape, found: &str) -> Result<(), AllocError>
-    ensures { OnOk result
-        (Puts text.old text.new (sentences.array_sentence shape.now found.now
-        (shapes.array_named found.now shape.now.arrays))) }
-{
-    push_lexeme(text, found)?;
-    match array_named(shape.arrays(), found) {
-        Some(array) => text.push_str(if array.quota.is_some() {
-            quota_hint()
-        } else {
-            no_quota_hint()
-        }),
-        None => {
-            text.push_str(" is no array; there are: ")?;
-            push_array_names(text, shape.arrays())
-        }
-    }
-}
-
-/// Adds the sentence about an L3; `before` is the previous lexeme.
-pub fn push_name_sentence(
+// Which names there are, or of which kind the array is.
+fn push_name_sentence(
     text: &mut String,
     shape: &Shape,
     before: &str,
     found: &str,
-) -> Result<(), AllocError>
-    ensures { OnOk result
-        (Puts text.old text.new (sentences.name_sentence shape.now before.now found.now)) }
-{
+) -> Result<(), AllocError> {
     if before == "flag" {
-        push_lexeme(text, found)?;
         text.push_str(" is no flag; there are: ")?;
-        text.push_str(flags())
-    } else if before == "attr" {
-        push_lexeme(text, found)?;
-        text.push_str(" is no attribute; there are: ")?;
-        text.push_str(attributes())
+        return text.push_str(
+            "version_known, updatecheck, ping, event, cohort_known, installdate_known",
+        );
+    }
+    if before == "attr" {
+        return text.push_str(
+            " is no attribute; there are: appid, version, brand, ap, lang, cohort, platform",
+        );
+    }
+    match array_named(shape.arrays(), found) {
+        Some(array) if array.quota.is_some() => {
+            text.push_str(" has a quota: take adds to it, and count doesn't")
+        }
+        Some(_) => text.push_str(" has no quota: count adds to it, and take doesn't"),
+        None => push_array_names(text, shape),
+    }
+}
+
+fn push_array_names(text: &mut String, shape: &Shape) -> Result<(), AllocError> {
+    text.push_str(" is no array; there are: ")?;
+    if shape.arrays().is_empty() {
+        return text.push_str("none");
+    }
+    let mut divider = "";
+    for array in shape.arrays() {
+        text.push_str(divider)?;
+        text.push_str(array.name.as_str())?;
+        divider = ", ";
+    }
+    Ok(())
+}
+
+// What is in range after the two previous lexemes.
+fn push_range_sentence(
+    text: &mut String,
+    shape: &Shape,
+    earlier: &str,
+    before: &str,
+    found: &str,
+) -> Result<(), AllocError> {
+    if found == "not" || found == "(" {
+        return text.push_str("at most 32 of not and ( stand in one another");
+    }
+    if before == "offer" {
+        return push_releases(text, shape.releases());
+    }
+    if before == "[" || before == "," {
+        return match array_named(shape.arrays(), earlier) {
+            Some(array) => {
+                let name = array.name.as_str();
+                let length = array.length;
+                write!(text, "{name}'s indexes are below {length}")
+            }
+            None => Ok(()),
+        };
+    }
+    text.push_str(number_range(before, earlier))
+}
+
+fn push_releases(text: &mut String, releases: u8) -> Result<(), AllocError> {
+    match releases {
+        0 => text.push_str("the app has no release"),
+        _ => write!(text, "the app's releases are 1 to {releases}"),
+    }
+}
+
+fn number_range(before: &str, earlier: &str) -> &'static str {
+    if before == "mod" {
+        "1 to 4294967295"
+    } else if before == "(" {
+        "0 to 18446744073709551615"
+    } else if earlier == "version" {
+        "each number of a version is at most 4294967295"
     } else {
-        push_array_sentence(text, shape, found)
+        "0 to 4294967295"
     }
 }
