@@ -7,7 +7,7 @@ use operator::RequestFault;
 use operator_request::OperatorRequest;
 use program_tools::ProgramToolFault;
 use refusal_details::{
-    print_bind_fault, print_cause, print_check_hint, print_connect_fault, print_program_fault,
+    print_bind_fault, print_cause, print_connect_fault, print_load_hint, print_program_fault,
     print_read_fault, print_unread_manifest, print_write_fault,
 };
 use serving::ServingFault;
@@ -31,12 +31,14 @@ where
             print_read_fault(rt, script, err) || print_unread_manifest(rt, disk, manifest, err)
         }
         Command::Run(run) => print_program_fault(rt, disk, run.path, err),
-        Command::Send { request, port } => print_request_fault(rt, request, *port, fault, err),
+        Command::Send { request, port } => {
+            print_request_fault(rt, disk, request, *port, fault, err)
+        }
         Command::Serve { manifest, plan } => {
             print_start_fault(rt, disk, manifest, plan, fault, err)
         }
         Command::StopAndWait { port } => {
-            print_request_fault(rt, &OperatorRequest::Stop, *port, fault, err)
+            print_request_fault(rt, disk, &OperatorRequest::Stop, *port, fault, err)
         }
         Command::Verify { path, .. } => print_program_fault(rt, disk, path, err),
     };
@@ -62,27 +64,25 @@ fn print_texts_fault<R: Files, E: Write>(
 }
 
 // A server that doesn't reply, or that refuses a manifest.
-fn print_request_fault<R, E>(
+fn print_request_fault<R, D, E>(
     rt: &R,
+    disk: &D,
     request: &OperatorRequest<'_>,
     port: u16,
     fault: &Fault,
     err: &mut E,
 ) -> bool
 where
-    R: Net<Stream = TcpStream>,
+    R: Files + AllocGlobal + Net<Stream = TcpStream>,
+    D: Disk,
     E: Write,
 {
     match fault {
         Fault::Ask(RequestFault::Connect) => print_connect_fault(rt, port, err),
-        Fault::Ask(RequestFault::Refused(_)) => print_load_hint(request, err),
-        _ => false,
-    }
-}
-
-fn print_load_hint<E: Write>(request: &OperatorRequest<'_>, err: &mut E) -> bool {
-    match request {
-        OperatorRequest::Load(path) => print_check_hint(path, err),
+        Fault::Ask(RequestFault::Refused(words)) => match request {
+            OperatorRequest::Load(path) => print_load_hint(rt, disk, words.as_str(), path, err),
+            _ => false,
+        },
         _ => false,
     }
 }

@@ -18,11 +18,12 @@ pub fn print_read_fault<R: Files, E: Write>(rt: &R, path: &str, err: &mut E) -> 
 }
 
 /// Prints why no file can be written at a path, if that shows. What only a write shows, such as a
-/// full disk, has a line without the system's reason.
+/// full disk or device, has a line without the system's reason.
 // open: the line, and when there is one: rows and `bench/outside`.
 pub fn print_write_fault<R: Files, E: Write>(rt: &R, path: &str, err: &mut E) -> bool {
     match write_fault(rt, path) {
         Some(error) => print_fault(path, &error, err),
+        None if is_device(rt, path) => print_line(path, "the device takes no more bytes", err),
         None => print_line(
             path,
             "the disk is full, or its folder takes no new file",
@@ -74,6 +75,14 @@ fn write_fault<R: Files>(rt: &R, path: &str) -> Option<Error> {
         Ok(_) => None,
         Err(error) if error.kind() == ErrorKind::NotFound => folder_fault(rt, path),
         Err(error) => Some(error),
+    }
+}
+
+// Whether a path names a file that isn't regular, as a device.
+fn is_device<R: Files>(rt: &R, path: &str) -> bool {
+    match fs::metadata(rt, path) {
+        Ok(found) => !found.is_file(),
+        Err(_) => false,
     }
 }
 

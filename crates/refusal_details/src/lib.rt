@@ -15,7 +15,7 @@ mod programs;
 
 pub use files::{print_picture_fault, print_read_fault, print_write_fault};
 pub use manifests::{
-    print_app_names, print_arrays, print_cause, print_check_hint, print_manifest_hint,
+    print_app_names, print_arrays, print_cause, print_load_hint, print_manifest_hint,
     print_unread_manifest,
 };
 pub use ports::{print_bind_fault, print_connect_fault};

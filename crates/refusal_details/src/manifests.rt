@@ -2,8 +2,9 @@
 
 use crate::files::print_read_fault;
 use bounded_files::Disk;
+use cells::Directory;
 use declarations::ArrayDeclaration;
-use load::{file_of, manifest_bytes};
+use load::{LoadRefusal, file_of, load_with_digest, manifest_bytes};
 use manifest::{AppEntry, Manifest, read_manifest};
 use printing::Printed;
 use std::alloc::{AllocError, Global};
@@ -68,15 +69,53 @@ pub fn print_app_names<D: Disk, E: Write>(
     printed
 }
 
-/// Prints which command says why a manifest is refused.
-// open: the line: rows.
-pub fn print_check_hint<E: Write>(path: &str, err: &mut E) -> bool {
+// Prints which command says why a manifest is refused.
+fn print_check_hint<E: Write>(path: &str, err: &mut E) -> bool {
     let path = Printed(path);
     writeln!(err, "rollout check {path} prints the place and the reason").is_ok()
 }
 
-/// Prints the cause that a log has of a manifest's refusal; without one, what `print_check_hint`
-/// prints.
+/// Prints why a server refuses to load the manifest at a path, by the words of its refusal, or how
+/// to find that out. Only the server's log has the cause of M7. A server reads a relative path in
+/// its own folder, and every file as its own user.
+// open: the line, and when there is one: rows and `bench/outside`.
+pub fn print_load_hint<R, D, E>(rt: &R, disk: &D, refusal: &str, path: &str, err: &mut E) -> bool
+where
+    R: Files + AllocGlobal,
+    D: Disk,
+    E: Write,
+{
+    if refusal.starts_with("M7") {
+        return writeln!(
+            err,
+            "the arrays don't fit the server's: its log has the cause"
+        )
+        .is_ok();
+    }
+    if !path.starts_with('/') {
+        let path = Printed(path);
+        let line = "in its own folder: give it the whole path";
+        return writeln!(err, "the server reads {path} {line}").is_ok();
+    }
+    if print_unread_manifest(rt, disk, path, err) {
+        return true;
+    }
+    if refusal.starts_with("B3") || refusal.starts_with("M4") {
+        return writeln!(err, "the server's user can't read what this one can").is_ok();
+    }
+    let cause = cause_at(rt.alloc(), disk, path);
+    print_cause(cause.as_deref(), path, err)
+}
+
+// The cause that a log would have of the refusal of a manifest, over no arrays.
+fn cause_at<D: Disk>(alloc: Global, disk: &D, path: &str) -> Option<String> {
+    match load_with_digest(alloc, disk, path, &Directory::new(alloc)) {
+        Ok(_) => None,
+        Err(LoadRefusal { cause, .. }) => cause,
+    }
+}
+
+/// Prints the cause that a log has of a manifest's refusal; without one, which command says why.
 // open: the line: rows.
 pub fn print_cause<E: Write>(cause: Option<&str>, path: &str, err: &mut E) -> bool {
     let Some(cause) = cause else {
