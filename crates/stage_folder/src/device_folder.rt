@@ -16,6 +16,11 @@ const MOST_BYTES: u32 = 0x100_0000;
 /// The most bytes of a record: 256 MiB.
 const MOST_RECORD: u32 = 0x1000_0000;
 
+/// The name of the notes on loads, in the folder of the records, and their most bytes: 1 MiB.
+const LOADS: &str = "loads";
+
+const MOST_LOADS: u32 = 0x10_0000;
+
 /// A folder of a device, about whose files and records nothing is known. A new file
 /// is written next to the old one, synced and renamed; none is written through a symbolic link.
 #[derive(Drop)]
@@ -50,6 +55,17 @@ impl<'a, R: Files<File = File> + AllocGlobal> DeviceFolder<'a, R> {
 
     fn path_of_record(&self, number: u32) -> Result<String, FolderFault> {
         Ok(format!(in self.rt.alloc(); "{}/{RECORDS}/{number}.json", self.path.as_str())?)
+    }
+
+    fn path_of_loads(&self) -> Result<String, FolderFault> {
+        Ok(format!(in self.rt.alloc(); "{}/{RECORDS}/{LOADS}", self.path.as_str())?)
+    }
+
+    // Replaces a file in the folder of the records, or makes it.
+    fn replace_own(&self, path: &str, bytes: &[u8]) -> Result<(), FolderFault> {
+        let folder = self.path_of_records()?;
+        make_records(self.rt, folder.as_str())?;
+        replace_file(self.rt, path, bytes, 0o600)
     }
 }
 
@@ -103,9 +119,21 @@ impl<'a, R: Files<File = File> + AllocGlobal> StageFolder for DeviceFolder<'a, R
         if bytes.len() > MOST_RECORD as usize {
             return Err(FolderFault::TooLong);
         }
-        let folder = self.path_of_records()?;
-        make_records(self.rt, folder.as_str())?;
         let path = self.path_of_record(number)?;
-        replace_file(self.rt, path.as_str(), bytes, 0o600)
+        self.replace_own(path.as_str(), bytes)
+    }
+
+    fn read_loads(&self) -> Result<Option<Vec<u8>>, FolderFault> {
+        let folder = self.path_of_records()?;
+        if !has_records(self.rt, folder.as_str())? {
+            return Ok(None);
+        }
+        let path = self.path_of_loads()?;
+        read_file(self.rt, path.as_str(), MOST_LOADS)
+    }
+
+    fn write_loads(&self, bytes: &[u8]) -> Result<(), FolderFault> {
+        let path = self.path_of_loads()?;
+        self.replace_own(path.as_str(), bytes)
     }
 }

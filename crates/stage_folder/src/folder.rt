@@ -57,4 +57,17 @@ pub trait StageFolder {
         ensures failed { OnErr result ((records self.new ≡ records self.old) ⊎
             (records self.new ≡ record_known number bytes.now (records self.old))) }
         ensures files { files self.new ≡ files self.old };
+
+    /// The notes on the last load of each server, at most 1 MiB; None if there are none. Only a
+    /// device's folder has notes, next to its records.
+    // open: what they are.
+    fn read_loads(&self) -> Result<Option<Vec<u8>>, FolderFault> {
+        Ok(None)
+    }
+
+    /// Makes the notes, or replaces them as a whole.
+    // open: what they are afterwards.
+    fn write_loads(&self, _bytes: &[u8]) -> Result<(), FolderFault> {
+        Err(FolderFault::NotRecorded)
+    }
 }
