@@ -63,13 +63,13 @@ of_accepted allowed path checked =
     (or_neither _ _ (mapped array_object checked.arrays.items of_array)
     (or_neither _ false (mapped (warning_object allowed) checked.warnings.items (λ w. refl)) refl))
 
-of_faults : (why : ManifestToolFault) → AreFloatless (fault_objects why)
-of_faults (fault.Diagnosed found) = mapped further_object found.further.items (λ f. refl)
-of_faults why = refl
+of_faults : (reason : List ℕ) (why : ManifestToolFault) → AreFloatless (fault_objects reason why)
+of_faults reason (fault.Diagnosed found) = mapped further_object found.further.items (λ f. refl)
+of_faults reason why = refl
 
-of_refused : (path : List ℕ) (why : ManifestToolFault)
-    → has_float (refused_object path why) ≡ false
-of_refused path why = or_neither _ false (of_faults why) refl
+of_refused : (path reason : List ℕ) (why : ManifestToolFault)
+    → has_float (refused_object path reason why) ≡ false
+of_refused path reason why = or_neither _ false (of_faults reason why) refl
 
 -- ---- all of them
 
@@ -78,7 +78,8 @@ of_object : (known : KnownFiles) (strict : Bool) (allowed : List (Bor (List ℕ)
     → has_float value ≡ false
 of_object known strict allowed path value one (accepted manifest checked) =
     of_accepted allowed path manifest
-of_object known strict allowed path value one (refused why refuses) = of_refused path why
+of_object known strict allowed path value one (refused why reason refuses) =
+    of_refused path reason why
 
 of_each : (known : KnownFiles) (strict : Bool) (allowed : List (Bor (List ℕ)))
     (paths : List (Bor (List ℕ))) (values : List Data) (all : Bool)

@@ -97,9 +97,10 @@ diagnosed_objects refused =
     fault_object (load_fault_text refused.fault) (string_bytes refused.own)
     ∷ map further_object refused.further.items
 
-abbrev pub fault_objects : ManifestToolFault → List Data
-fault_objects (fault.Diagnosed refused) = diagnosed_objects refused
-fault_objects refused = fault_object (fault_text refused) [] ∷ []
+-- the same, or why the manifest's file can't be read
+abbrev pub fault_objects : (reason : List ℕ) → ManifestToolFault → List Data
+fault_objects reason (fault.Diagnosed refused) = diagnosed_objects refused
+fault_objects reason refused = fault_object (fault_text refused) reason ∷ []
 
 -- how many further faults are left out, and how many apps have files that weren't read
 abbrev pub left_out_of : ManifestToolFault → ℕ
@@ -110,10 +111,10 @@ abbrev pub unread_of : ManifestToolFault → ℕ
 unread_of (fault.Diagnosed refused) = refused.unread
 unread_of refused = 0
 
-abbrev pub refused_object : (path : List ℕ) → ManifestToolFault → Data
-refused_object path refused = object (
+abbrev pub refused_object : (path reason : List ℕ) → ManifestToolFault → Data
+refused_object path reason refused = object (
     member (codes "accepted") (boolean false) (
-    member (codes "faults") (list_of (fault_objects refused)) (
+    member (codes "faults") (list_of (fault_objects reason refused)) (
     member (codes "left_out") (number (unsigned (left_out_of refused))) (
     member (codes "manifest") (string path) (
     member (codes "unread_apps") (number (unsigned (unread_of refused)))
@@ -128,13 +129,13 @@ checks_object manifests passes = object (
     no_members))
 
 module _ (known : KnownFiles) (strict : Bool) (allowed : List (Bor (List ℕ))) where
-  -- the object of a manifest, and whether it passes
+  -- the object of a manifest, and whether it passes; the system's reasons aren't known
   pub data IsCheckObject (path : List ℕ) : Data → (passes : Bool) → Type 0 where
     accepted : (checked : CheckedManifest) → IsChecked known path checked
         → IsCheckObject path (accepted_object allowed path checked)
         (passes strict allowed checked.warnings.items)
-    refused : (why : ManifestToolFault) → IsCheckRefusal known path why
-        → IsCheckObject path (refused_object path why) false
+    refused : (why : ManifestToolFault) (reason : List ℕ) → IsCheckRefusal known path why
+        → IsCheckObject path (refused_object path reason why) false
 
   -- the objects of manifests, in order; all have to pass
   pub data AreCheckObjects : List (Bor (List ℕ)) → List Data → (passes : Bool) → Type 0 where

@@ -142,15 +142,17 @@ pub(crate) fn checks_object(
 
 // ---- refused
 
-/// The object of a refused manifest.
+/// The object of a refused manifest. If its file can't be read, `reason` says why.
 pub(crate) fn refused_object(
     alloc: Global,
     path: &str,
+    reason: &str,
     fault: &ManifestToolFault,
 ) -> Result<Value, AllocError>
-    ensures { IfOk result (λ value. view value ≡ specs.refused_object path.now fault.now) }
+    ensures { IfOk result (λ value. view value
+        ≡ specs.refused_object path.now reason.now fault.now) }
 {
-    let faults = fault_objects(alloc, fault)?;
+    let faults = fault_objects(alloc, reason, fault)?;
     json!(in alloc; {
         "accepted": false,
         "faults": faults,
@@ -160,22 +162,31 @@ pub(crate) fn refused_object(
     })
 }
 
-fn fault_objects(alloc: Global, fault: &ManifestToolFault) -> Result<Vec<Value>, AllocError>
-    ensures { IfOk result (λ values. map view values.items ≡ specs.fault_objects fault.now) }
+fn fault_objects(
+    alloc: Global,
+    reason: &str,
+    fault: &ManifestToolFault,
+) -> Result<Vec<Value>, AllocError>
+    ensures { IfOk result (λ values. map view values.items
+        ≡ specs.fault_objects reason.now fault.now) }
 {
     match fault {
         ManifestToolFault::Diagnosed(refused) => diagnosed_objects(alloc, refused),
-        _ => other_objects(alloc, fault),
+        _ => other_objects(alloc, reason, fault),
     }
 }
 
 // For a fault that has nothing but its text.
-fn other_objects(alloc: Global, fault: &ManifestToolFault) -> Result<Vec<Value>, AllocError>
+fn other_objects(
+    alloc: Global,
+    reason: &str,
+    fault: &ManifestToolFault,
+) -> Result<Vec<Value>, AllocError>
     ensures { IfOk result (λ values. map view values.items
-        ≡ specs.fault_object (fault_text fault.now) [] ∷ []) }
+        ≡ specs.fault_object (fault_text fault.now) reason.now ∷ []) }
 {
     let refusal = fault.to_string(alloc)?;
-    let value = fault_object(alloc, refusal, "")?;
+    let value = fault_object(alloc, refusal, reason)?;
     let mut values = Vec::new(alloc);
     push_value(&mut values, value)?;
     Ok(values)

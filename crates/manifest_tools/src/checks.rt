@@ -14,6 +14,7 @@ use crate::manifest_tool_fault::ManifestToolFault;
 use bounded_files::{Disk, ResourceFault};
 use diagnosis::CheckedManifest;
 use std::alloc::{AllocError, Global};
+use std::rt::Files;
 use warnings::{Warning, push_warnings, some_counts};
 
 /// The report on the checked manifests.
@@ -36,23 +37,26 @@ pub struct CheckOutput {
 /// several, each is reported under a line `manifest PATH`, in each text that has lines about it.
 /// A refused manifest is reported in `stderr`, by the line of its refusal and its reason. With
 /// `json` the text is one line of JSON, also for refused manifests, and `stderr` is empty.
-// open: what `check_file` leaves open.
-pub fn check_files<D: Disk>(
-    alloc: Global,
+// open: what `check_file` leaves open, and the system's reason why a manifest can't be read.
+pub fn check_files<R, D>(
+    rt: &R,
     disk: &D,
     paths: &[&str],
     strict: bool,
     allowed: &[&str],
     json: bool,
 ) -> Result<CheckOutput, ManifestToolFault>
+where
+    R: Files + AllocGlobal,
+    D: Disk,
     ensures output { IfOk result
         (IsCheckOutput (D.known disk.now) json strict allowed.now paths.now) }
     ensures fault { IfErr result (RefusesChecks (D.known disk.now) json paths.now) }
 {
     if !json {
-        return check_as_lines(alloc, disk, paths, strict, allowed);
+        return check_as_lines(rt.alloc(), disk, paths, strict, allowed);
     }
-    match check_as_json(alloc, disk, paths, strict, allowed) {
+    match check_as_json(rt, disk, paths, strict, allowed) {
         Ok(output) => Ok(output),
         Err(_) => Err(ManifestToolFault::Resource(ResourceFault::Memory)),
     }

@@ -9,23 +9,21 @@ use crate::tool_fault::Fault;
 use bounded_files::Disk;
 use log_tools::{ReportForm, report_logs, report_on_state};
 use manifest_tools::check_files;
-use std::alloc::Global;
 use std::fs::File;
 use std::rt::Files;
 use std::time::Clock;
 use tool_words::{CheckArgs, ReportArgs, ToolCommand};
 
 /// The messages about the manifests.
-pub(crate) fn checked<D: Disk>(
-    alloc: Global,
-    disk: &D,
-    args: &CheckArgs<'_>,
-) -> Result<ToolOutput, Fault>
+pub(crate) fn checked<R, D>(rt: &R, disk: &D, args: &CheckArgs<'_>) -> Result<ToolOutput, Fault>
+where
+    R: Files + AllocGlobal,
+    D: Disk,
     ensures output { IfOk result (IsOutput (D.known disk.now) (ToolCommand.Check args.now)) }
     ensures fault { IfErr result (IsRefused (D.known disk.now) (ToolCommand.Check args.now)) }
 {
     let (manifests, allowed) = (args.manifests.as_slice(), args.allowed.as_slice());
-    match check_files(alloc, disk, manifests, args.strict, allowed, args.json) {
+    match check_files(rt, disk, manifests, args.strict, allowed, args.json) {
         Ok(output) => Ok(ToolOutput::Checked(output)),
         Err(fault) => Err(Fault::Manifest(fault)),
     }

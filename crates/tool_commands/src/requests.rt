@@ -35,7 +35,7 @@ where
 {
     match command {
         ToolCommand::Ask(args) => dry_run_of(rt, disk, args),
-        ToolCommand::Check(args) => checked(rt.alloc(), disk, args),
+        ToolCommand::Check(args) => checked(rt, disk, args),
         ToolCommand::Completion { shell } => completed(rt.alloc(), *shell),
         ToolCommand::Diff(args) => diffed(rt, disk, args),
         ToolCommand::Explain { path, shape } => explained(rt.alloc(), disk, path, shape),

@@ -7,5 +7,5 @@ returns-in_ok-value-in-Ok g c =
     (accepted c.in-Ok.checked c.in-Ok.ensures.checked)
 
 pub returns-in_ok-value-in-Err : goal.returns-in_ok-value-in-Err
-returns-in_ok-value-in-Err g c = rw c.in_ok-value-in-Err.ensures
-    (refused c.in-Err.fault c.in-Err.ensures.fault)
+returns-in_ok-value-in-Err g c = let reason = c.in_ok-value-in-Err.ensures.0 in
+    rw c.in_ok-value-in-Err.ensures.1 (refused c.in-Err.fault reason c.in-Err.ensures.fault)
