@@ -74,12 +74,13 @@ def steps(folder):
             ("raise editor 2500", ["the files are so already\n", "generation 3\n"]),
             ("halt editor", ["replaced editor.rule\n", "generation 4\n"]),
             ("halt editor", ["the files are so already\n", "generation 5\n"]),
-            ("raise editor 5000", ["1 stage: editor.rule isn't raised: it has no test"]),
-            ("status", ["done step 2 of", "halted: editor\n", "generation 5, the apps in place\n"]),
-            ("back", ["undone step 2 of", "generation 6\n"]),
+            ("raise editor 5000", ["1 stage: editor.rule isn't raised: it halts the app"]),
+            ("status", ["done step 2 of", "halted: editor\n", "generation 5, what is in place "]),
+            ("back", ["none       2.1", "undone step 2 of", "generation 6\n"]),
             ("raise editor 100", ["lost", "1 stage: a row is lost"]),
             ("raise editor 100 --anyway --dry-run", ["would replace editor.rule\n"]),
-            ("back", ["undone step 1 of", "generation 7\n"]),
+            ("back", ["lost", "1 stage: a row is lost"]),
+            ("back --anyway", ["undone step 1 of", "generation 7\n"]),
             ("back", ["1 stage: no step is left to be undone; nothing has changed\n"]),
             ("halt nobody", ["1 stage: current.toml has no app nobody, only editor;"]),
         ]
@@ -138,6 +139,49 @@ def both_servers(folder):
             second.kill()
 
 
+def what_is_served(folder):
+    """A status knows whether a server has what is in place, if `stage` loaded it last. If another
+    command did, the status says so, and the server's log decides."""
+    it = Stage(folder / "served")
+    unsure = "the apps in place; only its log shows which rules it loaded (--log LOG)\n"
+    with it.served():
+        for words, status, wanted in (
+            ("stage status", 1, f"generation 1, {unsure}"),
+            ("stage raise editor 2500", 0, "generation 2\n"),
+            ("stage status", 0, "generation 2, what is in place unless restarted since\n"),
+            ("stage raise editor 4000 --no-load", 0, "replaced editor.rule\n"),
+            ("stage status", 1, "generation 2, not what is in place: load it\n"),
+            ("load /etc/rollout/current.toml", 0, "generation 3\n"),
+            ("stage status", 1, f"generation 3, {unsure}"),
+            ("stage status --log server.log", 0, "what is in place was loaded last\n"),
+            ("stage put /etc/rollout/current.toml", 0, "generation 4\n"),
+            ("stage status", 0, "generation 4, what is in place unless restarted since\n"),
+        ):
+            said = it.run(f"rollout {words} --operator 8081")
+            if wanted not in said or said.endswith("\n1 ") != (status == 1):
+                return f"{words}: {said!r}, not {wanted!r}"
+
+
+def other_manifest(folder):
+    """A server of another manifest: a load says which apps are gone, or what is wrong. Its port is
+    that of ROLLOUT_OPERATOR, if no option names one; and usage has the launcher's name."""
+    it = Stage(folder / "other", [('[[app]]\nappid = "agent"', 'rule = "editor.rule"')])
+    served = Stage(folder / "editors")
+    with served.served():
+        said = it.run("ROLLOUT_OPERATOR=8081 rollout stage halt agent 2>&1")
+        if "generation 2\n" not in said or "server at 18098: apps gone: editor\n" not in said:
+            return f"ROLLOUT_OPERATOR: {said!r}"
+        said = it.run("ROLLOUT_OPERATOR=1 rollout stage status --operator 8081")
+        if "generation 2, what is in place unless restarted since\n" not in said:
+            return f"--operator: {said!r}"
+        it.write("wrong.toml", "server = 1\n")
+        said = it.run("rollout load /etc/rollout/wrong.toml --operator 8081")
+        if said != "1 refused M2 Field\nserver: a text\n":
+            return f"a refused load: {said!r}"
+    if "Usage: rollout stage " not in (said := it.run("rollout stage --help")):
+        return said
+
+
 def used_quota(folder):
     """A quota that is used up is named, and that a raise gives nobody more."""
     needs("curl")
@@ -176,7 +220,7 @@ def lifted(folder):
     elsewhere.write("editor.rule", RULE % 5000)
     if "replaced editor.rule\nreplaced current.toml\n" not in (said := alone(it, put)):
         return f"two files: {said}"
-    alone(it, "back")
+    alone(it, "back --anyway")
     if it.bytes("editor.rule") != (RULE % 2500).encode() or b"# a" in it.bytes("current.toml"):
         return "back hasn't restored both files"
 
@@ -259,6 +303,8 @@ STAGES = {
     "stage: raise, halt, back": steps,
     "stage: any rule and program is halted": halts_any_rule,
     "stage: both servers of a folder": both_servers,
+    "stage: what a server serves": what_is_served,
+    "stage: a server of another manifest": other_manifest,
     "stage: a quota that is used up": used_quota,
     "stage: a halt isn't lifted": lifted,
     "stage: a folder that isn't there": elsewhere_stays,

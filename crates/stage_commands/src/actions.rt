@@ -44,7 +44,7 @@ where
         StageAction::Raise { appid, buckets } => {
             raise(rt, disk, folder, manifest, appid, buckets, options, lines)
         }
-        StageAction::Back => go_back(rt.alloc(), folder, options, lines),
+        StageAction::Back => go_back(rt, disk, folder, manifest, options, lines),
         StageAction::Put { manifest: next } => {
             put(rt, disk, folder, manifest, next, options, lines)
         }
@@ -76,7 +76,7 @@ where
         return push_status(rt, disk, folder, manifest, options, lines);
     }
     change_files(rt, disk, folder, manifest, action, options, lines)?;
-    Ok(load_all(rt, manifest, options, lines)?)
+    Ok(load_all(rt, disk, &*folder, manifest, options, lines)?)
 }
 
 /// Does an action in a folder that is opened and locked, and has the servers load its manifest,

@@ -7,12 +7,16 @@ ghost use Rattle.stage_folder.specs.Steps.{undone};
 
 use crate::options::StageOptions;
 use crate::outcome::{Lines, Stop};
+use crate::restored::compare_restored;
 use crate::step_lines::{action_line, push_action};
 use crate::steps::{RECORDS, name_at, read_steps};
 use crate::stop_texts::{in_folder, not_undone, nothing_to_undo};
+use bounded_files::Disk;
 use stage_folder::{FolderFault, StageFolder, StepFault, undo, write_record};
 use staging::StagingStep;
 use std::alloc::Global;
+use std::net::{Net, TcpStream};
+use std::time::Clock;
 
 // The last step that isn't undone, owned.
 fn take_last(steps: Vec<StagingStep>) -> Option<StagingStep>
@@ -54,22 +58,34 @@ fn undo_step<F: StageFolder>(alloc: Global, folder: &mut F, step: StagingStep) -
     }
 }
 
-/// Undoes the last step that isn't undone, whether it was performed whole or in part.
+/// Undoes the last step that isn't undone, whether it was performed whole or in part, once what
+/// changes is compared.
 #[tactic(auto, using(crate::proofs::Replacing::gone_back))]
-pub(crate) fn go_back<F: StageFolder>(
-    alloc: Global,
+pub(crate) fn go_back<R, D, F>(
+    rt: &R,
+    disk: &D,
     folder: &mut F,
+    manifest: &str,
     options: &StageOptions<'_>,
     lines: &mut Lines,
 ) -> Result<(), Stop>
+where
+    R: AllocGlobal + Clock + Net<Stream = TcpStream>,
+    D: Disk,
+    F: StageFolder,
     ensures done { OnOk result (options.now.dry_run ≡ false → HasGoneBack (F.records folder.old)
         (F.files folder.old) (F.files folder.new)) }
     ensures unchanged { options.now.dry_run ≡ true → F.files folder.new ≡ F.files folder.old }
 {
+    let alloc = rt.alloc();
     let recorded = read_steps(alloc, folder)?;
     let Some(step) = take_last(recorded.steps) else {
         return Err(nothing_to_undo(alloc));
     };
+    if let Err(stop) = compare_restored(rt, disk, manifest, &step, options, lines) {
+        drop(step);
+        return Err(stop);
+    }
     if options.dry_run {
         push_action(&mut lines.text, "would undo", &step)?;
         return Ok(());

@@ -8,11 +8,11 @@ use app_rules::read_rules;
 use bounded_files::Disk;
 use cells::Directory;
 use load::{
-    AppSources, FolderFiles, LoadFault, PathFault, Sources, SourcesRefusal, collect_sources, judge,
-    manifest_bytes,
+    AppSources, FolderFiles, LoadFault, PathFault, Sources, SourcesRefusal, collect_sources,
+    digest_of, judge, manifest_bytes,
 };
 use manifest_diff::OpenedManifest;
-use std::alloc::Global;
+use std::alloc::{AllocError, Global};
 
 /// A manifest's bytes, and what is gathered of it.
 #[derive(Drop)]
@@ -40,6 +40,17 @@ pub(crate) fn collect<D: Disk>(
     match collect_sources(alloc, &bytes, &mut files, &none) {
         Ok(sources) => Ok(CollectedManifest { bytes, sources }),
         Err(SourcesRefusal { fault, .. }) => Err(PathFault::Load(fault)),
+    }
+}
+
+/// The digest of a manifest and its files, in hexadecimal digits; empty if a file isn't whole.
+pub(crate) fn digest_text(
+    alloc: Global,
+    collected: &CollectedManifest,
+) -> Result<String, AllocError> {
+    match digest_of(&collected.bytes, &collected.sources.apps) {
+        Some(digest) => hex::encode(alloc, digest),
+        None => Ok(String::new(alloc)),
     }
 }
 

@@ -9,7 +9,8 @@
 // (`halts.rt`), a rule with another number (`raises.rt`), the files of another manifest
 // (`puts.rt`). A raise and another manifest are compared with what is in place (`comparison.rt`).
 // The plan is a step, which is recorded and then performed (`steps.rt`). Then each server loads
-// the manifest (`loads.rt`), also if nothing had to be replaced.
+// the manifest (`loads.rt`), also if nothing had to be replaced. Its reply is noted
+// (`load_notes.rt`): by it a status knows what the server serves (`servers.rt`).
 //
 // The contracts are about the files of the folder, which are known for a folder in memory. No
 // contract says what is printed, or what a server does.
@@ -21,6 +22,7 @@ mod collected;
 mod comparison;
 mod digest_line;
 mod halts;
+mod load_notes;
 mod loads;
 mod new_file;
 mod options;
@@ -29,6 +31,9 @@ mod put_files;
 mod puts;
 mod quota_lines;
 mod raises;
+mod removed_apps;
+mod restored;
+mod served;
 mod servers;
 mod status;
 mod step_lines;

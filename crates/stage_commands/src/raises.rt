@@ -15,7 +15,7 @@ use crate::options::StageOptions;
 use crate::outcome::{Lines, Stop};
 use crate::steps::{owned_text, read_steps, take_step};
 use crate::stop_texts::{
-    has_program, in_folder, next_refused, no_manifest, no_text, not_judged, not_raised,
+    has_program, in_folder, is_halted, next_refused, no_manifest, no_text, not_judged, not_raised,
 };
 use bounded_files::Disk;
 use cells::Directory;
@@ -23,7 +23,7 @@ use load::{AppSources, FolderFiles, SourcesRefusal, collect_sources, file_of};
 use manifest::ProgramSource;
 use manifest_diff::OpenedManifest;
 use stage_folder::StageFolder;
-use staging::{ReplacedFile, StepAction, raised_rule};
+use staging::{ReplacedFile, StepAction, halting_file, raised_rule};
 use std::alloc::Global;
 use std::net::{Net, TcpStream};
 use std::rt::Files;
@@ -36,6 +36,9 @@ fn raised_text(alloc: Global, app: &AppSources, bytes: &[u8], buckets: u32) -> R
         IsRaised app.now.shape bytes.now (string_bytes text) buckets) }
 {
     let name = file_of(app.entry.source());
+    if bytes == halting_file(app.entry.source()) {
+        return Err(is_halted(alloc, name));
+    }
     let Ok(text) = str::from_utf8(bytes) else {
         return Err(no_text(alloc, name));
     };

@@ -2,18 +2,21 @@
 
 // No contract says what is printed: bench/outside tests it.
 
-use crate::collected::CollectedManifest;
+use crate::collected::{CollectedManifest, digest_text};
 use crate::digest_line::last_digest;
+use crate::load_notes::{note_of, read_notes};
 use crate::loads::push_fault;
 use crate::options::StageOptions;
 use crate::outcome::Lines;
 use crate::quota_lines::push_quotas;
+use crate::served::{InPlace, Served, are_both};
 use bpf_verify::Verified;
 use cell_assignments::read_assignments;
-use load::{AppSources, digest_of, judge};
+use load::{AppSources, judge};
 use operator::{RequestFault, ask_server};
 use operator_request::OperatorRequest;
 use printing::Printed;
+use stage_folder::StageFolder;
 use std::alloc::{AllocError, Global};
 use std::fmt::Write;
 use std::net::{Net, TcpStream};
@@ -50,26 +53,20 @@ pub(crate) fn shown_apps(alloc: Global, apps: &[AppSources]) -> Result<Option<St
     Ok(Some(text?))
 }
 
-// Adds the generation of a server, and whether its apps are those in place.
+// Adds the generation of a server, and what is known of what it serves.
 fn push_shown(
     text: &mut String,
     port: u16,
     reply: &str,
-    apps: Option<&str>,
-) -> Result<bool, AllocError> {
+    notes: &str,
+    in_place: InPlace<'_>,
+) -> Result<Served, AllocError> {
     let (generation, shown) = reply.split_once('\n').unwrap_or((reply, ""));
-    let is_alike = match apps {
-        Some(apps) => apps == shown,
-        None => false,
-    };
-    let end = if is_alike {
-        "the apps in place"
-    } else {
-        "other apps than those in place: load it"
-    };
+    let served = Served::of(in_place, generation, shown, note_of(notes, port));
     let generation = Printed(generation);
-    writeln!(text, "server at {port}: {generation}, {end}")?;
-    Ok(is_alike)
+    write!(text, "server at {port}: {generation}, ")?;
+    writeln!(text, "{}", served.words())?;
+    Ok(served)
 }
 
 // The lines of a server's counters that have a quota.
@@ -92,51 +89,84 @@ where
     }
 }
 
-// What a server serves, and its counters. Returns whether its apps are those in place.
+// What a server serves, and its counters.
 fn push_server<R>(
     rt: &R,
     port: u16,
     collected: &CollectedManifest,
-    apps: Option<&str>,
+    notes: &str,
+    in_place: InPlace<'_>,
     text: &mut String,
-) -> Result<bool, RequestFault>
+) -> Result<Served, RequestFault>
 where
     R: AllocGlobal + Net<Stream = TcpStream>,
 {
     let reply = ask_server(rt, OperatorRequest::Show, port)?;
-    let Ok(is_alike) = push_shown(text, port, reply.as_str(), apps) else {
+    let Ok(served) = push_shown(text, port, reply.as_str(), notes, in_place) else {
         return Err(RequestFault::Memory);
     };
     push_counters(rt, port, collected, text)?;
-    Ok(is_alike)
+    Ok(served)
 }
 
-/// Adds what each server serves. Returns whether all serve the apps in place.
-pub(crate) fn push_servers<R>(
+// Adds what each server serves. Returns whether all serve what is in place, if that is known.
+fn push_each<R>(
     rt: &R,
     manifest: &str,
     collected: &CollectedManifest,
+    notes: &str,
+    in_place: InPlace<'_>,
     options: &StageOptions<'_>,
     lines: &mut Lines,
-) -> Result<bool, AllocError>
+) -> Result<Option<bool>, AllocError>
 where
     R: AllocGlobal + Net<Stream = TcpStream>,
 {
-    if options.no_load {
-        return Ok(true);
-    }
-    let apps = shown_apps(rt.alloc(), &collected.sources.apps)?;
-    let mut all = true;
+    let mut all = Some(true);
     for port in options.ports() {
-        match push_server(rt, *port, collected, apps.as_deref(), &mut lines.text) {
-            Ok(is_alike) => all = all && is_alike,
+        match push_server(rt, *port, collected, notes, in_place, &mut lines.text) {
+            Ok(served) => all = are_both(all, served.is_in_place()),
             Err(fault) => {
                 push_fault(&mut lines.stderr, *port, &fault, manifest)?;
-                all = false;
+                all = Some(false);
             }
         }
     }
     Ok(all)
+}
+
+/// Adds what each server serves. Returns whether all serve what is in place, if that is known.
+pub(crate) fn push_servers<R, F>(
+    rt: &R,
+    folder: &F,
+    manifest: &str,
+    collected: &CollectedManifest,
+    options: &StageOptions<'_>,
+    lines: &mut Lines,
+) -> Result<Option<bool>, AllocError>
+where
+    R: AllocGlobal + Net<Stream = TcpStream>,
+    F: StageFolder,
+{
+    if options.no_load {
+        return Ok(Some(true));
+    }
+    let notes = read_notes(rt.alloc(), folder)?;
+    let digest = digest_text(rt.alloc(), collected)?;
+    let shown = shown_apps(rt.alloc(), &collected.sources.apps)?;
+    let in_place = InPlace {
+        shown: shown.as_deref(),
+        digest: digest.as_str(),
+    };
+    push_each(
+        rt,
+        manifest,
+        collected,
+        notes.as_str(),
+        in_place,
+        options,
+        lines,
+    )
 }
 
 // Whether the log's last digest is the one in place; and a line of it.
@@ -161,25 +191,26 @@ fn push_digests(
     Ok(is_same)
 }
 
-/// Adds whether what is in place is what the log's server loaded last, if a log is named.
+/// Adds whether what is in place is what the log's server loaded last, and returns it, if a log is
+/// named.
 pub(crate) fn push_log<R>(
     rt: &R,
     collected: &CollectedManifest,
     options: &StageOptions<'_>,
     lines: &mut Lines,
-) -> Result<bool, AllocError>
+) -> Result<Option<bool>, AllocError>
 where
     R: Files + AllocGlobal,
 {
     let Some(log) = options.log else {
-        return Ok(true);
+        return Ok(None);
     };
-    let Some(digest) = digest_of(&collected.bytes, &collected.sources.apps) else {
-        return Ok(false);
-    };
-    let in_place = hex::encode(rt.alloc(), digest)?;
+    let in_place = digest_text(rt.alloc(), collected)?;
     match last_digest(rt, log) {
-        Ok(last) => push_digests(&mut lines.text, log, in_place.as_str(), last.as_deref()),
+        Ok(last) => {
+            let text = &mut lines.text;
+            Ok(Some(push_digests(text, log, in_place.as_str(), last.as_deref())?))
+        }
         Err(error) => {
             let log = Printed(log);
             let reason = error.kind();
@@ -187,7 +218,7 @@ where
                 lines.stderr,
                 "stage: {log} can't be read ({reason}): name a server's log"
             )?;
-            Ok(false)
+            Ok(Some(false))
         }
     }
 }

@@ -78,10 +78,22 @@ fn push_halts(
     Ok(())
 }
 
-// Adds what is in place, and who serves it. Returns whether all is as it is in place.
-fn push_in_place<R, D>(
+// Whether the servers serve what is in place, by what is known of them, and by a log, if one is
+// named: it is the log of one server.
+fn are_served(servers: Option<bool>, log: Option<bool>, ports: &[u16]) -> bool {
+    match (servers, log) {
+        (Some(known), Some(logged)) => known && logged,
+        (Some(known), None) => known,
+        (None, Some(logged)) => logged && ports.len() == 1,
+        (None, None) => false,
+    }
+}
+
+// Adds what is in place, and who serves it. Returns whether all servers do.
+fn push_in_place<R, D, F>(
     rt: &R,
     disk: &D,
+    folder: &F,
     manifest: &str,
     steps: &[StagingStep],
     options: &StageOptions<'_>,
@@ -90,19 +102,20 @@ fn push_in_place<R, D>(
 where
     R: Files + AllocGlobal + Net<Stream = TcpStream>,
     D: Disk,
+    F: StageFolder,
 {
     let collected = match collect(rt.alloc(), disk, manifest) {
         Ok(collected) => collected,
         Err(fault) => return Err(no_manifest(rt.alloc(), manifest, &fault)),
     };
     push_halts(steps, &collected.sources.apps, lines)?;
-    let are_served = push_servers(rt, manifest, &collected, options, lines)?;
-    let is_logged = push_log(rt, &collected, options, lines)?;
-    Ok(are_served && is_logged)
+    let servers = push_servers(rt, folder, manifest, &collected, options, lines)?;
+    let log = push_log(rt, &collected, options, lines)?;
+    Ok(are_served(servers, log, options.ports()))
 }
 
-/// Prints the status of a folder. Returns whether each step is whole, and the servers serve what is
-/// in place.
+/// Prints the status of a folder. Returns whether each step is whole, and the servers are known to
+/// serve what is in place.
 pub(crate) fn push_status<R, D, F>(
     rt: &R,
     disk: &D,
@@ -125,6 +138,6 @@ where
         Some(step) => push_states(folder, step, lines)?,
         None => true,
     };
-    let is_served = push_in_place(rt, disk, manifest, &recorded.steps, options, lines)?;
+    let is_served = push_in_place(rt, disk, folder, manifest, &recorded.steps, options, lines)?;
     Ok(is_whole && is_served && recorded.unread.is_empty())
 }

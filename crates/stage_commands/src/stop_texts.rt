@@ -114,6 +114,12 @@ fn rule_reason(alloc: Global, file: &str, fault: &RuleFault) -> Stop {
     refusal(format!(in alloc; "{file} isn't a rule ({fault}): put another one in place"))
 }
 
+/// The rule is the one of a halt.
+pub(crate) fn is_halted(alloc: Global, file: &str) -> Stop {
+    let file = Printed(file);
+    refusal(format!(in alloc; "{file} isn't raised: it halts the app: lift that halt first"))
+}
+
 /// The number of a rule can't be changed.
 pub(crate) fn not_raised(alloc: Global, file: &str, fault: &RaiseFault) -> Stop {
     let what = match fault {

@@ -1,0 +1,53 @@
+//! The apps that a load removes from a server.
+
+// No contract says what is printed: bench/outside tests it.
+
+use crate::collected::app_named;
+use load::AppSources;
+use operator::ask_server;
+use operator_request::OperatorRequest;
+use printing::Printed;
+use std::alloc::AllocError;
+use std::fmt::Write;
+use std::net::{Net, TcpStream};
+
+/// The apps of a server before a load, in its lines; empty if it doesn't reply.
+pub(crate) fn apps_shown<R>(rt: &R, port: u16) -> String
+where
+    R: AllocGlobal + Net<Stream = TcpStream>,
+{
+    let none = String::new(rt.alloc());
+    ask_server(rt, OperatorRequest::Show, port).unwrap_or(none)
+}
+
+// The appid in a line `app APPID releases R slots S`, if no app has it.
+fn removed_app<'a>(line: &'a str, apps: &[AppSources]) -> Option<&'a str> {
+    let (named, _counts) = line.rsplit_once(" releases ")?;
+    let appid = named.strip_prefix("app ")?;
+    match app_named(apps, appid) {
+        Some(_) => None,
+        None => Some(appid),
+    }
+}
+
+/// Adds a line with the apps that a server showed and that are not among the loaded ones, if there
+/// are any.
+pub(crate) fn push_removed(
+    text: &mut String,
+    port: u16,
+    shown: &str,
+    apps: &[AppSources],
+) -> Result<(), AllocError> {
+    let mut names = String::new(*text.allocator());
+    for line in shown.lines() {
+        if let Some(appid) = removed_app(line, apps) {
+            let mark = if names.is_empty() { "" } else { ", " };
+            let appid = Printed(appid);
+            write!(names, "{mark}{appid}")?;
+        }
+    }
+    if names.is_empty() {
+        return Ok(());
+    }
+    writeln!(text, "server at {port}: apps gone: {names}")
+}
