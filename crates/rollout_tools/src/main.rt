@@ -3,15 +3,13 @@
 //! does what the words request.
 #![tactic(auto)]
 
+mod environment;
+
+use crate::environment::words_of;
 use bounded_files::Device;
 use command_line::unreadable_words;
 use std::process::ExitCode;
-use std::{env, io};
 use tool_commands::command;
-
-fn words_of(rt: &HostRuntime) -> io::Result<Vec<String>> {
-    Ok(env::args(rt)?.collect(rt.alloc())?)
-}
 
 fn main(rt: HostRuntime) -> ExitCode {
     let mut out = rt.stdout();

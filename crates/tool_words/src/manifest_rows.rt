@@ -145,7 +145,7 @@ pub(crate) const STAGE: CommandRow<ToolVerb> = CommandRow {
             "operator",
             "P",
             "Operator's port of a server that loads the result, 1 to 65535;\n\
-             any number of times",
+             any number of times; by default ROLLOUT_OPERATOR's, or 8081",
         ),
         CommandArgument::Text(
             "folder",
