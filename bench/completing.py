@@ -18,6 +18,8 @@ OFFERED = [
     (["serve", "--op"], ["--operator"]),
     (["diff", "m.toml", "--fa"], ["--fail-on-lost"]),
     (["stage", "ha"], ["halt"]),
+    (["stage", ""], ["halt", "raise", "back", "put", "status"]),
+    (["stage", "put", "m."], ["m.toml"]),
     (["completion", "z"], ["zsh"]),
     (["check", "m."], ["m.toml"]),
     (["simulate", "m.toml", "--against", "m."], ["m.toml"]),

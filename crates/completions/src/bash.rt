@@ -28,9 +28,11 @@ const END: &str = "    esac
     esac
     if [[ $current == -* ]]; then
         mapfile -t COMPREPLY < <(compgen -W \"$options\" -- \"$current\")
+    elif [ \"$words\" ] && [ \"$COMP_CWORD\" -eq 2 ]; then
+        mapfile -t COMPREPLY < <(compgen -W \"$words\" -- \"$current\")
     else
         compopt -o filenames 2>/dev/null
-        mapfile -t COMPREPLY < <(compgen -W \"$words\" -- \"$current\"; compgen -f -- \"$current\")
+        mapfile -t COMPREPLY < <(compgen -f -- \"$current\")
     fi
 }
 complete -F _rollout rollout

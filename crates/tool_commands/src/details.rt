@@ -111,11 +111,12 @@ where
         Fault::Diff(DiffFault::Old(_)) => print_manifest_hint(rt, disk, args.old, err),
         Fault::Diff(DiffFault::New(_)) => print_manifest_hint(rt, disk, args.new, err),
         Fault::Diff(DiffFault::Cell) => {
-            print_arrays(alloc, disk, args.old, err) && print_arrays(alloc, disk, args.new, err)
+            print_arrays(alloc, disk, args.old, err)
+                && (args.old == args.new || print_arrays(alloc, disk, args.new, err))
         }
         Fault::Diff(DiffFault::NoApp) => {
             print_app_names(alloc, disk, args.old, err)
-                && print_app_names(alloc, disk, args.new, err)
+                && (args.old == args.new || print_app_names(alloc, disk, args.new, err))
         }
         Fault::Ask(fault) => print_server_fault(rt, args.operator, fault, err),
         _ => false,

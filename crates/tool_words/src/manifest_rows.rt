@@ -145,7 +145,7 @@ pub(crate) const STAGE: CommandRow<ToolVerb> = CommandRow {
             "operator",
             "P",
             "Operator's port of a server that loads the result, 1 to 65535;\n\
-             any number of times; by default ROLLOUT_OPERATOR's, or 8081",
+             any number of times",
         ),
         CommandArgument::Text(
             "folder",
