@@ -1,5 +1,5 @@
 //! Counters: the results of the definitions, worked out by hand, and that each call succeeds with
-//! ample memory. Each call that allocates is repeated if it reports that an allocation failed.
+//! ample memory.
 
 ghost use Rattle.std.specs.Prelude.{None};
 ghost use Rattle.cells.specs.Directory.{declaration, IsDeclaration};
@@ -12,22 +12,12 @@ use std::alloc::Global;
 
 const HALF: u64 = 4294967295;
 
-/// The result of a call, or of a second one if an allocation failed.
-macro_rules! again {
-    ($call:expr) => {
-        match $call {
-            Err(CellsFault::Memory) => $call,
-            answer => answer,
-        }
-    };
-}
-
 /// Operations on cells, each with the reply and the value after.
 type Acts = &'static [(u16, CellOp, u64, u64)];
 
 /// Does these operations in turn, from cells that are 0. Returns the first wrong one.
 fn acts_in_turn(alloc: Global, acts: Acts) -> Result<Option<usize>, CellsFault> {
-    let (cells, mut pass): (PlainCells, PlainPass) = again!(PlainCells::new(alloc))?;
+    let (cells, mut pass): (PlainCells, PlainPass) = PlainCells::new(alloc)?;
     for (place, (cell, op, reply, value)) in acts.iter().enumerate() {
         if *cell >= 8192 {
             return Ok(Some(place));
@@ -89,7 +79,7 @@ fn wide_counters(rt: HostRuntime) {
     assert!(rt; acts_in_turn(rt.alloc(), WIDE) == Ok(None));
 }
 
-/// The result of a declaration without a quota, which is repeated if an allocation failed.
+/// The result of a declaration without a quota.
 fn declare(
     directory: &mut Directory,
     alloc: Global,
@@ -99,7 +89,7 @@ fn declare(
 ) -> Result<ArrayNo, CellsFault>
     requires { IsDeclaration (declaration name.now width length None) }
 {
-    again!(directory.declare(alloc, name, width, length, None))
+    directory.declare(alloc, name, width, length, None)
 }
 
 /// The results of five declarations in turn, and how many arrays there are after them.
@@ -129,57 +119,73 @@ fn declarations(rt: HostRuntime) {
     assert!(rt; count == 2);
 }
 
+/// A text, and whether it is an array's name.
+const NAMES: [(&str, bool); 10] = [
+    ("a", true),
+    ("_", true),
+    ("Quota_9", true),
+    ("", false),
+    ("9a", false),
+    ("a-b", false),
+    ("a b", false),
+    ("\u{e9}", false),
+    ("abcdefghijklmnopqrstuvwxyz012345", true),
+    ("abcdefghijklmnopqrstuvwxyz0123456", false),
+];
+
 #[test]
 fn names(rt: HostRuntime) {
-    let rows = [
-        ("a", true),
-        ("_", true),
-        ("Quota_9", true),
-        ("", false),
-        ("9a", false),
-        ("a-b", false),
-        ("a b", false),
-        ("\u{e9}", false),
-        ("abcdefghijklmnopqrstuvwxyz012345", true),
-        ("abcdefghijklmnopqrstuvwxyz0123456", false),
-    ];
-    for (text, is_name) in rows {
+    for (text, is_name) in NAMES {
         assert!(rt; ArrayName::is_name(text) == is_name, "at {text:?}");
     }
+}
+
+fn declare_three(alloc: Global, all: &mut Directory) -> Result<[ArrayNo; 3], CellsFault> {
+    let _first = declare(all, alloc, "a", CellWidth::Bits64, 10)?;
+    let second = declare(all, alloc, "b", CellWidth::Bits32, 20)?;
+    let third = declare(all, alloc, "c", CellWidth::Bits64, 30)?;
+    Ok([third, second, third])
 }
 
 /// The shape of 64 releases over the arrays c, b and c of a directory of a, b and c.
 fn shape_of_three(alloc: Global) -> Result<Shape, CellsFault> {
     let mut all = Directory::new(alloc);
-    let _first = declare(&mut all, alloc, "a", CellWidth::Bits64, 10)?;
-    let second = declare(&mut all, alloc, "b", CellWidth::Bits32, 20)?;
-    let third = declare(&mut all, alloc, "c", CellWidth::Bits64, 30)?;
+    let numbers = declare_three(alloc, &mut all)?;
     let count = all.arrays().len();
-    if second.number >= count || third.number >= count {
+    if numbers[0].number >= count || numbers[1].number >= count || numbers[2].number >= count {
         return Ok(Shape::plain(alloc, 0));
     }
-    Shape::of(alloc, 64, &all, &[third, second, third])?.copy(alloc)
+    Shape::of(alloc, 64, &all, &numbers)
 }
 
-/// The arrays of a shape: each one's name, first cell and length.
-const PLACES: [(&str, u16, u16); 3] = [("c", 10, 30), ("b", 4096, 20), ("c", 10, 30)];
+fn is_place(array: &CellArray, name: &str, base: u16, length: u16) -> bool {
+    array.name.as_str() == name
+        && array.base == base
+        && array.length == length
+        && array.quota.is_none()
+}
 
 fn are_places(arrays: &[CellArray]) -> bool {
-    let mut are = arrays.len() == PLACES.len();
-    for (array, place) in arrays.iter().zip(PLACES) {
-        let found = (array.name.as_str(), array.base, array.length);
-        are = are && found == place && array.quota.is_none();
+    match arrays {
+        [first, second, third] => {
+            is_place(first, "c", 10, 30)
+                && is_place(second, "b", 4096, 20)
+                && is_place(third, "c", 10, 30)
+        }
+        _ => false,
     }
-    are
 }
 
 fn has_places(alloc: Global) -> Result<bool, CellsFault> {
     let shape = shape_of_three(alloc)?;
-    Ok(shape.releases() == 64 && are_places(shape.arrays()))
+    let copy = shape.copy(alloc);
+    drop(shape);
+    let copy = copy?;
+    Ok(copy.releases() == 64 && are_places(copy.arrays()))
 }
 
 #[test]
 fn shapes(rt: HostRuntime) {
-    assert!(rt; again!(has_places(rt.alloc())) == Ok(true));
+    assert!(rt; has_places(rt.alloc()) == Ok(true));
     assert!(rt; Shape::plain(rt.alloc(), 3).arrays().is_empty());
 }

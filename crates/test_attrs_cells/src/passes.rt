@@ -93,10 +93,3 @@ fn passes_see_one_another(rt: HostRuntime) -> Result<(), Fail> {
     assert_eq!(rt; seven_replies(rt.alloc())?, Some(wanted));
     Ok(())
 }
-
-#[test]
-fn fault_is_printed(rt: HostRuntime) -> Result<(), Fail> {
-    let fault = SharedFault::Memory;
-    assert_eq!(rt; format!(in rt.alloc(); "{fault}")?.as_str(), "S1 Memory");
-    Ok(())
-}
