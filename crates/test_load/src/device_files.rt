@@ -1,6 +1,6 @@
 //! Files of a device, of each kind that a test can create.
 
-use crate::sample::must;
+use crate::must::must;
 use bounded_files::{Device, Disk, KeptBytes, ResourceFault, may_write_over, write_file};
 use std::alloc::{AllocError, Global};
 use std::fs::{self, File, OpenFile};

@@ -1,102 +1,80 @@
-//! Loads: a manifest of two apps with its files, and the result of a load.
+//! Loads of a manifest's bytes over a caller's directory, in turn.
 
-mod counts;
-mod digests;
-mod good;
-mod memory;
-mod refusals;
-
-use crate::files::MemFiles;
-use crate::sample::{files, must};
+use crate::must::must;
 use cells::Directory;
-use load::{LoadFault, load_ruleset};
-use ruleset::Ruleset;
+use load::{Device, Disk, FolderFiles, load_over, load_ruleset};
 use std::alloc::{AllocError, Global};
+use std::fs;
 use std::test::Fail;
 
-const SAMPLE: &str = r#"
-server = "prod"
-[[array]]
-name = "q"
-width = 64
-length = 1
-quota = 2
-[[app]]
-appid = "x"
-program = "x.bpf"
-[[app.release]]
-version = "2.0.0.0"
-codebase = "http://dl.example/"
-[[app.release.package]]
-name = "x.bin"
-hash_sha256 = "ba7816bf8f01cfea414140de5dae2223b00361a396177a9cb410ff61f20015ad"
-size = 3
-required = true
-[[app]]
-appid = "y"
-rule = "y.rule"
-[[app.release]]
-version = "3.0"
-codebase = "http://dl.example/"
-[[app.release.package]]
-name = "y.bin"
-hash_sha256 = "ba7816bf8f01cfea414140de5dae2223b00361a396177a9cb410ff61f20015ad"
-size = 3
-required = false
-"#;
+/// The arrays of a manifest of one app; the result, with the number of arrays of a good load; and
+/// how many arrays the directory has after it. A refused load declares none.
+const ROWS: [(&str, &str, usize); 4] = [
+    (r#"{ name = "q", width = 64, length = 1 }"#, "ok 1", 1),
+    (r#"{ name = "r", width = 64, limit = 1 }"#, "M2 Field", 1),
+    (
+        r#"{ name = "r", width = 64, length = 1 }, { name = "q", width = 64, length = 2 }"#,
+        "M7 Cells N2 Redefined in array 2",
+        1,
+    ),
+    (r#"{ name = "r", width = 64, length = 2 }"#, "ok 2", 2),
+];
 
-/// Texts, by their file names.
-const RULES: &str = r#"
-y.rule: when take(q, 0) offer 1; otherwise none;
-token.rule: otherwise none; $
-"#;
+fn manifest(alloc: Global, arrays: &str) -> Result<String, AllocError> {
+    format!(in alloc;
+        "server = \"\"\narray = [{arrays}]\n[[app]]\nappid = \"x\"\nprogram = \"loaded.bpf\"\n"
+    )
+}
 
-/// The ruleset of a manifest. It has no clauses, so that no proof reads the texts of a test.
-fn ruleset_from(
+/// What a load gives that leaves the directory as it is.
+fn loaded_over<D: Disk>(
     alloc: Global,
-    files: &mut MemFiles,
+    disk: &D,
+    bytes: &[u8],
+    directory: &Directory,
+) -> Result<String, AllocError> {
+    let mut files = FolderFiles::in_folder_of(alloc, disk, "m.toml");
+    match load_over(alloc, bytes, &mut files, directory) {
+        Ok((_rules, grown)) => format!(in alloc; "ok {}", grown.arrays().len()),
+        Err(fault) => format!(in alloc; "{fault}"),
+    }
+}
+
+/// What a load gives that changes the directory.
+fn loaded_into<D: Disk>(
+    alloc: Global,
+    disk: &D,
+    bytes: &[u8],
     directory: &mut Directory,
-    manifest: &str,
-) -> Result<Ruleset, LoadFault> {
-    load_ruleset(alloc, manifest.as_bytes(), files, directory)
+) -> Result<String, AllocError> {
+    let mut files = FolderFiles::in_folder_of(alloc, disk, "m.toml");
+    match load_ruleset(alloc, bytes, &mut files, directory) {
+        Ok(_rules) => format!(in alloc; "ok {}", directory.arrays().len()),
+        Err(fault) => format!(in alloc; "{fault}"),
+    }
 }
 
-/// The state of a loader: the files, and a directory.
-#[derive(Drop)]
-struct Loader {
-    files: MemFiles,
-    directory: Directory,
+fn must_load<D: Disk>(
+    alloc: Global,
+    disk: &D,
+    directory: &mut Directory,
+    arrays: &str,
+    want: &str,
+) -> Result<(), Fail> {
+    let manifest = manifest(alloc, arrays)?;
+    let found = loaded_over(alloc, disk, manifest.as_bytes(), directory)?;
+    must(arrays, found.as_str(), found.as_str() == want)?;
+    let found = loaded_into(alloc, disk, manifest.as_bytes(), directory)?;
+    must(arrays, found.as_str(), found.as_str() == want)
 }
 
-impl Loader {
-    /// All files, and no arrays.
-    fn new(alloc: Global) -> Result<Loader, Fail> {
-        Ok(Loader {
-            files: files(alloc, RULES)?,
-            directory: Directory::new(alloc),
-        })
+#[test]
+fn in_turn(rt: HostRuntime) -> Result<(), Fail> {
+    fs::write(&rt, "loaded.bpf", b"\xb7\0\0\0\0\0\0\0\x95\0\0\0\0\0\0\0")?;
+    let mut directory = Directory::new(rt.alloc());
+    for (arrays, want, count) in ROWS {
+        must_load(rt.alloc(), &Device::new(&rt), &mut directory, arrays, want)?;
+        must(arrays, "arrays", directory.arrays().len() == count)?;
     }
-
-    fn load(&mut self, alloc: Global, manifest: &str) -> Result<Ruleset, LoadFault> {
-        ruleset_from(alloc, &mut self.files, &mut self.directory, manifest)
-    }
-
-    /// `ok`, or the printed refusal.
-    fn result_text(&mut self, alloc: Global, manifest: &str) -> Result<String, AllocError> {
-        match self.load(alloc, manifest) {
-            Ok(_) => String::from_str(alloc, "ok"),
-            Err(fault) => format!(in alloc; "{fault}"),
-        }
-    }
-
-    fn must_give(
-        &mut self,
-        alloc: Global,
-        row: &str,
-        manifest: &str,
-        want: &str,
-    ) -> Result<(), Fail> {
-        let result_text = self.result_text(alloc, manifest)?;
-        must(row, result_text.as_str(), result_text.as_str() == want)
-    }
+    Ok(())
 }
