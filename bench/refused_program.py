@@ -23,7 +23,9 @@ RULES = {
     "take.rule": "count n[0]; when version < 2.0 and take(q, 0) offer 1; otherwise none;\n",
     "count.rule": "count n[1]; when bucket(77) < 5000 and attr ap is \"beta\" offer 1;\n"
     "otherwise none;\n",
-    "a.txt": "mov r0, 0\nldxh r2, [r1+16]\njge r2, 5000, l\nmov r0, 1\nl: exit\n",
+    # It has more labels than one node of their map can hold.
+    "a.txt": "".join(f"{label}:\n" for label in "abcdefghijkmnopqrs")
+    + "mov r0, 0\nldxh r2, [r1+16]\njge r2, 5000, l\nmov r0, 1\nl: exit\n",
 }
 ARRAYS = array("q", 64, 1, 1000) + array("n", 64, 2)
 TAKING = ARRAYS + app("x", "take.rule", "2.0") + app("y", "count.rule", "2.0")

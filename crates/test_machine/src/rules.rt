@@ -1,9 +1,7 @@
-//! What no command prints about rules: reading the longest texts, the slots of each kind of test,
-//! and failed allocations. Here are the shape and the long texts of these tests, and the rows of
-//! tables.
+//! What no command prints about rules: reading the longest texts, and the slots of each kind of
+//! test. Here are the shape and the long texts of these tests, and the rows of tables.
 
 mod longest;
-mod memory;
 mod sizes;
 mod told;
 
@@ -11,12 +9,12 @@ use cells::{ArrayNo, CellWidth, CellsFault, Directory, Shape};
 use std::alloc::{AllocError, Global};
 use std::test::Fail;
 
-/// A shape with `releases` releases and four arrays: `q` with one 64-bit cell and a quota of 2, `c`
-/// with four 32-bit cells, `w` with two 64-bit cells, and `mod` with a quota.
-pub(crate) fn shape(alloc: Global, releases: u8) -> Result<Shape, CellsFault> {
+/// A shape with one release and four arrays: `q` with one 64-bit cell and a quota of 2, `c` with
+/// four 32-bit cells, `w` with two 64-bit cells, and `mod` with a quota.
+pub(crate) fn shape(alloc: Global) -> Result<Shape, CellsFault> {
     let mut directory = Directory::new(alloc);
     declare_all(alloc, &mut directory)?;
-    shape_over(alloc, releases, &directory)
+    shape_over(alloc, &directory)
 }
 
 fn declare_all(alloc: Global, directory: &mut Directory) -> Result<(), CellsFault> {
@@ -28,7 +26,7 @@ fn declare_all(alloc: Global, directory: &mut Directory) -> Result<(), CellsFaul
 }
 
 /// The shape over the first four arrays.
-fn shape_over(alloc: Global, releases: u8, directory: &Directory) -> Result<Shape, CellsFault> {
+fn shape_over(alloc: Global, directory: &Directory) -> Result<Shape, CellsFault> {
     let numbers = [
         ArrayNo { number: 0 },
         ArrayNo { number: 1 },
@@ -38,7 +36,7 @@ fn shape_over(alloc: Global, releases: u8, directory: &Directory) -> Result<Shap
     if directory.arrays().len() < numbers.len() {
         return Err(CellsFault::Memory);
     }
-    Shape::of(alloc, releases.min(64), directory, &numbers)
+    Shape::of(alloc, 1, directory, &numbers)
 }
 
 /// A text `times` times. It has no clauses, so that no proof evaluates it.

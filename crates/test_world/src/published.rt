@@ -1,5 +1,5 @@
 //! The published ruleset: what watchers get after an install, with a notice of it and without one,
-//! and during a hundred installs. `memory` is a test that passes if one allocation fails.
+//! and during a hundred installs.
 
 ghost use Rattle.std.specs.Prelude.{◌≡◌};
 
@@ -10,7 +10,8 @@ use std::sync::{Arc, Wait};
 use std::test::Fail;
 use std::thread::{Threads, join};
 
-fn numbered_once(alloc: Global, number: u64) -> Result<Arc<Ruleset>, AllocError> {
+/// A ruleset whose server has this number for its name.
+fn numbered(alloc: Global, number: u64) -> Result<Arc<Ruleset>, AllocError> {
     let server = format!(in alloc; "{number}")?;
     let Some(rules) = Ruleset::new(server, Vec::new(alloc)) else {
         return Err(AllocError);
@@ -18,23 +19,9 @@ fn numbered_once(alloc: Global, number: u64) -> Result<Arc<Ruleset>, AllocError>
     Ok(Arc::new(alloc, rules)?)
 }
 
-/// A ruleset whose server has this number for its name. A failed allocation is tried again.
-fn numbered(alloc: Global, number: u64) -> Result<Arc<Ruleset>, AllocError> {
-    match numbered_once(alloc, number) {
-        Ok(rules) => Ok(rules),
-        Err(_) => numbered_once(alloc, number),
-    }
-}
-
-/// A publisher of the ruleset 1, with places for two watchers. A failed allocation is tried again.
-fn publisher<R: Wait + Print>(rt: &R, alloc: Global) -> Result<Publisher, Fail> {
-    match Publisher::new(rt, alloc, numbered(alloc, 1)?, 2) {
-        Err(SwapFault::Memory) => {
-            println!(rt; "Publisher::new: H1 Memory")?;
-            Ok(Publisher::new(rt, alloc, numbered(alloc, 1)?, 2)?)
-        }
-        made => Ok(made?),
-    }
+/// A publisher of the ruleset 1, with places for two watchers.
+fn publisher<R: Wait>(rt: &R, alloc: Global) -> Result<Publisher, Fail> {
+    Ok(Publisher::new(rt, alloc, numbered(alloc, 1)?, 2)?)
 }
 
 /// The generation that a watcher gets, or 0 if it gets none, or another generation's ruleset.
@@ -66,9 +53,8 @@ fn generations_in_turn<R: Wait>(
     Ok([before, after, at_once, last])
 }
 
-// Once there is a publisher no call allocates, so this passes if any single allocation fails.
 #[test]
-fn memory(rt: HostRuntime) -> Result<(), Fail> {
+fn watchers_get_what_is_published(rt: HostRuntime) -> Result<(), Fail> {
     let mut publisher = publisher(&rt, rt.alloc())?;
     let found = generations_in_turn(&rt, rt.alloc(), &mut publisher);
     let third = publisher.watcher().err();

@@ -46,9 +46,9 @@ fn links_of(row: &str) -> Option<(&str, &str, &str)> {
 /// Checks the result for the longest text, and that one byte more is too long.
 fn must_give_both(alloc: Global, text: &mut String, want: &str) -> Result<(), Fail> {
     must(want, "another length", text.len() == MOST_BYTES)?;
-    must_give(alloc, text.as_str(), 1, want)?;
+    must_give(alloc, text.as_str(), want)?;
     text.push('@')?;
-    must_give(alloc, text.as_str(), 1, "L4 Range at line 1")
+    must_give(alloc, text.as_str(), "L4 Range at line 1")
 }
 
 fn has_result(alloc: Global, row: &str) -> Result<(), Fail> {

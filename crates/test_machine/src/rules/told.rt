@@ -34,18 +34,13 @@ fn read_result_over(alloc: Global, text: &str, shape: &Shape) -> Result<String, 
     }
 }
 
-/// The result of reading a text for an app with `releases` releases: the number of its rule's
-/// statements, or the fault.
-pub(crate) fn read_result(alloc: Global, text: &str, releases: u8) -> Result<String, AllocError> {
-    match shape(alloc, releases) {
-        Ok(shape) => read_result_over(alloc, text, &shape),
-        Err(_) => Err(AllocError),
-    }
-}
-
-/// Fails unless reading the text has this result.
-pub(crate) fn must_give(alloc: Global, text: &str, releases: u8, want: &str) -> Result<(), Fail> {
-    let found = read_result(alloc, text, releases)?;
+/// Fails unless reading the text, for an app with one release, has this result: the number of its
+/// rule's statements, or the fault.
+pub(crate) fn must_give(alloc: Global, text: &str, want: &str) -> Result<(), Fail> {
+    let shape = shape(alloc)?;
+    let found = read_result_over(alloc, text, &shape);
+    drop(shape);
+    let found = found?;
     must(text, found.as_str(), found.as_str() == want)
 }
 
@@ -65,29 +60,6 @@ fn program_over(alloc: Global, text: &str, shape: &Shape) -> Result<Verified, Fa
 
 /// The program of a text, for an app with one release.
 pub(crate) fn program(alloc: Global, text: &str) -> Result<Verified, Fail> {
-    let shape = shape(alloc, 1)?;
+    let shape = shape(alloc)?;
     program_over(alloc, text, &shape)
-}
-
-fn compiled_text(alloc: Global, rule: &Rule, shape: &Shape) -> Result<String, AllocError> {
-    match compiled(alloc, rule, shape) {
-        Ok(Some(program)) => format!(in alloc; "{} slots", program.len()),
-        Ok(None) => String::from_str(alloc, UNFIT),
-        Err(fault) => format!(in alloc; "{fault}"),
-    }
-}
-
-fn compiled_text_of(alloc: Global, text: &str, shape: &Shape) -> Result<String, AllocError> {
-    match read(alloc, text, shape) {
-        Ok(rule) => compiled_text(alloc, &rule, shape),
-        Err(fault) => format!(in alloc; "{fault}"),
-    }
-}
-
-/// The result of compiling a text: the slots of its program, or the fault.
-pub(crate) fn result_text(alloc: Global, text: &str) -> Result<String, AllocError> {
-    match shape(alloc, 1) {
-        Ok(shape) => compiled_text_of(alloc, text, &shape),
-        Err(_) => Err(AllocError),
-    }
 }
