@@ -1,6 +1,6 @@
 //! The server over loopback, with both ends in one process: workers in their threads, and clients.
 
-use crate::clients::{halt, held, silent, slow, two, waiting};
+use crate::clients::{halt, silent, slow, two, waiting};
 use crate::crew::{Crew, crew_of};
 use crate::loopback::listening;
 use crate::meeting::{Meeting, gate_that_holds};
@@ -39,7 +39,6 @@ where
 #[derive(Clone, Copy)]
 enum Clients {
     Two,
-    Held,
     Silent,
     Slow,
     Waiting,
@@ -58,7 +57,6 @@ where
 {
     let received = match clients {
         Clients::Two => two(rt, place),
-        Clients::Held => held(rt, place, gate),
         Clients::Silent => silent(rt, place),
         Clients::Slow => slow(rt, place),
         Clients::Waiting => waiting(rt, place, gate, stop),
@@ -122,23 +120,16 @@ where
     is_served
 }
 
-/// Two workers serve at once: the first call is held until the second has its reply.
-#[test]
-fn two_answers_at_once(rt: HostRuntime) -> Result<(), Fail> {
-    assert!(rt; is_served(&rt, Clients::Two, 1, 2, 30)?);
-    Ok(())
-}
-
-/// A client that has sent only its head delays no other client.
-#[test]
-fn head_held(rt: HostRuntime) -> Result<(), Fail> {
-    assert!(rt; is_served(&rt, Clients::Held, 0, 2, 30)?);
-    Ok(())
-}
-
 /// What clients do, how many calls the gate holds, how many workers there are, how many seconds a
 /// connection may last, and what is shown.
-const SERVED: [(Clients, u64, usize, u64, &str); 4] = [
+const SERVED: [(Clients, u64, usize, u64, &str); 5] = [
+    (
+        Clients::Two,
+        1,
+        2,
+        30,
+        "the first is held until the second has its reply",
+    ),
     (Clients::Silent, 0, 1, 1, "a silent one is dropped"),
     (Clients::Slow, 0, 1, 1, "a slow one is dropped"),
     (Clients::Waiting, 3, 3, 30, "three are held, and a stop"),

@@ -2,7 +2,7 @@
 
 use crate::exchange::post;
 use crate::loopback::{reply, send, sent};
-use crate::meeting::{Meeting, awaits};
+use crate::meeting::Meeting;
 use crate::replies::TWO_APPS;
 use std::net::{Net, SocketAddr, TcpStream};
 use std::sync::atomic::{AtomicBool, Ordering};
@@ -66,30 +66,6 @@ where
 {
     let streams = requested_times(rt, place, 2)?;
     are_replied(rt, &streams)
-}
-
-/// A request that gets its reply, which the gate has seen.
-fn second_replied<H>(rt: &H, place: SocketAddr, gate: &Meeting) -> io::Result<bool>
-where
-    H: Net<Stream = TcpStream> + AllocGlobal,
-{
-    let stream = requested(rt, place)?;
-    let is_made = awaits(&gate.made);
-    Ok(is_replied(rt, &stream)? && is_made)
-}
-
-/// A request whose body is sent after the reply to another request.
-pub(crate) fn held<H>(rt: &H, place: SocketAddr, gate: &Meeting) -> io::Result<bool>
-where
-    H: Net<Stream = TcpStream> + AllocGlobal,
-{
-    let whole = post(rt.alloc(), TWO_APPS)?;
-    let (head, body) = whole.split_at(whole.len().saturating_sub(TWO_APPS.len()));
-    let first = sent(rt, place, head)?;
-    let came = gate.awaits_calls(1);
-    let later = second_replied(rt, place, gate).unwrap_or(false);
-    let is_sent = send(&first, body).is_ok();
-    Ok(came && later && is_sent && is_replied(rt, &first)?)
 }
 
 /// A client that sends nothing, and whether a second one gets its reply meanwhile.

@@ -105,16 +105,6 @@ pub(crate) fn post(alloc: Global, body: &str) -> Result<Vec<u8>, AllocError> {
     Ok(text.into_bytes())
 }
 
-/// The bytes of a reply of status 200.
-pub(crate) fn success(alloc: Global, text: &str) -> Result<Vec<u8>, AllocError> {
-    let size = text.len();
-    let reply = format!(in alloc;
-        "HTTP/1.1 200 OK\r\nContent-Type: application/json; charset=utf-8\r\n\
-            Content-Length: {size}\r\nConnection: close\r\n\r\n{text}"
-    )?;
-    Ok(reply.into_bytes())
-}
-
 /// How often a text occurs in the bytes.
 pub(crate) fn times(bytes: &[u8], part: &str) -> usize {
     let text = str::from_utf8(bytes).unwrap_or("");

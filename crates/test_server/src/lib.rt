@@ -9,8 +9,6 @@ mod clients;
 #[cfg(test)]
 mod crew;
 #[cfg(test)]
-mod crowded;
-#[cfg(test)]
 mod ends;
 #[cfg(test)]
 mod exchange;
@@ -22,8 +20,6 @@ mod logged;
 mod loopback;
 #[cfg(test)]
 mod meeting;
-#[cfg(test)]
-mod memory;
 #[cfg(test)]
 mod quota;
 #[cfg(test)]

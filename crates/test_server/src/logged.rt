@@ -148,14 +148,14 @@ pub(crate) fn logging_to<'a>(queue: &'a LogQueue) -> ServeOptions<'a> {
     }
 }
 
-/// As above, for a server of a manifest with one worker.
-fn is_logged_at<H>(rt: &H, path: &str, time: &str, rows: &str) -> Result<bool, Fail>
+/// As above, for a server that offers nothing, with one worker.
+fn is_logged<H>(rt: &H, time: &str, rows: &str) -> Result<bool, Fail>
 where
     H: Threads + Wait + AllocGlobal + Clock + Sync,
     H: Net<Listener = TcpListener, Stream = TcpStream>,
 {
     let (queue, pieces) = LogQueue::new(rt.alloc(), 8080)?;
-    let mut publisher = publisher_of(rt, rt.alloc(), path, 1)?;
+    let mut publisher = publisher_of(rt, rt.alloc(), "nothing", 1)?;
     let is_logged = match crew_of(rt.alloc(), &mut publisher, 1) {
         Ok(crew) => is_logged_by(rt, crew, &queue, &pieces, time, rows),
         Err(fault) => Err(fault),
@@ -164,24 +164,15 @@ where
     is_logged
 }
 
-/// As above, at the moment of these tests.
-pub(crate) fn is_logged<H>(rt: &H, path: &str, rows: &str) -> Result<bool, Fail>
-where
-    H: Threads + Wait + AllocGlobal + Clock + Sync,
-    H: Net<Listener = TcpListener, Stream = TcpStream>,
-{
-    is_logged_at(rt, path, AT_MOMENT, rows)
-}
-
 #[test]
 fn log_has_a_line_a_connection(rt: HostRuntime) -> Result<(), Fail> {
-    assert!(rt; is_logged(&rt, "nothing", ROWS)?);
+    assert!(rt; is_logged(&rt, AT_MOMENT, ROWS)?);
     Ok(())
 }
 
 /// If the clock can't be read, a client gets nothing, and its connection has a line.
 #[test]
 fn a_clock_that_fails_is_reported(rt: HostRuntime) -> Result<(), Fail> {
-    assert!(rt; is_logged_at(&rt, "nothing", WITHOUT_CLOCK, UNTIMED)?);
+    assert!(rt; is_logged(&rt, WITHOUT_CLOCK, UNTIMED)?);
     Ok(())
 }
