@@ -1,7 +1,7 @@
-//! Tests of programs, rules, the machine, the interpreter and traces that no command shows:
-//! programs with choice, count and trace that were worked out by hand; and damaged programs, each
-//! prefix and each change of one byte of three programs. Those that are still accepted run alike on
-//! the machine and on the interpreter, whose steps are the semantics', whatever the counters reply.
+//! Tests of programs, rules, the machine and the interpreter that no command shows: programs with
+//! choice and count that were worked out by hand; and damaged programs, each prefix and each change
+//! of one byte of three programs. Those that are still accepted run alike on the machine and on the
+//! interpreter, whose steps are the semantics', whatever the counters reply.
 #![tactic(auto)]
 
 #[cfg(test)]
@@ -24,5 +24,3 @@ mod row;
 mod rules;
 #[cfg(test)]
 mod runs;
-#[cfg(test)]
-mod traces;
