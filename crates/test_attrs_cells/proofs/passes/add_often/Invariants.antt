@@ -1,5 +1,0 @@
-use Rattle.shared_cells.specs.Passes.{IsPassOf}
-use Rattle.test_attrs_cells.proofs.passes.add_often.Given as goal
-
-abbrev pub invariant-loop : goal.invariant-loop
-invariant-loop l = IsPassOf l.cells l.pass
