@@ -6,7 +6,7 @@ ghost use Rattle.abs_value.specs.Intervals as intervals;
 use bpf_insn::Bits;
 
 /// The numbers of 64 bits from `lo` to `hi`, both included.
-#[derive(Clone, Copy, Debug, PartialEq, Eq)]
+#[derive(Clone, Copy)]
 pub struct Interval {
     pub lo: u64,
     pub hi: u64,

@@ -10,7 +10,7 @@ use bpf_insn::Bits;
 
 /// The bits that are 1 in each number, and those that may be 1. A bit of `may_have` that isn't in
 /// `has` is unknown.
-#[derive(Clone, Copy, Debug, PartialEq, Eq)]
+#[derive(Clone, Copy)]
 pub struct KnownBits {
     pub has: u64,
     pub may_have: u64,

@@ -12,7 +12,7 @@ use crate::known_bits::KnownBits;
 use bpf_insn::Bits;
 
 /// The numbers of an interval that have these bits.
-#[derive(Clone, Copy, Debug, PartialEq, Eq)]
+#[derive(Clone, Copy)]
 pub struct Number {
     pub range: Interval,
     pub bits: KnownBits,

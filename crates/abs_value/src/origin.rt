@@ -8,7 +8,7 @@ use crate::number::Number;
 use crate::value::Abs;
 
 /// A lookup in an array of the program's shape, by the CALL at `slot`.
-#[derive(Clone, Copy, Debug, PartialEq, Eq)]
+#[derive(Clone, Copy)]
 pub struct Lookup {
     pub array: u32,
     pub slot: u16,
@@ -35,7 +35,7 @@ impl Lookup {
 }
 
 /// The origin of a cell's address.
-#[derive(Clone, Copy, Debug, PartialEq, Eq)]
+#[derive(Clone, Copy)]
 pub enum Origin {
     /// The result of a lookup.
     Found(Lookup),

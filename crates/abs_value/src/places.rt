@@ -9,7 +9,7 @@ use bpf_insn::AluOp;
 use bpf_semantics::{CONTEXT_SIZE, STACK_SIZE};
 
 /// The places from `lo` to `hi`, both included.
-#[derive(Clone, Copy, Debug, PartialEq, Eq)]
+#[derive(Clone, Copy)]
 pub struct Places {
     pub lo: u16,
     pub hi: u16,

@@ -6,7 +6,7 @@ ghost use Rattle.abs_value.specs.Narrowing as narrowing;
 use bpf_insn::Condition;
 
 /// The relation of a first number to a second.
-#[derive(Clone, Copy, Debug, PartialEq, Eq)]
+#[derive(Clone, Copy)]
 pub enum Relation {
     Equal,
     Unequal,

@@ -13,7 +13,7 @@ use crate::value::Abs;
 pub const ALL_SET: u8 = 0xff;
 
 /// The abstract value of an aligned slot of 8 bytes.
-#[derive(Clone, Copy, Debug, PartialEq, Eq)]
+#[derive(Clone, Copy)]
 pub enum AbsSlot {
     /// All 8 bytes are set, and the slot keeps this value.
     Kept(Abs),

@@ -18,7 +18,7 @@ use bpf_semantics::{STACK_SIZE, byte_count};
 use std::marker::Model;
 
 /// The 64 slots of the stack, from its start up.
-#[derive(Debug, Drop)]
+#[derive(Drop)]
 pub struct Stack {
     slots: [AbsSlot; 64],
     /// No byte of the slots below this one is set.

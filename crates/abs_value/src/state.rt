@@ -18,7 +18,7 @@ use bpf_semantics::STACK_SIZE;
 
 /// A value for each register, by its number, and the 64 slots of the stack, from the lowest
 /// address.
-#[derive(Debug, Drop)]
+#[derive(Drop)]
 pub struct AbsState {
     pub registers: [Abs; 11],
     pub stack: Stack,

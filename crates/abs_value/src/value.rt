@@ -12,7 +12,7 @@ use bpf_insn::{AluOp, Bits, ByteOrder, Condition, EndSize, Extension, LoadKind};
 use bpf_semantics::helpers::Prototype;
 
 /// The abstract value of a register, or of a stack slot that keeps a value.
-#[derive(Clone, Copy, Debug, PartialEq, Eq)]
+#[derive(Clone, Copy)]
 pub enum Abs {
     /// Nothing is known; a register may also be unset.
     Unusable,

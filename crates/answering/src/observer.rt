@@ -17,7 +17,7 @@ pub trait RequestObserver: AppObserver {
 }
 
 /// An observer that does nothing.
-#[derive(Clone, Copy, Debug)]
+#[derive(Clone, Copy)]
 pub struct NoObserver;
 
 impl AppObserver for NoObserver {

@@ -4,7 +4,7 @@ use std::fmt::{self, Display};
 use std::str;
 
 /// A reply that was sent, as in the log: `200`, or `400 O3 Protocol`.
-#[derive(Debug, Drop)]
+#[derive(Drop)]
 pub struct Sent {
     /// The number of its status.
     pub status: u16,

@@ -15,7 +15,7 @@ use std::marker::Model;
 const COHORT_LENGTH: usize = 6;
 
 /// A bucket by its number, 0 to 9999.
-#[derive(Clone, Copy, Debug, PartialEq, Eq)]
+#[derive(Clone, Copy)]
 pub struct Bucket {
     value: u16,
 }

@@ -7,7 +7,7 @@ use std::marker::Model;
 
 /// The facts of one app of a request at a moment. The type's invariant: the bucket is below 10000,
 /// the flags below 64, and the seconds below 86400.
-#[derive(Clone, Copy, Debug, PartialEq, Eq)]
+#[derive(Clone, Copy)]
 pub struct Context {
     /// The four numbers of the app's version; `Attrs` sets them to 0 if it isn't known.
     pub version: [u32; 4],

@@ -13,7 +13,7 @@ const FIRST_SECOND: i64 = Elapsed::FIRST_SECOND as i64;
 const LAST_SECOND: i64 = 253402300799;
 
 /// The time from 2007-01-01 UTC to a moment.
-#[derive(Clone, Copy, Debug, PartialEq, Eq)]
+#[derive(Clone, Copy)]
 pub struct Elapsed {
     /// Whole days.
     pub days: u32,

@@ -9,7 +9,7 @@ ghost use Rattle.attrs.specs.Vocabulary as words;
 use crate::context::Context;
 
 /// A flag of an app's context.
-#[derive(Clone, Copy, Debug, PartialEq, Eq)]
+#[derive(Clone, Copy, PartialEq, Eq)]
 pub enum Flag {
     VersionKnown,
     Updatecheck,
@@ -20,7 +20,7 @@ pub enum Flag {
 }
 
 /// A text of an app.
-#[derive(Clone, Copy, Debug, PartialEq, Eq)]
+#[derive(Clone, Copy, PartialEq, Eq)]
 pub enum Attribute {
     Appid,
     Version,

@@ -7,7 +7,7 @@ use bpf_insn::{AtomicSize, LoadKind, Reg, Size};
 use bpf_semantics::{atomic_count, byte_count, load_count};
 
 /// How memory is accessed.
-#[derive(Clone, Copy, Debug, PartialEq, Eq)]
+#[derive(Clone, Copy, PartialEq, Eq)]
 pub enum Use {
     /// A zero-extending load.
     Loads,
@@ -20,7 +20,7 @@ pub enum Use {
 }
 
 /// An access of `count` bytes, from the address in the register `base` plus the offset.
-#[derive(Clone, Copy, Debug, PartialEq, Eq)]
+#[derive(Clone, Copy)]
 pub struct Access {
     pub how: Use,
     pub base: Reg,

@@ -10,7 +10,7 @@ use abs_value::{Abs, AbsState};
 use bpf_insn::{Insn, Operand, Reg};
 
 /// The comparison of an instruction.
-#[derive(Clone, Copy, Debug)]
+#[derive(Clone, Copy)]
 pub enum Compared {
     /// The instruction isn't a conditional jump.
     Nothing,

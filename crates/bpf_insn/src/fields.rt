@@ -6,7 +6,7 @@ ghost use Rattle.bpf_insn.specs.Faults.{fault_text};
 use std::fmt;
 
 /// The fields of an instruction's eight bytes, or of the second half of a wide instruction.
-#[derive(Clone, Copy, Debug, PartialEq, Eq)]
+#[derive(Clone, Copy)]
 pub struct Fields {
     pub opcode: u8,
     pub dst: u8,

@@ -19,7 +19,7 @@ use crate::operand::{AtomicSize, Bits, ByteOrder, Condition, LoadKind, Size};
 // A wide instruction has a second half of eight bytes: four zeroes, and next_imm in place of imm.
 
 /// The source of the second operand: K is imm, X is the register src.
-#[derive(Clone, Copy, Debug, PartialEq, Eq)]
+#[derive(Clone, Copy)]
 pub enum Source {
     K,
     X,
@@ -27,7 +27,7 @@ pub enum Source {
 
 /// The code of an arithmetic row, the high half of its opcode. SDIV has the code of DIV, and SMOD
 /// that of MOD; the offset distinguishes them.
-#[derive(Clone, Copy, Debug, PartialEq, Eq)]
+#[derive(Clone, Copy)]
 pub enum AluCode {
     Add,
     Sub,
@@ -44,7 +44,7 @@ pub enum AluCode {
 
 /// A row of the table of opcodes. `Mov` with X also has the opcode of MOVSX; the offset
 /// distinguishes them.
-#[derive(Clone, Copy, Debug, PartialEq, Eq)]
+#[derive(Clone, Copy)]
 pub enum Form {
     Alu(Bits, AluCode, Source),
     Mov(Bits, Source),
@@ -63,7 +63,7 @@ pub enum Form {
 }
 
 /// The meaning of src in a wide load: a number, a map by its index, or a cell of a map.
-#[derive(Clone, Copy, Debug, PartialEq, Eq)]
+#[derive(Clone, Copy)]
 pub enum WideSource {
     Number,
     Map,
@@ -71,7 +71,7 @@ pub enum WideSource {
 }
 
 /// What a row allows in src.
-#[derive(Clone, Copy, Debug, PartialEq, Eq)]
+#[derive(Clone, Copy)]
 pub enum SrcField {
     /// The row doesn't use it: 0.
     Unused,
@@ -84,7 +84,7 @@ pub enum SrcField {
 }
 
 /// What a row allows in offset.
-#[derive(Clone, Copy, Debug, PartialEq, Eq)]
+#[derive(Clone, Copy)]
 pub enum OffsetField {
     /// The row doesn't use it: 0.
     Unused,
@@ -97,7 +97,7 @@ pub enum OffsetField {
 }
 
 /// What a row allows in imm.
-#[derive(Clone, Copy, Debug, PartialEq, Eq)]
+#[derive(Clone, Copy)]
 pub enum ImmField {
     /// The row doesn't use it: 0.
     Unused,
@@ -110,7 +110,7 @@ pub enum ImmField {
 }
 
 /// A row: its opcode, and what it allows in each field.
-#[derive(Clone, Copy, Debug, PartialEq, Eq)]
+#[derive(Clone, Copy)]
 pub struct Row {
     pub opcode: u8,
     pub uses_dst: bool,

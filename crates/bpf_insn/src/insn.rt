@@ -8,7 +8,7 @@ use crate::reg::Reg;
 
 /// One instruction of the conformance groups base32, base64, divmul32, divmul64, atomic32 and
 /// atomic64.
-#[derive(Clone, Copy, Debug, PartialEq, Eq)]
+#[derive(Clone, Copy)]
 pub enum Insn {
     /// `dst = dst op src`.
     Alu {
@@ -95,7 +95,7 @@ pub enum Insn {
 }
 
 /// The number of slots of eight bytes that an instruction takes.
-#[derive(Clone, Copy, Debug, PartialEq, Eq)]
+#[derive(Clone, Copy, PartialEq, Eq)]
 pub enum Width {
     One,
     Two,

@@ -4,7 +4,7 @@ use crate::reg::Reg;
 
 /// The width of an instruction: whole registers (classes ALU64 and JMP) or their low halves
 /// (classes ALU and JMP32).
-#[derive(Clone, Copy, Debug, PartialEq, Eq)]
+#[derive(Clone, Copy, PartialEq, Eq)]
 pub enum Bits {
     Bits64,
     Bits32,
@@ -12,7 +12,7 @@ pub enum Bits {
 
 /// An arithmetic operation with two operands (RFC 9669, "Arithmetic Instructions"); `Sdiv` and
 /// `Smod` are signed.
-#[derive(Clone, Copy, Debug, PartialEq, Eq)]
+#[derive(Clone, Copy, PartialEq, Eq)]
 pub enum AluOp {
     Add,
     Sub,
@@ -30,7 +30,7 @@ pub enum AluOp {
 }
 
 /// The part of a register that MOVSX sign-extends, and the width to which it extends.
-#[derive(Clone, Copy, Debug, PartialEq, Eq)]
+#[derive(Clone, Copy)]
 pub enum Extension {
     Byte64,
     Half64,
@@ -41,7 +41,7 @@ pub enum Extension {
 
 /// The byte order of END (RFC 9669, "Byte Swap Instructions"): from the machine's own order, which
 /// is little-endian, to little-endian or big-endian, or always reversed.
-#[derive(Clone, Copy, Debug, PartialEq, Eq)]
+#[derive(Clone, Copy)]
 pub enum ByteOrder {
     Little,
     Big,
@@ -49,7 +49,7 @@ pub enum ByteOrder {
 }
 
 /// The number of low bytes that END keeps: 2, 4 or 8.
-#[derive(Clone, Copy, Debug, PartialEq, Eq)]
+#[derive(Clone, Copy)]
 pub enum EndSize {
     Half,
     Word,
@@ -58,7 +58,7 @@ pub enum EndSize {
 
 /// The condition of a jump (RFC 9669, "Jump Instructions"). Conditions with `S` compare signed
 /// numbers, and `Set` tests for a common bit.
-#[derive(Clone, Copy, Debug, PartialEq, Eq)]
+#[derive(Clone, Copy, PartialEq, Eq)]
 pub enum Condition {
     Eq,
     Gt,
@@ -75,14 +75,14 @@ pub enum Condition {
 
 /// The number of slots that JA moves from the instruction after it, from its offset or from its
 /// imm.
-#[derive(Clone, Copy, Debug, PartialEq, Eq)]
+#[derive(Clone, Copy)]
 pub enum Distance {
     Short(i16),
     Long(i32),
 }
 
 /// The number of bytes of an access: 1, 2, 4 or 8.
-#[derive(Clone, Copy, Debug, PartialEq, Eq)]
+#[derive(Clone, Copy)]
 pub enum Size {
     Byte,
     Half,
@@ -91,7 +91,7 @@ pub enum Size {
 }
 
 /// The size of a load, and its extension to 64 bits: by zeroes (mode MEM) or by the sign (MEMSX).
-#[derive(Clone, Copy, Debug, PartialEq, Eq)]
+#[derive(Clone, Copy, PartialEq, Eq)]
 pub enum LoadKind {
     Byte,
     Half,
@@ -103,7 +103,7 @@ pub enum LoadKind {
 }
 
 /// The number of bytes of an atomic operation: 4 or 8.
-#[derive(Clone, Copy, Debug, PartialEq, Eq)]
+#[derive(Clone, Copy)]
 pub enum AtomicSize {
     Word,
     Double,
@@ -111,7 +111,7 @@ pub enum AtomicSize {
 
 /// An atomic operation (RFC 9669, "Atomic Operations"). The operations with `Fetch`, the exchange
 /// and the compare-and-exchange also return the old value.
-#[derive(Clone, Copy, Debug, PartialEq, Eq)]
+#[derive(Clone, Copy, PartialEq, Eq)]
 pub enum AtomicOp {
     Add,
     Or,
@@ -126,7 +126,7 @@ pub enum AtomicOp {
 }
 
 /// The second operand of arithmetic or of a jump: K, an imm, or X, a register.
-#[derive(Clone, Copy, Debug, PartialEq, Eq)]
+#[derive(Clone, Copy)]
 pub enum Operand {
     Imm(i32),
     Register(Reg),
@@ -135,7 +135,7 @@ pub enum Operand {
 /// The value of a wide load (RFC 9669, "64-bit Immediate Instructions"). It is a number (source 0),
 /// a map by its index (source 5), or the address of a map's first value plus an offset (source 6).
 /// The first value is here the first cell of an array of counters.
-#[derive(Clone, Copy, Debug, PartialEq, Eq)]
+#[derive(Clone, Copy)]
 pub enum WideValue {
     Number(u64),
     Map(i32),

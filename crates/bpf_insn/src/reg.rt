@@ -6,7 +6,7 @@ ghost use Rattle.bpf_insn.specs.Table.{number_of};
 
 /// A register, R0 to R10. R0 is the result, R1 to R5 are arguments, calls preserve R6 to R9, and
 /// R10 is the read-only top of the stack.
-#[derive(Clone, Copy, Debug, PartialEq, Eq)]
+#[derive(Clone, Copy, PartialEq, Eq)]
 pub enum Reg {
     R0,
     R1,

@@ -4,7 +4,7 @@
 pub type Choice = u8;
 
 /// The result of a step.
-#[derive(Clone, Copy, Debug, PartialEq, Eq)]
+#[derive(Clone, Copy, PartialEq, Eq)]
 pub enum Progress {
     /// The run continues.
     Going,

@@ -10,7 +10,7 @@ use std::marker::Model;
 const LAST_INDEX: u64 = 65535;
 
 /// A cell, by the name of its array and its index, and its value. The array may not exist.
-#[derive(Debug, Drop)]
+#[derive(Drop)]
 pub struct CellAssignment<'a> {
     array: &'a str,
     index: u16,

@@ -12,7 +12,7 @@ use std::alloc::{AllocError, Global};
 use std::marker::Model;
 
 /// The width of an array's cells.
-#[derive(Clone, Copy, Debug, PartialEq, Eq)]
+#[derive(Clone, Copy, PartialEq, Eq)]
 pub enum CellWidth {
     Bits32,
     Bits64,
@@ -35,7 +35,7 @@ pub fn first_cell(width: CellWidth) -> u16
 
 /// The name of an array: a letter or `_`, then letters, digits and `_`, at most 32 in all. Letters
 /// and digits are ASCII.
-#[derive(Debug, Drop)]
+#[derive(Drop)]
 pub struct ArrayName {
     text: String,
 }
@@ -83,14 +83,14 @@ impl ArrayName {
 }
 
 /// The number of an array in its directory, from 0.
-#[derive(Clone, Copy, Debug, PartialEq, Eq)]
+#[derive(Clone, Copy, PartialEq, Eq)]
 pub struct ArrayNo {
     pub number: usize,
 }
 
 /// An array of cells: the `length` cells from number `base` on. With a quota, each of its cells
 /// grants that many takes, and no more.
-#[derive(Debug, Drop)]
+#[derive(Drop)]
 pub struct CellArray {
     pub name: ArrayName,
     pub width: CellWidth,

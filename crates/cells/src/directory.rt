@@ -12,7 +12,7 @@ use std::alloc::{AllocError, Global};
 use std::marker::Model;
 
 /// Declared arrays with distinct names, in the order of their declarations.
-#[derive(Debug, Drop)]
+#[derive(Drop)]
 pub struct Directory {
     arrays: Vec<CellArray>,
     /// How many cells of each width the arrays have.

@@ -6,7 +6,7 @@ ghost use Rattle.std.specs.Prelude.{◌≡◌, ◌<◌};
 use crate::array::CellWidth;
 
 /// The number of a cell, 0 to 8191.
-#[derive(Clone, Copy, Debug, PartialEq, Eq)]
+#[derive(Clone, Copy, PartialEq, Eq)]
 pub struct CellNo {
     pub number: u16,
     pub ghost in_range: { number < 8192 },
@@ -38,7 +38,7 @@ impl CellNo {
 }
 
 /// An atomic operation on a cell. A 32-bit cell takes only the low 32 bits of an operand.
-#[derive(Clone, Copy, Debug, PartialEq, Eq)]
+#[derive(Clone, Copy, PartialEq, Eq)]
 pub enum CellOp {
     Load,
     Store(u64),
@@ -52,7 +52,7 @@ pub enum CellOp {
 }
 
 /// An operation on the cell of a number, with its reply: the previous value, or 0 for a Store.
-#[derive(Clone, Copy, Debug, PartialEq, Eq)]
+#[derive(Clone, Copy, PartialEq, Eq)]
 pub struct CellEvent {
     pub cell: u16,
     pub op: CellOp,

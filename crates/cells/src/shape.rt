@@ -11,7 +11,7 @@ use std::marker::Model;
 
 /// How many releases a program chooses among, and the arrays that it may use: its map `i` is the
 /// array `i`. Two of the arrays are equal or share no cell.
-#[derive(Debug, Drop)]
+#[derive(Drop)]
 pub struct Shape {
     releases: u8,
     arrays: Vec<CellArray>,

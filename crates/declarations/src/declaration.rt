@@ -7,7 +7,7 @@ use std::fmt;
 use std::marker::Model;
 
 /// The declaration of an array with 1 to 4096 cells. A quota, 1 to 2^63 - 1, needs 64-bit cells.
-#[derive(Debug, Drop)]
+#[derive(Drop)]
 pub struct ArrayDeclaration {
     name: ArrayName,
     width: CellWidth,

@@ -11,7 +11,7 @@ use std::cmp::Ordering;
 
 /// No release any more, or another one: of a lower version, of other content with the same numbers,
 /// or of a higher version. Or a release for machines that got none.
-#[derive(Clone, Copy, Debug, Drop)]
+#[derive(Clone, Copy, Drop)]
 pub enum RowKind {
     Lost,
     Older,

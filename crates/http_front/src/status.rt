@@ -4,7 +4,7 @@ ghost use Rattle.std.specs.Prelude.{◌≡◌, ◌≤◌, length};
 ghost use Rattle.http_front.specs.Reply.{code_of, reason_of, type_of, allow_line};
 
 /// The statuses of replies (RFC 9110, section 15; 431 is of RFC 6585, section 5).
-#[derive(Clone, Copy, Debug, PartialEq, Eq, Drop)]
+#[derive(Clone, Copy, PartialEq, Eq, Drop)]
 pub enum Status {
     /// 200
     Success,

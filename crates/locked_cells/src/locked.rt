@@ -18,7 +18,7 @@ pub struct LockedCells<R: Wait + Drop> {
 }
 
 /// A thread's right to act on locked cells. It keeps nothing.
-#[derive(Clone, Copy, Debug, PartialEq, Eq)]
+#[derive(Clone, Copy, PartialEq, Eq)]
 pub struct LockedPass;
 
 impl<R: Wait + Drop> LockedCells<R> {

@@ -22,7 +22,7 @@ pub enum OperatorRefusal<F> {
 }
 
 /// The reply to a request.
-#[derive(Debug, Drop)]
+#[derive(Drop)]
 pub enum OperatorReply<F> {
     /// A ruleset was loaded and installed as this generation.
     Loaded(Generation),

@@ -14,7 +14,7 @@ pub const LINE_LIMIT: usize = 4096;
 const PATH_LIMIT: usize = LINE_LIMIT - 5;
 
 /// A request at a server's operator's port.
-#[derive(Clone, Copy, Debug, PartialEq, Eq)]
+#[derive(Clone, Copy, PartialEq, Eq)]
 pub enum OperatorRequest<'a> {
     /// `load PATH`: install the ruleset of the manifest at this path in the server's file system.
     Load(&'a str),

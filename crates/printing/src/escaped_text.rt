@@ -9,11 +9,11 @@ use std::fmt;
 use std::fmt::{Display, Formatter, Write};
 
 /// A text for one line: each control character, even a line feed, is escaped in the form `\u{1b}`.
-#[derive(Clone, Copy, Debug, Drop)]
+#[derive(Clone, Copy, Drop)]
 pub struct Printed<'a>(pub &'a str);
 
 /// A text of one or more lines: the same, except for its line feeds and tabs.
-#[derive(Clone, Copy, Debug, Drop)]
+#[derive(Clone, Copy, Drop)]
 pub struct PrintedLines<'a>(pub &'a str);
 
 impl<'a> Display for Printed<'a> {

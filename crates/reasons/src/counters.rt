@@ -11,7 +11,7 @@ use cells::{CellArray, CellNo, CellOp, CellSteps, PlainCells, PlainPass};
 use std::marker::Model;
 
 /// A cell that was taken from, and its previous value.
-#[derive(Clone, Copy, Debug)]
+#[derive(Clone, Copy)]
 pub(crate) struct CellTake {
     cell: u32,
     value: u64,

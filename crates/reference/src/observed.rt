@@ -4,7 +4,7 @@ use cells::CellEvent;
 
 /// The run continues, continues with an event on a counter, ends with a choice, or has an undefined
 /// step.
-#[derive(Clone, Copy, Debug, PartialEq, Eq)]
+#[derive(Clone, Copy, PartialEq, Eq)]
 pub enum Observed {
     Going,
     Event(CellEvent),
@@ -13,7 +13,7 @@ pub enum Observed {
 }
 
 /// The result of a run with a limit of steps: a choice, an undefined step, or no end yet.
-#[derive(Clone, Copy, Debug, PartialEq, Eq)]
+#[derive(Clone, Copy, PartialEq, Eq)]
 pub enum RunEnd {
     Choice(u64),
     Trap,

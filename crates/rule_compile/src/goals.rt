@@ -7,7 +7,7 @@ use std::alloc::Global;
 use std::marker::Model;
 
 /// The code jumps to the label if its condition has this truth value, and otherwise falls through.
-#[derive(Clone, Copy, Debug)]
+#[derive(Clone, Copy)]
 pub struct Goal {
     pub sense: bool,
     pub label: usize,

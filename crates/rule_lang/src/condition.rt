@@ -8,7 +8,7 @@ use std::marker::Model;
 
 /// One step of a condition: a test, with its line in the rule's text from 1, or an operator on the
 /// one or two conditions before it.
-#[derive(Debug, Drop)]
+#[derive(Drop)]
 pub enum Step {
     Test { line: usize, test: Test },
     Not,
@@ -18,7 +18,7 @@ pub enum Step {
 
 /// A condition in post-fix order: `a and not b` is the steps `a`, `b`, `Not`, `And`. So loops read,
 /// keep and drop a chain of any length.
-#[derive(Debug, Drop)]
+#[derive(Drop)]
 pub struct RuleCondition {
     steps: Vec<Step>,
 }

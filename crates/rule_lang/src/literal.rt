@@ -9,7 +9,7 @@ use std::alloc::{AllocError, Global};
 use std::marker::Model;
 
 /// A text of at most 64 bytes of printable ASCII, without quotation marks and backslashes.
-#[derive(Debug, Drop)]
+#[derive(Drop)]
 pub struct Literal {
     text: String,
 }

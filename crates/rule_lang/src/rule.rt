@@ -7,7 +7,7 @@ use cells::ArrayName;
 use std::marker::Model;
 
 /// One statement of a rule.
-#[derive(Debug, Drop)]
+#[derive(Drop)]
 pub enum Statement {
     /// Adds 1 to a cell of an array without a quota.
     Count {
@@ -22,7 +22,7 @@ pub enum Statement {
 }
 
 /// A rule: its statements in order, and then `otherwise none`.
-#[derive(Debug, Drop)]
+#[derive(Drop)]
 pub struct Rule {
     statements: Vec<Statement>,
 }

@@ -5,7 +5,7 @@ use attrs::{Attribute, Flag};
 use cells::ArrayName;
 
 /// How two numbers, or two versions, compare.
-#[derive(Clone, Copy, Debug, PartialEq, Eq)]
+#[derive(Clone, Copy, PartialEq, Eq)]
 pub enum Comparison {
     Lt,
     Le,
@@ -16,7 +16,7 @@ pub enum Comparison {
 }
 
 /// One test of an app. Days are counted from 2007-01-01 UTC.
-#[derive(Debug, Drop)]
+#[derive(Drop)]
 pub enum Test {
     /// The app's version against four numbers, compared in order.
     Version {

@@ -6,14 +6,14 @@ ghost use Rattle.warnings.specs.Possible as specs;
 use crate::spot::Spot;
 
 /// Whether a condition may hold, and whether it may fail; at least one is set.
-#[derive(Clone, Copy, Debug)]
+#[derive(Clone, Copy)]
 pub(crate) struct Possible {
     pub holds: bool,
     pub fails: bool,
 }
 
 /// The client for which a rule is evaluated.
-#[derive(Clone, Copy, Debug)]
+#[derive(Clone, Copy)]
 pub(crate) enum Clients {
     /// All clients whose version lies at this spot, with any other attributes and any counter
     /// replies.

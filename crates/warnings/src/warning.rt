@@ -6,7 +6,7 @@ ghost use Rattle.warnings.specs.Warnings as specs;
 use std::alloc::AllocError;
 
 /// The place. Arrays, apps and releases are numbered from 1, and so are the lines of an app's rule.
-#[derive(Clone, Copy, Debug)]
+#[derive(Clone, Copy)]
 pub enum WarningPlace {
     Array(usize),
     App(usize),
@@ -16,7 +16,7 @@ pub enum WarningPlace {
 
 /// What is probably not intended. docs/PROGRAM.md, "check", lists when each kind occurs, and what
 /// to do.
-#[derive(Clone, Copy, Debug)]
+#[derive(Clone, Copy)]
 pub enum WarningKind {
     /// An appid has an unprintable character.
     UnprintedAppid,
@@ -69,7 +69,7 @@ pub enum WarningKind {
 }
 
 /// A warning: its place and its kind.
-#[derive(Clone, Copy, Debug)]
+#[derive(Clone, Copy)]
 pub struct Warning {
     pub place: WarningPlace,
     pub kind: WarningKind,

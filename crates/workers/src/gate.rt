@@ -11,7 +11,7 @@ pub trait Gate {
 }
 
 /// The program's gate, which does nothing.
-#[derive(Clone, Copy, Debug, PartialEq, Eq)]
+#[derive(Clone, Copy, PartialEq, Eq)]
 pub struct NoGate;
 
 impl Gate for NoGate {

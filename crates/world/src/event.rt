@@ -22,7 +22,7 @@ pub enum Event {
 }
 
 /// The result of an event.
-#[derive(Clone, Copy, Debug, PartialEq, Eq)]
+#[derive(Clone, Copy, PartialEq, Eq)]
 pub enum Effect {
     Started,
     /// The run continues.
