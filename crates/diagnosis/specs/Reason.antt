@@ -80,7 +80,7 @@ pub record IsReported (number : ℕ) (place : Place) (app : AppSources) (text : 
 pub record IsFileReason (apps : List AppSources) (number : ℕ) (place : Place) (text : List ℕ)
     : Type 0 where
   pub app : AppSources
-  pub stands : slice_get apps (number - 1) ≡ Some app
+  pub found : slice_get apps (number - 1) ≡ Some app
   pub reported : IsReported number place app text
 
 -- ---- the lines that explain a refusal, from what was gathered

@@ -19,7 +19,7 @@ use Rattle.svg.specs.WellFormed.{HasPicture}
 module _ (window : Window) where
   counts_none : (r : Report) → CountsLines window [] r r
   counts_none r = record {
-    behind = λ drawn before counted.
+    extends = λ drawn before counted.
         subst (λ (lines : List (List ℕ)). Counts window lines drawn r) (sym (append-nil before))
         counted;
   }
@@ -27,9 +27,9 @@ module _ (window : Window) where
   counts_both : (xs ys : List (List ℕ)) (a b c : Report)
       → CountsLines window xs a b → CountsLines window ys b c → CountsLines window (xs ++ ys) a c
   counts_both xs ys a b c first last = record {
-    behind = λ drawn before counted.
+    extends = λ drawn before counted.
         subst (λ (lines : List (List ℕ)). Counts window lines drawn c) (append_assoc before xs ys)
-        (last.behind drawn (before ++ xs) (first.behind drawn before counted));
+        (last.extends drawn (before ++ xs) (first.extends drawn before counted));
   }
 
   pub no_logs : (r : Report) → CountsLogs window 0 r r
@@ -72,7 +72,7 @@ has_reported n since until form drawn output window start last from to none read
       logs = reads.logs;
       each = reads.each;
       report = last;
-      counted = reads.counted.behind drawn [] none;
+      counted = reads.counted.extends drawn [] none;
       text_is = text;
       picture = picture;
     }

@@ -49,7 +49,7 @@ module _ (window : Window) (before : List (List ℕ)) (line : List ℕ) where
       → IsTally limit (all_names window (before ++ line ∷ []) names) new
   more_tally limit names old new notes counted =
       subst (λ (all : List RowName). IsTally limit all new) (sym (more_names names))
-      (notes.behind limit (all_names window before names) counted)
+      (notes.extends limit (all_names window before names) counted)
 
   -- for a chart, if one is drawn
   more_course : (drawn : Bool) (limit : ℕ) (names : Data → List RowName) (was : Bool)
@@ -67,7 +67,7 @@ pub counts_one : (window : Window) (line : List ℕ) (old new : Report)
     → AddsLine (event_in line) (event_in_window window line) old new
     → CountsLines window (line ∷ []) old new
 counts_one window line old new adds = record {
-  behind = λ drawn before counted. record {
+  extends = λ drawn before counted. record {
     drawn_is = adds.course.drawn ∙ counted.drawn_is;
     lines_counted = more_sum (λ l. one_if (is_some (event_in_window window l))) before line _ _ _
         adds.lines_counted refl counted.lines_counted;

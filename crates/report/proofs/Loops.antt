@@ -55,7 +55,7 @@ module _ (question : EventQuestion) (app : Data) (appid : List ℕ) where
       subst (λ (k : Bool). Notes old new (names_if k after.object)) ends
       (subst (λ (o : List ℕ). Notes old new (names_if closes o)) all first) in
       record {
-        behind = λ text last rest.
+        extends = λ text last rest.
             notes_both old new last _ _
             (subst (λ (p : JsonPlace). Notes old new (closed_names question app appid before p))
             is noted)

@@ -12,7 +12,7 @@ use Rattle.report.specs.declared.window.Window.{Window}
 
 pub counts_none : (window : Window) (r : Report) → CountsLines window [] r r
 counts_none window r = record {
-  behind = λ drawn before counted.
+  extends = λ drawn before counted.
       subst (λ (lines : List (List ℕ)). Counts window lines drawn r) (sym (append-nil before))
       counted;
 }
@@ -20,9 +20,9 @@ counts_none window r = record {
 pub counts_both : (window : Window) (xs ys : List (List ℕ)) (a b c : Report)
     → CountsLines window xs a b → CountsLines window ys b c → CountsLines window (xs ++ ys) a c
 counts_both window xs ys a b c first last = record {
-  behind = λ drawn before counted.
+  extends = λ drawn before counted.
       subst (λ (lines : List (List ℕ)). Counts window lines drawn c) (append_assoc before xs ys)
-      (last.behind drawn (before ++ xs) (first.behind drawn before counted));
+      (last.extends drawn (before ++ xs) (first.extends drawn before counted));
 }
 
 if_true : {A : Type 0} (b : Bool) (x y : A) → b ≡ true → (if b then x else y) ≡ x
@@ -65,7 +65,7 @@ no_line window (b ∷ line) r none = absurd (omega (arith, none))
 pub line_ends : (window : Window) (begun : List ℕ) (old new : Report)
     → CountsLines window (begun ∷ []) old new → ReadsBlock window (10 ∷ []) begun old [] new
 line_ends window begun old new counted = record {
-  behind = λ bytes last rest.
+  extends = λ bytes last rest.
       subst (λ (lines : List (List ℕ)). CountsLines window lines old last)
       (sym (feed_ends begun bytes))
       (counts_both window (begun ∷ []) (lines_after [] bytes) old new last counted rest);
@@ -74,7 +74,7 @@ line_ends window begun old new counted = record {
 pub line_goes_on : (window : Window) (begun begun_then : List ℕ) (b : ℕ) (r : Report)
     → b ≢ 10 → begun_then ≡ grown begun b → ReadsBlock window (b ∷ []) begun r begun_then r
 line_goes_on window begun begun_then b r other grows = record {
-  behind = λ bytes last rest.
+  extends = λ bytes last rest.
       subst (λ (lines : List (List ℕ)). CountsLines window lines r last)
       (ap (λ (line : List ℕ). lines_after line bytes) grows
       ∙ sym (other_goes_on begun b bytes (neq_false b 10 other))) rest;
@@ -85,16 +85,16 @@ line_goes_on window begun begun_then b r other grows = record {
 
 pub reads_none : (window : Window) (begun : List ℕ) (r : Report)
     → ReadsBlock window [] begun r begun r
-reads_none window begun r = record { behind = λ bytes last rest. rest }
+reads_none window begun r = record { extends = λ bytes last rest. rest }
 
 pub reads_both : (window : Window) (xs ys : List ℕ) (x y z : List ℕ) (a b c : Report)
     → ReadsBlock window xs x a y b → ReadsBlock window ys y b z c
     → ReadsBlock window (xs ++ ys) x a z c
 reads_both window xs ys x y z a b c first next = record {
-  behind = λ bytes last rest.
+  extends = λ bytes last rest.
       subst (λ (all : List ℕ). CountsLines window (lines_after x all) a last)
       (sym (append_assoc xs ys bytes))
-      (first.behind (ys ++ bytes) last (next.behind bytes last rest));
+      (first.extends (ys ++ bytes) last (next.extends bytes last rest));
 }
 
 pub last_line : (window : Window) (begun : List ℕ) (old new : Report)
@@ -144,5 +144,5 @@ log_read window known last_known seen begun start old new consumed ended reads l
   bytes = seen;
   given = all_consumed known last_known seen consumed ended;
   counted = subst (λ (bytes : List ℕ). CountsLines window (lines_after [] bytes) start new)
-      (append-nil seen) (reads.behind [] new last);
+      (append-nil seen) (reads.extends [] new last);
 }

@@ -145,7 +145,7 @@ module _ (old new : Tally) (name : RowName) (n m : ℕ) (had : get_by_text old.r
     }
 
   pub goes_up : Notes old new (name ∷ [])
-  goes_up = record { behind = up }
+  goes_up = record { extends = up }
 
 -- ---- a name gets a row
 
@@ -206,7 +206,7 @@ module _ (old new : Tally) (name : RowName) (none : get_by_text old.rows name �
     }
 
   pub gets_row : Notes old new (name ∷ [])
-  gets_row = record { behind = begun }
+  gets_row = record { extends = begun }
 
 -- ---- a name counts among the others
 
@@ -242,7 +242,7 @@ module _ (old new : Tally) (name : RowName) (none : get_by_text old.rows name �
     }
 
   pub joins_others : Notes old new (name ∷ [])
-  joins_others = record { behind = joined }
+  joins_others = record { extends = joined }
 
 pub len_after : (n m : ℕ) (o p : Option ℕ) → o ≡ p → m ≡ n + (if is_some o then 0 else 1)
     → m ≡ n + (if is_none p then 1 else 0)
@@ -255,16 +255,16 @@ len_after n m (Some k) p same is =
 
 pub notes_none : (t : Tally) → Notes t t []
 notes_none t = record {
-  behind = λ limit before counted.
+  extends = λ limit before counted.
       subst (λ (names : List RowName). IsTally limit names t) (sym (append-nil before)) counted;
 }
 
 pub notes_both : (a b c : Tally) (xs ys : List RowName)
     → Notes a b xs → Notes b c ys → Notes a c (xs ++ ys)
 notes_both a b c xs ys first last = record {
-  behind = λ limit before counted.
+  extends = λ limit before counted.
       subst (λ (names : List RowName). IsTally limit names c) (append_assoc before xs ys)
-      (last.behind limit (before ++ xs) (first.behind limit before counted));
+      (last.extends limit (before ++ xs) (first.extends limit before counted));
 }
 
 pub empty_tally : (limit : ℕ) (t : Tally) → t.others ≡ 0 → btree_map_len t.rows ≡ 0

@@ -97,7 +97,7 @@ names_in_text question app appid text = names_after question app appid json_star
 -- adds the names of the object that this byte ends, whatever follows
 pub record NotesByte (question : EventQuestion) (app : Data) (appid : List ℕ) (b : ℕ)
     (before : JsonPlace) (old : Tally) (after : JsonPlace) (new : Tally) : Type 0 where
-  pub behind : (text : List ℕ) (last : Tally)
+  pub extends : (text : List ℕ) (last : Tally)
       → Notes new last (names_after question app appid after text)
       → Notes old last (names_after question app appid before (b ∷ text))
 

@@ -7,14 +7,14 @@ use Rattle.report.specs.declared.window.Window.{Window}
 
 -- adds these lines to any lines counted before, with a chart or without
 pub record CountsLines (window : Window) (lines : List (List ℕ)) (old new : Report) : Type 0 where
-  pub behind : (drawn : Bool) (before : List (List ℕ))
+  pub extends : (drawn : Bool) (before : List (List ℕ))
       → Counts window before drawn old → Counts window (before ++ lines) drawn new
 
 -- After a block: for any bytes that follow it, counting their lines completes the count of both.
 -- `begun` and `begun_then` are the unfinished line before and after the block.
 pub record ReadsBlock (window : Window) (block : List ℕ) (begun : List ℕ) (old : Report)
     (begun_then : List ℕ) (new : Report) : Type 0 where
-  pub behind : (bytes : List ℕ) (last : Report)
+  pub extends : (bytes : List ℕ) (last : Report)
       → CountsLines window (lines_after begun_then bytes) new last
       → CountsLines window (lines_after begun (block ++ bytes)) old last
 

@@ -33,7 +33,7 @@ pub record IsTally (limit : ℕ) (names : List RowName) (t : Tally) : Type 0 whe
 
 -- adds these names to any names counted before
 pub record Notes (old new : Tally) (names : List RowName) : Type 0 where
-  pub behind : (limit : ℕ) (before : List RowName)
+  pub extends : (limit : ℕ) (before : List RowName)
       → IsTally limit before old → IsTally limit (before ++ names) new
 
 -- the name has this row, and all else is unchanged

@@ -145,5 +145,5 @@ module _ (window : Window) (lines : List (List ℕ)) (drawn : Bool) (a b : Repor
 
 pub continued : CountsContinue
 continued bytes saved begun last one other window old new drawn counted reads =
-    reads.behind drawn old
+    reads.extends drawn old
     (state_continues window old drawn saved begun (json_of bytes) one other counted)
