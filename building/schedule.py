@@ -78,15 +78,18 @@ class Build:
         ready = [it for it in self.left if it not in self.running and not it.below & waiting]
         works = self.running.values()
         room = self.room - sum(it.jobs for it in works)
-        idle = self.jobs - sum(it.jobs for it in works if it.level > URGENT)
+        idle = self.jobs - sum(it.jobs for it in works)
+        places = self.jobs - sum(it.jobs for it in works if it.level > URGENT)
         for count, crate in enumerate(ready):
             urgent = self.level(crate) <= URGENT
-            share = max(2, self.room - self.jobs) if urgent else max(1, idle - len(ready) + count)
-            jobs = min(share, room if urgent else min(room, idle), self.jobs, MOST_JOBS)
+            # Jobs side by side repeat work, so a crate has several only if processors are idle.
+            share = max(1, idle + count + 1 - len(ready))
+            jobs = min(share, room if urgent else min(room, places), MOST_JOBS)
             if jobs > 0:
                 self.start(crate, jobs)
                 room -= jobs
-                idle -= 0 if urgent else jobs
+                idle -= jobs
+                places -= 0 if urgent else jobs
 
     def level(self, crate):
         """How much lower than the longest chain's its priority is."""
