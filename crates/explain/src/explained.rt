@@ -110,7 +110,8 @@ fn explain_walk(
 /// The listing of a program with a comment on each instruction: what is known before it, up to the
 /// first instruction that breaks a rule. There the comment has the rule, and what is known instead
 /// of what it requires. A returned refusal is never V15.
-// open: whether an allocation fails, its one error; the words about a broken rule: rows.
+// open: whether an allocation fails, its one error, which a comment with a control character would
+// be too; the words about a broken rule: rows.
 pub fn explain(alloc: Global, flow: &Flow, shape: &Shape) -> Result<Explained, AllocError>
     ensures text { IfOk result
         (λ x. IsExplained (shaped flow.now shape.now) (string_bytes x.text)) }

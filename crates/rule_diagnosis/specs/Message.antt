@@ -1,6 +1,6 @@
 -- The message about a refused rule: line and column, some words, and the line itself with a caret.
 -- If a token is misplaced, the words say what is expected.
-use Rattle.std.specs.Prelude.{◌≡◌, ◌⊎◌, ◌<◌, ◌≤◌, ℕ, ◌+◌, ◌-◌, List, [], ◌++◌, codes, decimal}
+use Rattle.std.specs.Prelude.{◌≡◌, ◌⊎◌, ◌<◌, ◌≤◌, ℕ, ◌+◌, ◌-◌, List, ◌++◌, codes, decimal}
 use Rattle.std.specs.Prelude.{length, take, Err}
 use Rattle.cells.specs.Arrays.{AppShape}
 use Rattle.printing.specs.Printed.{printed_lines}
