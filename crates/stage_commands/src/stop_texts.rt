@@ -52,11 +52,12 @@ pub(crate) fn not_compared(alloc: Global, fault: &DiffFault) -> Stop {
     refusal(format!(in alloc; "what changes can't be compared ({fault})"))
 }
 
-/// Somebody would lose a release.
+/// Somebody may lose a release.
 pub(crate) fn loses(alloc: Global) -> Stop {
     refusal(String::from_str(
         alloc,
-        "a row is lost: some machines would no longer get their release (--anyway goes on)",
+        "a row is lost, or an app isn't compared: some machines may no longer get their release \
+        (--anyway goes on)",
     ))
 }
 
