@@ -2,3 +2,4 @@ mod Alike
 mod Checked
 mod CheckFloatless
 mod CheckedObjects
+mod LineEnds

@@ -3,6 +3,7 @@
 use Rattle.std.specs.Prelude.{◌≡◌, ℕ, List, [], ◌∷◌, ◌++◌, Bool, true, false, ◌&&◌, codes, map}
 use Rattle.std.specs.Prelude.{Option, Some, None, length}
 use Rattle.std.specs.Borrow.{Bor}
+use Rattle.std.specs.Io.BufRead.{strip_last}
 use Rattle.std.specs.String.{string_bytes}
 use Rattle.bounded_files.specs.Files.{KnownFiles}
 use Rattle.bounded_files.specs.declared.resource_fault.ResourceFault.TheVariants as resource
@@ -81,10 +82,10 @@ accepted_object allowed path checked = object (
 -- ---- a refused manifest
 
 -- the text of its refusal, and the lines of where and why (in which control characters are already
--- replaced by their numbers)
+-- replaced by their numbers), without the last line feed
 abbrev pub fault_object : (refusal reason : List ℕ) → Data
 fault_object refusal reason = object (
-    member (codes "reason") (string reason) (
+    member (codes "reason") (string (strip_last 10 reason)) (
     member (codes "refusal") (string refusal)
     no_members))
 

@@ -1,6 +1,7 @@
 //! The report on a checked manifest, as a JSON value.
 
 ghost use Rattle.std.specs.Prelude.{◌≡◌, ◌∷◌, ◌++◌, [], IfOk, OnOk, map, string_bytes};
+ghost use Rattle.std.specs.Io.BufRead.{strip_last};
 ghost use Rattle.serde_json.specs.View.{view};
 ghost use Rattle.manifest_tools.specs.CheckObjects as specs;
 ghost use Rattle.manifest_tools.specs.Manifests.{fault_text};
@@ -225,7 +226,18 @@ fn fault_object(alloc: Global, refusal: String, reason: &str) -> Result<Value, A
     ensures { IfOk result (λ value. view value
         ≡ specs.fault_object (string_bytes refusal) reason.now) }
 {
-    json!(in alloc; {"reason": reason, "refusal": refusal})
+    json!(in alloc; {"reason": without_line_feed(reason), "refusal": refusal})
+}
+
+// Lines without the line feed that ends the last of them.
+#[tactic(auto, using(crate::proofs::LineEnds::kept))]
+fn without_line_feed(lines: &str) -> &str
+    ensures { result.now ≡ strip_last 10 lines.now }
+{
+    match lines.strip_suffix('\n') {
+        Some(front) => front,
+        None => lines,
+    }
 }
 
 fn left_out_of(fault: &ManifestToolFault) -> usize
