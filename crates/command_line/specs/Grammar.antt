@@ -26,14 +26,17 @@ file id = positional id Set
 abbrev pub files : Text → Rule
 files id = positional id Append
 
+-- `--NAME`, with this action
+abbrev pub named : Text → ArgAction → Rule
+named name action = record (new_rule name) { long = Some name; action = Some action }
+
 -- `--NAME`, a flag
 abbrev pub flag : Text → Rule
-flag name = record (new_rule name) { long = Some name; action = Some SetTrue }
+flag name = named name SetTrue
 
 -- `--NAME VALUE`
 abbrev pub taking_value : Text → ArgAction → Rule
-taking_value name action =
-    record (new_rule name) { long = Some name; value_names = 1; action = Some action }
+taking_value name action = record (named name action) { value_names = 1 }
 
 abbrev pub option : Text → Rule
 option name = taking_value name Set

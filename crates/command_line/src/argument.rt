@@ -46,7 +46,7 @@ pub fn arg_of<'a>(alloc: Global, argument: &CommandArgument) -> Result<Arg<'a>, 
     match *argument {
         CommandArgument::Word(id, help) => Ok(word(alloc, id, ArgAction::Set, help)),
         CommandArgument::Words(id, help) => Ok(word(alloc, id, ArgAction::Append, help)),
-        CommandArgument::Flag(name, help) => Ok(flag(alloc, name, help)),
+        CommandArgument::Flag(name, help) => Ok(named(alloc, name, ArgAction::SetTrue, help)),
         CommandArgument::Text(name, value, help) => {
             Ok(option(alloc, name, value, ArgAction::Set, help))
         }
@@ -60,7 +60,8 @@ pub fn arg_of<'a>(alloc: Global, argument: &CommandArgument) -> Result<Arg<'a>, 
             Ok(number(alloc, name, value, limits, false, help))
         }
         CommandArgument::NumberByDefault(name, value, limits, default, help) => {
-            Ok(number_by_default(alloc, name, value, limits, default, help))
+            let number = number(alloc, name, value, limits, false, help);
+            Ok(number.default_value(default))
         }
         CommandArgument::Operator(help) => operator(alloc, true, help),
         CommandArgument::OptionalOperator(help) => operator(alloc, false, help),
@@ -74,14 +75,12 @@ fn word<'a>(alloc: Global, id: &'a str, action: ArgAction, help: &'a str) -> Arg
     Arg::new(alloc, id).required(true).action(action).help(help)
 }
 
-fn flag<'a>(alloc: Global, name: &'a str, help: &'a str) -> Arg<'a>
-    ensures rule { rule_of result ≡ grammar.flag name.now }
+// A flag or an option, by its action.
+fn named<'a>(alloc: Global, name: &'a str, action: ArgAction, help: &'a str) -> Arg<'a>
+    ensures rule { rule_of result ≡ grammar.named name.now action }
     ensures local { result.global ≡ false }
 {
-    Arg::new(alloc, name)
-        .long(name)
-        .action(ArgAction::SetTrue)
-        .help(help)
+    Arg::new(alloc, name).long(name).action(action).help(help)
 }
 
 fn option<'a>(
@@ -94,11 +93,7 @@ fn option<'a>(
     ensures rule { rule_of result ≡ grammar.taking_value name.now action }
     ensures local { result.global ≡ false }
 {
-    Arg::new(alloc, name)
-        .long(name)
-        .value_name(value)
-        .action(action)
-        .help(help)
+    named(alloc, name, action, help).value_name(value)
 }
 
 fn number<'a>(
@@ -112,33 +107,9 @@ fn number<'a>(
     ensures rule { rule_of result ≡ grammar.limited name.now limits required [] }
     ensures local { result.global ≡ false }
 {
-    Arg::new(alloc, name)
-        .long(name)
-        .value_name(value)
+    option(alloc, name, value, ArgAction::Set, help)
         .required(required)
-        .action(ArgAction::Set)
         .value_parser(ValueParser::Signed(limits.0, limits.1))
-        .help(help)
-}
-
-fn number_by_default<'a>(
-    alloc: Global,
-    name: &'a str,
-    value: &'a str,
-    limits: NumberLimits,
-    default: &'a str,
-    help: &'a str,
-) -> Arg<'a>
-    ensures rule { rule_of result ≡ grammar.limited name.now limits false (default.now ∷ []) }
-    ensures local { result.global ≡ false }
-{
-    Arg::new(alloc, name)
-        .long(name)
-        .value_name(value)
-        .action(ArgAction::Set)
-        .default_value(default)
-        .value_parser(ValueParser::Signed(limits.0, limits.1))
-        .help(help)
 }
 
 // The operator's port of a server, by two names.
