@@ -1,11 +1,7 @@
--- From clap's clauses to the words of `specs/Words`: what a getter reads from an argument, and a
--- command with its subcommands added one by one.
+-- From clap's clauses to the words of `specs/Words`: what a getter reads from an argument, and the
+-- head of a grammar.
 use Rattle.std.proofs.Common.{◌≡◌, ◌∙◌, sym, subst, ap, refl, ℕ, ◌<◌, ◌^◌, Option, Some, None}
-use Rattle.std.proofs.Common.{List, [], ◌∷◌, ◌++◌, ◌+◌, map, take, get_or, length, ap₂}
-use Rattle.std.proofs.lemmas.List.{map-append, map_more}
-use Rattle.std.specs.List.{AllByRecursion}
-use Rattle.clap.specs.Built.{AddsInTurn}
-use Rattle.std.proofs.Common.{true, false}
+use Rattle.std.proofs.Common.{List, true}
 use Rattle.std.specs.Prelude.{Result, Ok, option_map}
 use Rattle.std.specs.Borrow.{Bor}
 use Rattle.std.specs.Str.Parse.{ParsesUnsigned, ExplainsUnsignedError, HasUnsignedDigitsIfOk}
@@ -16,10 +12,10 @@ use Rattle.clap.specs.declared.builder.command.Command.{Command}
 use Rattle.clap.specs.declared.builder.command.Command.TheViews.{out-Command}
 use Rattle.clap.specs.Matches.{ReadsOne}
 use Rattle.clap.specs.Simple.{app_of_fields}
-use Rattle.clap.specs.Words.{Text, App, Row, AddsSubcommand, app_of, shape_of, new_app}
-use Rattle.clap.specs.Words.{with_subcommand, first_value, one_text, first_of, rows_of}
+use Rattle.clap.specs.Words.{Text, App, Row, app_of, new_app, first_value, one_text, first_of}
+use Rattle.clap.specs.Words.{rows_of}
 use Rattle.clap.proofs.WalkLemmas.{first_value-rows, one_text-rows}
-use Rattle.command_line.specs.Grammar.{with_required, with_subcommands}
+use Rattle.command_line.specs.Grammar.{with_required}
 use Rattle.command_line.specs.Values.{HasNumber, HasText}
 
 pub text_read : (f : Found) (id : Text) (r : Option (Bor Text))
@@ -88,32 +84,3 @@ pub required_top : (old mid new : Command) (name : Text) (help : Option (Bor Tex
     → app_of new ≡ with_required (new_app name)
 required_top old mid new name help is_old is_mid is_new =
     ap app_of_fields is_new ∙ ap (λ (x : App). with_required x) (ap app_of_fields is_mid ∙ is_old)
-
--- subcommands added one by one, none with a global argument
-pub with_more : (subs : List Command) (old new : Command) (a : App) → app_of old ≡ a
-    → AllByRecursion (λ c. (out-Command c).has_globals ≡ false) subs
-    → AddsInTurn AddsSubcommand old subs new
-    → app_of new ≡ with_subcommands a (map shape_of subs)
-with_more [] old new a is local same = ap app_of (sym same) ∙ is
-with_more (s ∷ rest) old new a is local (m, adds, more) =
-    with_more rest m new (with_subcommand a (shape_of s))
-    (adds.shape local.0 ∙ ap (λ (x : App). with_subcommand x (shape_of s)) is) local.1 more
-
-longer : {X : Type 0} (P : X → Type 0) (xs : List X) (x : X)
-    → AllByRecursion P xs → P x → AllByRecursion P (xs ++ x ∷ [])
-longer P [] x _ holds = (holds, tt)
-longer P (y ∷ rest) x all holds = (all.0, longer P rest x all.1 holds)
-
--- two lists with equal images, each extended by one element
-pub one_more_alike : {X Y S : Type 0} (f : X → S) (g : Y → S) (xs new : List X) (x : X)
-    (ys : List Y) (i : ℕ) (d : Y) → i < length ys → map f xs ≡ map g (take i ys)
-    → f x ≡ g (get_or ys i d) → new ≡ xs ++ x ∷ [] → map f new ≡ map g (take (i + 1) ys)
-one_more_alike f g xs new x ys i d within alike is more =
-    ap (map f) more ∙ map-append f xs (x ∷ [])
-    ∙ ap₂ (λ l e. l ++ e ∷ []) alike is ∙ sym (map_more g ys i d within)
-
--- a list extended by an element for which P holds
-pub one_more_holds : {X : Type 0} (P : X → Type 0) (xs new : List X) (x : X)
-    → AllByRecursion P xs → P x → new ≡ xs ++ x ∷ [] → AllByRecursion P new
-one_more_holds P xs new x all holds more =
-    subst (AllByRecursion P) (sym more) (longer P xs x all holds)

@@ -1,14 +1,22 @@
-use Rattle.std.proofs.Common.{◌∙◌, ap}
-use Rattle.std.proofs.lemmas.Result.{IfOk-weaker}
-use Rattle.command_line.specs.Grammar.{with_subcommands}
-use Rattle.command_line.proofs.Reading.{required_top, with_more}
+use Rattle.std.proofs.Common.{◌∙◌, ap, []}
+use Rattle.command_line.specs.Grammar.{app_with, shape_of_row}
+use Rattle.command_line.proofs.Built.{all_commands, one_more_command}
+use Rattle.command_line.proofs.Reading.{required_top}
 use Rattle.command_line.proofs.grammar.grammar_of.Goals as goal
+
+pub loop-row-init : goal.loop-row-init
+loop-row-init g c =
+    required_top _ _ _ _ _ c.new.ensures.app c.override_help.ensures
+    c.subcommand_required-grammar.ensures
+
+pub loop-row-preserved : goal.loop-row-preserved
+loop-row-preserved g c =
+    one_more_command (app_with []) c.args.rows.now c.loop-row.row-index c.row-item.result
+    c.loop-row.grammar c.in_ok-grammar.grammar c.in_ok-command.command c.loop-row-test.true
+    c.loop-row.invariant (c.in_ok-command.ensures.shape ∙ ap shape_of_row c.row-item.is)
+    c.in_ok-command.ensures.local c.in_ok-grammar.ensures
 
 pub returns : goal.returns
 returns g c =
-    let top = required_top _ _ _ _ _ c.new.ensures.app c.override_help.ensures
-    c.subcommand_required.ensures in
-    IfOk-weaker _ _ _ (λ d adds.
-    with_more _ _ d _ top c.in_ok-commands.ensures.local adds
-    ∙ ap (with_subcommands _) c.in_ok-commands.ensures.shapes)
-    c.subcommands.ensures
+    all_commands c.args.rows.now c.loop-row.row-index c.loop-row.grammar c.loop-row-test.false
+    c.loop-row.invariant
