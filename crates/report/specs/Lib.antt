@@ -9,3 +9,4 @@ pub mod Courses
 pub mod Reading
 pub mod Screen
 pub mod Exposition
+pub mod Counters

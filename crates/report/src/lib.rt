@@ -7,6 +7,7 @@
 #![tactic(auto)]
 
 mod app_names;
+mod counters;
 mod counting;
 mod course;
 mod events;
@@ -25,6 +26,7 @@ mod screen;
 mod tally;
 mod window;
 
+pub use counters::counters_text;
 pub use counting::Report;
 pub use course::Course;
 pub use exposition::exposition_text;

@@ -55,9 +55,9 @@ pub(crate) fn push_number(
     write!(text, " {n}\n")
 }
 
-// The name of a metric.
+/// Appends the name of a metric.
 #[tactic(auto, unfolding(crate::specs::Exposition::metric_name))]
-fn push_name(text: &mut String, kind: MetricKind, metric: &str) -> Result<(), AllocError>
+pub(crate) fn push_name(text: &mut String, kind: MetricKind, metric: &str) -> Result<(), AllocError>
     ensures { OnOk result (Puts text.old text.new (specs.metric_name kind metric.now)) }
 {
     text.push_str(metric)?;
@@ -82,8 +82,8 @@ fn type_of(kind: MetricKind) -> &'static str
     }
 }
 
-// The help and the type of a metric.
-fn push_head(
+/// Appends the help and the type of a metric.
+pub(crate) fn push_head(
     text: &mut String,
     kind: MetricKind,
     metric: &str,
