@@ -1,8 +1,8 @@
 -- The arguments of `report`.
 use Rattle.std.specs.Prelude.{◌≡◌, ◌⊎◌, List, Option, Some, None, codes, map, option_copied}
-use Rattle.std.specs.Prelude.{IsSome}
+use Rattle.std.specs.Prelude.{IfNone, IfSome, IsSome}
 use Rattle.clap.specs.Words.{Row, Text, first_of}
-use Rattle.command_line.specs.Values.{HasFlag, texts_of}
+use Rattle.command_line.specs.Values.{HasFlag, HasShort, LacksShort, texts_of}
 use Rattle.moments.specs.Moments.{Names, NamesNone}
 use Rattle.moments.specs.declared.moment.NamedTime.{NamedTime}
 use Rattle.tool_words.specs.declared.args.ReportArgs.{ReportArgs}
@@ -23,7 +23,8 @@ MixesState rows = IsSome (first_of (codes "state") rows)
     × (IsSome (first_of (codes "since") rows) ⊎ IsSome (first_of (codes "until") rows)
     ⊎ IsSome (first_of (codes "svg") rows))
 
--- a report on logs, from one moment on and before another, or from the counts so far
+-- a report on logs, from one moment on and before another, or from the counts so far; with a
+-- server's counters, if its port is given
 pub record HasReport (rows : List Row) (args : ReportArgs) : Type 0 where
   pub logs : map (λ log. log.now) args.logs.items ≡ texts_of (codes "LOG") rows
   pub since : IsNamedTime (first_of (codes "since") rows) args.since
@@ -32,6 +33,8 @@ pub record HasReport (rows : List Row) (args : ReportArgs) : Type 0 where
   pub picture : option_copied args.picture ≡ first_of (codes "svg") rows
   pub state : option_copied args.state ≡ first_of (codes "state") rows
   pub heads : HasFlag (codes "heads") rows args.heads
+  pub port : IfSome args.operator (HasShort (codes "operator") rows)
+  pub no_port : IfNone args.operator (LacksShort (codes "operator") rows)
   pub unmixed : ¬ MixesState rows
 
 abbrev pub LacksReport : List Row → Type 0

@@ -28,7 +28,7 @@ verbs =
     ∷ verb_rules (codes "report") verb.Report
     (files (codes "LOG") ∷ option (codes "since") ∷ option (codes "until")
     ∷ flag (codes "prometheus") ∷ option (codes "svg") ∷ option (codes "state")
-    ∷ flag (codes "heads") ∷ [])
+    ∷ flag (codes "heads") ∷ operator_port false ∷ [])
     ∷ verb_rules (codes "simulate") verb.Simulate
     (manifest ∷ option (codes "against") ∷ option (codes "svg") ∷ option (codes "app")
     ∷ flag (codes "fail-on-lost") ∷ flag (codes "json") ∷ app_options)

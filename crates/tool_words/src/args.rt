@@ -51,7 +51,7 @@ pub struct DiffArgs<'a> {
 }
 
 /// The arguments of `report`: logs, of which the lines from one moment on and before another count.
-/// The log `-` is standard input.
+/// The log `-` is standard input. After them the counters of the server at `operator` are printed.
 #[derive(Drop)]
 pub struct ReportArgs<'a> {
     pub logs: Vec<&'a str>,
@@ -65,6 +65,7 @@ pub struct ReportArgs<'a> {
     pub state: Option<&'a str>,
     /// Whether each group of lines has a head line.
     pub heads: bool,
+    pub operator: Option<u16>,
 }
 
 /// What `stage` does with the folder of a server's files. `buckets` is at most 10000.

@@ -11,7 +11,7 @@ ghost use Rattle.tool_words.specs.Words.{VerbMakes, VerbMakesNone};
 use crate::args::{ReportArgs, ToolCommand};
 use crate::verb::ToolVerb;
 use clap::ArgMatches;
-use command_line::{ArgsError, ArgumentFault, flag_of, optional_text, texts_of};
+use command_line::{ArgsError, ArgumentFault, flag_of, optional_number, optional_text, texts_of};
 use moments::{NamedTime, moment_in};
 use std::alloc::Global;
 
@@ -49,6 +49,7 @@ fn report_args<'a>(alloc: Global, found: &ArgMatches<'a>) -> Result<ReportArgs<'
         picture: optional_text(found, "svg"),
         state: optional_text(found, "state"),
         heads: flag_of(found, "heads"),
+        operator: optional_number(found, "operator"),
     })
 }
 

@@ -86,6 +86,10 @@ const REPORT: CommandRow<ToolVerb> = CommandRow {
              into which it writes them; not with --since, --until or --svg",
         ),
         CommandArgument::Flag("heads", "Print a head line before each group of lines"),
+        CommandArgument::OptionalOperator(
+            "Operator's port of a server whose counters are printed, too:\n\
+             1 to 65535",
+        ),
     ],
 };
 
