@@ -19,8 +19,6 @@ mod new_file;
 mod performing;
 mod record_folder;
 mod records;
-#[cfg(test)]
-mod tests;
 mod undoing;
 
 pub use device_folder::DeviceFolder;

@@ -1,6 +1,6 @@
-//! Tests of calls that no command shows, below the server. They are in one crate, since each crate of
-//! tests loads its libraries twice, and has their code compiled. What commands show is in rows of the
-//! program `rows`.
+//! Tests of calls that no command shows, but not of a server's. They are in one crate, since each crate
+//! of tests loads its libraries twice, and has their code compiled. What commands show is in rows of
+//! the program `rows`.
 #![tactic(auto)]
 
 #[cfg(test)]
@@ -27,3 +27,5 @@ mod programs;
 mod published;
 #[cfg(test)]
 mod rules;
+#[cfg(test)]
+mod staged;

@@ -1,12 +1,9 @@
-//! A step that fails at each of its files, and a folder of the device.
+//! A step of a stage that fails at each of its files, and a folder of the device.
 
-use crate::device_folder::DeviceFolder;
-use crate::folder::StageFolder;
-use crate::folder_fault::FolderFault;
-use crate::performing::perform;
-use crate::records::{recorded_steps, write_record};
-use crate::undoing::undo;
 use attrs::Text;
+use stage_folder::{
+    DeviceFolder, FolderFault, StageFolder, perform, recorded_steps, undo, write_record,
+};
 use staging::{ReplacedFile, StagingStep, StepAction};
 use std::alloc::{AllocError, Global};
 use std::fs::{self, File};
@@ -183,16 +180,16 @@ fn write<R: Files>(rt: &R, path: &str, bytes: &str) -> Result<(), Fail> {
     Ok(fs::write(rt, path, bytes)?)
 }
 
-/// A folder `place` with the files `a` and `c` of the sample step, and a link out of it.
+/// A folder `staged` with the files `a` and `c` of the sample step, and a link out of it.
 fn make_place<R: Files>(rt: &R) -> Result<(), Fail> {
-    fs::create_dir(rt, "place")?;
-    write(rt, "place/a", "1")?;
-    write(rt, "place/c", "3")?;
+    fs::create_dir(rt, "staged")?;
+    write(rt, "staged/a", "1")?;
+    write(rt, "staged/c", "3")?;
     write(rt, "outside", "4")?;
-    let mut mode = fs::metadata(rt, "place/a")?.permissions();
+    let mut mode = fs::metadata(rt, "staged/a")?.permissions();
     mode.set_mode(0o640);
-    fs::set_permissions(rt, "place/a", mode)?;
-    symlink(rt, "../outside", "place/link")?;
+    fs::set_permissions(rt, "staged/a", mode)?;
+    symlink(rt, "../outside", "staged/link")?;
     Ok(())
 }
 
@@ -201,12 +198,12 @@ fn make_place<R: Files>(rt: &R) -> Result<(), Fail> {
 fn staged<R: Files<File = File> + AllocGlobal>(rt: &R) -> Result<String, FolderFault> {
     let alloc = rt.alloc();
     let step = sample_step(alloc)?;
-    let mut folder = DeviceFolder::open(rt, "place")?;
+    let mut folder = DeviceFolder::open(rt, "staged")?;
     folder.lock()?;
     write_record(alloc, &mut folder, &step)?;
     let _performed = perform(&mut folder, step.files.as_slice());
     let mut states = state_of(alloc, &folder)?;
-    let mut second = DeviceFolder::open(rt, "place")?;
+    let mut second = DeviceFolder::open(rt, "staged")?;
     if let Err(FolderFault::Locked) = second.lock() {
         states.push_str("locked ")?;
     }
@@ -232,18 +229,21 @@ fn on_a_device(rt: HostRuntime) -> Result<(), Fail> {
         states.as_str(),
         states.as_str() == "one two three locked 1 - 3 ",
     )?;
-    must("the mode of a", mode_of(&rt, "place/a")? == 0o640)?;
-    must("the mode of .stage", mode_of(&rt, "place/.stage")? == 0o700)?;
+    must("the mode of a", mode_of(&rt, "staged/a")? == 0o640)?;
+    must(
+        "the mode of .stage",
+        mode_of(&rt, "staged/.stage")? == 0o700,
+    )?;
     must(
         "the mode of a record",
-        mode_of(&rt, "place/.stage/1.json")? == 0o600,
+        mode_of(&rt, "staged/.stage/1.json")? == 0o600,
     )?;
     check_names(&rt)
 }
 
 /// What reading a name gives, or else putting bytes there.
 fn refusal<R: Files<File = File> + AllocGlobal>(rt: &R, name: &str) -> Result<String, FolderFault> {
-    let mut folder = DeviceFolder::open(rt, "place")?;
+    let mut folder = DeviceFolder::open(rt, "staged")?;
     let text = match folder.read(name) {
         Ok(Some(_)) => String::from_str(rt.alloc(), "read")?,
         Ok(None) => String::from_str(rt.alloc(), "none")?,
@@ -255,10 +255,10 @@ fn refusal<R: Files<File = File> + AllocGlobal>(rt: &R, name: &str) -> Result<St
     Ok(text)
 }
 
-/// Which names of files in `place` are refused, and how.
+/// Which names of files in `staged` are refused, and how.
 fn check_names<R: Files<File = File> + AllocGlobal>(rt: &R) -> Result<(), Fail> {
-    fs::create_dir(rt, "place/folder")?;
-    symlink(rt, "folder", "place/through")?;
+    fs::create_dir(rt, "staged/folder")?;
+    symlink(rt, "folder", "staged/through")?;
     let outside = "the name leads out of the folder: give the file a name inside it";
     let link = "there is a symbolic link on the way: put the file itself there";
     for (name, want) in [
