@@ -6,19 +6,23 @@ use Rattle.std.specs.Prelude.{IsSome, is_some, length, option_copied}
 use Rattle.std.specs.String.{string_bytes}
 use Rattle.bounded_files.specs.Files.{KnownFiles}
 use Rattle.bounded_files.specs.declared.resource_fault.ResourceFault.TheVariants as resource
+use Rattle.cell_assignments.specs.Assignments.{Assignment}
 use Rattle.command_line.specs.declared.declared_shape.DeclaredShape.{DeclaredShape}
 use Rattle.log_tools.specs.Continued.{HasContinued}
 use Rattle.log_tools.specs.Reports.{HasReported}
 use Rattle.log_tools.specs.declared.report_form.ReportForm.{ReportForm}
 use Rattle.manifest_tools.specs.CheckObjects.{IsCheckOutput, RefusesChecks}
 use Rattle.manifest_tools.specs.Simulations.{HasSimulated, IsSimulationRefusal}
+use Rattle.operator.specs.Done.{IsRequestRefusal}
+use Rattle.operator_request.specs.declared.request.OperatorRequest.TheVariants as sent
 use Rattle.program_inspection.specs.Explanations.{HasExplained, IsExplainRefusal}
 use Rattle.program_inspection.specs.Orders.{IsOrderedFrom, IsOrderRefusal}
 use Rattle.program_inspection.specs.Traces.{HasTraced}
 use Rattle.program_tools.specs.Programs.{IsRunRefusal}
+use Rattle.report.specs.Counters.{counters_text}
 use Rattle.tool_commands.specs.Clients.{client_of}
 use Rattle.tool_commands.specs.Diffs.{HasDiffed, IsDiffRefusal}
-use Rattle.tool_commands.specs.DryRuns.{HasDryRun, IsDryRunRefusal}
+use Rattle.tool_commands.specs.DryRuns.{AreServed, HasDryRun, IsDryRunRefusal}
 use Rattle.tool_commands.specs.Whys.{HasWhy, IsWhyRefusal}
 use Rattle.tool_commands.specs.declared.tool_fault.Fault.{Fault}
 use Rattle.tool_commands.specs.declared.tool_fault.Fault.TheVariants as fault
@@ -30,6 +34,12 @@ use Rattle.tool_words.specs.declared.args.ToolCommand.TheVariants as command
 
 abbrev pub form_of : ReportArgs → ReportForm
 form_of args = record { prometheus = args.prometheus; heads = args.heads }
+
+-- the counters of that server in the report's form; empty without a port
+abbrev pub HasCounters : ReportArgs → List ℕ → Type 0
+HasCounters args text =
+    (served : List Assignment) × AreServed args.operator served
+    × (text ≡ counters_text args.prometheus args.heads served)
 
 module _ (known : KnownFiles) where
   -- an accepted program with what is known about it
@@ -59,11 +69,13 @@ module _ (known : KnownFiles) where
   IsOutput (command.Explain path shape) explained = IsExplainedOutput path.now shape explained
   IsOutput (command.Order path out) (output.Ordered program) =
       IsOrderedFrom known path.now program.items
-  IsOutput (command.Report args) (output.Reported report) =
+  IsOutput (command.Report args) (output.Reported report counters) =
       HasReported (length args.logs.items) args.since args.until (form_of args)
       (is_some args.picture) report
-  IsOutput (command.Report args) (output.Continued text) =
+      × HasCounters args (string_bytes counters)
+  IsOutput (command.Report args) (output.Continued text counters) =
       IsSome args.state × HasContinued (length args.logs.items) (form_of args) (string_bytes text)
+      × HasCounters args (string_bytes counters)
   IsOutput (command.Simulate args) (output.Simulated simulation passes) =
       HasSimulated known args.json (client_of args.app) args.manifest.now
       (option_copied args.against) (option_copied args.appid) (option_copied args.picture)
@@ -87,6 +99,8 @@ module _ (known : KnownFiles) where
   -- nothing is known about the logs of a device, nor about its clock
   IsRefused (command.Report args) (fault.Resource why) = Unit {0}
   IsRefused (command.Report args) (fault.Report why) = IsSome args.state
+  IsRefused (command.Report args) (fault.Ask why) =
+      IsSome args.operator × IsRequestRefusal sent.Cells why
   IsRefused (command.Simulate args) (fault.Manifest why) =
       IsSimulationRefusal known args.json (client_of args.app) args.manifest.now
       (option_copied args.against) (option_copied args.appid) (option_copied args.picture) why

@@ -159,13 +159,16 @@ where
     }
 }
 
-// The first log that can't be read, or else the state or the picture.
-fn print_report_fault<R: Files, E: Write>(
-    rt: &R,
-    args: &ReportArgs<'_>,
-    fault: &Fault,
-    err: &mut E,
-) -> bool {
+// The server that doesn't reply; or the first log that can't be read, or else the state or the
+// picture.
+fn print_report_fault<R, E>(rt: &R, args: &ReportArgs<'_>, fault: &Fault, err: &mut E) -> bool
+where
+    R: Files + Net<Stream = TcpStream>,
+    E: Write,
+{
+    if let Fault::Ask(fault) = fault {
+        return print_server_fault(rt, args.operator, fault, err);
+    }
     for path in args.logs.as_slice() {
         if print_read_fault(rt, *path, err) {
             return true;

@@ -19,9 +19,10 @@ pub(crate) enum ToolOutput {
     Completed {
         text: String,
     },
-    /// The report on logs, with the counts of earlier calls.
+    /// The report on logs, with the counts of earlier calls; and the text of a server's counters.
     Continued {
         text: String,
+        counters: String,
     },
     /// The comparison of two manifests, and whether it passes.
     Diffed {
@@ -40,8 +41,11 @@ pub(crate) enum ToolOutput {
     Reply {
         body: Vec<u8>,
     },
-    /// The report on logs, of which the lines are printed.
-    Reported(ReportOutput),
+    /// The report on logs, of which the lines are printed; and the text of a server's counters.
+    Reported {
+        report: ReportOutput,
+        counters: String,
+    },
     /// What was done with a folder's files and servers, or its steps; and whether all was done.
     Staged(StageOutcome),
     /// The lines of a simulation, and whether it passes.
@@ -96,7 +100,7 @@ impl fmt::Display for ToolOutput {
         match self {
             ToolOutput::Checked(output) => f.write_str(output.text.as_str()),
             ToolOutput::Completed { text } => f.write_str(text),
-            ToolOutput::Continued { text } => f.write_str(text),
+            ToolOutput::Continued { text, counters } => write!(f, "{text}{counters}"),
             ToolOutput::Diffed { output, .. } => f.write_str(output.text.as_str()),
             ToolOutput::Explained { text } => f.write_str(text),
             ToolOutput::Ordered { program } => {
@@ -107,7 +111,10 @@ impl fmt::Display for ToolOutput {
                 Ok(text) => f.write_str(text),
                 Err(_) => Err(fmt::Error),
             },
-            ToolOutput::Reported(output) => f.write_str(output.text.as_str()),
+            ToolOutput::Reported { report, counters } => {
+                f.write_str(report.text.as_str())?;
+                f.write_str(counters)
+            }
             ToolOutput::Staged(outcome) => f.write_str(outcome.text.as_str()),
             ToolOutput::Simulated { output, .. } => f.write_str(output.text.as_str()),
             ToolOutput::Traced {
