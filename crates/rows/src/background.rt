@@ -24,8 +24,8 @@ pub(crate) struct Background {
     place: usize,
     port: u16,
     thread: JoinHandle<Option<Printed>>,
-    /// Whether the steps that it runs with are over.
-    is_over: Arc<AtomicBool>,
+    /// Whether the steps that it runs with are over, for a request whose end is sent late.
+    is_over: Option<Arc<AtomicBool>>,
 }
 
 impl Background {
@@ -45,7 +45,9 @@ impl Background {
             thread,
             is_over,
         } = self;
-        is_over.store(true, Ordering::SeqCst);
+        if let Some(is_over) = is_over {
+            is_over.store(true, Ordering::SeqCst);
+        }
         if is_wrong {
             let _stopped = sent(rt, port, b"stop\n");
         }
@@ -63,7 +65,7 @@ fn await_port<R: Clock + Net<Stream = TcpStream>>(rt: &R, port: u16) {
     }
 }
 
-/// The output of a command, if it is a text.
+/// The output of a command.
 fn printed<R>(rt: R, words: Vec<String>) -> Option<Printed>
 where
     R: Files<File = File> + Threads + Wait + AllocGlobal + Clock + LogOutput,
@@ -72,10 +74,7 @@ where
     R::File: Send,
     R::Dir: Send,
 {
-    match printed_of(&rt, words.as_slice()) {
-        Ok(printed) => Some(printed),
-        Err(_) => None,
-    }
+    Some(printed_of(&rt, words.as_slice()))
 }
 
 /// Starts a command, by a port and its words, and waits until something listens at the port.
@@ -90,7 +89,6 @@ where
     let (port, words) = text.split_once(' ').unwrap_or((text, ""));
     let port: u16 = port.parse()?;
     let words = words_of(rt.alloc(), words)?;
-    let is_over = Arc::new(rt.alloc(), AtomicBool::new(false))?;
     let own = *rt;
     let Ok(thread) = thread::spawn(rt, move || printed(own, words)) else {
         bail!("no thread")
@@ -100,7 +98,7 @@ where
         place,
         port,
         thread,
-        is_over,
+        is_over: None,
     })
 }
 
@@ -139,18 +137,18 @@ fn begun<R: Net<Stream = TcpStream>>(
     Ok(sent(rt, port, before)?)
 }
 
-/// Sends the first bytes of a file, by a port, their number and the file's name. The others are
-/// sent later.
-pub(crate) fn hold<R>(rt: &R, place: usize, text: &str) -> Result<Background>
+/// Sends the first bytes, and the others later, in the background.
+fn hold_bytes<R>(
+    rt: &R,
+    place: usize,
+    port: u16,
+    first: usize,
+    bytes: Vec<u8>,
+) -> Result<Background>
 where
-    R: Files + Threads + AllocGlobal + Clock + Copy + Drop + Send + 'static,
+    R: Threads + AllocGlobal + Clock + Copy + Drop + Send + 'static,
     R: Net<Stream = TcpStream>,
 {
-    let (port, rest) = text.split_once(' ').unwrap_or((text, ""));
-    let (first, name) = rest.split_once(' ').unwrap_or((rest, ""));
-    let port: u16 = port.parse()?;
-    let first: usize = first.parse()?;
-    let bytes = fs::read(rt, name)?;
     let stream = begun(rt, port, &bytes, first)?;
     let is_over = Arc::new(rt.alloc(), AtomicBool::new(false))?;
     let theirs = Arc::try_clone(&is_over).ok().ok_or(AllocError)?;
@@ -162,8 +160,22 @@ where
         place,
         port,
         thread,
-        is_over,
+        is_over: Some(is_over),
     })
+}
+
+/// Sends the first bytes of a file, by a port, their number and the file's name. The others are
+/// sent later.
+pub(crate) fn hold<R>(rt: &R, place: usize, text: &str) -> Result<Background>
+where
+    R: Files + Threads + AllocGlobal + Clock + Copy + Drop + Send + 'static,
+    R: Net<Stream = TcpStream>,
+{
+    let (port, rest) = text.split_once(' ').unwrap_or((text, ""));
+    let (first, name) = rest.split_once(' ').unwrap_or((rest, ""));
+    let port: u16 = port.parse()?;
+    let first: usize = first.parse()?;
+    hold_bytes(rt, place, port, first, fs::read(rt, name)?)
 }
 
 /// Reads the bytes up to a line feed.
@@ -189,7 +201,7 @@ where
     read_line(&stream);
     let mut to = &stream;
     let _whole = to.write_all(&bytes);
-    Some(Printed::of(rt.alloc(), String::new(rt.alloc())))
+    Some(Printed::of(rt.alloc(), Vec::new(rt.alloc())))
 }
 
 /// Sends the bytes of a file to the next client of a port, by the port and the file's name.
@@ -202,7 +214,6 @@ where
     let port: u16 = port.parse()?;
     let bytes = fs::read(rt, name)?;
     let listener = TcpListener::bind(rt, (Ipv4Addr::LOCALHOST, port))?;
-    let is_over = Arc::new(rt.alloc(), AtomicBool::new(false))?;
     let own = *rt;
     let Ok(thread) = thread::spawn(rt, move || given(own, listener, bytes)) else {
         bail!("no thread")
@@ -211,6 +222,6 @@ where
         place,
         port,
         thread,
-        is_over,
+        is_over: None,
     })
 }

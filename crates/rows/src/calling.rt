@@ -2,6 +2,7 @@
 
 use crate::escapes::words_of;
 use crate::loopback::reply_of;
+use crate::marks::marked;
 use crate::printed::Printed;
 use anyhow::Result;
 use command_line::{WordsFault, unreadable_words, usage};
@@ -16,24 +17,30 @@ use std::sync::Wait;
 use std::thread::Threads;
 use std::time::Clock;
 
-/// Whether `rollout-tools` has the command; `rollout` has any other word.
+/// The commands of `rollout-tools`; `rollout` has any other word.
+const TOOLS: [&str; 10] = [
+    "check",
+    "diff",
+    "explain",
+    "trace",
+    "order",
+    "simulate",
+    "ask",
+    "report",
+    "stage",
+    "completion",
+];
+
 fn is_tool(words: &[String]) -> bool {
-    match words {
-        [_, command, ..] => matches!(
-            command.as_str(),
-            "check"
-                | "diff"
-                | "explain"
-                | "trace"
-                | "order"
-                | "simulate"
-                | "ask"
-                | "report"
-                | "stage"
-                | "completion"
-        ),
-        _ => false,
+    let [_, command, ..] = words else {
+        return false;
+    };
+    for tool in TOOLS {
+        if command.as_str() == tool {
+            return true;
+        }
     }
+    false
 }
 
 /// Whether the first word is this name.
@@ -74,7 +81,7 @@ where
 }
 
 /// The output of a command.
-pub(crate) fn printed_of<R>(rt: &R, words: &[String]) -> Result<Printed>
+pub(crate) fn printed_of<R>(rt: &R, words: &[String]) -> Printed
 where
     R: Files<File = File> + Threads + Wait + AllocGlobal + Clock + LogOutput,
     R: Copy + Drop + Send + Sync + 'static,
@@ -85,15 +92,11 @@ where
     let mut out = Vec::new(rt.alloc());
     let mut err = Vec::new(rt.alloc());
     let status = status_of(rt, words, &mut out, &mut err);
-    Ok(Printed {
-        status,
-        out: String::from_utf8(out)?,
-        err: String::from_utf8(err)?,
-    })
+    Printed { status, out, err }
 }
 
 /// The output of a command whose standard output takes only ten bytes, without these.
-fn narrow_of<R>(rt: &R, words: &[String]) -> Result<Printed>
+fn narrow_of<R>(rt: &R, words: &[String]) -> Printed
 where
     R: Files<File = File> + Threads + Wait + AllocGlobal + Clock + LogOutput,
     R: Copy + Drop + Send + Sync + 'static,
@@ -105,38 +108,32 @@ where
     let mut out: &mut [u8] = &mut bytes;
     let mut err = Vec::new(rt.alloc());
     let status = status_of(rt, words, &mut out, &mut err);
-    Ok(Printed {
-        status,
-        out: String::new(rt.alloc()),
-        err: String::from_utf8(err)?,
-    })
+    let out = Vec::new(rt.alloc());
+    Printed { status, out, err }
 }
 
 /// What both programs print if memory for words is refused, as they are read and as they are
 /// parsed. The status is 1 if both statuses are.
-fn without_memory(alloc: Global) -> Result<Printed> {
+fn without_memory(alloc: Global) -> Printed {
     let mut out = Vec::new(alloc);
     let mut err = Vec::new(alloc);
     let reading = io::Error::from(ErrorKind::OutOfMemory);
     let unread = unreadable_words(&reading, &mut err);
     let status = usage(&WordsFault::Memory, &mut out, &mut err);
-    Ok(Printed {
-        status: if unread == 1 { status } else { 0 },
-        out: String::from_utf8(out)?,
-        err: String::from_utf8(err)?,
-    })
+    let status = if unread == 1 { status } else { 0 };
+    Printed { status, out, err }
 }
 
 /// The text of a file, as if a command printed it.
 fn file_of<R: Files + AllocGlobal>(rt: &R, name: &str) -> Result<Printed> {
-    Ok(Printed::of(rt.alloc(), fs::read_to_string(rt, name)?))
+    Ok(Printed::of(rt.alloc(), fs::read(rt, name)?))
 }
 
 /// Makes a symbolic link, by its name and its target.
 fn link<R: Files + AllocGlobal>(rt: &R, text: &str) -> Result<Printed> {
     let (name, target) = text.split_once(' ').unwrap_or((text, ""));
     symlink(rt, target, name)?;
-    Ok(Printed::of(rt.alloc(), String::new(rt.alloc())))
+    Ok(Printed::of(rt.alloc(), Vec::new(rt.alloc())))
 }
 
 /// What the call of a step gives.
@@ -148,14 +145,13 @@ where
     R::File: Send,
     R::Dir: Send,
 {
-    if words == "^" {
-        return without_memory(rt.alloc());
-    }
-    match words.split_once(' ') {
-        Some(("<", name)) => file_of(rt, name),
-        Some((">", rest)) => reply_of(rt, rest),
-        Some(("@", rest)) => link(rt, rest),
-        Some(("^", rest)) => narrow_of(rt, words_of(rt.alloc(), rest)?.as_slice()),
-        _ => printed_of(rt, words_of(rt.alloc(), words)?.as_slice()),
+    let (mark, rest) = marked(words);
+    match mark {
+        b'<' => file_of(rt, rest),
+        b'>' => reply_of(rt, rest),
+        b'@' => link(rt, rest),
+        b'^' if rest.is_empty() => Ok(without_memory(rt.alloc())),
+        b'^' => Ok(narrow_of(rt, words_of(rt.alloc(), rest)?.as_slice())),
+        _ => Ok(printed_of(rt, words_of(rt.alloc(), words)?.as_slice())),
     }
 }

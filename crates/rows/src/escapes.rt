@@ -17,61 +17,62 @@ fn digit(byte: u8) -> u8
     }
 }
 
-/// The bytes that a text spells: ` / ` and `\n` are a line feed; `\r`, `\t`, `\\` and `\xHH` are one
-/// byte each.
+/// The first byte that a text spells, and the bytes after it: ` / ` and `\n` are a line feed; `\r`,
+/// `\t`, `\\` and `\xHH` are one byte each.
+fn spelled(left: &[u8]) -> (u8, &[u8]) {
+    match left {
+        [] => (0, left),
+        [b'\\', b'n', after @ ..] => (b'\n', after),
+        [b'\\', b'r', after @ ..] => (b'\r', after),
+        [b'\\', b't', after @ ..] => (b'\t', after),
+        [b'\\', b'\\', after @ ..] => (b'\\', after),
+        [b'\\', b'x', high, low, after @ ..] => (16 * digit(*high) + digit(*low), after),
+        [b' ', b'/', b' ', after @ ..] => (b'\n', after),
+        [byte, after @ ..] => (*byte, after),
+    }
+}
+
+/// The bytes that a text spells.
 pub(crate) fn unescape(alloc: Global, text: &str) -> Result<Vec<u8>> {
     let mut bytes = Vec::new(alloc);
     let mut left = text.as_bytes();
     for _ in 0..text.len() {
-        left = match left {
-            [] => left,
-            [b'\\', b'n', after @ ..] => {
-                bytes.push(b'\n')?;
-                after
-            }
-            [b'\\', b'r', after @ ..] => {
-                bytes.push(b'\r')?;
-                after
-            }
-            [b'\\', b't', after @ ..] => {
-                bytes.push(b'\t')?;
-                after
-            }
-            [b'\\', b'\\', after @ ..] => {
-                bytes.push(b'\\')?;
-                after
-            }
-            [b'\\', b'x', high, low, after @ ..] => {
-                bytes.push(16 * digit(*high) + digit(*low))?;
-                after
-            }
-            [b' ', b'/', b' ', after @ ..] => {
-                bytes.push(b'\n')?;
-                after
-            }
-            [byte, after @ ..] => {
-                bytes.push(*byte)?;
-                after
-            }
-        };
+        if left.is_empty() {
+            break;
+        }
+        let (byte, after) = spelled(left);
+        bytes.push(byte)?;
+        left = after;
     }
     Ok(bytes)
 }
 
-/// The words of a command: spaces divide them, and two single quotes enclose one word.
+/// Appends the words of a piece of a command; a quoted one is one word.
+fn push_words(alloc: Global, words: &mut Vec<String>, piece: &str, quoted: bool) -> Result<()> {
+    if quoted {
+        words.push(String::from_utf8(unescape(alloc, piece)?)?)?;
+        return Ok(());
+    }
+    for word in piece.split_whitespace() {
+        words.push(String::from_str(alloc, word)?)?;
+    }
+    Ok(())
+}
+
+/// Appends the words of a command: spaces divide them, and two single quotes enclose one word.
+fn push_all_words(alloc: Global, words: &mut Vec<String>, line: &str) -> Result<()> {
+    let mut quoted = false;
+    for piece in line.split('\'') {
+        push_words(alloc, words, piece, quoted)?;
+        quoted = !quoted;
+    }
+    Ok(())
+}
+
+/// The words of a command, after the name of a program.
 pub(crate) fn words_of(alloc: Global, line: &str) -> Result<Vec<String>> {
     let mut words = Vec::new(alloc);
     words.push(String::from_str(alloc, "rollout")?)?;
-    let mut quoted = false;
-    for piece in line.split('\'') {
-        if quoted {
-            words.push(String::from_utf8(unescape(alloc, piece)?)?)?;
-        } else {
-            for word in piece.split_whitespace() {
-                words.push(String::from_str(alloc, word)?)?;
-            }
-        }
-        quoted = !quoted;
-    }
+    push_all_words(alloc, &mut words, line)?;
     Ok(words)
 }

@@ -1,6 +1,6 @@
 //! Ports of loopback: free ones, and what comes back from a port for the bytes that are sent to it.
 
-use crate::printed::Printed;
+use crate::printed::{Printed, text_of};
 use anyhow::Result;
 use std::alloc::{AllocError, Global};
 use std::fs;
@@ -43,16 +43,24 @@ const PORTS: [&str; 12] = [
     "<port9>", "<port10>", "<port11>", "<port12>",
 ];
 
-/// A text in which the names of ports and of the day are replaced by numbers.
-fn with_ports<R>(rt: &R, text: &str) -> io::Result<String>
+/// Free ports, all different.
+fn free_ports<R>(rt: &R) -> io::Result<[u16; 12]>
 where
-    R: AllocGlobal + Clock + Net<Listener = TcpListener, Stream = TcpStream>,
+    R: AllocGlobal + Net<Listener = TcpListener, Stream = TcpStream>,
 {
-    let mut text = with_number(rt.alloc(), text, "<day>", days_now(rt))?;
+    let mut ports = [0; 12];
     let mut taken = Vec::new(rt.alloc());
-    for name in PORTS {
-        let port = free_port(rt, &mut taken)?;
-        text = with_number(rt.alloc(), text.as_str(), name, port as u64)?;
+    for place in 0..ports.len() {
+        ports[place] = free_port(rt, &mut taken)?;
+    }
+    Ok(ports)
+}
+
+/// A text in which the names of ports and of the day are replaced by numbers.
+fn with_ports(alloc: Global, text: &str, ports: [u16; 12], day: u64) -> Result<String, AllocError> {
+    let mut text = with_number(alloc, text, "<day>", day)?;
+    for (name, port) in PORTS.iter().zip(ports) {
+        text = with_number(alloc, text.as_str(), name, port as u64)?;
     }
     Ok(text)
 }
@@ -64,7 +72,8 @@ where
     R: Files + AllocGlobal + Clock + Net<Listener = TcpListener, Stream = TcpStream>,
 {
     if text.contains("<port1>") {
-        return Ok(with_ports(rt, text.as_str())?);
+        let ports = free_ports(rt)?;
+        return Ok(with_ports(rt.alloc(), text.as_str(), ports, days_now(rt))?);
     }
     if text.contains("<folder>") {
         let folder = fs::canonicalize(rt, ".")?.into_string();
@@ -78,8 +87,9 @@ pub(crate) fn replied(alloc: Global, stream: &TcpStream) -> Result<Printed> {
     let mut bytes = Vec::new(alloc);
     let mut from = stream;
     let _count = from.read_to_end(&mut bytes)?;
-    let text = String::from_utf8(bytes)?;
-    Ok(Printed::of(alloc, text.replace(alloc, "\r", "\\r")?))
+    let text = text_of(&bytes).replace(alloc, "\r", "\\r");
+    drop(bytes);
+    Ok(Printed::of(alloc, text?.into_bytes()))
 }
 
 /// A connection that has sent these bytes.

@@ -6,8 +6,10 @@
 mod background;
 mod calling;
 mod escapes;
+mod judging;
 mod logging;
 mod loopback;
+mod marks;
 mod printed;
 mod reading;
 mod running;

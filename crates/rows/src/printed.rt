@@ -1,24 +1,30 @@
 //! What a command prints, and what a row wants it to print.
 
 use std::alloc::{AllocError, Global};
+use std::str;
 
-/// A status, standard output and standard error.
+/// A status, and the bytes of standard output and of standard error.
 #[derive(Drop)]
 pub(crate) struct Printed {
     pub(crate) status: u8,
-    pub(crate) out: String,
-    pub(crate) err: String,
+    pub(crate) out: Vec<u8>,
+    pub(crate) err: Vec<u8>,
 }
 
 impl Printed {
-    /// This text on standard output, with status 0.
-    pub(crate) fn of(alloc: Global, out: String) -> Printed {
+    /// These bytes on standard output, with status 0.
+    pub(crate) fn of(alloc: Global, out: Vec<u8>) -> Printed {
         Printed {
             status: 0,
             out,
-            err: String::new(alloc),
+            err: Vec::new(alloc),
         }
     }
+}
+
+/// The text that these bytes spell.
+pub(crate) fn text_of(bytes: &[u8]) -> &str {
+    str::from_utf8(bytes).unwrap_or("(no UTF-8)\n")
 }
 
 /// What a row wants a command to print: all of its output, and texts that are somewhere in it.
@@ -32,7 +38,7 @@ impl Wanted {
     /// Status 0 and no output.
     pub(crate) fn nothing(alloc: Global) -> Wanted {
         Wanted {
-            printed: Printed::of(alloc, String::new(alloc)),
+            printed: Printed::of(alloc, Vec::new(alloc)),
             parts: Vec::new(alloc),
         }
     }
@@ -54,23 +60,29 @@ impl Wanted {
     /// Whether a command that printed this did what is wanted.
     pub(crate) fn is_met(&self, printed: &Printed) -> bool {
         printed.status == self.printed.status
-            && is_wanted(printed.out.as_str(), self.printed.out.as_str())
-            && is_wanted(printed.err.as_str(), self.printed.err.as_str())
-            && self.has_parts(printed)
-    }
-
-    fn has_parts(&self, printed: &Printed) -> bool {
-        for part in self.parts.iter() {
-            if !printed.out.contains(part.as_str()) && !printed.err.contains(part.as_str()) {
-                return false;
-            }
-        }
-        true
+            && is_wanted(&printed.out, &self.printed.out)
+            && is_wanted(&printed.err, &self.printed.err)
+            && has_parts(printed, self.parts.as_slice())
     }
 }
 
-/// Whether a text is the wanted one, in which `...` at the end of a line is any text.
-fn is_wanted(text: &str, wanted: &str) -> bool {
+/// Whether each of these texts is somewhere in the output.
+fn has_parts(printed: &Printed, parts: &[String]) -> bool {
+    let (out, err) = (text_of(&printed.out), text_of(&printed.err));
+    for part in parts.iter() {
+        if !out.contains(part.as_str()) && !err.contains(part.as_str()) {
+            return false;
+        }
+    }
+    true
+}
+
+/// Whether the bytes are the wanted ones, in which `...` at the end of a line is any text.
+fn is_wanted(bytes: &[u8], wanted: &[u8]) -> bool {
+    let Ok(text) = str::from_utf8(bytes) else {
+        return false;
+    };
+    let wanted = text_of(wanted);
     match wanted.rsplit_once("...\n") {
         Some((beginning, end)) => text.starts_with(beginning) && text.ends_with(end),
         None => text == wanted,
@@ -78,7 +90,8 @@ fn is_wanted(text: &str, wanted: &str) -> bool {
 }
 
 /// Appends a line.
-pub(crate) fn push_line(text: &mut String, line: &str) -> Result<(), AllocError> {
-    text.push_str(line)?;
-    text.push('\n')
+pub(crate) fn push_line(bytes: &mut Vec<u8>, line: &str) -> Result<(), AllocError> {
+    bytes.extend_from_slice(line.as_bytes())?;
+    bytes.push(b'\n')?;
+    Ok(())
 }

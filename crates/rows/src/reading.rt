@@ -74,6 +74,18 @@ fn filled(alloc: Global, number: usize, line: &str, columns: &[&str]) -> Result<
     Ok(line)
 }
 
+/// Reads a line of a block with these columns.
+fn read_filled(
+    alloc: Global,
+    steps: &mut Steps,
+    number: usize,
+    line: &str,
+    columns: &[&str],
+) -> Result<()> {
+    let line = filled(alloc, number, line, columns)?;
+    steps.read(number, line.as_str())
+}
+
 /// Reads a block for a line of its table.
 fn read_block(
     alloc: Global,
@@ -87,8 +99,7 @@ fn read_block(
     }
     let columns: Vec<&str> = row.split(" | ").collect(alloc)?;
     for line in block {
-        let line = filled(alloc, number, line, columns.as_slice())?;
-        steps.read(number, line.as_str())?;
+        read_filled(alloc, steps, number, line, columns.as_slice())?;
     }
     Ok(())
 }

@@ -1,9 +1,10 @@
-//! Running the steps of a file of rows, and what is printed about them.
+//! Running the steps of a file of rows.
 
 use crate::background::{Background, give, hold, start};
 use crate::calling::called;
+use crate::judging::{Count, Row, row_of};
 use crate::loopback::filled_text;
-use crate::printed::{Printed, Wanted};
+use crate::marks::marked;
 use crate::reading::read_steps;
 use crate::steps::Step;
 use anyhow::{Result, bail};
@@ -14,73 +15,6 @@ use std::rt::Files;
 use std::sync::Wait;
 use std::thread::Threads;
 use std::time::Clock;
-
-/// Prints a command, its wanted output, and its output.
-fn show_difference<R: Print>(
-    rt: &R,
-    place: usize,
-    words: &str,
-    wanted: &Option<Wanted>,
-    came: &Printed,
-) -> Result<()> {
-    println!(rt; "line {place}: {words}")?;
-    if let Some(Wanted { printed, parts }) = wanted {
-        print!(rt;
-            "wanted status {}\n{}{}",
-            printed.status, printed.out, printed.err
-        )?;
-        for part in parts.iter() {
-            println!(rt; "with {part}")?;
-        }
-    }
-    print!(rt; "came status {}\n{}{}", came.status, came.out, came.err)?;
-    Ok(())
-}
-
-/// Whether a command did what the row wants.
-fn is_right(wanted: &Option<Wanted>, came: &Printed) -> bool {
-    match wanted {
-        Some(wanted) => wanted.is_met(came),
-        None => came.status == 0,
-    }
-}
-
-/// The number of rows, and of commands whose output or status is wrong.
-#[derive(Drop)]
-struct Count {
-    rows: u64,
-    wrong: u64,
-}
-
-impl Count {
-    /// Prints the counts of a file of rows.
-    fn show<R: Print>(&self, rt: &R, name: &str) -> Result<()> {
-        match self.wrong {
-            0 => println!(rt; "{name}: {} rows", self.rows)?,
-            wrong => println!(rt; "{name}: {wrong} of {} rows are wrong", self.rows)?,
-        }
-        Ok(())
-    }
-
-    /// Counts a step's result, and prints it if its output or its status isn't the wanted one.
-    fn judge<R: Print>(
-        &mut self,
-        rt: &R,
-        place: usize,
-        words: &str,
-        wanted: &Option<Wanted>,
-        came: &Printed,
-    ) -> Result<()> {
-        if wanted.is_some() {
-            self.rows = self.rows.saturating_add(1);
-        }
-        if is_right(wanted, came) {
-            return Ok(());
-        }
-        self.wrong = self.wrong.saturating_add(1);
-        show_difference(rt, place, words, wanted, came)
-    }
-}
 
 /// Ends what was last started in the background, and judges it by the step that started it.
 fn end_last<R>(
@@ -101,14 +35,11 @@ where
         bail!("line {number}: nothing came back, or this line came too soon")
     };
     match steps.get(place) {
-        Some(
-            Step::Run {
-                line,
-                words,
-                wanted,
-            },
-        ) => { count.judge(rt, *line, words.as_str(), wanted, &came) }
-        _ => Ok(()),
+        Some(step) => match row_of(step) {
+            Some(row) => count.judge(rt, row, &came),
+            None => Ok(()),
+        },
+        None => Ok(()),
     }
 }
 
@@ -121,10 +52,11 @@ where
     R::File: Send,
     R::Dir: Send,
 {
-    match words.split_once(' ') {
-        Some(("&", rest)) => Ok(Some(start(rt, place, rest)?)),
-        Some(("(", rest)) => Ok(Some(hold(rt, place, rest)?)),
-        Some((":", rest)) => Ok(Some(give(rt, place, rest)?)),
+    let (mark, rest) = marked(words);
+    match mark {
+        b'&' => Ok(Some(start(rt, place, rest)?)),
+        b'(' => Ok(Some(hold(rt, place, rest)?)),
+        b':' => Ok(Some(give(rt, place, rest)?)),
         _ => Ok(None),
     }
 }
@@ -138,6 +70,56 @@ fn write<R: Files>(rt: &R, name: &str, bytes: &[u8]) -> Result<()> {
     Ok(())
 }
 
+/// Runs a command, or starts it in the background.
+fn run_row<R>(
+    rt: &R,
+    place: usize,
+    row: Row<'_>,
+    background: &mut Vec<Background>,
+    count: &mut Count,
+) -> Result<()>
+where
+    R: Files<File = File> + Threads + Wait + AllocGlobal + Clock + LogOutput + Print,
+    R: Copy + Drop + Send + Sync + 'static,
+    R: Net<Listener = TcpListener, Stream = TcpStream>,
+    R::File: Send,
+    R::Dir: Send,
+{
+    if let Some(it) = started(rt, place, row.words)? {
+        return Ok(background.push(it)?);
+    }
+    let came = called(rt, row.words)?;
+    count.judge(rt, row, &came)
+}
+
+/// Runs a step of a file of rows, by its place.
+fn run_step<R>(
+    rt: &R,
+    steps: &[Step],
+    place: usize,
+    background: &mut Vec<Background>,
+    count: &mut Count,
+) -> Result<()>
+where
+    R: Files<File = File> + Threads + Wait + AllocGlobal + Clock + LogOutput + Print,
+    R: Copy + Drop + Send + Sync + 'static,
+    R: Net<Listener = TcpListener, Stream = TcpStream>,
+    R::File: Send,
+    R::Dir: Send,
+{
+    let Some(step) = steps.get(place) else {
+        return Ok(());
+    };
+    if let Step::Write { name, bytes } = step {
+        return write(rt, name.as_str(), bytes.as_slice());
+    }
+    match row_of(step) {
+        Some(row) if row.words == ")" => end_last(rt, steps, background, count, row.line),
+        Some(row) => run_row(rt, place, row, background, count),
+        None => Ok(()),
+    }
+}
+
 /// Runs the steps of a file of rows.
 fn run_steps<R>(rt: &R, steps: &[Step]) -> Result<Count>
 where
@@ -149,27 +131,21 @@ where
 {
     let mut count = Count { rows: 0, wrong: 0 };
     let mut background = Vec::new(rt.alloc());
-    for (place, step) in steps.iter().enumerate() {
-        match step {
-            Step::Write { name, bytes } => write(rt, name.as_str(), bytes.as_slice())?,
-            Step::Run { line, words, .. } if words.as_str() == ")" => {
-                end_last(rt, steps, &mut background, &mut count, *line)?;
-            }
-            Step::Run {
-                line,
-                words,
-                wanted,
-            } => {
-                if let Some(it) = started(rt, place, words.as_str())? {
-                    background.push(it)?;
-                } else {
-                    let came = called(rt, words.as_str())?;
-                    count.judge(rt, *line, words.as_str(), wanted, &came)?;
-                }
-            }
-        }
+    for place in 0..steps.len() {
+        run_step(rt, steps, place, &mut background, &mut count)?;
     }
     Ok(count)
+}
+
+/// The steps of a file of rows.
+fn steps_of<R>(rt: &R, name: &str) -> Result<Vec<Step>>
+where
+    R: Files + AllocGlobal + Clock + Net<Listener = TcpListener, Stream = TcpStream>,
+{
+    let text = filled_text(rt, fs::read_to_string(rt, name)?)?;
+    let steps = read_steps(rt.alloc(), text.as_str());
+    drop(text);
+    steps
 }
 
 /// Runs the rows of a file, and returns whether all are right.
@@ -181,9 +157,10 @@ where
     R::File: Send,
     R::Dir: Send,
 {
-    let text = filled_text(rt, fs::read_to_string(rt, name)?)?;
-    let steps = read_steps(rt.alloc(), text.as_str())?;
-    let count = run_steps(rt, steps.as_slice())?;
+    let steps = steps_of(rt, name)?;
+    let count = run_steps(rt, steps.as_slice());
+    drop(steps);
+    let count = count?;
     count.show(rt, name)?;
     Ok(count.wrong == 0)
 }

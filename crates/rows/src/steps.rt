@@ -1,9 +1,10 @@
 //! What a file of rows does, step by step, as its lines are read.
 
 use crate::escapes::unescape;
+use crate::marks::marked;
 use crate::printed::{Wanted, push_line};
 use anyhow::{Result, bail};
-use std::alloc::Global;
+use std::alloc::{AllocError, Global};
 
 /// What a file of rows does.
 #[derive(Drop)]
@@ -66,31 +67,31 @@ impl Steps {
     /// Reads a line with its number; the line has a mark up to its first space.
     pub(crate) fn read(&mut self, number: usize, line: &str) -> Result<()> {
         let alloc = self.alloc;
-        let (mark, text) = line.split_once(' ').unwrap_or((line, ""));
+        let (mark, text) = marked(line);
         match mark {
-            "--" => {
-                let name = String::from_str(alloc, text)?;
-                self.begin(
-                    Step::Write {
-                        name,
-                        bytes: Vec::new(alloc),
-                    },
-                    true,
-                )
+            b'-' => self.write(text, Vec::new(alloc), true),
+            b'+' => self.write_line(text),
+            b'*' => self.repeat(number, text),
+            b'%' => self.run(number, text, None),
+            b'$' => self.run(number, text, Some(Wanted::nothing(alloc))),
+            b'<' | b'>' | b'^' | b'&' | b'(' => {
+                self.run(number, line, Some(Wanted::nothing(alloc)))
             }
-            "+" => {
-                let (name, text) = text.split_once(' ').unwrap_or((text, ""));
-                let bytes = unescape(alloc, text)?;
-                let name = String::from_str(alloc, name)?;
-                self.begin(Step::Write { name, bytes }, false)
-            }
-            "*" => self.repeat(number, text),
-            "%" => self.run(number, text, None),
-            "$" => self.run(number, text, Some(Wanted::nothing(alloc))),
-            "<" | ">" | "^" | "&" | "(" => self.run(number, line, Some(Wanted::nothing(alloc))),
-            "@" | ":" | ")" => self.run(number, line, None),
+            b'@' | b':' | b')' => self.run(number, line, None),
             _ => self.go_on(number, line),
         }
+    }
+
+    fn write(&mut self, name: &str, bytes: Vec<u8>, is_text: bool) -> Result<()> {
+        let name = String::from_str(self.alloc, name)?;
+        self.begin(Step::Write { name, bytes }, is_text)
+    }
+
+    /// Writes a file, by its name and its text.
+    fn write_line(&mut self, text: &str) -> Result<()> {
+        let (name, text) = text.split_once(' ').unwrap_or((text, ""));
+        let bytes = unescape(self.alloc, text)?;
+        self.write(name, bytes, false)
     }
 
     fn run(&mut self, line: usize, words: &str, wanted: Option<Wanted>) -> Result<()> {
@@ -114,20 +115,13 @@ impl Steps {
         let Some(Step::Write { bytes, .. }) = &mut self.last else {
             bail!("line {number}: there is no file before it")
         };
-        for _ in 0..times {
-            bytes.extend_from_slice(&more)?;
-        }
-        Ok(())
+        Ok(extend(bytes, times, &more)?)
     }
 
     /// Reads a line that belongs to the last step.
     fn go_on(&mut self, number: usize, line: &str) -> Result<()> {
         match &mut self.last {
-            Some(Step::Write { bytes, .. }) if self.is_text => {
-                bytes.extend_from_slice(line.as_bytes())?;
-                bytes.push(b'\n')?;
-                Ok(())
-            }
+            Some(Step::Write { bytes, .. }) if self.is_text => Ok(push_line(bytes, line)?),
             Some(
                 Step::Run {
                     wanted: Some(wanted),
@@ -139,16 +133,24 @@ impl Steps {
     }
 }
 
+/// Appends bytes as often as this.
+fn extend(bytes: &mut Vec<u8>, times: u32, more: &[u8]) -> Result<(), AllocError> {
+    for _ in 0..times {
+        bytes.extend_from_slice(more)?;
+    }
+    Ok(())
+}
+
 /// Adds a line's text to what a row wants.
 fn want(alloc: Global, wanted: &mut Wanted, number: usize, line: &str) -> Result<()> {
-    let (mark, text) = line.split_once(' ').unwrap_or((line, ""));
+    let (mark, text) = marked(line);
     match mark {
-        "|" => push_line(&mut wanted.printed.out, text)?,
-        "!" => push_line(&mut wanted.printed.err, text)?,
-        "=" => wanted.printed.status = text.parse()?,
-        "?" => wanted.want_line(text)?,
-        "~" => wanted.parts.push(String::from_str(alloc, text)?)?,
-        "." => wanted.printed.out.push_str(text)?,
+        b'|' => push_line(&mut wanted.printed.out, text)?,
+        b'!' => push_line(&mut wanted.printed.err, text)?,
+        b'=' => wanted.printed.status = text.parse()?,
+        b'?' => wanted.want_line(text)?,
+        b'~' => wanted.parts.push(String::from_str(alloc, text)?)?,
+        b'.' => wanted.printed.out.extend_from_slice(text.as_bytes())?,
         _ => pass_over(number, line)?,
     }
     Ok(())
