@@ -25,7 +25,7 @@ abbrev pub joined : AbsState → List AbsState → AbsState
 joined e [] = e
 joined e (f ∷ fs) = joined (join_states e f) fs
 
--- none if there are no edges
+-- `None` without edges
 abbrev pub join_all : List AbsState → Option AbsState
 join_all [] = None
 join_all (e ∷ es) = Some (joined e es)

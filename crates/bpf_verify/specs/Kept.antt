@@ -53,8 +53,8 @@ awaited p s m =
 abbrev pub kept : ShapedProgram → ℕ → ℕ
 kept p s = 1 + count (λ m. nat_lt s m && is_some (awaited p s m)) (length p.code)
 
--- the greatest number kept at once while the slots before k were judged, among those with an entry;
--- the first entry exists from the start
+-- the greatest number kept at once while the slots before k that have an entry were judged; the
+-- first entry exists from the start
 unfoldable pub greatest_kept : ShapedProgram → ℕ → ℕ
 greatest_kept p zero = 1
 greatest_kept p (suc k) =

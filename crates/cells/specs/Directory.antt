@@ -16,10 +16,11 @@ same_width Bits32 Bits32 = true
 same_width Bits64 Bits64 = true
 same_width v w = false
 
--- how many cells of a width an array has; then, how many all of these arrays have
+-- how many cells of this width an array has
 abbrev pub cells_of : CellWidth → CellArray → ℕ
 cells_of w a = if same_width w a.width then a.length else 0
 
+-- how many all these arrays have
 abbrev pub taken : CellWidth → List CellArray → ℕ
 taken w arrays = sum_by (cells_of w) arrays
 

@@ -16,12 +16,12 @@ pub record DeclaresOneWay (d : Declaration) (old : List CellArray) : Type 0 wher
   pub either : (n : ℕ) (new : List CellArray) (e : CellsFault) → Declares d old n new
       → IsRefusedDeclaration d old e → e ≡ Memory
 
--- each declaration does so if the directory has no duplicate names, and then the directory after it
--- has none
+-- each declaration has one result if the directory has no duplicate names
 abbrev pub DeclareOneWay : Type 0
 DeclareOneWay = (d : Declaration) (old : List CellArray) → HasDistinctNames old
     → DeclaresOneWay d old
 
+-- then the directory after it has no duplicate names either
 abbrev pub KeepsNames : Type 0
 KeepsNames = (d : Declaration) (old : List CellArray) (n : ℕ) (new : List CellArray)
     → HasDistinctNames old → Declares d old n new → HasDistinctNames new

@@ -74,7 +74,7 @@ pub record IsFaultWithCause (known : KnownFiles) (old : List CellArray) (bytes :
   pub cause_is : IfSome cause (λ text. IsCause old bytes fault (string_bytes text))
 
 module _ (known : KnownFiles) (path : List ℕ) (old : List CellArray) where
-  -- the file can't be read, and there is no cause; or it gives bytes with this fault and this
+  -- the file can't be read, and no cause is given; or it gives bytes with this fault and this
   -- cause, if there is one
   abbrev pub RefusesWithCause : PathFault → Option (String Global) → Type 0
   RefusesWithCause (Load fault) cause =

@@ -1,4 +1,4 @@
--- Where the files of a manifest are: names are relative to its folder.
+-- The places of a manifest's files: names are relative to its folder.
 use Rattle.std.specs.Prelude.{ℕ, List, [], Option, Some, None, option_map}
 use Rattle.std.specs.Path.{path_parent, path_join}
 use Rattle.bounded_files.specs.Files.{KnownFiles, most_bytes, regular_files, within}

@@ -36,7 +36,7 @@ abbrev pub IsProgramKept : ProgramSource → Option KeptBytes → ShapedProgram 
 IsProgramKept from (Some (Whole v)) p = IsProgramFrom from v.items p
 IsProgramKept from kept p = ⊥
 
--- why there is no program: the file couldn't be read; its bytes have this fault; or the file is
+-- why an app gets no program: the file couldn't be read; its bytes have this fault; or the file is
 -- longer than it may be, and all such bytes have this fault. Running out of memory is always
 -- allowed
 abbrev pub RefusesKept : ProgramSource → Option KeptBytes → AppShape → AppFault → Type 0

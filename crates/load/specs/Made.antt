@@ -43,7 +43,8 @@ pub record IsMadeFrom (known : KnownFiles) (path : List ℕ) (old : List CellArr
 
 -- ---- the ruleset made of what was gathered is the one that is loaded
 
--- whatever its programs, no appid is a duplicate; and the ruleset made of it is the manifest's
+-- whatever programs the gathered apps have, no appid is a duplicate; and the ruleset made of them
+-- is the one that the manifest's load gives
 pub record IsMadeLoad (known : KnownFiles) (old : List CellArray) (bytes : List ℕ) (g : Sources)
     : Type 0 where
   pub once : (programs : List ShapedProgram) → AreJudged g.apps.items programs

@@ -39,12 +39,12 @@ abbrev pub RefusesFile : ProgramSource → List ℕ → AppShape → AppFault �
 RefusesFile (source.Program file) bytes shape fault = RefusesBytes bytes shape fault
 RefusesFile (source.Rule file) bytes shape fault = RefusesText bytes shape fault
 
--- the program of the file to which an app's name leads
+-- the program of the file that an app names
 abbrev pub IsProgramIn : KnownFiles → ProgramSource → ShapedProgram → Type 0
 IsProgramIn known from p =
     (bytes : List ℕ) × Gives known (file_of from) (Some bytes) × IsProgramFrom from bytes p
 
--- why there is no program: no file, or a fault of its bytes
+-- why an app gets no program: no file, or a fault of its bytes
 abbrev pub RefusesSource : KnownFiles → ProgramSource → AppShape → AppFault → Type 0
 RefusesSource known from shape app.File = Gives known (file_of from) None
 RefusesSource known from shape app.Memory = Unit {0}

@@ -1,5 +1,5 @@
 //! What is kept of an app's file: all its bytes, if a program or a rule may have that many;
-//! otherwise only the beginning; nothing if it can't be read.
+//! otherwise only the first of them; nothing if it can't be read.
 
 ghost use Rattle.std.specs.Prelude.{◌≡◌, ◌^◌, ◌-◌, ◌<◌, IfOk, option_copied};
 ghost use Rattle.load.specs.Kept.{CountsKept, IsKeptFrom};

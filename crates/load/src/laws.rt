@@ -9,7 +9,7 @@ use manifest::one_reading;
 
 /// Law: for files with known bytes, one directory and one manifest have one load, unless memory
 /// runs out. So a load that is repeated after running out of memory gives what it would have given
-/// with ample memory. Nothing that runs calls it.
+/// with ample memory. No program calls it.
 pub fn one_load()
     ensures load { HasOneLoad }
     ensures path { HasOneLoadFrom }

@@ -75,7 +75,7 @@ abbrev pub count_of : Items → ℕ
 count_of no_items = 0
 count_of (item d ds) = suc (count_of ds)
 
--- the list of apps, which is empty if there is no such member
+-- the list of apps, which is empty if the member doesn't exist
 abbrev pub listed : Option Data → Option Items
 listed (Some apps) = as_array apps
 listed None = Some no_items

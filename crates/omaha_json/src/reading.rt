@@ -101,7 +101,7 @@ fn of_members<H: AppObserver>(
     }
 }
 
-// The list of apps, which is empty if there is no such member.
+// The list of apps, which is empty if the member doesn't exist.
 fn listed(alloc: Global, apps: Option<Value>) -> Option<Vec<Value>>
     ensures { option_map (λ apps. items_view apps.items) result
         ≡ listed (option_map view apps) }

@@ -11,8 +11,8 @@ use Rattle.rule_space.specs.declared.coordinate.Coordinate.TheVariants as coordi
 use Rattle.rule_space.specs.Machines.{State, declared}
 use Rattle.rule_space.specs.Numbers.{cell_at, version_number}
 
--- a dimension: what its number is, the texts that it distinguishes, the ends of its cells, and its
--- greatest number
+-- a dimension: what its number is, the texts that it distinguishes, the starts of its cells, and
+-- its greatest number
 pub record Dimension : Type 0 where
   pub of : Coordinate
   pub texts : List (List ℕ)

@@ -40,8 +40,8 @@ abbrev pub is_place : Option ℕ → ℕ → Bool
 is_place (Some other) place = other == place
 is_place None place = false
 
--- the dimension at this place is in the family's group: of the version's lines only the one that
--- the family names, and the same for texts
+-- the dimension at this place is in the family's group. A line of the version, or a dimension of
+-- texts, is in it only if the family names its place
 abbrev pub is_member : Family → (place : ℕ) → Coordinate → Bool
 is_member f place coordinate.Version = is_version f.kind && is_place f.line place
 is_member f place (coordinate.Bucket salt modulus) = not (is_version f.kind)

@@ -36,8 +36,8 @@ is_bucket None bucket = false
 abbrev pub names_bucket : (bucket : ℕ) → (cohort : List ℕ) → Bool
 names_bucket bucket cohort = is_bucket (cohort_bucket cohort) bucket
 
--- a cohort that names a bucket fits only that one. A cohort that isn't named here may name each
--- bucket that none of these names
+-- a cohort that names a bucket fits only that one. A cohort that isn't among the texts may name any
+-- bucket that none of them names
 abbrev pub cohort_fits : (texts : List (List ℕ)) → (cohort : Option (List ℕ)) → (known : Bool)
     → (bucket : ℕ) → Bool
 cohort_fits texts None known bucket = not known || not (list_any (names_bucket bucket) texts)

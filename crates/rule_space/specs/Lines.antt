@@ -1,4 +1,4 @@
--- The lines of dimensions: from which number to which the numbers of machines in states go.
+-- The lines of dimensions: the least and the greatest number that a machine in a state can have.
 use Rattle.std.specs.Prelude.{◌≡◌, ℕ, ◌+◌, ◌-◌, ◌^◌, ◌<◌, length, true, min, Bool, Option, Some}
 use Rattle.std.specs.Prelude.{None, ◌==◌, slice_index, if◌then◌else◌}
 use Rattle.rule_space.specs.declared.coordinate.Coordinate.{Coordinate}

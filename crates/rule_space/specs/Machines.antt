@@ -54,8 +54,8 @@ left_in g s cell = left_of g (find (λ a. has_cell a cell) s.arrays) cell
 abbrev pub takes_of : (cell : ℕ) → (taken : List ℕ) → ℕ
 takes_of cell taken = count_by (λ c. c == cell) taken
 
--- a cell that grants `left` takes of a run grants one if fewer than that were taken. Then it
--- replies 0, and otherwise a number above each quota
+-- a cell that grants `left` takes of a run grants one more if fewer than that were taken: it
+-- replies 0. Otherwise it replies a number above each quota
 abbrev pub reply_after : (left taken : ℕ) → ℕ
 reply_after left taken = if nat_lt taken left then 0 else 2 ^ 63
 

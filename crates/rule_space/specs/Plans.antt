@@ -34,7 +34,7 @@ module _ (Is : Attributes → State → Type 0) (ds : List Dimension) (s : AppSh
     pub no_cell : cell_used s t ≡ None
     pub holds : (a : Attributes) (g : State) → Is a g → test_holds a s 0 t ≡ b
 
-  -- the test uses no cell, and holds as the number at which a machine's cell begins compares
+  -- the test uses no cell, and holds if the start of the machine's cell compares so with n
   pub record ComparesAs (t : Test) (at : ℕ) (r : Comparison) (n : ℕ) : Type 0 where
     pub dimension : Dimension
     pub is_at : slice_get ds at ≡ Some dimension
@@ -42,7 +42,7 @@ module _ (Is : Attributes → State → Type 0) (ds : List Dimension) (s : AppSh
     pub holds : (a : Attributes) (g : State) → Is a g
         → test_holds a s 0 t ≡ allows r (nat_cmp (begin_of dimension (cell_in dimension a g)) n)
 
-  -- the test takes of this cell, and holds if fewer were taken than the number of the dimension
+  -- the test takes from this cell, and holds if fewer were taken than the dimension's number
   pub record TakesOf (t : Test) (at cell : ℕ) : Type 0 where
     pub dimension : Dimension
     pub is_at : slice_get ds at ≡ Some dimension

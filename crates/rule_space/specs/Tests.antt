@@ -15,7 +15,7 @@ use Rattle.rule_space.specs.Machines.{State, declared}
 use Rattle.rule_space.specs.Numbers.{decides}
 use Rattle.rule_space.specs.Scopes.{IsWithin, Scope}
 
--- the test uses no cell, and holds as the number of a machine compares
+-- the test uses no cell, and holds if the machine's number compares so
 pub record IsAgainst (of : Coordinate) (texts : List (List ℕ)) (t : Test) (by : NumberComparison)
     : Type 0 where
   pub no_cell : (s : AppShape) → cell_used s t ≡ None
@@ -36,7 +36,8 @@ IsGrantOf (coordinate.Takes own place) array index =
     (declared own ≡ declared array) × (place ≡ index)
 IsGrantOf of array index = ⊥
 
--- the dimension at a place says so of this cell of the first array with this name
+-- the number of the dimension at a place says how many takes this cell of the first array with this
+-- name grants
 pub record IsGrantAt (ds : List Dimension) (at : ℕ) (s : AppShape) (name : List ℕ) (index cell : ℕ)
     : Type 0 where
   pub dimension : Dimension

@@ -13,8 +13,8 @@ use rule_lang::{Literal, Test, array_named};
 use std::alloc::{AllocError, Global};
 use std::marker::Model;
 
-/// A coordinate, the texts that it distinguishes, the numbers (ends) at which its cells begin, in
-/// their order, and its greatest number. Each cell goes up to the next start.
+/// A coordinate, the texts that it distinguishes, the numbers at which its cells begin, in their
+/// order, and its greatest number. Each cell goes up to the next start.
 #[derive(Drop)]
 pub struct Dimension {
     pub of: Coordinate,
@@ -112,8 +112,8 @@ fn is_discrete(of: &Coordinate, cells: usize, last: u128) -> bool
     }
 }
 
-/// Whether the ends rise, from the least number on, up to the greatest one; and each text and each
-/// truth value of a flag has a cell of its own.
+/// Whether the starts rise, from the least number on, up to the greatest one; and each text and
+/// each truth value of a flag has a cell of its own.
 pub(crate) fn is_line(bounds: &Bounds<'_>, dimension: &Dimension) -> bool
     ensures { result ≡ true → lines.IsLine (scope_of bounds.now) dimension.now }
 {

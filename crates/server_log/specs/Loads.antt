@@ -44,7 +44,7 @@ pub record DescribesRefusedLoad (path text : List ℕ) (cause : Option (List ℕ
   pub refusal_is : option_copied load.refusal ≡ Some text
   pub cause_is : IsExcerptOf cause load.cause
 
--- the line, with a header, of a load with this property
+-- the line with this header of a load event that has the property
 pub record IsLoadLine (header : LineHeader) (Describes : Load → Type 0) (line : List ℕ)
     : Type 0 where
   pub load : Load

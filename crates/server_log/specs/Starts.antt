@@ -33,7 +33,7 @@ pub record DescribesRefusedStart (server : Starting) (text : List ℕ) (cause : 
   pub refusal_is : option_copied start.refusal ≡ Some text
   pub cause_is : IsExcerptOf cause start.cause
 
--- the line, at a time, of a server's start with this property
+-- the line at this time of a start event that has the property
 pub record IsStartLine (time : Utc) (server : Starting) (Describes : Start → Type 0) (line : List ℕ)
     : Type 0 where
   pub start : Start

@@ -28,7 +28,7 @@ pub(crate) struct AppExtras {
     pub(crate) platform: Option<KeptExcerpt>,
 }
 
-/// The place of the beginning of a text, and the length of the whole text.
+/// The place of a text's first bytes, and the length of the whole text.
 #[derive(Clone, Copy)]
 pub(crate) struct KeptExcerpt {
     text: TextPlace,

@@ -22,7 +22,7 @@ const PLACES: usize = 256;
 pub struct LogPiece {
     /// The bytes, each line with its line feed.
     pub text: Vec<u8>,
-    /// The number of lines; for a line with the number of lost lines, that number.
+    /// The number of lines. For the line that reports lost lines, how many were lost.
     pub lines: u64,
 }
 

@@ -67,7 +67,7 @@ where
     }
 }
 
-/// Writes the line of a refused start at once, if there is no queue. The line is lost if an
+/// Writes the line of a refused start at once, without a queue. The line is lost if an
 /// allocation or standard error fails.
 // open: that what is written is the line of `refused_start_line` with this fault and cause: no
 // contract knows what standard error takes. Tests.

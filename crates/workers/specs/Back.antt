@@ -38,8 +38,8 @@ module _ {P : Type 0} (belongs : P → Type 0) (grew : P → CellEvent → P →
     pub connection : ConnectionBack old new
     pub moments_are : All (λ answer. answer.moment ≡ moment) connection.back.answers
 
-  -- the same for the connections that were taken: there are no more answers than these, unless they
-  -- overflow their count
+  -- the same for the connections that were taken, with at most one answer each, unless their count
+  -- overflows
   pub record ConnectionsBack (taken : ℕ) (old new : P × KnownPrefix) : Type 0 where
     pub back : WorkerBack old new
     pub at_most_one : taken < 2 ^ 64 - 1 → length back.answers ≤ taken
@@ -49,8 +49,8 @@ module _ {P : Type 0} (belongs : P → Type 0) (grew : P → CellEvent → P →
   WorkersBack old new = AllZip WorkerBack old new
 
   module _ {F : Type 0} (loads : Loading F) where
-    -- The operator's thread, with its pass and its control, which ended so. It answered lines, one
-    -- after the other: at most one for each accepted connection, unless these overflow their count.
+    -- The operator's thread at its end, with its pass and its control. It answered lines, one after
+    -- the other: at most one for each accepted connection, unless their count overflows.
     -- Its pass belongs to the cells, and grew only by what the lines read. Its end says whether a
     -- stop was requested.
     pub record OperatorBack (end : OperatorEnd) (old new : P × Controlled) : Type 0 where
@@ -62,9 +62,9 @@ module _ {P : Type 0} (belongs : P → Type 0) (grew : P → CellEvent → P →
       pub at_most_one : end.accepted < 2 ^ 64 - 1 → length lines ≤ end.accepted
       pub stop_is : end.is_requested ≡ new.1.is_stopping
 
-    -- All that a server returns which began with this pass of its operator, these workers and this
-    -- control. The operator's lines, and nothing else, led from that control to the one at its end.
-    -- What was published then is also returned.
+    -- All that is returned by a server that began with this pass of its operator, these workers and
+    -- this control. The operator's lines, and nothing else, led from that control to the one at its
+    -- end. What was published then is also returned.
     pub record ServerBack (pass : P) (staff : List (P × KnownPrefix)) (control : Controlled)
         (back : Returned P) : Type 0 where
       pub last : Controlled

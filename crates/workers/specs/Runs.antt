@@ -19,7 +19,7 @@ use Rattle.workers.specs.Answers.{WorkerAnswer, AreInTurn, made_in_turn}
 
 module _ (number : ℕ) (facts : RequestFacts) (moment : ℤ) where
   -- the runs for an app: none, or one, under the ruleset of this number, with the app's attributes
-  -- then
+  -- at the moment
   abbrev pub runs_of_app : {rules : Rules} (app : AppFacts) {choice : Option ℕ}
       {events : List CellEvent} → RunsApp rules facts moment app choice events → List AppRun
   runs_of_app app (no_updatecheck is) = []

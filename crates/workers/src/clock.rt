@@ -45,7 +45,7 @@ pub(crate) fn micros_between(from: Option<Instant>, to: Option<Instant>) -> u64 
     }
 }
 
-/// The second by the clock; 0 if it can't be read, which counts as the first of 2007.
+/// The second by the clock; 0 if it can't be read, which counts as the first second of 2007.
 pub(crate) fn unix_second<H: Clock>(rt: &H) -> i64 {
     let Ok(now) = SystemTime::now(rt) else {
         return 0;

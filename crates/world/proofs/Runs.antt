@@ -154,7 +154,7 @@ ends_well p s es choice count fit (operates {cell = cell} {op = op} {next = next
     (subst (λ (x : State). Ends p x tail choice count)
     (ap (λ (f : ℕ → State). f event.reply) next_is) rest)
 
--- ---- a run of the semantics, one step longer at its beginning
+-- ---- a run of the semantics, one step longer at its start
 
 -- a step that continues, with its event
 pub goes_from : (cells : List ℕ) (p : ShapedProgram) (s t : State) (o : Outcome)

@@ -72,19 +72,20 @@ pub record SwapsRules (w : WorldState) (rules : Rules) (number : ℕ) (v : World
   pub after : v ≡ with_ruleset w rules
   pub number_is : number ≡ newest v.rulesets
 
--- there is no worker of the event's number; a Swap names none
+-- no worker has the event's number; a Swap has none
 abbrev pub LacksWorker : WorldState → Event → Type 0
 LacksWorker w (Start k attrs) = length w.workers ≤ k
 LacksWorker w (Step k) = length w.workers ≤ k
 LacksWorker w (Finish k) = length w.workers ≤ k
 LacksWorker w (Swap rules) = ⊥
 
--- the worker is idle, and the newest ruleset has a program for the app (`CanStart`) or none
+-- the worker is idle, and the newest ruleset has a program for the app
 pub record CanStart (w : WorldState) (k : ℕ) (a : Attributes) : Type 0 where
   pub idle : IsWorker w k Idle
   pub program : ShapedProgram
   pub offered : HasProgram w.rulesets (newest w.rulesets) (appid_of a) program
 
+-- the worker is idle, and the newest ruleset doesn't have the app
 pub record HasNoApp (w : WorldState) (k : ℕ) (a : Attributes) : Type 0 where
   pub idle : IsWorker w k Idle
   pub none : (program : ShapedProgram) → ¬ HasProgram w.rulesets (newest w.rulesets)

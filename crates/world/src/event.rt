@@ -47,7 +47,7 @@ pub enum Effect {
 /// Why an event is refused; if there are several reasons, the lowest number.
 #[derive(Clone, Copy, Debug, PartialEq, Eq)]
 pub enum WorldFault {
-    /// E1: there is no such worker.
+    /// E1: the worker doesn't exist.
     NoWorker,
     /// E2: a Start, and the worker has a run.
     Busy,
