@@ -171,7 +171,7 @@ called_at g values s v x h k (suc (suc (suc (suc (suc zero))))) = tt
 called_at g values s v x h k (suc (suc (suc (suc (suc (suc r)))))) =
     past_five g values s x r (suc (suc (suc (suc (suc (suc r)))))) (omega arith) h
 
--- by the law of bpf_semantics that a helper returns no more than its prototype says
+-- by the law of bpf_semantics that a helper returns at most what its prototype says
 pub covers_call : ((a : Attributes) → AreShort a.texts → AllKeepMost a)
     → (g : Returns) (e : AbsState) (s : State) (helper : ℤ) (x : ℕ)
     → HasWords s → AreBefore s.slot g → Covers g e s → helper_result g.shape s helper ≡ Some x

@@ -17,7 +17,7 @@ const BRIEF_LIMIT: usize = 64;
 /// The most bytes of a further member's text in a line, escapes included.
 const SHORT_LIMIT: usize = 32;
 
-/// The beginning of a text, and how many bytes the whole text has.
+/// The first bytes of a text, and how many bytes the whole text has.
 #[derive(Clone, Copy)]
 pub struct Excerpt<'a> {
     pub text: &'a str,

@@ -56,7 +56,7 @@ pub data RepliesTo (told : Option (List ℕ)) (watcher : KnownPrefix) (moment : 
   taken : {events : List CellEvent} {reply : HttpReply} (body : List ℕ) → AnswersPost told (Ok body)
       → RepliesToBody body watcher moment events reply
       → RepliesTo told watcher moment events reply
-  -- there is no body to read, and the client gets the reason
+  -- no body is read, and the client gets the reason
   rejected : (fault : PostFault) (status : Status) → AnswersPost told (Err fault)
       → status_of fault ≡ Some status
       → RepliesTo told watcher moment [] (rejection status (post_name fault))

@@ -144,7 +144,7 @@ fn copied(alloc: Global, bytes: &[u8], flow: &Flow) -> Result<Vec<u8>, AllocErro
 /// F6, F7 and F8 are those of `Flow::check`. F1 to F4 are only about reached slots. They name the
 /// lowest slot that jumps below slot 0, out of the program or into a wide load, or falls off the
 /// end. If there is none, F1 names the lowest jump that closes a cycle. F7 is also returned if
-/// there is no such slot and the program in order has more than 4096 slots. F9 may be returned at
+/// no slot does so and the program in order has more than 4096 slots. F9 may be returned at
 /// any time.
 // open: which order is found; that F7 isn't returned for a program with at most 4096 slots in
 // order; the count of instructions, which may differ; whether an allocation fails.

@@ -92,7 +92,7 @@ OfFileWithin most known path says =
 abbrev pub IsWithin : ℕ → List ℕ → Type 0
 IsWithin most bytes = length bytes ≤ most + 1
 
--- ---- the beginning of what a reader gives
+-- ---- the first bytes that a reader gives
 
 -- the first `most + 1` bytes that a reader has yet to give, if they are known
 abbrev pub IsBeginning : Option (List ℕ) → ℕ → List ℕ → Type 0

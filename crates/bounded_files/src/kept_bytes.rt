@@ -1,5 +1,5 @@
-//! What is kept of a file that may be longer than needed: all of it; or its beginning, its length,
-//! and whether it is text to its end. No piece after the beginning is kept.
+//! What is kept of a file that may be longer than needed: all of it; or its first bytes, its
+//! length, and whether it is text to its end. No piece after the first bytes is kept.
 
 ghost use Rattle.std.specs.Prelude.{◌≡◌, ◌++◌, ◌+◌, ◌<◌, ◌≤◌, ◌^◌, length, take, List, [], ℕ};
 ghost use Rattle.std.specs.Prelude.{◌↔◌, IfOk, OnOk, IsTrue, IsUtf8};

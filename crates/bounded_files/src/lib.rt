@@ -9,9 +9,9 @@
 // replace those of a device; for files in memory the contracts say which bytes were read. A written
 // file replaces the old one as a whole, if the folder allows it.
 //
-// For a file that may be longer than needed, only the beginning is kept, its length, and whether it
-// is text to its end (`kept_bytes.rt`). It is read in pieces. Between pieces only the few bytes of
-// an incomplete character are kept (`utf8_text.rt`).
+// For a file that may be longer than needed, only the first bytes are kept, its length, and whether
+// it is text to its end (`kept_bytes.rt`). It is read in pieces. Between pieces only the few bytes
+// of an incomplete character are kept (`utf8_text.rt`).
 
 mod device;
 mod disk;

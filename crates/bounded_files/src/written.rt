@@ -23,8 +23,8 @@ pub fn write_file<R: Files + AllocGlobal>(
     write_anew(rt, path, bytes).map_err(|error| fault_of(&error))
 }
 
-/// Whether a path may be overwritten by a file with this beginning: it doesn't exist, isn't a
-/// regular file, or is a file that is empty or also has this beginning.
+/// Whether a path may be overwritten by a file that begins with these bytes: it doesn't exist,
+/// isn't a regular file, or is a file that is empty or also begins with them.
 // open: what it returns: `bench/outside`.
 pub fn may_write_over<R: Files>(rt: &R, path: &str, beginning: &[u8; 4]) -> bool {
     match fs::metadata(rt, path) {

@@ -22,7 +22,7 @@ attr_len_number = 3
 abbrev pub bucket_number : ℕ
 bucket_number = 4
 
--- the helper with this number; there are no others
+-- the helper with this number, 1 to 4
 abbrev pub helper_of : ℤ → Option Helper
 helper_of (negsuc n) = None
 helper_of (pos n) =

@@ -10,7 +10,7 @@ use Rattle.trace.specs.declared.jump.Jump.{Jump}
 
 -- ---- the first line
 
--- the beginning of a line, with the app's name
+-- the start of a line, with the app's name
 abbrev pub app_front : (name : List ℕ) → List ℕ
 app_front name = codes "app " ++ name ++ codes ": "
 

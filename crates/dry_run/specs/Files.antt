@@ -31,7 +31,7 @@ pub record IsBodyIn (known : KnownFiles) (request body : List ℕ) : Type 0 wher
   pub given : Gives known (body_path request) (Some body)
   pub short : length body ≤ most_body
 
--- why there is no body
+-- why no body was read
 abbrev pub IsBodyFault : KnownFiles → (request : List ℕ) → DryRunFault → Type 0
 IsBodyFault known request (fault.Resource File) = Gives known (body_path request) None
 IsBodyFault known request (fault.Resource resource.Memory) = Unit {0}

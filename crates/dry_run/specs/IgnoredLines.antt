@@ -29,7 +29,7 @@ abbrev pub kind_in : Option Data → List ℕ
 kind_in (Some d) = data_kind d
 kind_in None = []
 
--- the beginning of a line, with the member's name
+-- the start of a line, with the member's name
 abbrev pub ignored_part : (name kind : List ℕ) → List ℕ
 ignored_part name kind = codes "ignored: " ++ name ++ codes " is " ++ kind
 

@@ -36,7 +36,7 @@ abbrev pub AreSettable : List CellArray → (served words : List Assignment) →
 AreSettable arrays served words =
     (counters : List ℕ) × AreAssigned arrays served words counters
 
--- why there is no reply: the given cells, or else the body, which isn't a request. Running out of
+-- why no reply is made: the given cells, or else the body, which isn't a request. Running out of
 -- memory is always allowed
 abbrev pub IsUnanswered : List CellArray → (body : List ℕ) → (served words : List Assignment)
     → DryRunFault → Type 0

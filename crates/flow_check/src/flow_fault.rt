@@ -22,7 +22,7 @@ pub enum FlowRule {
     FallsOff,
     /// No path of edges leads from slot 0 to the instruction.
     Unreached,
-    /// There are no bytes.
+    /// The program has no bytes.
     Empty,
     /// There are more than 32768 bytes, that is 4096 slots.
     TooLong,

@@ -52,7 +52,7 @@ impl Publisher {
     ghost use Rattle.hot_swap.specs.Latest.{Installs, latest};
 
     /// Installs the first ruleset, of generation 1, with places for 1 to 65 watchers. Returns H1 if
-    /// an allocation fails. It never waits, since there is no watcher yet.
+    /// an allocation fails. It never waits, since no watcher exists yet.
     // open: whether an allocation fails (H1).
     pub fn new<R: Wait>(
         rt: &R,

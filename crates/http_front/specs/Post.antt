@@ -45,7 +45,7 @@ pub data Posts (xs : List ℕ) : Result (List ℕ) PostFault → Type 0 where
   -- a rule that a whole head breaks
   refused : {h : RequestHead} {rest : List ℕ} {e : PostFault}
       → HasHead xs h rest → body_length_by h ≡ Err e → Posts xs (Err e)
-  -- whatever bytes follow, there is no head
+  -- whatever bytes follow, they don't make a head
   malformed : (k : ℕ) → k ≤ head_limit → NeverHasRequest (take k xs) → Posts xs (Err fault.Head)
   -- 16,384 bytes, and still no head
   long : head_limit ≤ length xs → IsBegun (take head_limit xs) → Posts xs (Err fault.HeadTooLarge)

@@ -59,8 +59,8 @@ checked_app_object app = object (
     member (codes "slots") (number (unsigned (length app.program.code)))
     no_members)))
 
--- whether it would count in a strict check (given also if this check isn't strict); its name; and
--- where it is and what it says
+-- whether it would count in a strict check (given also if this check isn't strict); its name; its
+-- place, and what it says
 abbrev pub warning_object : (allowed : List (Bor (List ℕ))) → Warning → Data
 warning_object allowed w = object (
     member (codes "counts") (boolean (some_counts allowed (w ∷ []))) (

@@ -29,7 +29,7 @@ pub struct CheckOutput {
     pub passes: bool,
 }
 
-/// Checks manifests, each by itself. In a strict check, warnings count unless their name is
+/// Checks manifests, each separately. In a strict check, warnings count unless their name is
 /// allowed.
 ///
 /// For one manifest, the text has its lines, then `ok` if each warning is allowed, and then the

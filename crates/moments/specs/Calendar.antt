@@ -1,4 +1,4 @@
--- Days of the Gregorian calendar in UTC, and minutes, both counted from the beginning of 1970.
+-- Days of the Gregorian calendar in UTC, and minutes, both counted from 1970 on.
 use Rattle.std.specs.Prelude.{ℕ, zero, suc, ◌+◌, ◌/◌, List, ℤ, pos, negsuc, nat_lt}
 use Rattle.std.specs.Prelude.{Option, Some, None, option_and_then, if◌then◌else◌}
 use Rattle.jiff_core.specs.Calendar.{days_in_month}

@@ -1,4 +1,4 @@
-//! Days of the Gregorian calendar in UTC, and minutes, both counted from the beginning of 1970.
+//! Days of the Gregorian calendar in UTC, and minutes, both counted from 1970 on.
 
 ghost use Rattle.std.specs.Prelude.{◌≡◌, ◌≤◌};
 ghost use Rattle.moments.specs.Calendar as specs;

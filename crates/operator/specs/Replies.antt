@@ -63,7 +63,7 @@ begins_with_generation bytes =
 abbrev pub are_cell_lines : List ℕ → Bool
 are_cell_lines text = list_all is_cell_line (slice_split is_line_feed text)
 
--- lines of cells, or empty, since there is no line if all counters are 0
+-- lines of cells, or empty, as counters that are 0 have no line
 abbrev pub are_cells : List ℕ → Bool
 are_cells bytes = (length bytes == 0) || is_ended are_cell_lines bytes
 

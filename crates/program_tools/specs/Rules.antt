@@ -33,7 +33,7 @@ module _ (known : KnownFiles) (path : List ℕ) (options : DeclaredShape) where
   abbrev pub HasCompiled : ℕ → Type 0
   HasCompiled slots = (p : ShapedProgram) × IsRuleProgramFor p × (slots ≡ length p.code)
 
-  -- there is no such program, or it can't be written
+  -- no such program exists, or it can't be written
   abbrev pub IsCompileRefusal : ProgramToolFault → Type 0
   IsCompileRefusal (Resource fault) =
       IsRuleRefusal (Resource fault) ⊎ ((p : ShapedProgram) × IsRuleProgramFor p)

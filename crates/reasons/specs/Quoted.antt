@@ -22,7 +22,7 @@ quoted text = codes "\"" ++ escaped text ++ codes "\""
 
 -- ---- laws
 
--- between the quotes there is no quote, and only printable ASCII; a text of this form without a
+-- the text between the quotes has no quote, and only printable ASCII; a text of this form without a
 -- backslash isn't changed
 pub record QuotesEndTexts : Type 0 where
   pub none_there : EscapesAll is_kept_out escaped

@@ -31,7 +31,7 @@ impl Model for CellTake {
     ghost invariant = { λ t. t.value < limit t.cell };
 }
 
-/// The number of an array's cell; 0 if there is no array.
+/// The number of an array's cell; 0 without an array.
 pub(crate) fn cell_of(array: Option<&CellArray>, index: u16) -> u32
     ensures { result ≡ shapes.cell_of (option_copied array.entry) index }
 {

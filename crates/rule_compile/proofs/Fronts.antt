@@ -32,7 +32,7 @@ pub takes_behind : (i : Insn) (q : Program) (c d : Known) (ds : List Known)
 takes_behind i q c d ds = record { place = refl; known = λ f h. h }
 
 module _ (shape : AppShape) where
-  -- a place where a piece may begin also covers more knowledge
+  -- a place at which a piece may begin also covers more knowledge
   pub takes_more : (a b c d e : Abs) (set : ℕ → Bool) (q : Program) (ds : List Known) (k : ℕ)
       → Takes q ds k (chosen shape) → Takes q ds k (frame a b c d e (choice shape) set)
   takes_more a b c d e set q ds k h =
@@ -43,7 +43,7 @@ module _ (shape : AppShape) where
 
   -- ---- labels
 
-  -- a place of the rest, by its distance from the end, where a piece may begin
+  -- a place of the rest, by its distance from the end, at which a piece may begin
   pub record IsLabel (q : Program) (ds : List Known) (l : ℕ) : Type 0 where
     pub within : l ≤ length q
     pub takes : Takes q ds (length q - l) (chosen shape)

@@ -46,7 +46,7 @@ fn quota_of(array: Option<&CellArray>) -> u64
 }
 
 /// The quota of the first array with this name: how many takes each cell grants. It is 0 if the
-/// array has no quota, or if there is no such array.
+/// array has no quota, or doesn't exist.
 pub fn quota_named(shape: &Shape, name: &str) -> u64
     ensures { result ≡ shapes.quota_of (shapes.array_named name.now shape.now.arrays) }
 {

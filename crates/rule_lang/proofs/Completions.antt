@@ -113,7 +113,7 @@ completion x =
       };
     }
 
--- if the machine takes all tokens so far, they are the beginning of a rule
+-- if the machine takes all tokens so far, they begin a rule
 pub begun : (before : List Placed) (x : State) → runs start before ≡ Some x → g.Begins before
 begun before x is =
     let c = completion x in

@@ -88,7 +88,7 @@ runs_append x (p ∷ xs) ys = runs_by (step x p.token) xs ys (λ y. runs_append 
 
 -- ---- continuations of a place
 
--- the rest of a term, or of a condition, for every beginning
+-- the rest of a term, or of a condition, after every prefix
 abbrev pub TermGoesOn : List Placed → List Placed → Type 0
 TermGoesOn ts rest = (front : List Placed) → g.IsTerm front ts → g.IsTerm front rest
 

@@ -20,7 +20,7 @@ use Rattle.rule_lang.proofs.Modes.{condition_noted}
 use Rattle.rule_lang.proofs.Noted.{Noted, was_clean, IsShallow, shallow, one_deeper, nots_below}
 use Rattle.rule_lang.proofs.Adds.{AddsFact, AddsTerm, AddsCond, negated}
 
--- ---- the beginning of a part of a condition
+-- ---- the start of a part of a condition
 
 pub record IsAtFact (d : Draft) (depth : ℕ) : Type 0 where
   pub place : d.mode ≡ mode.Fact

@@ -3,7 +3,7 @@ use Rattle.std.specs.Prelude.{ℕ, ◌+◌, Option, Some, None}
 use Rattle.cells.specs.declared.array.CellArray.{CellArray}
 pub use Rattle.cells.specs.Directory.{array_named}
 
--- the number of an array's cell; 0 if there is no array
+-- the number of an array's cell; 0 without an array
 abbrev pub cell_of : Option CellArray → (index : ℕ) → ℕ
 cell_of (Some a) index = a.base + index
 cell_of None index = 0

@@ -20,7 +20,7 @@ pub data IsVerdict (s : AppShape) (text : Text) : OrFault (List Statement) → T
   too_long : 65536 < length text → IsVerdict s text (Err (At 1 Range))
   no_token : {e : RuleFault} → length text ≤ 65536 → tokens_in text ≡ Err e
       → IsVerdict s text (Err e)
-  -- the tokens before p are the beginning of some rule, and those up to p aren't
+  -- the tokens before p begin some rule, and those up to p don't
   no_rule : (before after : List Placed) (p : Placed) → length text ≤ 65536
       → tokens_in text ≡ Ok (before ++ (p ∷ after)) → Begins before
       → (Begins (before ++ (p ∷ [])) → ⊥) → IsVerdict s text (Err (misplaced p.line))

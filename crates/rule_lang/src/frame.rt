@@ -55,7 +55,7 @@ impl Frames {
         self.frames.pop()
     }
 
-    /// Whether there are no frames.
+    /// Whether it has no frames.
     pub fn is_empty(&self) -> bool
         ensures { result ≡ drafts.is_empty self.now }
     {
@@ -63,7 +63,7 @@ impl Frames {
     }
 }
 
-/// The frame at the beginning of a condition.
+/// The frame at the start of a condition.
 pub fn first_frame() -> Frame
     ensures { result ≡ drafts.first_frame }
 {

@@ -9,8 +9,8 @@
 // remain after them, with a constructor for each production (`specs/Grammar.antt`). The value of a
 // rule's tokens is defined along its productions (`specs/Says.antt`), and the verdict on a text by
 // both (`specs/Verdicts.antt`). Only the productions say that `and` binds more tightly than `or`.
-// But the grammar isn't an algorithm: a token is misplaced if the tokens before it are the
-// beginning of some rule, and with it they aren't, whatever follows.
+// But the grammar isn't an algorithm: a token is misplaced if the tokens before it begin
+// some rule, and with it they don't, whatever follows.
 //
 // The reader defines how a rule is read (`specs/Reader`). A `Draft` is a rule that is read up to
 // some token. The reader says what the next phrase makes of the draft, and which tokens remain. It

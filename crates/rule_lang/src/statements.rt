@@ -1,4 +1,4 @@
-//! The phrases of a statement: `count`, or the beginning of `when` or `otherwise`.
+//! The phrases of a statement: `count`, or the start of `when` or `otherwise`.
 
 ghost use Rattle.std.specs.Prelude.{◌≡◌, ◌<◌, length, IfOk, IfErr, Ok};
 ghost use Rattle.rule_lang.specs.Named.{token_named, placed_all, draft_as_lists};

@@ -57,7 +57,7 @@ new_once n p =
 one_seat : (f : List Account → ℕ) (v : List Account) → sum_by f (v ∷ []) ≡ f v
 one_seat f v = sum_by-cons f v [] ∙ add-zero (f v)
 
--- the rule at first: there are no events
+-- the rule at first, without events
 pub begins : {S : Type 0} (n : ℕ) (ws : List ℕ) → AreZeros 8192 ws
     → HasHistory {S = S} n (opening ws [] (new_accounts 0 n))
 begins n ws zeros = record {

@@ -114,7 +114,7 @@ not_itself m x es e = by (m == m) (same m) e
     by true is e = absurd (cc)
     by false is e = absurd (cc)
 
--- past the accounts there are no events, if each pass with events has an account
+-- past the accounts no pass has events, if each pass with events has an account
 none_past : (v : List Account) (p : ℕ) (history : List Entry) → length v ≤ p
     → ((m : ℕ) → accounts_of m v ≡ 0 → events_by m history ≡ [])
     → events_by p (by_place v history) ≡ []

@@ -81,7 +81,7 @@ pub record HasHistory {S : Type 0} (n : ℕ) (s : State S (List Account)) : Type
   pub stored : (c : ℕ) → c < 8192 → slice_index s.words c ≡ stored_word c (slice_index values c)
   pub agrees : (id : ℕ) (v : List Account)
       → get_elem? s.views id ≡ some v → All (AgreesWith history) v
-  -- over all seats there is one account of each pass, and there are no others
+  -- over all seats there is one account of each pass, and no other account
   pub once : (p : ℕ) → sum_by (accounts_of p) s.views ≡ one_if (nat_lt p n)
   -- (follows from `once`; the proofs use it)
   pub whole : sum_by length s.views ≡ n

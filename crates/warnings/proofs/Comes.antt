@@ -1,4 +1,4 @@
--- The result of a test, for an app that the evaluation stands for, is a possible result.
+-- The result of a test, for an app that the evaluation represents, is a possible result.
 use Rattle.std.proofs.Common.{◌≡◌, ℕ, ◌<◌, ◌≤◌, ◌%◌, List, [], ◌∷◌, ◌++◌, ◌⊎◌, inl, inr, Option}
 use Rattle.std.proofs.Common.{Some, None, Bool, true, false, not, ◌||◌, cond}
 use Rattle.std.proofs.Common.{refl, sym, ap, ◌∙◌, arith}
@@ -130,7 +130,7 @@ by_day last r day n within =
       | inr (inr above) ↦ by_last p q l b (ap (allows r) (like_last last day n within above))
     ]
 
--- ---- an app that the evaluation stands for
+-- ---- an app that the evaluation represents
 
 -- the bucket is that of the evaluation, and days are in their ranges
 pub record IsOneOf (spot : Spot) (evaluated a : Attributes) : Type 0 where

@@ -1,4 +1,4 @@
--- The behaviour of a rule is a possible one, for an app that the evaluation stands for.
+-- The behaviour of a rule is a possible one, for an app that the evaluation represents.
 use Rattle.std.proofs.Common.{◌≡◌, ℕ, ◌<◌, ◌≤◌, List, [], ◌∷◌, ◌++◌, inl, inr}
 use Rattle.std.proofs.Common.{Option, Some, None, false, ◌&&◌, sym, ap, ◌∙◌}
 use Rattle.std.proofs.Common.{arith}
