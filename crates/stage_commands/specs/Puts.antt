@@ -32,7 +32,7 @@ pub data AddsAppFile (app : AppSources) : List ReplacedFile → List ReplacedFil
   app_file : {old new : List ReplacedFile} (bytes : List ℕ) → whole_file app.kept ≡ Some bytes
       → AddsFile (file_of app.entry.source) bytes old new → AddsAppFile app old new
 
--- that of one of these apps
+-- the file of one of these apps
 abbrev pub IsAmongFiles : List AppSources → ReplacedFile → Type 0
 IsAmongFiles [] file = ⊥
 IsAmongFiles (app ∷ apps) file = IsAppFile app file ⊎ IsAmongFiles apps file
@@ -56,7 +56,7 @@ pub record AreFilesSoFar (apps left : List AppSources) (files : List ReplacedFil
 
 -- ---- halts
 
--- no halt of these steps is in force under the manifest in place, and lifted by the next one
+-- the next manifest lifts no halt of these steps that is in force under the manifest in place
 pub record LiftsNone (known : KnownFiles) (current : List ℕ) (steps : List StagingStep)
     (next : List AppSources) : Type 0 where
   pub bytes : List ℕ

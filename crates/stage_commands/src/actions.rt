@@ -146,8 +146,8 @@ fn stopped(
     Lines::new(alloc).into_stopped(in_folder(alloc, options.folder, fault))
 }
 
-/// Does an action in the folder of the options, which no other call may be at work in, and has the
-/// servers load its `current.toml`.
+/// Does an action in the folder of the options, and has the servers load its `current.toml`. Stops
+/// if another call is at work in that folder.
 // open: whether an allocation fails, its one error; what a device's folder has. `stage_in` says
 // what is done.
 pub fn stage<R, D>(

@@ -64,7 +64,8 @@ where
     Ok(None)
 }
 
-/// The app with this appid, whose file no other app has; or `--anyway` is given.
+/// The app with this appid. It is a refusal if another app has the same file, unless `--anyway` is
+/// given.
 pub(crate) fn app_to_change<'a, R>(
     rt: &R,
     manifest: &str,

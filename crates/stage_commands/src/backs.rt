@@ -58,8 +58,8 @@ fn undo_step<F: StageFolder>(alloc: Global, folder: &mut F, step: StagingStep) -
     }
 }
 
-/// Undoes the last step that isn't undone, whether it was performed whole or in part, once what
-/// changes is compared.
+/// Compares what changes, and then undoes the last step that isn't undone, even one that stopped in
+/// its middle.
 #[tactic(auto, using(crate::proofs::Replacing::gone_back))]
 pub(crate) fn go_back<R, D, F>(
     rt: &R,

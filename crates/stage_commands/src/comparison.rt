@@ -56,8 +56,8 @@ where
     }
 }
 
-// Adds the quotas that are used, and the rows of the comparison; and whether somebody may lose a
-// release.
+// Adds the quotas that are used, and the rows of the comparison. Returns whether somebody may lose
+// a release.
 fn push_comparison<R>(
     rt: &R,
     both: &OpenedBoth,
@@ -84,8 +84,8 @@ where
     }
 }
 
-/// Prints what changes from today on. A lost row is a refusal, unless `--anyway` is given. Returns
-/// the next manifest.
+/// Prints what changes from today on. A lost row, or an app that isn't compared, is a refusal,
+/// unless `--anyway` is given.
 #[tactic(auto, using(crate::proofs::Opening::both_kept))]
 pub(crate) fn compare<R>(
     rt: &R,

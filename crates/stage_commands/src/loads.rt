@@ -98,8 +98,8 @@ where
     Ok(Some(with_note(alloc, notes, port, note)?))
 }
 
-// Has each server load the manifest, and notes the loads. Returns the ports of the others, each
-// after a space. If the notes can't be written, a status only doesn't know of these loads.
+// Has each server load the manifest, and notes the loads. Returns the ports of those that didn't,
+// each after a space. If the notes can't be written, a status only doesn't know of these loads.
 fn load_each<R, F>(
     rt: &R,
     folder: &F,

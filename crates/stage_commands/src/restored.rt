@@ -108,8 +108,9 @@ fn judged_if(alloc: Global, sources: Option<Sources>) -> Option<OpenedManifest>
     }
 }
 
-/// Prints what changes if a step is undone. A lost row is a refusal, unless `--anyway` is given. A
-/// manifest that a server would refuse, as after a step that stopped in its middle, isn't compared.
+/// Prints what changes if a step is undone. A lost row, or an app that isn't compared, is a
+/// refusal, unless `--anyway` is given. A manifest that a server would refuse, as after a step that
+/// stopped in its middle, isn't compared, and doesn't stop it.
 pub(crate) fn compare_restored<R, D>(
     rt: &R,
     disk: &D,
