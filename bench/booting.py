@@ -160,7 +160,7 @@ def wrong_places(it):
         if (found := it.call("sh", "-c", copies, folder))[0] != 0:
             return f"{found}"
         found = it.call(*load, f"{folder}/manifest.toml", *AT)
-        if found[0] != 1 or not found[1].startswith("refused B3 File\nrollout check "):
+        if found[0] != 1 or not found[1].startswith("refused B3 File\n"):
             return f"from {place}: {found}"
     if (found := it.call(*load, "/etc/rollout/manifest.toml", *AT)) != (0, "generation 2\n"):
         return f"from /etc/rollout: {found}"
