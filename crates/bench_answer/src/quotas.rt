@@ -47,7 +47,7 @@ pub(crate) fn run_task<H: Threads + Wait + Sync>(
 }
 
 /// Publishes a ruleset of `apps` apps that take. Each worker replies to the request `times` times
-/// under it, or only takes if there is no request.
+/// under it, or, without a request, only takes.
 fn published<H: Threads + Wait + Sync>(
     rt: &H,
     alloc: Global,

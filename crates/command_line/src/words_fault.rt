@@ -4,7 +4,7 @@ use crate::argument_fault::ArgumentFault;
 use clap::Error;
 use std::fmt;
 
-/// Why there is no command. `Display` writes the first three with their line feeds.
+/// Why the words don't make a command. `Display` writes the first three with their line feeds.
 #[derive(Drop)]
 pub enum WordsFault {
     /// The words request help: its page.

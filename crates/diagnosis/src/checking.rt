@@ -48,7 +48,7 @@ use std::alloc::Global;
 ///   has a part `..`, or the disk reports that it, or a folder of its path, is a symbolic link.
 /// - M7: `array[2].length: r passes the 4096 cells that all arrays of a width have`.
 ///
-/// After the reason of M4 to M6 the apps after the first refused one are judged, each by itself.
+/// After the reason of M4 to M6 the apps after the first refused one are judged separately.
 /// After the reason of M7 the arrays after it are judged, each together with the declarable arrays
 /// before it. After the reason of M2 come all other schema errors: the first unknown member, the
 /// server, and the first error of each array and each app. After the reason of M3 comes each other

@@ -1,4 +1,4 @@
-//! The faults of the apps after a refused one, each judged by itself.
+//! The faults of the apps after a refused one, which are judged separately.
 
 ghost use Rattle.std.specs.Prelude.{◌≡◌, ◌≢◌, ◌+◌, ◌^◌, ◌<◌, ◌++◌, length, IfOk, IfSome, OnOk};
 ghost use Rattle.diagnosis.specs.Further.{AreFaultsAfter, AreFaultsOf, JudgesApp, fault_of_app};

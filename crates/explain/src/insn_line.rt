@@ -17,7 +17,7 @@ use cells::Shape;
 use std::alloc::{AllocError, Global};
 use std::fmt::Write;
 
-/// The column of comments, in characters from the beginning of a line.
+/// The column of comments, in characters from the start of a line.
 const COLUMN: usize = 22;
 
 fn push_state(

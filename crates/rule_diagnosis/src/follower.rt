@@ -1,4 +1,4 @@
-//! The words and kinds of words that may follow the beginning of a rule, and how they are printed.
+//! The words and kinds of words that may follow a prefix of a rule, and how they are printed.
 
 ghost use Rattle.std.specs.Prelude.{◌≡◌, ◌++◌, OnOk, option_map};
 ghost use Rattle.printing.specs.Pushed.{Puts};

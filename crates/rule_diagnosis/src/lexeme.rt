@@ -1,4 +1,4 @@
-//! The lexemes of a rule's text, byte by byte: the kind of each byte, and where a lexeme begins.
+//! The lexemes of a rule's text, byte by byte: the kind of each byte, and at which a lexeme begins.
 
 ghost use Rattle.std.specs.Prelude.{◌≡◌};
 ghost use Rattle.rule_diagnosis.specs.Lexemes as lexemes;
@@ -20,7 +20,7 @@ pub enum Lexeme {
     Unquote,
     /// Characters outside ASCII.
     Foreign,
-    /// Another character, which is a lexeme by itself.
+    /// Another character, which is a whole lexeme.
     Mark,
 }
 

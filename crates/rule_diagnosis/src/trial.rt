@@ -1,4 +1,4 @@
-//! The followers of a rule's beginning, found by parsing trials.
+//! The followers of a rule's prefix, found by parsing trials.
 
 ghost use Rattle.std.specs.Prelude.{◌≡◌, ◌++◌, Err, IfOk, IfSome, OnOk};
 ghost use Rattle.rule_diagnosis.specs.Followers as specs;
@@ -107,7 +107,7 @@ fn add_followers(
     }
 }
 
-/// What may follow the beginning of a rule, with one trial for each follower. Returns `None` if an
+/// What may follow a prefix of a rule, with one trial for each follower. Returns `None` if an
 /// allocation fails.
 pub fn followers_of(alloc: Global, shape: &Shape, before: &[u8]) -> Option<Vec<Follower>>
     ensures { IfSome result (λ v. specs.AreFollowers shape.now before.now v.items) }

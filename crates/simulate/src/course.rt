@@ -18,7 +18,7 @@ pub trait Onlooker {
 }
 
 /// The choices of the clients of all buckets for each app, in the ruleset's order. All counters are
-/// 0 at the beginning, and each run leaves them to the next. The observer is called after each app.
+/// 0 at first, and each run leaves them to the next. The observer is called after each app.
 // open: whether an allocation fails; what is reported to an observer.
 pub fn simulate<O: Onlooker>(
     alloc: Global,

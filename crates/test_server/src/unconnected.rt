@@ -64,7 +64,7 @@ impl<R: Net<Listener = TcpListener, Stream = TcpStream>> Net for Unconnected<'_,
 }
 
 /// What goes wrong, if anything does, while two clients use a server whose connections fail with
-/// `kind` and its operator stops it. It ends by itself.
+/// `kind` and its operator stops it. The server then ends.
 fn wrong_unconnected<H>(rt: &H, kind: ErrorKind) -> Result<Option<&'static str>, Fail>
 where
     H: Threads + Wait + AllocGlobal + Clock + Sync,

@@ -44,7 +44,7 @@ impl PortTask {
     }
 }
 
-/// A connection may last this number of seconds, and there is no log.
+/// A connection may last this number of seconds, and nothing is logged.
 pub(crate) fn service_of(seconds: u64) -> ServeOptions<'static> {
     ServeOptions {
         timeout: Duration::from_secs(seconds),
