@@ -25,10 +25,12 @@ use std::time::Clock;
 /// file `state` says what was counted. It is replaced before the report is returned. If it is empty
 /// or doesn't exist, the logs are read from their first line.
 ///
-/// A log is known by its first 256 bytes, whatever its path is. A last line without its line feed is
-/// left for the next call. Returns B3 if a log can't be read or isn't a regular file, or if the state
-/// can't be read or written; B4 if an allocation fails; B9 if the file isn't a state; B10 if another
-/// call has it.
+/// A log is known by its first 256 bytes, whatever its path is. The new state has only the logs that
+/// this call names, so one that it leaves out is counted again by a later call. A last line without
+/// its line feed is left for the next call.
+///
+/// Returns B3 if a log can't be read or isn't a regular file, or if the state can't be read or
+/// written; B4 if an allocation fails; B9 if the file isn't a state; B10 if another call has it.
 // open: whether an allocation fails; which part of each log is counted; that the file has the new
 // state: rows, and `bench/outside`.
 #[tactic(auto, using(crate::proofs::Continued::has_continued))]
