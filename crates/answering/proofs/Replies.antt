@@ -79,17 +79,17 @@ module _ (body : List ℕ) (watcher : KnownPrefix) (moment : ℤ) where
   idle_body (refused fault e) h k = refl
   idle_body unread h k = refl
 
-module _ (told : Option (List ℕ)) (watcher : KnownPrefix) (moment : ℤ) where
+module _ (input : Option (List ℕ)) (watcher : KnownPrefix) (moment : ℤ) where
   pub idle_input : {events : List CellEvent} {reply : HttpReply}
-      → RepliesTo told watcher moment events reply
+      → RepliesTo input watcher moment events reply
       → code_of reply.status ≢ 200 → code_of reply.status ≢ 500 → events ≡ []
   idle_input (taken body b j) h k = idle_body body watcher moment j h k
   idle_input (rejected fault status f e) h k = refl
 
-module _ (told : Option (List ℕ)) where
+module _ (input : Option (List ℕ)) where
   -- from the result of a body to that of a reader
-  pub is_received : (body slice : List ℕ) → AnswersPost told (Ok body) → slice ≡ body
-      → (read : Result Request HttpReply) → IsReceivedBody slice read → IsReceived told read
+  pub is_received : (body slice : List ℕ) → AnswersPost input (Ok body) → slice ≡ body
+      → (read : Result Request HttpReply) → IsReceivedBody slice read → IsReceived input read
   is_received body slice b e (Ok request) r =
       (body, b, ap request_in (sym e) ∙ r)
   is_received body slice b e (Err reply) r = λ watcher moment.
@@ -97,11 +97,12 @@ module _ (told : Option (List ℕ)) where
       taken body b (subst J e (r watcher moment))
 
 module _ {P : Type 0} (grew : P → CellEvent → P → Type 0)
-    (told : Option (List ℕ)) (watcher : KnownPrefix) (moment : ℤ) where
+    (input : Option (List ℕ)) (watcher : KnownPrefix) (moment : ℤ) where
   -- a request was read, and has a reply
-  pub is_answered : (p q : P) (request : Request) (reply : HttpReply) → IsReceived told (Ok request)
+  pub is_answered : (p q : P) (request : Request) (reply : HttpReply)
+      → IsReceived input (Ok request)
       → Grows grew p q (λ events. RepliesToRequest request watcher moment events reply)
-      → RepliesByRuns grew told watcher moment p q reply
+      → RepliesByRuns grew input watcher moment p q reply
   is_answered p q request reply h a = record {
     events = a.events;
     grown = a.grown;
@@ -109,8 +110,8 @@ module _ {P : Type 0} (grew : P → CellEvent → P → Type 0)
   }
 
   -- no run was made if the status is neither 200 nor 500
-  pub idle : {p q : P} {reply : HttpReply} → RepliesByRuns grew told watcher moment p q reply
+  pub idle : {p q : P} {reply : HttpReply} → RepliesByRuns grew input watcher moment p q reply
       → code_of reply.status ≢ 200 → code_of reply.status ≢ 500 → q ≡ p
   idle {p} {q} a h k =
       let G : List CellEvent → Type 0 = λ z. GrewBy grew p z q in
-      subst G (idle_input told watcher moment a.of h k) a.grown
+      subst G (idle_input input watcher moment a.of h k) a.grown

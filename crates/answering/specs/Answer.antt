@@ -51,15 +51,16 @@ pub data RepliesToBody (body : List ℕ) (watcher : KnownPrefix) (moment : ℤ)
   unread : RepliesToBody body watcher moment [] (omaha_rejection omaha.Memory)
 
 -- the replies to the bytes of a reader; `None` means that these aren't known
-pub data RepliesTo (told : Option (List ℕ)) (watcher : KnownPrefix) (moment : ℤ)
+pub data RepliesTo (input : Option (List ℕ)) (watcher : KnownPrefix) (moment : ℤ)
     : List CellEvent → HttpReply → Type 0 where
-  taken : {events : List CellEvent} {reply : HttpReply} (body : List ℕ) → AnswersPost told (Ok body)
+  taken : {events : List CellEvent} {reply : HttpReply} (body : List ℕ)
+      → AnswersPost input (Ok body)
       → RepliesToBody body watcher moment events reply
-      → RepliesTo told watcher moment events reply
+      → RepliesTo input watcher moment events reply
   -- no body is read, and the client gets the reason
-  rejected : (fault : PostFault) (status : Status) → AnswersPost told (Err fault)
+  rejected : (fault : PostFault) (status : Status) → AnswersPost input (Err fault)
       → status_of fault ≡ Some status
-      → RepliesTo told watcher moment [] (rejection status (post_name fault))
+      → RepliesTo input watcher moment [] (rejection status (post_name fault))
 
 -- a body is this request, or has this refusal under every ruleset and at every moment
 abbrev pub IsReceivedBody : List ℕ → Result Request HttpReply → Type 0
@@ -69,10 +70,10 @@ IsReceivedBody body (Err reply) =
 
 -- the same for the bytes of a reader
 abbrev pub IsReceived : Option (List ℕ) → Result Request HttpReply → Type 0
-IsReceived told (Ok request) =
-    (body : List ℕ) × AnswersPost told (Ok body) × (request_in body ≡ Ok request)
-IsReceived told (Err reply) =
-    (watcher : KnownPrefix) (moment : ℤ) → RepliesTo told watcher moment [] reply
+IsReceived input (Ok request) =
+    (body : List ℕ) × AnswersPost input (Ok body) × (request_in body ≡ Ok request)
+IsReceived input (Err reply) =
+    (watcher : KnownPrefix) (moment : ℤ) → RepliesTo input watcher moment [] reply
 
 -- the faults after which nothing is written
 abbrev pub WritesNothing : AnswerFault → Type 0
@@ -84,12 +85,12 @@ WritesNothing (answer.Writing written) = ⊥
 -- its runs
 module _ {P : Type 0} (grew : P → CellEvent → P → Type 0) where
   abbrev pub RepliesByRuns : Option (List ℕ) → KnownPrefix → ℤ → P → P → HttpReply → Type 0
-  RepliesByRuns told watcher moment before after reply =
-      Grows grew before after (λ events. RepliesTo told watcher moment events reply)
+  RepliesByRuns input watcher moment before after reply =
+      Grows grew before after (λ events. RepliesTo input watcher moment events reply)
 
   -- the result before anything is written: a reply, or that there is none
   abbrev pub Settles : {A : Type 0} → Option (List ℕ) → KnownPrefix → ℤ → P → P
       → Result (Result (Vec ℕ A) HttpReply) AnswerFault → Type 0
-  Settles told watcher moment before after (Ok outcome) =
-      RepliesByRuns told watcher moment before after (settled_reply outcome)
-  Settles told watcher moment before after (Err e) = WritesNothing e × (after ≡ before)
+  Settles input watcher moment before after (Ok outcome) =
+      RepliesByRuns input watcher moment before after (settled_reply outcome)
+  Settles input watcher moment before after (Err e) = WritesNothing e × (after ≡ before)

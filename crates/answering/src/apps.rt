@@ -67,9 +67,9 @@ fn run_app<'r, C: CellSteps>(
     let Some(known) = rules.find(app.appid()) else {
         return Ok(None);
     };
-    let told = app.facts();
-    let bucket = named_or_hashed(told, hashed);
-    if !told.updatecheck {
+    let app_facts = app.facts();
+    let bucket = named_or_hashed(app_facts, hashed);
+    if !app_facts.updatecheck {
         return Ok(Some(FoundApp::new(known, bucket, None)));
     }
     known.invariant_law();

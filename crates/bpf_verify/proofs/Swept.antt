@@ -116,7 +116,7 @@ module _ (p : ShapedProgram) (k : ℕ) (i : Insn) (flow : IsForward p.code)
     pub target : Option ℕ
     pub jump : Option AbsState
     pub rest : List Edge
-    pub gave : IsChanged w w1 k None
+    pub freed : IsChanged w w1 k None
     pub same_most : w1.most ≡ w.most
     pub held_most : held w1 ≤ w1.most
     pub added : IsAdded target jump w1 w2
@@ -136,7 +136,7 @@ module _ (p : ShapedProgram) (k : ℕ) (i : Insn) (flow : IsForward p.code)
     waits_then m lt within =
         let ne : m ≢ k = omega (arith, lt) in
         added_is l.target l.jump w1 w2 l.added m
-        ∙ ap (with_edges m (edge l.target l.jump)) (l.gave.elsewhere m ne ∙ h.later m lt within)
+        ∙ ap (with_edges m (edge l.target l.jump)) (l.freed.elsewhere m ne ∙ h.later m lt within)
 
     comes_then : (m : ℕ) → k < m → m < length p.code
         → (if next_of k i == m then arrived (waits_at w2 m) here2 else waits_at w2 m)
@@ -161,11 +161,11 @@ module _ (p : ShapedProgram) (k : ℕ) (i : Insn) (flow : IsForward p.code)
         was (inl same) old =
             let at : m ≡ k = grind (arith, same) in
             let none : is_some (waits_at w1 m) ≡ false =
-            ap is_some (ap (waits_at w1) at ∙ l.gave.here) in
+            ap is_some (ap (waits_at w1) at ∙ l.freed.here) in
             absurd (grind (arith, none, old))
         was (inr other) old =
             let ne : m ≢ k = grind (arith, other) in
-            let a = h.waits m (ap is_some (sym (l.gave.elsewhere m ne)) ∙ old) in
+            let a = h.waits m (ap is_some (sym (l.freed.elsewhere m ne)) ∙ old) in
             record {
               ahead = omega (arith, ne, a.ahead);
               place = a.place;
@@ -176,7 +176,7 @@ module _ (p : ShapedProgram) (k : ℕ) (i : Insn) (flow : IsForward p.code)
     held_is : IsSome (entry_of p k) → kept p k ≡ 1 + held w2
     held_is some =
         let len : length w2.entries ≡ length p.code =
-        added_len l.target l.jump w1 w2 l.added ∙ l.gave.len ∙ h.len in
+        added_len l.target l.jump w1 w2 l.added ∙ l.freed.len ∙ h.len in
         let same = count_same (λ m. nat_lt k m && is_some (awaited p k m))
         (λ m. is_some (waits_at w2 m)) (length p.code) each in
         rw (same, len) refl
@@ -203,7 +203,7 @@ module _ (p : ShapedProgram) (k : ℕ) (i : Insn) (flow : IsForward p.code)
     within_ahead : held w2 ≤ ahead p.code k
     within_ahead =
         let len : length w2.entries ≡ length p.code =
-        added_len l.target l.jump w1 w2 l.added ∙ l.gave.len ∙ h.len in
+        added_len l.target l.jump w1 w2 l.added ∙ l.freed.len ∙ h.len in
         let le =
         count_within (λ m. is_some (waits_at w2 m)) (λ m. nat_lt k m && jumps_to p.code (suc k) m)
         (length w2.entries) (λ m lt some. each m (awaited_then m some)) in
@@ -221,7 +221,7 @@ module _ (p : ShapedProgram) (k : ℕ) (i : Insn) (flow : IsForward p.code)
     pub swept_next : IsSwept p (next_of k i) here2 w2
     swept_next = record {
       place = flow.next k i is;
-      len = added_len l.target l.jump w1 w2 l.added ∙ l.gave.len ∙ h.len;
+      len = added_len l.target l.jump w1 w2 l.added ∙ l.freed.len ∙ h.len;
       entry = λ within.
           let test : (next_of k i == next_of k i) ≡ true = grind arith in
           let came = comes_then (next_of k i) (after k i) within in rw test at came;

@@ -35,7 +35,7 @@ use Rattle.abs_value.specs.States.{register_at, value_at, join_registers}
 use Rattle.abs_value.specs.States.{join_states, opening_state}
 use Rattle.bpf_checks.specs.Transfer.{Edge}
 use Rattle.bpf_verify.specs.Accepted.{to_place, joined, join_all, edges_of, incoming, IsAccepted}
-use Rattle.bpf_verify.specs.Table.{Known, LiesIn, IsWider, Knows, IsTable}
+use Rattle.bpf_verify.specs.Table.{SlotFacts, LiesIn, IsWider, HasFacts, IsTable}
 
 -- ---- values
 
@@ -101,7 +101,7 @@ wider_join (Map c) a b h g = same_join (Map c) a b (map_itself c) h g
 wider_join (MayCell c) a b h g = same_join (MayCell c) a b (may_itself c) h g
 wider_join (Cell c) a b h g = same_join (Cell c) a b (cell_itself c) h g
 
-registers_join : (d : Known) (e f : AbsState)
+registers_join : (d : SlotFacts) (e f : AbsState)
     → length e.registers ≡ 11 → (r : ℕ) → IsWider (register_at d.registers r) (value_at e r)
     → IsWider (register_at d.registers r) (value_at f r)
     → IsWider (register_at d.registers r) (register_at (join_registers e.registers f.registers) r)
@@ -175,8 +175,9 @@ stacks_join a b place lt h g =
 
 -- ---- a join knows what both sides know
 
-knows_join : (d : Known) (e f : AbsState) → Knows d e → Knows d f → Knows d (join_states e f)
-knows_join d e f h g = record {
+facts_join : (d : SlotFacts) (e f : AbsState) → HasFacts d e → HasFacts d f
+    → HasFacts d (join_states e f)
+facts_join d e f h g = record {
   long = registers_long e.registers f.registers;
   wide = stacks_wide e.stack f.stack;
   each = λ r. registers_join d e f h.long r (h.each r) (g.each r);
@@ -184,17 +185,17 @@ knows_join d e f h g = record {
       stacks_join e.stack f.stack place lt (h.bytes place lt set) (g.bytes place lt set);
 }
 
-knows_joined : (d : Known) (e : AbsState) (fs : List AbsState)
-    → Knows d e → AllByRecursion (Knows d) fs → Knows d (joined e fs)
-knows_joined d e [] h all = h
-knows_joined d e (f ∷ fs) h all =
-    knows_joined d (join_states e f) fs (knows_join d e f h all.0) all.1
+facts_joined : (d : SlotFacts) (e : AbsState) (fs : List AbsState)
+    → HasFacts d e → AllByRecursion (HasFacts d) fs → HasFacts d (joined e fs)
+facts_joined d e [] h all = h
+facts_joined d e (f ∷ fs) h all =
+    facts_joined d (join_states e f) fs (facts_join d e f h all.0) all.1
 
-knows_all : (d : Known) (e : AbsState) (es : List AbsState)
-    → AllByRecursion (Knows d) es → join_all es ≡ Some e → Knows d e
-knows_all d e [] all is = absurd cc
-knows_all d e (f ∷ fs) all is =
-    let same : joined f fs ≡ e = cc in subst (Knows d) same (knows_joined d f fs all.0 all.1)
+facts_all : (d : SlotFacts) (e : AbsState) (es : List AbsState)
+    → AllByRecursion (HasFacts d) es → join_all es ≡ Some e → HasFacts d e
+facts_all d e [] all is = absurd cc
+facts_all d e (f ∷ fs) all is =
+    let same : joined f fs ≡ e = cc in subst (HasFacts d) same (facts_joined d f fs all.0 all.1)
 
 -- ---- the entries of each slot
 
@@ -203,51 +204,51 @@ all_append : {A : Type 0} (P : A → Type 0) (xs ys : List A)
 all_append P [] ys h g = g
 all_append P (x ∷ xs) ys h g = (h.0, all_append P xs ys h.1 g)
 
-module _ (code : Program) (shape : AppShape) (table : ℕ → Known)
+module _ (code : Program) (shape : AppShape) (table : ℕ → SlotFacts)
     (is_table : IsTable code shape table) where
   abbrev p : ShapedProgram
   p = shaped code shape
 
-  abbrev KnowsEdge : Edge → Type 0
-  KnowsEdge d = Knows (table d.target) d.entry
+  abbrev HasEdgeFacts : Edge → Type 0
+  HasEdgeFacts d = HasFacts (table d.target) d.entry
 
   all_if : (m : ℕ) (d : Edge) (es : List AbsState) (b : Bool)
-      → (d.target == m) ≡ b → KnowsEdge d → AllByRecursion (Knows (table m)) es
-      → AllByRecursion (Knows (table m)) (if b then d.entry ∷ es else es)
+      → (d.target == m) ≡ b → HasEdgeFacts d → AllByRecursion (HasFacts (table m)) es
+      → AllByRecursion (HasFacts (table m)) (if b then d.entry ∷ es else es)
   all_if m d es true is h all =
       let same : d.target ≡ m = grind (arith, is) in
-      (subst (λ (n : ℕ). Knows (table n) d.entry) same h, all)
+      (subst (λ (n : ℕ). HasFacts (table n) d.entry) same h, all)
   all_if m d es false is h all = all
 
-  all_to_place : (m : ℕ) (ds : List Edge) → AllByRecursion KnowsEdge ds
-      → AllByRecursion (Knows (table m)) (to_place m ds)
+  all_to_place : (m : ℕ) (ds : List Edge) → AllByRecursion HasEdgeFacts ds
+      → AllByRecursion (HasFacts (table m)) (to_place m ds)
   all_to_place m [] all = tt
   all_to_place m (d ∷ ds) all =
       all_if m d (to_place m ds) (d.target == m) refl all.0 (all_to_place m ds all.1)
 
   all_edges : (k : ℕ) (es : List AbsState) (o : Option AbsState) (w : Option Insn)
-      → AllByRecursion (Knows (table k)) es → join_all es ≡ o → at code k ≡ w
-      → AllByRecursion KnowsEdge (edges_of shape k o w)
+      → AllByRecursion (HasFacts (table k)) es → join_all es ≡ o → at code k ≡ w
+      → AllByRecursion HasEdgeFacts (edges_of shape k o w)
   all_edges k es None w all is at_is = tt
   all_edges k es (Some e) None all is at_is = tt
   all_edges k es (Some e) (Some i) all is at_is =
-      is_table.leads k e i at_is (knows_all (table k) e es all is)
+      is_table.leads k e i at_is (facts_all (table k) e es all is)
 
   opening_if : (m : ℕ) (b : Bool) → (m == 0) ≡ b
-      → AllByRecursion (Knows (table m)) (if b then opening_state ∷ [] else [])
+      → AllByRecursion (HasFacts (table m)) (if b then opening_state ∷ [] else [])
   opening_if m true is =
       let same : 0 ≡ m = grind (arith, is) in
-      (subst (λ (n : ℕ). Knows (table n) opening_state) same is_table.start, tt)
+      (subst (λ (n : ℕ). HasFacts (table n) opening_state) same is_table.start, tt)
   opening_if m false is = tt
 
-  all_incoming : (k m : ℕ) → AllByRecursion (Knows (table m)) (incoming p k m)
+  all_incoming : (k m : ℕ) → AllByRecursion (HasFacts (table m)) (incoming p k m)
   unfolding incoming
   all_incoming zero m = opening_if m (m == 0) refl
-  all_incoming (suc k) m = all_append (Knows (table m)) (incoming p k m)
+  all_incoming (suc k) m = all_append (HasFacts (table m)) (incoming p k m)
       (to_place m (edges_of shape k (join_all (incoming p k k)) (at code k))) (all_incoming k m)
       (all_to_place m (edges_of shape k (join_all (incoming p k k)) (at code k)) (all_edges k
       (incoming p k k) (join_all (incoming p k k)) (at code k) (all_incoming k k) refl refl))
 
   pub table_accepted : IsAccepted code shape
   table_accepted s e i entry_is at_is = is_table.passes s e i at_is
-      (knows_all (table s) e (incoming p s s) (all_incoming s s) entry_is)
+      (facts_all (table s) e (incoming p s s) (all_incoming s s) entry_is)

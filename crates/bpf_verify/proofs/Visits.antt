@@ -58,17 +58,17 @@ within_length p k i n flow is len = each (target_of k i) refl
         let lt = at_within p u a.1 in omega (arith, lt, len)
 
 -- the entry of a slot when it is reached
-pub arrives : (p : ShapedProgram) (k : ℕ) (fell here : Option AbsState) (w w1 : Waiting)
-    → k < length p.code → IsSwept p k fell w → here ≡ arrived (waits_at w k) fell
+pub arrives : (p : ShapedProgram) (k : ℕ) (fall_through here : Option AbsState) (w w1 : Waiting)
+    → k < length p.code → IsSwept p k fall_through w → here ≡ arrived (waits_at w k) fall_through
     → IsChanged w w1 k None → w1.most ≡ w.most → held w1 ≤ w1.most → HasArrived p k here w1
-arrives p k fell here w w1 within h is gave same held = record {
-  fell = fell;
+arrives p k fall_through here w w1 within h is freed same held = record {
+  fall_through = fall_through;
   waited = w;
   swept = h;
   entry = is ∙ h.entry within;
-  gave = gave;
+  freed = freed;
   most = same;
-  room = held;
+  held_fits = held;
 }
 
 module _ (p : ShapedProgram) (k : ℕ) (i : Insn) (flow : IsForward p.code)
@@ -82,13 +82,13 @@ module _ (p : ShapedProgram) (k : ℕ) (i : Insn) (flow : IsForward p.code)
   pub passed_over : here ≡ None → IsSwept p (next_of k i) here w
   passed_over none =
       let no : entry_of p k ≡ None = sym a.entry ∙ none in
-      rw none (swept_next p k i flow is a.fell None a.waited w w a.swept (record {
+      rw none (swept_next p k i flow is a.fall_through None a.waited w w a.swept (record {
         target = None;
         jump = None;
         rest = [];
-        gave = a.gave;
+        freed = a.freed;
         same_most = a.most;
-        held_most = a.room;
+        held_most = a.held_fits;
         added = refl;
         edges_are = rw no refl;
         rest_is = λ m x. stays (next_of k i == m) x;
@@ -126,14 +126,15 @@ module _ (p : ShapedProgram) (k : ℕ) (i : Insn) (flow : IsForward p.code)
     unfolding edges
     gone_on here2 w2 fine added falls_to =
         let entry : entry_of p k ≡ Some e = sym a.entry ∙ some in
-        rw falls_to (swept_next p k i flow is a.fell (falling p.shape k e i) a.waited w w2 a.swept
+        rw falls_to (swept_next p k i flow is a.fall_through (falling p.shape k e i) a.waited w
+        w2 a.swept
         (record {
           target = target_of k i;
           jump = jumping e i;
           rest = next_edge p.shape k e i;
-          gave = a.gave;
+          freed = a.freed;
           same_most = a.most;
-          held_most = a.room;
+          held_most = a.held_fits;
           added = added;
           edges_are = rw (entry, is) refl;
           rest_is = λ m x. falls (next_of k i) (goes_on i) (going_on p.shape k e i) m x;

@@ -39,13 +39,13 @@ pub record IsSwept (p : ShapedProgram) (k : ℕ) (here : Option AbsState) (w : W
 -- at slot k: its entry is the current one, and the one that waited is freed
 pub record HasArrived (p : ShapedProgram) (k : ℕ) (here : Option AbsState) (w : Waiting)
     : Type 0 where
-  pub fell : Option AbsState
+  pub fall_through : Option AbsState
   pub waited : Waiting
-  pub swept : IsSwept p k fell waited
+  pub swept : IsSwept p k fall_through waited
   pub entry : here ≡ entry_of p k
-  pub gave : IsChanged waited w k None
+  pub freed : IsChanged waited w k None
   pub most : w.most ≡ waited.most
-  pub room : held w ≤ w.most
+  pub held_fits : held w ≤ w.most
 
 -- the edge to a target is joined into what waits; unchanged if the edge is dropped or there is no
 -- jump

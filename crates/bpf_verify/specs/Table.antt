@@ -16,7 +16,7 @@ use Rattle.bpf_checks.specs.Rules.{first_rule}
 use Rattle.bpf_checks.specs.Transfer.{Edge, edges}
 
 -- the facts about a slot: a value for each register, and which bytes of the stack are set
-pub record Known : Type 0 where
+pub record SlotFacts : Type 0 where
   pub registers : List Abs
   pub set : ℕ → Bool
 
@@ -32,18 +32,18 @@ IsWider (Ctx c) (Ctx a) = LiesIn c.lo c.hi a.lo a.hi
 IsWider c a = c ≡ a
 
 -- the entry knows at least the facts
-pub record Knows (known : Known) (e : AbsState) : Type 0 where
+pub record HasFacts (facts : SlotFacts) (e : AbsState) : Type 0 where
   pub long : length e.registers ≡ 11
   pub wide : length e.stack ≡ 64
-  pub each : (r : ℕ) → IsWider (register_at known.registers r) (value_at e r)
-  pub bytes : (place : ℕ) → place < stack_size → known.set place ≡ true
+  pub each : (r : ℕ) → IsWider (register_at facts.registers r) (value_at e r)
+  pub bytes : (place : ℕ) → place < stack_size → facts.set place ≡ true
       → is_set e.stack place ≡ true
 
 -- each edge preserves the facts, and no slot breaks a rule in an entry that knows at least its
 -- facts
-pub record IsTable (p : Program) (shape : AppShape) (table : ℕ → Known) : Type 0 where
-  pub start : Knows (table 0) opening_state
-  pub passes : (s : ℕ) (e : AbsState) (i : Insn) → at p s ≡ Some i → Knows (table s) e
+pub record IsTable (p : Program) (shape : AppShape) (table : ℕ → SlotFacts) : Type 0 where
+  pub start : HasFacts (table 0) opening_state
+  pub passes : (s : ℕ) (e : AbsState) (i : Insn) → at p s ≡ Some i → HasFacts (table s) e
       → first_rule shape e i ≡ None
-  pub leads : (s : ℕ) (e : AbsState) (i : Insn) → at p s ≡ Some i → Knows (table s) e
-      → AllByRecursion (λ (d : Edge). Knows (table d.target) d.entry) (edges shape s e i)
+  pub leads : (s : ℕ) (e : AbsState) (i : Insn) → at p s ≡ Some i → HasFacts (table s) e
+      → AllByRecursion (λ (d : Edge). HasFacts (table d.target) d.entry) (edges shape s e i)

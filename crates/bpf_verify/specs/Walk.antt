@@ -4,12 +4,12 @@ use Rattle.bpf_insn.specs.Program.{Program}
 use Rattle.cells.specs.Arrays.{AppShape}
 use Rattle.abs_value.specs.declared.state.AbsState.{AbsState}
 use Rattle.bpf_verify.specs.Accepted.{IsAccepted}
-use Rattle.bpf_verify.specs.Entries.{at_hand, AreSwept, HaveArrived}
+use Rattle.bpf_verify.specs.Entries.{current_entry, AreSwept, HaveArrived}
 use Rattle.bpf_verify.specs.declared.walk.Walk.{Walk}
 
 -- the entry of the current slot; none if no edge leads to it
 abbrev pub entry_here : Walk → Option AbsState
-entry_here w = at_hand w.entries
+entry_here w = current_entry w.entries
 
 -- no slot before k breaks a rule, and k is next
 abbrev pub IsWalkBefore : Program → AppShape → ℕ → Walk → Type 0

@@ -9,7 +9,7 @@ ghost use Rattle.flow_check.specs.Edges.{target_of};
 ghost use Rattle.bpf_checks.specs.Transfer.{jumping};
 ghost use Rattle.bpf_verify.specs.Pool.{held, IsChanged};
 ghost use Rattle.bpf_verify.specs.Sweep.{falling, IsAdded};
-ghost use Rattle.bpf_verify.specs.Entries.{at_hand, arriving};
+ghost use Rattle.bpf_verify.specs.Entries.{current_entry, arriving};
 
 use crate::pool::Pool;
 use abs_value::{AbsState, joins_commute};
@@ -31,7 +31,7 @@ impl Entries {
     /// The entry at the start of a run, before the first of `count` slots.
     pub fn opening(alloc: Global, count: usize) -> Result<Entries, AllocError>
         requires { count ≤ 4096 }
-        ensures here { IfOk result (λ e. at_hand e ≡ Some opening_state) }
+        ensures here { IfOk result (λ e. current_entry e ≡ Some opening_state) }
         ensures none { IfOk result (λ e. e.waiting.entries ≡ replicate count None) }
         ensures most { IfOk result (λ e. e.waiting.most ≡ 0) }
     {
@@ -52,7 +52,7 @@ impl Entries {
 
     /// Joins the entry that waits for the slot with the one that falls through.
     fn join_waiting(&mut self, slot: usize)
-        ensures here { at_hand self.new ≡ arriving self.old slot }
+        ensures here { current_entry self.new ≡ arriving self.old slot }
         ensures waiting { self.new.waiting ≡ self.old.waiting }
     {
         let Some(found) = self.waiting.at(slot) else {
@@ -69,13 +69,13 @@ impl Entries {
 
     /// Makes the slot's entry the current one, and frees the one that waited for it.
     pub fn arrive(&mut self, slot: usize) -> Result<(), AllocError>
-        ensures here { OnOk result (at_hand self.new ≡ arriving self.old slot) }
+        ensures here { OnOk result (current_entry self.new ≡ arriving self.old slot) }
         ensures waiting { OnOk result (IsChanged self.old.waiting self.new.waiting slot None) }
         ensures most { self.new.waiting.most ≡ self.old.waiting.most }
         ensures held { OnOk result (held self.new.waiting ≤ self.new.waiting.most) }
     {
         self.join_waiting(slot);
-        self.waiting.give_up(slot)
+        self.waiting.free_entry(slot)
     }
 
     /// Joins the state on the instruction's jump edge into the entry that waits for its target.
@@ -126,7 +126,7 @@ impl Entries {
     /// is current.
     pub fn go_on(&mut self, shape: &Shape, slot: usize, insn: &Insn)
         requires { slot < 4096 }
-        ensures here { at_hand self.new ≡ falling shape.now slot self.old.here insn.now }
+        ensures here { current_entry self.new ≡ falling shape.now slot self.old.here insn.now }
         ensures waiting { self.new.waiting ≡ self.old.waiting }
     {
         self.is_live = next_place(slot, *insn).is_some()

@@ -102,7 +102,7 @@ impl Pool {
     }
 
     /// Frees the entry that waits for the slot, if there is one.
-    pub fn give_up(&mut self, place: usize) -> Result<(), AllocError>
+    pub fn free_entry(&mut self, place: usize) -> Result<(), AllocError>
         ensures changed { OnOk result (IsChanged self.old self.new place None) }
         ensures most { self.new.most ≡ self.old.most }
         ensures held { OnOk result (held self.new ≤ self.new.most) }

@@ -12,7 +12,8 @@ use Rattle.cells.specs.declared.array.CellWidth.{CellWidth}
 use Rattle.cells.specs.declared.array.CellWidth.TheVariants.{Bits32, Bits64}
 use Rattle.cells.specs.declared.array.CellArray.{CellArray}
 use Rattle.cells.specs.Arrays.{HasRanges}
-use Rattle.cells.specs.Directory.{same_width, cells_of, taken, IsDirectory, IsKept, Declaration}
+use Rattle.cells.specs.Directory.{same_width, cells_of, taken, IsDirectory, IsDirectoryState}
+use Rattle.cells.specs.Directory.{Declaration}
 use Rattle.cells.specs.Directory.{IsDeclaration, IsNew, IsNamed, HasValues, IsAsDeclared}
 use Rattle.cells.specs.Directory.{next_array, next_cell, Declares, HasDistinctNames}
 use Rattle.cells.specs.Directory.Declares.{again, anew}
@@ -45,10 +46,10 @@ taken_after w d old = sum_by_push (cells_of w) old (next_array d old)
 
 fits : (w v : CellWidth) (t : CellWidth → ℕ) (n : ℕ) → t w ≤ 4096 → t v + n ≤ 4096
     → t w + (if same_width w v then n else 0) ≤ 4096
-fits Bits32 Bits32 t n within room = room
-fits Bits64 Bits64 t n within room = room
-fits Bits32 Bits64 t n within room = omega arith
-fits Bits64 Bits32 t n within room = omega arith
+fits Bits32 Bits32 t n within cells_fit = cells_fit
+fits Bits64 Bits64 t n within cells_fit = cells_fit
+fits Bits32 Bits64 t n within cells_fit = omega arith
+fits Bits64 Bits32 t n within cells_fit = omega arith
 
 place_after : (d : Declaration) (old : List CellArray) → IsDirectory old → (i : ℕ) (a : CellArray)
     → slice_get (old ++ next_array d old ∷ []) i ≡ Some a
@@ -84,11 +85,11 @@ name_after d old known new i j a b at_i at_j same =
 
 pub added : (d : Declaration) (old : List CellArray) → IsDeclaration d → IsDirectory old
     → IsNew d old → taken d.width old + d.length ≤ 4096 → IsDirectory (old ++ next_array d old ∷ [])
-added d old lawful known new room = record {
+added d old lawful known new cells_fit = record {
   names = name_after d old known.names new;
   places = place_after d old known;
-  room = λ w. subst (λ (n : ℕ). n ≤ 4096) (sym (taken_after w d old))
-      (fits w d.width (λ v. taken v old) d.length (known.room w) room);
+  cells_fit = λ w. subst (λ (n : ℕ). n ≤ 4096) (sym (taken_after w d old))
+      (fits w d.width (λ v. taken v old) d.length (known.cells_fit w) cells_fit);
   ranges = let P : CellArray → Type 0 = λ a. HasRanges a.width a.length a.quota in
       All-append P old (next_array d old ∷ []) known.ranges
       (one_of P (next_array d old) lawful.ranges);
@@ -106,29 +107,31 @@ appended d old new base e h = h ∙ ap (λ (b : ℕ). old ++ record
 abbrev pub more : CellWidth → Declaration → ℕ → ℕ
 more w d n = n + (if same_width w d.width then d.length else 0)
 
-pub kept : (d : Declaration) (old : List CellArray) (t u : ℕ) → IsDeclaration d → IsKept old t u
+pub kept : (d : Declaration) (old : List CellArray) (t u : ℕ) → IsDeclaration d
+    → IsDirectoryState old t u
     → IsNew d old → taken d.width old + d.length ≤ 4096
-    → IsKept (old ++ next_array d old ∷ []) (more Bits64 d t) (more Bits32 d u)
-kept d old t u lawful k new room = record {
-  directory = added d old lawful k.directory new room;
+    → IsDirectoryState (old ++ next_array d old ∷ []) (more Bits64 d t) (more Bits32 d u)
+kept d old t u lawful k new cells_fit = record {
+  directory = added d old lawful k.directory new cells_fit;
   wide = ap (more Bits64 d) k.wide ∙ sym (taken_after Bits64 d old);
   narrow = ap (more Bits32 d) k.narrow ∙ sym (taken_after Bits32 d old);
 }
 
 moved : (old : List CellArray) (d : Declaration) (new : List CellArray) (t v u w : ℕ)
     → new ≡ old ++ next_array d old ∷ [] → t ≡ v → u ≡ w
-    → IsKept (old ++ next_array d old ∷ []) t u → IsKept new v w
+    → IsDirectoryState (old ++ next_array d old ∷ []) t u → IsDirectoryState new v w
 moved old d new t v u w is e f k =
-    let first : IsKept new t u = subst (λ (l : List CellArray). IsKept l t u) (sym is) k in
-    let second : IsKept new v u = subst (λ (n : ℕ). IsKept new n u) e first in
-    subst (λ (n : ℕ). IsKept new v n) f second
+    let first : IsDirectoryState new t u = subst (λ (l : List CellArray). IsDirectoryState l t u)
+    (sym is) k in
+    let second : IsDirectoryState new v u = subst (λ (n : ℕ). IsDirectoryState new n u) e first in
+    subst (λ (n : ℕ). IsDirectoryState new v n) f second
 
 -- as above, for an array of each width
 pub kept_wide : (d : Declaration) (old new : List CellArray) (t u : ℕ) → IsDeclaration d
-    → IsKept old t u → IsNew d old → taken d.width old + d.length ≤ 4096
-    → new ≡ old ++ next_array d old ∷ [] → d.width ≡ Bits64 → IsKept new (t + d.length) u
-kept_wide d old new t u lawful k fresh room is wide =
-    let all = kept d old t u lawful k fresh room in
+    → IsDirectoryState old t u → IsNew d old → taken d.width old + d.length ≤ 4096
+    → new ≡ old ++ next_array d old ∷ [] → d.width ≡ Bits64 → IsDirectoryState new (t + d.length) u
+kept_wide d old new t u lawful k fresh cells_fit is wide =
+    let all = kept d old t u lawful k fresh cells_fit in
     let wider : more Bits64 d t ≡ t + d.length =
     ap (λ (w : CellWidth). t + (if same_width Bits64 w then d.length else 0)) wide in
     let narrower : more Bits32 d u ≡ u = ap (λ (w : CellWidth). u +
@@ -136,10 +139,10 @@ kept_wide d old new t u lawful k fresh room is wide =
     moved old d new (more Bits64 d t) (t + d.length) (more Bits32 d u) u is wider narrower all
 
 pub kept_narrow : (d : Declaration) (old new : List CellArray) (t u : ℕ) → IsDeclaration d
-    → IsKept old t u → IsNew d old → taken d.width old + d.length ≤ 4096
-    → new ≡ old ++ next_array d old ∷ [] → d.width ≡ Bits32 → IsKept new t (u + d.length)
-kept_narrow d old new t u lawful k fresh room is narrow =
-    let all = kept d old t u lawful k fresh room in
+    → IsDirectoryState old t u → IsNew d old → taken d.width old + d.length ≤ 4096
+    → new ≡ old ++ next_array d old ∷ [] → d.width ≡ Bits32 → IsDirectoryState new t (u + d.length)
+kept_narrow d old new t u lawful k fresh cells_fit is narrow =
+    let all = kept d old t u lawful k fresh cells_fit in
     let wider : more Bits64 d t ≡ t = ap (λ (w : CellWidth). t +
     (if same_width Bits64 w then d.length else 0)) narrow ∙ omega arith in
     let narrower : more Bits32 d u ≡ u + d.length =
@@ -150,10 +153,10 @@ kept_narrow d old new t u lawful k fresh room is narrow =
 pub declared : (d : Declaration) (old new : List CellArray) (n : ℕ) → n ≡ length old → IsNew d old
     → taken d.width old + d.length ≤ 4096 → new ≡ old ++ next_array d old ∷ []
     → Declares d old n new
-declared d old new n last fresh room is =
+declared d old new n last fresh cells_fit is =
     let there : Declares d old n (old ++ next_array d old ∷ []) =
     subst (λ (i : ℕ). Declares d old i (old ++ next_array d old ∷ [])) (sym last)
-    (anew fresh room) in
+    (anew fresh cells_fit) in
     subst (λ (l : List CellArray). Declares d old n l) (sym is) there
 
 abbrev pub IsSame : Declaration → CellArray → Type 0

@@ -24,7 +24,7 @@ reply_fits cell v (CompareExchange expected new) h = h
 cells_with : (values : List ℕ) (c v : ℕ) → AreCells values → v < limit c
     → AreCells (slice_set values c v)
 cells_with values c v cells small = elim (cases_lt c 8192) [
-  | inl room ↦ AreCells-set values c v room cells small
+  | inl within ↦ AreCells-set values c v within cells small
   | inr past ↦
       let count = cells.count in
       subst AreCells (sym (set_past values c v (omega arith))) cells

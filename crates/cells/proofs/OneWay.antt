@@ -34,11 +34,11 @@ same_outcome : (d : Declaration) {old : List CellArray} {n m : ℕ} {new last : 
     → (n ≡ m) × (new ≡ last)
 same_outcome d apart (again {n = i} {a = a} at is) (again {n = j} {a = b} there are) =
     (apart i j a b at there (is.name ∙ sym are.name), refl)
-same_outcome d {old} apart (again {n = i} {a = a} at is) (anew fresh room) =
+same_outcome d {old} apart (again {n = i} {a = a} at is) (anew fresh cells_fit) =
     absurd (not_new d old i a at is.name fresh)
-same_outcome d {old} apart (anew fresh room) (again {n = i} {a = a} at is) =
+same_outcome d {old} apart (anew fresh cells_fit) (again {n = i} {a = a} at is) =
     absurd (not_new d old i a at is.name fresh)
-same_outcome d apart (anew fresh room) (anew new more) = (refl, refl)
+same_outcome d apart (anew fresh cells_fit) (anew new more) = (refl, refl)
 
 same_fault : (d : Declaration) (old : List CellArray) (e f : CellsFault)
     → IsRefusedDeclaration d old e → IsRefusedDeclaration d old f → e ≢ Memory → f ≢ Memory
@@ -58,12 +58,12 @@ not_both : (d : Declaration) {old : List CellArray} {n : ℕ} {new : List CellAr
 not_both d Memory apart declares h = refl
 not_both d {old} CellsFull apart (again {n = i} {a = a} at is) h =
     absurd (not_new d old i a at is.name h.0)
-not_both d CellsFull apart (anew fresh room) h = absurd (omega (arith, room, h.1))
+not_both d CellsFull apart (anew fresh cells_fit) h = absurd (omega (arith, cells_fit, h.1))
 not_both d {old} Redefined apart (again {n = i} {a = a} at is) h =
     let there = place_of old h.0 h.1 in
     let same : a ≡ h.0 = same_array old apart i there.0 a h.0 at there.1 (is.name ∙ sym h.2) in
     absurd (h.3 (subst (IsAsDeclared d) same is))
-not_both d {old} Redefined apart (anew fresh room) h =
+not_both d {old} Redefined apart (anew fresh cells_fit) h =
     let there = place_of old h.0 h.1 in absurd (not_new d old there.0 h.0 there.1 h.2 fresh)
 
 pub one_way : (d : Declaration) (old : List CellArray) → HasDistinctNames old
@@ -77,9 +77,10 @@ one_way d old apart = record {
 pub names_kept : (d : Declaration) {old : List CellArray} {n : ℕ} {new : List CellArray}
     → HasDistinctNames old → Declares d old n new → HasDistinctNames new
 names_kept d apart (again at is) = apart
-names_kept d {old} apart (anew fresh room) = name_after d old apart fresh
+names_kept d {old} apart (anew fresh cells_fit) = name_after d old apart fresh
 
 pub directory_kept : (d : Declaration) {old : List CellArray} {n : ℕ} {new : List CellArray}
     → IsDeclaration d → IsDirectory old → Declares d old n new → IsDirectory new
 directory_kept d lawful known (again at is) = known
-directory_kept d {old} lawful known (anew fresh room) = added d old lawful known fresh room
+directory_kept d {old} lawful known (anew fresh cells_fit) =
+    added d old lawful known fresh cells_fit

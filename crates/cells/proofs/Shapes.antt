@@ -110,13 +110,13 @@ pub array_in : (directory : List CellArray) (m : ℕ) (a : CellArray) → IsDire
 array_in directory m a known at =
     let place = known.places m a at in
     let cells = whole directory m a at in
-    let room = known.room a.width in
+    let cells_fit = known.cells_fit a.width in
     let P : CellArray → Type 0 = λ b. HasRanges b.width b.length b.quota in
     record {
       ranges = all_at P directory m a known.ranges at;
       from = omega (arith, place);
       to =
-          omega (arith, place, cells, room);
+          omega (arith, place, cells, cells_fit);
     }
 
 either_side : (v w : CellWidth) (p n q k : ℕ) → first_cell v ≤ p → p + n ≤ first_cell v + 4096

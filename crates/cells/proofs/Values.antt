@@ -29,7 +29,7 @@ after_small k v (CompareExchange old new) h =
 -- a row of values with one of them changed
 pub AreCells-set : (values : List ℕ) (c v : ℕ) → c < 8192 → AreCells values → v < limit c
     → AreCells (slice_set values c v)
-AreCells-set values c v room h small = record {
+AreCells-set values c v within h small = record {
   count = length-set values c v ∙ h.count;
   fit = λ k. dite (ℕ_discrete k c)
       (λ (same : k ≡ c).

@@ -37,7 +37,7 @@ pub record IsDirectory (arrays : List CellArray) : Type 0 where
   pub names : HasDistinctNames arrays
   pub places : (i : ℕ) (a : CellArray)
       → slice_get arrays i ≡ Some a → a.base ≡ next_cell a.width (take i arrays)
-  pub room : (w : CellWidth) → taken w arrays ≤ 4096
+  pub cells_fit : (w : CellWidth) → taken w arrays ≤ 4096
   pub ranges : All (λ a. HasRanges a.width a.length a.quota) arrays
 
 -- the array of a name; the first if there are two
@@ -50,7 +50,7 @@ abbrev pub HasArray : List CellArray → CellArray → Type 0
 HasArray arrays a = array_named a.name arrays ≡ Some a
 
 -- the invariant of a `Directory`: its two counts are those of its arrays' cells, by width
-pub record IsKept (arrays : List CellArray) (taken_64 taken_32 : ℕ) : Type 0 where
+pub record IsDirectoryState (arrays : List CellArray) (taken_64 taken_32 : ℕ) : Type 0 where
   pub directory : IsDirectory arrays
   pub wide : taken_64 ≡ taken Bits64 arrays
   pub narrow : taken_32 ≡ taken Bits32 arrays

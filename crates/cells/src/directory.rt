@@ -23,13 +23,13 @@ pub struct Directory {
 impl Model for Directory {
     ghost use Rattle.std.specs.Prelude.{List};
     ghost use Rattle.cells.specs.declared.array.CellArray.{CellArray};
-    ghost use Rattle.cells.specs.Directory.{IsKept};
+    ghost use Rattle.cells.specs.Directory.{IsDirectoryState};
 
     ghost Value = { List CellArray };
 
     ghost view = { λ d. d.arrays.items };
 
-    ghost invariant = { λ d. IsKept d.arrays.items d.taken_64 d.taken_32 };
+    ghost invariant = { λ d. IsDirectoryState d.arrays.items d.taken_64 d.taken_32 };
 }
 
 impl Directory {
@@ -114,7 +114,7 @@ impl Directory {
     ) -> Result<ArrayNo, CellsFault>
         requires declaration { IsDeclaration (declaration name width length quota) }
         requires new { IsNew (declaration name width length quota) self.old }
-        requires room { taken width self.old + length ≤ 4096 }
+        requires cells_fit { taken width self.old + length ≤ 4096 }
         ensures declares { let d = declaration name width length quota in
             IfOk result (λ no. Declares d self.old no.number self.new) }
         ensures memory { IfErr result (λ e. e ≡ CellsFault.Memory) }
@@ -141,7 +141,7 @@ impl Directory {
     // How many cells of a width the arrays have.
     fn taken(&self, width: CellWidth) -> u16
         ensures value { result ≡ taken width self.now }
-        ensures room { result ≤ 4096 }
+        ensures cells_fit { result ≤ 4096 }
     {
         match width {
             CellWidth::Bits64 => self.taken_64,

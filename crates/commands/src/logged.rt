@@ -36,7 +36,7 @@ where
     R: Net<Listener = TcpListener, Stream = TcpStream>,
     D: Disk + Sync,
     O: Write,
-    ensures said { OnOk result
+    ensures printed { OnOk result
         (Appends (O.contents out.old) (O.contents out.new) (serving_line 1)) }
     ensures fault { IfErr result (λ e. IsStaffFault e ⊎ IsEndFault e) }
 {

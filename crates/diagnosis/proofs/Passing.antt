@@ -13,7 +13,7 @@ use Rattle.bounded_files.specs.Files.{KnownFiles}
 use Rattle.cells.specs.Directory.{Declaration}
 use Rattle.cells.specs.declared.array.CellArray.{CellArray}
 use Rattle.load.specs.Digest.{digest_of}
-use Rattle.load.specs.Sources.{AreArraysBeside, AreSources, IsParsedBeside, IsSourcesRefusal}
+use Rattle.load.specs.Sources.{AreArraysWithFault, AreSources, IsParsedWithFault, IsSourcesRefusal}
 use Rattle.load.specs.Judged.{AreJudged, IsLoadOf, RefusesFirst, apps_of}
 use Rattle.load.specs.Load.{IsLoadFault}
 use Rattle.load.specs.declared.load_fault.LoadFault.{LoadFault}
@@ -74,7 +74,7 @@ passes_apps bytes g programs gone reported by_rule lent directory shown supplied
 
 -- with an app's fault nothing was parsed
 none_parsed : (bytes : List ℕ) (apps : List AppSources) (fault : LoadFault)
-    → RefusesFirst apps fault → IsParsedBeside bytes fault Nothing
+    → RefusesFirst apps fault → IsParsedWithFault bytes fault Nothing
 none_parsed bytes apps (NoManifest fault) refuses = absurd refuses
 none_parsed bytes apps (File number) refuses = refl
 none_parsed bytes apps (Program number fault) refuses = refl
@@ -115,13 +115,13 @@ pub fails_early : (known : KnownFiles) (bytes : List ℕ) (u : SourcesRefusal) (
 fails_early known bytes u r h is reported = record {
   refused = subst (λ (f : LoadFault). IsLoadFault known [] bytes f) (sym is) (h.fault_is known);
   parsed = u.parsed;
-  parsed_is = subst (λ (f : LoadFault). IsParsedBeside bytes f u.parsed) (sym is) h.parsed_is;
+  parsed_is = subst (λ (f : LoadFault). IsParsedWithFault bytes f u.parsed) (sym is) h.parsed_is;
   arrays = u.arrays.items;
   apps = [];
   unread = 0;
   read_until = no_file (λ any.
       subst (λ (f : LoadFault). IsLoadFault any [] bytes f) (sym is) (h.fault_is any))
-      (subst (λ (f : LoadFault). AreArraysBeside bytes f u.arrays.items) (sym is) h.arrays_are);
+      (subst (λ (f : LoadFault). AreArraysWithFault bytes f u.arrays.items) (sym is) h.arrays_are);
   reported = reported;
 }
 

@@ -10,7 +10,7 @@ use Rattle.diagnosis.specs.declared.accepted.CheckedManifest.{CheckedManifest}
 use Rattle.diagnosis.specs.declared.refused.Refused.{Refused}
 use Rattle.bounded_files.specs.Files.{KnownFiles}
 use Rattle.load.specs.Digest.{digest_of}
-use Rattle.load.specs.Sources.{AreArraysBeside, AreSources, IsParsedBeside}
+use Rattle.load.specs.Sources.{AreArraysWithFault, AreSources, IsParsedWithFault}
 use Rattle.load.specs.Judged.{AreJudged, RefusesFirst, apps_of}
 use Rattle.load.specs.Load.{IsRulesetOf, IsLoadFault}
 use Rattle.load.specs.declared.load_fault.LoadFault.{LoadFault}
@@ -58,7 +58,7 @@ module _ (known : KnownFiles) (bytes : List ℕ) where
   pub data IsReadUntil (fault : LoadFault) : List Declaration → List AppSources → (unread : ℕ)
       → Type 0 where
     no_file : {arrays : List Declaration} → ((any : KnownFiles) → IsLoadFault any [] bytes fault)
-        → AreArraysBeside bytes fault arrays → IsReadUntil fault arrays [] 0
+        → AreArraysWithFault bytes fault arrays → IsReadUntil fault arrays [] 0
     files : (g : Sources) → AreSources known [] bytes g → RefusesFirst g.apps.items fault
         → IsReadUntil fault g.arrays.items g.apps.items g.unread
 
@@ -67,7 +67,7 @@ module _ (known : KnownFiles) (bytes : List ℕ) where
   pub record FailsCheck (r : Refused) : Type 0 where
     pub refused : IsLoadFault known [] bytes r.fault
     pub parsed : Parsed
-    pub parsed_is : IsParsedBeside bytes r.fault parsed
+    pub parsed_is : IsParsedWithFault bytes r.fault parsed
     pub arrays : List Declaration
     pub apps : List AppSources
     pub unread : ℕ

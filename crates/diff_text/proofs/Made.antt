@@ -30,10 +30,10 @@ module _ (x : Scope) (ds : List Dimension) (lines : All (IsLine x) ds) where
 
   module _ (test : Test) (t : Table) (h : IsTestTable ds test t) where
     abbrev d : Dimension
-    d = h.against.dimension
+    d = h.compared.dimension
 
     line : IsLine x d
-    line = all_at (IsLine x) ds t.dimension d h.against.is_at lines
+    line = all_at (IsLine x) ds t.dimension d h.compared.is_at lines
 
     -- the truth of a machine's segment is that of the test
     truth_is : (s : AppShape) (a : Attributes) (g : State) → IsWithin x a g
@@ -42,14 +42,14 @@ module _ (x : Scope) (ds : List Dimension) (lines : All (IsLine x) ds) where
         let r = h.by.comparison in
         let n = h.by.number in
         let segment = cell_in d a g in
-        h.against.against.holds s x a g within
+        h.compared.compared.holds s x a g within
         ∙ sym (begins_alike d.starts d.last (number_of d a g) n r line.rises
-        (from_first x a g within d line) (to_last x a g within d line) h.against.decided)
+        (from_first x a g within d line) (to_last x a g within d line) h.compared.decided)
         ∙ sym (get_or-map (λ (end : ℕ). allows r (nat_cmp end n)) d.starts segment 0 false
         (segment_there x d a g line within))
         ∙ sym (ap (λ (hs : List Bool). slice_index_or hs segment false) h.is)
         ∙ sym (ap (λ (k : ℕ). slice_index_or t.holds k false)
-        (place_at ds a g d t.dimension h.against.is_at))
+        (place_at ds a g d t.dimension h.compared.is_at))
         ∙ sym (one_table t (place_of ds a g))
 
     pub test_is : (at : ℕ) → IsPartOf x ds (Leaf at test) (t ∷ [])
@@ -57,14 +57,15 @@ module _ (x : Scope) (ds : List Dimension) (lines : All (IsLine x) ds) where
       tables_are = All-cons (IsTable ds) t []
           (record {
             dimension = d;
-            is_at = h.against.is_at;
+            is_at = h.compared.is_at;
             each = ap length h.is
                 ∙ length-map d.starts (λ end. allows h.by.comparison (nat_cmp end h.by.number));
           })
           (All-nil (IsTable ds));
       means = λ s a g within met unmet.
           ap (λ (o : Option ℕ). add_one_then o
-          (λ reply. if test_holds a s reply test then met else unmet)) (h.against.against.no_cell s)
+          (λ reply. if test_holds a s reply test then met else unmet))
+          (h.compared.compared.no_cell s)
           ∙ ap (λ (b : Bool). if b then met else unmet) (truth_is s a g within);
     }
 

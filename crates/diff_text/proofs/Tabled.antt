@@ -15,7 +15,7 @@ use Rattle.rule_space.specs.Coordinates.{Dimension, cell_in, number_of, place_of
 use Rattle.rule_space.specs.Lines.{IsLine}
 use Rattle.rule_space.specs.Machines.{State}
 use Rattle.rule_space.specs.Scopes.{IsWithin, Scope}
-use Rattle.rule_space.specs.Tests.{IsAgainstAt}
+use Rattle.rule_space.specs.Tests.{ComparesNumberAt}
 use Rattle.rule_space.specs.declared.test_line.NumberComparison.{NumberComparison}
 use Rattle.rule_space.proofs.Cells.{is_at}
 use Rattle.rule_space.proofs.Ranges.{from_first}
@@ -207,11 +207,11 @@ module _ (ds : List Dimension) where
 module _ (ds : List Dimension) where
   pub test_table : (test : Test) (place : ℕ) (by : NumberComparison) (d : Dimension)
       (holds : List Bool)
-      → slice_get ds place ≡ Some d → IsAgainstAt ds place test by → holds ≡ truths by d.starts
+      → slice_get ds place ≡ Some d → ComparesNumberAt ds place test by → holds ≡ truths by d.starts
       → IsTestTable ds test (record { dimension = place; holds = holds })
   test_table test place by d holds there h is = record {
     by = by;
-    against = h;
+    compared = h;
     is =
         is
         ∙ ap (λ (e : Dimension). truths by e.starts)

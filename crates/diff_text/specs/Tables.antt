@@ -17,7 +17,7 @@ use Rattle.rule_space.specs.Coordinates.{Dimension, place_of}
 use Rattle.rule_space.specs.Machines.{State}
 use Rattle.rule_space.specs.Numbers.{decides}
 use Rattle.rule_space.specs.Scopes.{IsWithin, Scope}
-use Rattle.rule_space.specs.Tests.{IsAgainstAt}
+use Rattle.rule_space.specs.Tests.{ComparesNumberAt}
 use Rattle.rule_space.specs.declared.test_line.NumberComparison.{NumberComparison}
 use Rattle.rule_diff.specs.Rows.{SegmentSet, has_segment}
 use Rattle.diff_text.specs.declared.left_ranges.LeftRange.{LeftRange}
@@ -68,8 +68,8 @@ module _ (ds : List Dimension) where
   -- the truths of a test by the numbers of its dimension
   pub record IsTestTable (test : Test) (t : Table) : Type 0 where
     pub by : NumberComparison
-    pub against : IsAgainstAt ds t.dimension test by
-    pub is : t.holds ≡ truths by against.dimension.starts
+    pub compared : ComparesNumberAt ds t.dimension test by
+    pub is : t.holds ≡ truths by compared.dimension.starts
 
   -- it holds as an operator of two others says
   pub record IsJoined (op : Bool → Bool → Bool) (first second joined : List Table) : Type 0 where

@@ -7,7 +7,7 @@ ghost use Rattle.diff_text.specs.Tables as specs;
 
 use rule_eval::allows;
 use rule_lang::Test;
-use rule_space::{Dimension, NumberComparison, against_at};
+use rule_space::{Dimension, NumberComparison, number_comparison_at};
 use std::alloc::{AllocError, Global};
 use std::marker::Model;
 
@@ -26,24 +26,24 @@ impl Model for Table {
     ghost view = { λ t. record { dimension = t.dimension; holds = t.holds.items } };
 }
 
-fn is_so(against: NumberComparison, number: u128) -> bool
-    ensures { result ≡ meaning.allows against.comparison (nat_cmp number against.number) }
+fn is_so(compared: NumberComparison, number: u128) -> bool
+    ensures { result ≡ meaning.allows compared.comparison (nat_cmp number compared.number) }
 {
-    allows(against.comparison, number.cmp(&against.number))
+    allows(compared.comparison, number.cmp(&compared.number))
 }
 
 // The truths of a comparison, by the numbers at which the segments begin.
 fn truths(
     alloc: Global,
-    against: NumberComparison,
+    compared: NumberComparison,
     starts: &[u128],
 ) -> Result<Vec<bool>, AllocError>
-    ensures { IfOk result (λ v. v.items ≡ specs.truths against starts.now) }
+    ensures { IfOk result (λ v. v.items ≡ specs.truths compared starts.now) }
 {
     let mut holds = Vec::with_capacity(alloc, starts.len())?;
     let mut left = starts;
     while let [end, others @ ..] = left {
-        holds.push(is_so(against, *end))?;
+        holds.push(is_so(compared, *end))?;
         left = others;
     }
     Ok(holds)
@@ -60,10 +60,10 @@ fn table_at(
     let Some(dimension) = dimensions.get(place) else {
         return Ok(None);
     };
-    let Some(against) = against_at(dimensions, place, test) else {
+    let Some(compared) = number_comparison_at(dimensions, place, test) else {
         return Ok(None);
     };
-    let holds = truths(alloc, against, &dimension.starts)?;
+    let holds = truths(alloc, compared, &dimension.starts)?;
     Ok(Some(Table {
         dimension: place,
         holds,

@@ -11,7 +11,7 @@ use Rattle.attrs.specs.Facts.{attributes_of}
 use Rattle.attrs.specs.declared.facts.AppFacts.{AppFacts}
 use Rattle.attrs.specs.declared.facts.RequestFacts.{RequestFacts}
 use Rattle.ruleset.specs.Rules.{AppRule, Rules, IsApp, ListsApp, app_in, app_of}
-use Rattle.dry_run.specs.AppLines.{head_line, offer_line, unasked_line, unknown_line}
+use Rattle.dry_run.specs.AppLines.{head_line, offer_line, no_request_line, unknown_line}
 use Rattle.dry_run.specs.Courses.{ExplainsCourse}
 use Rattle.app_rules.specs.Rules.{OptionalRule}
 use Rattle.dry_run.specs.Meanings.{HasMeaning, HaveMeanings, optional_rule_of}
@@ -68,16 +68,17 @@ module _ (rules : Rules) (optional_rules : List OptionalRule) (facts : RequestFa
         (is ∙ ap (λ (name : List ℕ). unknown_line name ++ note) named),
   )
 
-  pub unasked_explained : (app stated : AppFacts) (appid note old text : List ℕ) (known : AppRule)
+  pub no_request_explained : (app stated : AppFacts) (appid note old text : List ℕ)
+      (known : AppRule)
       (a : Attributes) (context : Context) → appid ≡ app.appid
       → Some known ≡ app_of rules appid → stated ≡ app → a ≡ attributes_of stated facts moment
       → context ≡ a.context → stated.updatecheck ≡ false
-      → text ≡ head_line stated context ++ unasked_line ++ note
+      → text ≡ head_line stated context ++ no_request_line ++ note
       → ExplainsOne rules optional_rules facts moment app note old old text
-  unasked_explained app stated appid note old text known a context named found same made by
+  no_request_explained app stated appid note old text known a context named found same made by
       asks is =
       let of = made ∙ ap (λ (x : AppFacts). attributes_of x facts moment) same in
-      let H : AppFacts → Context → List ℕ = λ x c. head_line x c ++ unasked_line ++ note in (
+      let H : AppFacts → Context → List ℕ = λ x c. head_line x c ++ no_request_line ++ note in (
         None,
         not_requested known (ap (app_of rules) (sym named) ∙ sym found)
             (ap (λ (x : AppFacts). x.updatecheck) (sym same) ∙ asks)

@@ -9,7 +9,7 @@ use Rattle.bpf_semantics.specs.Program.{ShapedProgram}
 use Rattle.cells.specs.declared.array.CellArray.{CellArray}
 use Rattle.load.specs.Sources.{AreSources}
 use Rattle.load.specs.Judged.{apps_of}
-use Rattle.load.specs.Folder.{files_beside}
+use Rattle.load.specs.Folder.{files_in_folder}
 use Rattle.load.specs.Loaded.{IsLoadedFrom}
 use Rattle.load.specs.Made.{SourcesAreMade, IsMadeFrom, IsMadeOf}
 use Rattle.load.specs.declared.sources.Sources.{Sources}
@@ -52,7 +52,8 @@ load_of : (known : KnownFiles) (path : List ℕ) (made : LoadedRuleset) → Sour
 load_of known path made makes from = record {
   bytes = from.bytes;
   given = from.given;
-  loaded = (makes (files_beside known path) [] from.bytes from.sources from.are_sources).made made
+  loaded = (makes (files_in_folder known path) [] from.bytes from.sources from.are_sources).made
+      made
       from.made_of;
 }
 
@@ -92,7 +93,7 @@ have_meanings (next_rule {app} {program} {rule} is more) =
 
 pub loaded : (known : KnownFiles) (path bytes : List ℕ) (g : Sources) (made : LoadedRuleset)
     (rules : List OptionalRule) → Gives (regular_files known) path (Some bytes)
-    → AreSources (files_beside known path) [] bytes g → IsMadeOf bytes g made
+    → AreSources (files_in_folder known path) [] bytes g → IsMadeOf bytes g made
     → AreRulesOf g.apps.items rules → IsLoadedWhy known path made rules
 loaded known path bytes g made rules given is of read = record {
   made_from = record {

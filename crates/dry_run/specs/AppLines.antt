@@ -46,8 +46,8 @@ head_line app c =
 
 -- ---- the other lines
 
-abbrev pub unasked_line : List ℕ
-unasked_line = codes "  asks for no update\n"
+abbrev pub no_request_line : List ℕ
+no_request_line = codes "  asks for no update\n"
 
 unfoldable pub program_words : List ℕ
 program_words = codes "  by a program of "

@@ -10,7 +10,7 @@ use Rattle.serde_json.specs.Data.{Items, no_items, item}
 use Rattle.serde_json.specs.Find.{get, as_array, as_number, as_object, as_str, as_u64}
 use Rattle.attrs.specs.Facts.{known_day}
 use Rattle.json_value.specs.Bytes.{json_of}
-use Rattle.omaha_json.specs.Ignored.{is_no_text}
+use Rattle.omaha_json.specs.Ignored.{is_not_text}
 use Rattle.omaha_json.specs.Request.{is_value}
 
 -- ---- a line
@@ -98,31 +98,31 @@ emptied_note indent name bytes =
 -- ---- by what a member has to be
 
 -- a member is present and isn't a known day
-abbrev pub is_no_day : Option Data → Bool
-is_no_day (Some d) = is_none (known_day (option_and_then as_u64 (as_number d)))
-is_no_day None = false
+abbrev pub is_not_day : Option Data → Bool
+is_not_day (Some d) = is_none (known_day (option_and_then as_u64 (as_number d)))
+is_not_day None = false
 
 -- a member is present and isn't an object
-abbrev pub is_no_object : Option Data → Bool
-is_no_object (Some d) = is_none (as_object d)
-is_no_object None = false
+abbrev pub is_not_object : Option Data → Bool
+is_not_object (Some d) = is_none (as_object d)
+is_not_object None = false
 
 -- a member is present and is null
-abbrev pub is_no_value : Option Data → Bool
-is_no_value (Some d) = not (is_value (Some d))
-is_no_value None = false
+abbrev pub is_not_value : Option Data → Bool
+is_not_value (Some d) = not (is_value (Some d))
+is_not_value None = false
 
 -- for a member that has to be a text
 unfoldable pub text_note : (indent name : List ℕ) → Option Data → List ℕ
 text_note indent name member =
-    note_if (is_no_text member) indent name member (codes "a text")
+    note_if (is_not_text member) indent name member (codes "a text")
 
 -- for a member that has to be a known day
 unfoldable pub day_words : List ℕ
 day_words = codes "a whole number from 0 to 4294967294"
 
 unfoldable pub day_note : (indent name : List ℕ) → Option Data → List ℕ
-day_note indent name member = note_if (is_no_day member) indent name member day_words
+day_note indent name member = note_if (is_not_day member) indent name member day_words
 
 -- for a text that rules can test as an attribute: it also has to be short
 unfoldable pub attribute_note : (indent name : List ℕ) → Option Data → List ℕ
@@ -137,12 +137,12 @@ version_note indent name member =
 -- for a member that has to be an object
 unfoldable pub object_note : (indent name : List ℕ) → Option Data → List ℕ
 object_note indent name member =
-    note_if (is_no_object member) indent name member (codes "an object")
+    note_if (is_not_object member) indent name member (codes "an object")
 
 -- for a member that may be anything but null
 unfoldable pub value_note : (indent name : List ℕ) → Option Data → List ℕ
 value_note indent name member =
-    if is_no_value member then null_line indent name else []
+    if is_not_value member then null_line indent name else []
 
 -- ---- a request and its apps
 

@@ -11,7 +11,7 @@ use Rattle.omaha_json.specs.Reply.{reply_text}
 use Rattle.omaha_json.specs.Request.{Request, request_in}
 use Rattle.ruleset.specs.Rules.{AppRule, Rules, app_of}
 use Rattle.cell_assignments.specs.Assignments.{Assignment}
-use Rattle.dry_run.specs.AppLines.{head_line, offer_line, unasked_line, unknown_line}
+use Rattle.dry_run.specs.AppLines.{head_line, offer_line, no_request_line, unknown_line}
 use Rattle.dry_run.specs.Counters.{AreAssigned}
 use Rattle.dry_run.specs.Courses.{ExplainsCourse}
 use Rattle.dry_run.specs.IgnoredLines.{app_notes_in, request_note_in}
@@ -53,7 +53,7 @@ module _ (rules : Rules) (optional_rules : List OptionalRule) (facts : RequestFa
     -- the ruleset knows it, and the app requests no update
     not_requested : {text : List ℕ} (known : AppRule) → app_of rules app.appid ≡ Some known
         → app.updatecheck ≡ false
-        → text ≡ head_line app (context_of app facts moment) ++ unasked_line ++ note
+        → text ≡ head_line app (context_of app facts moment) ++ no_request_line ++ note
         → ExplainsApp app note old None old text
     -- the ruleset runs it
     was_run : {choice : ℕ} {new text : List ℕ} → ExplainsRun app note old choice new text

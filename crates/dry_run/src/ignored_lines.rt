@@ -7,7 +7,9 @@ ghost use Rattle.serde_json.specs.View.{view};
 ghost use Rattle.dry_run.specs.IgnoredLines as specs;
 
 use crate::length_lines::{push_emptied_note, push_length_note};
-use crate::member_kinds::{is_no_day, is_no_object, is_no_text, is_no_value, kind_in, length_in};
+use crate::member_kinds::{
+    is_not_day, is_not_object, is_not_text, is_not_value, kind_in, length_in,
+};
 use serde_json::Value;
 use std::alloc::AllocError;
 use std::fmt::Write;
@@ -24,7 +26,7 @@ pub(crate) fn push_text_note(
         (Puts note.old note.new (specs.text_note indent.now name.now
         (option_map (λ v. view v.now) member.entry))) }
 {
-    let is_ignored = is_no_text(member);
+    let is_ignored = is_not_text(member);
     push_if(note, is_ignored, indent, name, member, "a text")
 }
 
@@ -74,7 +76,7 @@ pub(crate) fn push_day_note(
         (Puts note.old note.new (specs.day_note indent.now name.now
         (option_map (λ v. view v.now) member.entry))) }
 {
-    let is_ignored = is_no_day(member);
+    let is_ignored = is_not_day(member);
     push_if(note, is_ignored, indent, name, member, day_words())
 }
 
@@ -97,7 +99,7 @@ pub(crate) fn push_object_note(
         (Puts note.old note.new (specs.object_note indent.now name.now
         (option_map (λ v. view v.now) member.entry))) }
 {
-    let is_ignored = is_no_object(member);
+    let is_ignored = is_not_object(member);
     push_if(note, is_ignored, indent, name, member, "an object")
 }
 
@@ -113,7 +115,7 @@ pub(crate) fn push_value_note(
         (Puts note.old note.new (specs.value_note indent.now name.now
         (option_map (λ v. view v.now) member.entry))) }
 {
-    if is_no_value(member) {
+    if is_not_value(member) {
         push_null(note, indent, name)
     } else {
         Ok(())

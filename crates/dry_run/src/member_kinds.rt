@@ -12,8 +12,8 @@ use attrs::Context;
 use serde_json::Value;
 
 /// Whether the member is present and isn't a text.
-pub(crate) fn is_no_text(member: Option<&Value>) -> bool
-    ensures { result ≡ kinds.is_no_text (option_map (λ v. view v.now) member.entry) }
+pub(crate) fn is_not_text(member: Option<&Value>) -> bool
+    ensures { result ≡ kinds.is_not_text (option_map (λ v. view v.now) member.entry) }
 {
     match member {
         Some(value) => value.as_str().is_none(),
@@ -22,8 +22,8 @@ pub(crate) fn is_no_text(member: Option<&Value>) -> bool
 }
 
 /// Whether the member is present and isn't a known day.
-pub(crate) fn is_no_day(member: Option<&Value>) -> bool
-    ensures { result ≡ specs.is_no_day (option_map (λ v. view v.now) member.entry) }
+pub(crate) fn is_not_day(member: Option<&Value>) -> bool
+    ensures { result ≡ specs.is_not_day (option_map (λ v. view v.now) member.entry) }
 {
     match member {
         Some(value) => is_unknown(value.as_u64()),
@@ -42,8 +42,8 @@ fn is_unknown(number: Option<u64>) -> bool
 }
 
 /// Whether the member is present and isn't an object.
-pub(crate) fn is_no_object(member: Option<&Value>) -> bool
-    ensures { result ≡ specs.is_no_object (option_map (λ v. view v.now) member.entry) }
+pub(crate) fn is_not_object(member: Option<&Value>) -> bool
+    ensures { result ≡ specs.is_not_object (option_map (λ v. view v.now) member.entry) }
 {
     match member {
         Some(value) => value.as_object().is_none(),
@@ -52,8 +52,8 @@ pub(crate) fn is_no_object(member: Option<&Value>) -> bool
 }
 
 /// Whether the member is present and is null.
-pub(crate) fn is_no_value(member: Option<&Value>) -> bool
-    ensures { result ≡ specs.is_no_value (option_map (λ v. view v.now) member.entry) }
+pub(crate) fn is_not_value(member: Option<&Value>) -> bool
+    ensures { result ≡ specs.is_not_value (option_map (λ v. view v.now) member.entry) }
 {
     match member {
         Some(value) => !is_value(value),

@@ -137,7 +137,7 @@ fn explain_app(
         return Err(AllocError);
     };
     if !stated.updatecheck {
-        let text = unasked_app(alloc, stated, attrs.context(), note)?;
+        let text = no_request_app(alloc, stated, attrs.context(), note)?;
         return Ok(text);
     }
     known.invariant_law();
@@ -171,14 +171,14 @@ fn unknown_app(alloc: Global, appid: &str, note: &str) -> Result<String, AllocEr
     Ok(text)
 }
 
-fn unasked_app(
+fn no_request_app(
     alloc: Global,
     app: &AppFacts,
     context: Context,
     note: &str,
 ) -> Result<String, AllocError>
     ensures { IfOk result (λ text. string_bytes text
-        ≡ lines.head_line app.now context ++ lines.unasked_line ++ note.now) }
+        ≡ lines.head_line app.now context ++ lines.no_request_line ++ note.now) }
 {
     let mut text = String::new(alloc);
     push_head(&mut text, app, context)?;

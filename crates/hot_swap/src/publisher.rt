@@ -31,7 +31,7 @@ pub struct Publisher {
 impl Model for Publisher {
     ghost use Rattle.std.specs.Prelude.{length};
     ghost use Rattle.std.specs.Arc.{arc_value};
-    ghost use Rattle.left_right.specs.Sides.{view as told};
+    ghost use Rattle.left_right.specs.Sides.{view as sides_view};
     ghost use Rattle.hot_swap.specs.Latest.{IsPublisher, Publishing};
 
     ghost Value = { Publishing };
@@ -42,7 +42,7 @@ impl Model for Publisher {
       places = p.places;
     } };
 
-    ghost invariant = { λ p. IsPublisher p.known (arc_value p.latest) (told p.writer.desk.place)
+    ghost invariant = { λ p. IsPublisher p.known (arc_value p.latest) (sides_view p.writer.desk.place)
         p.writer.desk.shown.value.known.publisher (arc_value p.end).word.book };
 }
 
@@ -154,7 +154,7 @@ impl Publisher {
     /// is left, and H1 if an allocation fails.
     // open: whether an allocation fails (H1).
     pub fn watcher(&mut self) -> Result<Watcher, SwapFault>
-        ensures seen { IfOk result (λ w. w ≡ self.old.known) }
+        ensures watches { IfOk result (λ w. w ≡ self.old.known) }
         ensures known { self.new.known ≡ self.old.known }
         ensures latest { self.new.latest ≡ self.old.latest }
         ensures places { IfOk result (λ _. self.new.places + 1 ≡ self.old.places) }

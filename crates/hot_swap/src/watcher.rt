@@ -29,14 +29,14 @@ pub struct Watcher {
 
 impl Model for Watcher {
     ghost use Rattle.std.specs.Prelude.{◌≡◌, Some};
-    ghost use Rattle.left_right.specs.Sides.{view as told};
+    ghost use Rattle.left_right.specs.Sides.{view as sides_view};
     ghost use Rattle.hot_swap.specs.Published.{KnownPrefix};
 
     ghost Value = { KnownPrefix };
 
     ghost view = { λ w. w.known };
 
-    ghost invariant = { λ w. told w.reader.place ≡ Some w.known.publisher };
+    ghost invariant = { λ w. sides_view w.reader.place ≡ Some w.known.publisher };
 }
 
 impl Watcher {

@@ -8,7 +8,7 @@ use Rattle.bounded_files.specs.Files.{KnownFiles}
 use Rattle.cells.specs.Directory.{Declaration}
 use Rattle.cells.specs.declared.array.CellArray.{CellArray}
 use Rattle.load.specs.Cause.{IsCause, RefusesWithCause, cause_in, cause_of}
-use Rattle.load.specs.Sources.{AreArraysBeside}
+use Rattle.load.specs.Sources.{AreArraysWithFault}
 use Rattle.load.specs.Loaded.{RefusesPath}
 use Rattle.load.specs.declared.load_fault.LoadFault.{LoadFault}
 use Rattle.load.specs.declared.load_fault.LoadFault.TheVariants as load
@@ -37,7 +37,7 @@ untold known path old fault told cause fault_is cause_is refused =
     (no_cause known path old fault refused))
 
 is_cause : (old : List CellArray) (bytes : List ℕ) (arrays : List Declaration) (fault : LoadFault)
-    (text : List ℕ) → AreArraysBeside bytes fault arrays → cause_of old arrays fault ≡ Some text
+    (text : List ℕ) → AreArraysWithFault bytes fault arrays → cause_of old arrays fault ≡ Some text
     → IsCause old bytes fault text
 is_cause old bytes arrays (load.Manifest fault) text are is = is
 is_cause old bytes arrays (load.Cells number fault) text of is =
@@ -48,7 +48,7 @@ is_cause old bytes arrays (load.Rule app fault) text are is = absurd cc
 is_cause old bytes arrays load.Memory text are is = absurd cc
 
 pub cause_told : (old : List CellArray) (bytes : List ℕ) (arrays : List Declaration)
-    (fault : LoadFault) (cause : Option (String Global)) → AreArraysBeside bytes fault arrays
+    (fault : LoadFault) (cause : Option (String Global)) → AreArraysWithFault bytes fault arrays
     → IfSome cause (λ text. cause_of old arrays fault ≡ Some (string_bytes text))
     → IfSome cause (λ text. IsCause old bytes fault (string_bytes text))
 cause_told old bytes arrays fault None are told = tt

@@ -10,7 +10,7 @@ use Rattle.manifest.specs.declared.app.ProgramSource.{ProgramSource}
 use Rattle.load.specs.declared.load_fault.AppFault.TheVariants as app
 use Rattle.load.specs.declared.load_fault.LoadFault.{LoadFault}
 use Rattle.load.specs.declared.load_fault.LoadFault.TheVariants as load
-use Rattle.load.specs.Sources.{AreArraysBeside, AreSources, failures_in}
+use Rattle.load.specs.Sources.{AreArraysWithFault, AreSources, failures_in}
 use Rattle.load.specs.Judged.{AreJudged, next_program, IsFirstRefused, here, there, RefusesFirst}
 use Rattle.load.specs.Judged.{CountsFault}
 use Rattle.load.specs.Kept.{CountsFile, IsProgramKept, is_unread}
@@ -99,7 +99,7 @@ module _ (known : KnownFiles) (directory : List CellArray) (bytes : List ℕ) (o
   judged_counts g (load.Cells number fault) is count refused = absurd refused
 
   pub early_counts : (fault : LoadFault) (arrays : List Declaration)
-      → AreArraysBeside bytes fault arrays → (fault ≢ load.Memory → new ≡ old)
+      → AreArraysWithFault bytes fault arrays → (fault ≢ load.Memory → new ≡ old)
       → CountsFault known directory bytes old new fault
   early_counts (load.Manifest fault) arrays are count = count (λ e. absurd cc)
   early_counts (load.Cells number fault) arrays are count = count (λ e. absurd cc)

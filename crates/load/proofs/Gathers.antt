@@ -19,7 +19,8 @@ use Rattle.load.specs.declared.sources.AppSources.{AppSources}
 use Rattle.load.specs.App.{IsAppOf, IsShapeOf, RefusesApp}
 use Rattle.load.specs.Apps.{AreAppsOf, none, next, IsRefusedApp}
 use Rattle.load.specs.Sources.{AreAllSources, no_app, next_app, HasItsReleases, AreSources}
-use Rattle.load.specs.Sources.{AreTaken, all_read, not_read, next_read, AreAppSources, most_long}
+use Rattle.load.specs.Sources.{AreReadInTurn, all_read, not_read, next_read, AreAppSources}
+use Rattle.load.specs.Sources.{most_long}
 use Rattle.load.specs.Judged.{AreJudged, next_program, IsJudged, RefusesSources}
 use Rattle.load.specs.Judged.{IsFirstRefused, here, there, RefusesFirst, app_of, apps_of}
 use Rattle.load.specs.Judged.{SourcesAreLoaded}
@@ -36,17 +37,17 @@ module _ (known : KnownFiles) (directory : List CellArray) (numbers : List Array
   abbrev pub ReadsOn : List AppEntry → List AppSources → (long : ℕ) → List AppEntry → Type 0
   ReadsOn entries apps long left =
       (more : List AppSources) (unread : ℕ)
-      → AreTaken known directory numbers long left more unread
-      → AreTaken known directory numbers 0 entries (apps ++ more) unread
+      → AreReadInTurn known directory numbers long left more unread
+      → AreReadInTurn known directory numbers 0 entries (apps ++ more) unread
 
   pub read_none : (entries left : List AppEntry) (apps : List AppSources) → left ≡ entries
       → apps ≡ [] → ReadsOn entries apps 0 left
   read_none entries left apps same empty = λ more unread h.
       subst
       (λ (l : List AppSources).
-      AreTaken known directory numbers 0 entries (l ++ more) unread)
+      AreReadInTurn known directory numbers 0 entries (l ++ more) unread)
       (sym empty)
-      (subst (λ (l : List AppEntry). AreTaken known directory numbers 0 l more unread) same h)
+      (subst (λ (l : List AppEntry). AreReadInTurn known directory numbers 0 l more unread) same h)
 
   module _ (entries left : List AppEntry) (apps : List AppSources) (long : ℕ)
       (so_far : ReadsOn entries apps long left) where
@@ -55,27 +56,29 @@ module _ (known : KnownFiles) (directory : List CellArray) (numbers : List Array
         → AreAppSources known directory numbers entry one → new ≡ apps ++ one ∷ []
         → sum ≡ long + long_count one.kept → ReadsOn entries new sum rest
     read_more entry rest one new sum is few h new_is sum_is = λ more unread later.
-        let behind : AreTaken known directory numbers (long + long_count one.kept) rest more
+        let behind : AreReadInTurn known directory numbers (long + long_count one.kept) rest more
         unread =
-        subst (λ (n : ℕ). AreTaken known directory numbers n rest more unread) sum_is later in
+        subst (λ (n : ℕ). AreReadInTurn known directory numbers n rest more unread) sum_is later in
         let all = so_far (one ∷ more) unread
-        (subst (λ (l : List AppEntry). AreTaken known directory numbers long l (one ∷ more) unread)
+        (subst (λ (l : List AppEntry). AreReadInTurn known directory numbers long l
+        (one ∷ more) unread)
         (sym is) (next_read few h behind)) in
-        subst (λ (l : List AppSources). AreTaken known directory numbers 0 entries l unread)
+        subst (λ (l : List AppSources). AreReadInTurn known directory numbers 0 entries l unread)
         (sym (append_assoc apps (one ∷ []) more) ∙ ap (λ l. l ++ more) (sym new_is)) all
 
     pub read_enough : (unread : ℕ) → most_long < long → unread ≡ length left
-        → AreTaken known directory numbers 0 entries apps unread
+        → AreReadInTurn known directory numbers 0 entries apps unread
     read_enough unread much is =
-        subst (λ (n : ℕ). AreTaken known directory numbers 0 entries apps n) (sym is)
-        (subst (λ (l : List AppSources). AreTaken known directory numbers 0 entries l
+        subst (λ (n : ℕ). AreReadInTurn known directory numbers 0 entries apps n) (sym is)
+        (subst (λ (l : List AppSources). AreReadInTurn known directory numbers 0 entries l
         (length left)) (append-nil apps) (so_far [] (length left) (not_read much)))
 
-    pub read_all : left ≡ [] → AreTaken known directory numbers 0 entries apps 0
+    pub read_all : left ≡ [] → AreReadInTurn known directory numbers 0 entries apps 0
     read_all is =
-        subst (λ (l : List AppSources). AreTaken known directory numbers 0 entries l 0)
+        subst (λ (l : List AppSources). AreReadInTurn known directory numbers 0 entries l 0)
         (append-nil apps)
-        (so_far [] 0 (subst (λ (l : List AppEntry). AreTaken known directory numbers long l [] 0)
+        (so_far [] 0
+        (subst (λ (l : List AppEntry). AreReadInTurn known directory numbers long l [] 0)
         (sym is) all_read))
 
 -- ---- the load
@@ -121,7 +124,7 @@ module _ (known : KnownFiles) (directory : List CellArray) (numbers : List Array
 
   all_collected : (long : ℕ) (entries : List AppEntry) (apps : List AppSources)
       (programs : List ShapedProgram) {unread : ℕ} → long ≤ most_long
-      → AreTaken known directory numbers long entries apps unread → AreJudged apps programs
+      → AreReadInTurn known directory numbers long entries apps unread → AreJudged apps programs
       → AreAllSources known directory numbers entries apps
   all_collected long [] [] programs few are judged = no_app
   all_collected long [] (a ∷ apps) programs few are judged = elim are [ ]
@@ -145,7 +148,7 @@ module _ (known : KnownFiles) (directory : List CellArray) (numbers : List Array
       next (is_app known directory numbers e a h p j) (are_apps entries apps programs more rest)
 
   are_shaped : (long : ℕ) (entries : List AppEntry) (apps : List AppSources) {unread : ℕ}
-      → AreTaken known directory numbers long entries apps unread → All HasItsReleases apps
+      → AreReadInTurn known directory numbers long entries apps unread → All HasItsReleases apps
   are_shaped long entries [] are = All-nil HasItsReleases
   are_shaped long [] (a ∷ apps) are = elim are [ ]
   are_shaped long (e ∷ entries) (a ∷ apps) (next_read few h more) =
@@ -155,7 +158,7 @@ module _ (known : KnownFiles) (directory : List CellArray) (numbers : List Array
       (are_shaped (long + long_count a.kept) entries apps more)
 
   refused_app : (long : ℕ) (entries : List AppEntry) (apps : List AppSources) {unread number : ℕ}
-      {fault : AppFault} → AreTaken known directory numbers long entries apps unread
+      {fault : AppFault} → AreReadInTurn known directory numbers long entries apps unread
       → IsFirstRefused apps number fault
       → IsRefusedApp known directory numbers entries number fault
   refused_app long entries [] are refused = elim refused [ ]

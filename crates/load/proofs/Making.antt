@@ -8,7 +8,7 @@ use Rattle.cells.specs.declared.array.CellArray.{CellArray}
 use Rattle.declarations.specs.Order.{AreDeclared}
 use Rattle.ruleset.specs.Rules.{AppRule, HasDuplicate, KnowsOnly, Rules, appids_of}
 use Rattle.load.specs.Apps.{AreAppsOf}
-use Rattle.load.specs.Folder.{files_beside}
+use Rattle.load.specs.Folder.{files_in_folder}
 use Rattle.load.specs.Sources.{AreSources}
 use Rattle.load.specs.Judged.{AreJudged, IsLoadOf, apps_of}
 use Rattle.load.specs.Load.{IsRulesetOf}
@@ -75,13 +75,13 @@ pub is_loaded : (known : KnownFiles) (path : List ℕ) (old : List CellArray) (m
 is_loaded known path old made from = record {
   bytes = from.bytes;
   given = from.given;
-  loaded = is_ruleset (files_beside known path) old from.bytes from.sources from.are_sources made
+  loaded = is_ruleset (files_in_folder known path) old from.bytes from.sources from.are_sources made
       from.made_of;
 }
 
 pub from_path : (known : KnownFiles) (path : List ℕ) (old : List CellArray) (bytes file : List ℕ)
     (made : LoadedRuleset) → bytes ≡ file → Gives (regular_files known) path (Some file)
-    → IsMadeOver (files_beside known path) old bytes made → IsMadeFrom known path old made
+    → IsMadeOver (files_in_folder known path) old bytes made → IsMadeFrom known path old made
 from_path known path old bytes file made same given over = record {
   bytes = bytes;
   given = subst (λ (b : List ℕ). Gives (regular_files known) path (Some b)) (sym same) given;

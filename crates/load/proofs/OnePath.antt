@@ -11,7 +11,7 @@ use Rattle.load.specs.declared.load_fault.PathFault.{PathFault}
 use Rattle.load.specs.declared.load_fault.PathFault.TheVariants as path
 use Rattle.bounded_files.specs.Files.{KnownFile, bytes_of, if_regular, if_within, most_bytes}
 use Rattle.bounded_files.specs.declared.resource_fault.ResourceFault.TheVariants as resource
-use Rattle.load.specs.Folder.{path_beside}
+use Rattle.load.specs.Folder.{path_in_folder}
 use Rattle.load.specs.Load.{Loads}
 use Rattle.load.specs.Loaded.{LoadsFrom}
 use Rattle.load.specs.OneLoad.{HasOneLoad, IsNotOutOfMemory}
@@ -25,8 +25,8 @@ of_load (Ok rules) new = Ok (rules, new)
 of_load (Err fault) new = Err (path.Load fault)
 
 module _ (files : List ℕ → Option KnownFile) (place : List ℕ) where
-  abbrev beside : List ℕ → Option KnownFile
-  beside = λ name. if_within most_bytes (if_regular (files (path_beside place name)))
+  abbrev in_folder : List ℕ → Option KnownFile
+  in_folder = λ name. if_within most_bytes (if_regular (files (path_in_folder place name)))
 
   abbrev there : Option (List ℕ)
   there = bytes_of (if_regular (files place))
@@ -34,7 +34,7 @@ module _ (files : List ℕ → Option KnownFile) (place : List ℕ) where
   data Found (old : List CellArray) : LoadOf → Type 0 where
     no_file : there ≡ None → Found old (Err (path.Resource resource.File))
     file : (c : Result Rules LoadFault) (bytes : List ℕ) (new : List CellArray)
-        → there ≡ Some bytes → Loads (Some beside) old bytes c new → c ≢ Err Memory
+        → there ≡ Some bytes → Loads (Some in_folder) old bytes c new → c ≢ Err Memory
         → Found old (of_load c new)
 
   found : (old : List CellArray) (r : LoadOf) → LoadsFrom (Some files) place old r
@@ -57,9 +57,9 @@ module _ (files : List ℕ → Option KnownFile) (place : List ℕ) where
     same_found (file c bytes new given loads untroubled)
         (file d others last also again calm) =
         let read : others ≡ bytes = same_Some others bytes (sym also ∙ given) in
-        let other : Loads (Some beside) old bytes d last =
-        subst (λ (b : List ℕ). Loads (Some beside) old b d last) read again in
-        let same = load beside old bytes c d new last known loads other untroubled calm in
+        let other : Loads (Some in_folder) old bytes d last =
+        subst (λ (b : List ℕ). Loads (Some in_folder) old b d last) read again in
+        let same = load in_folder old bytes c d new last known loads other untroubled calm in
         ap (λ (x : Result Rules LoadFault). of_load x new) same.0 ∙ ap (of_load d) same.1
 
 pub same_path : HasOneLoad → (files : List ℕ → Option KnownFile) (place : List ℕ)

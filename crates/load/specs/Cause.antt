@@ -14,7 +14,7 @@ use Rattle.manifest.specs.Manifest.{Manifest, ReadsManifest}
 use Rattle.manifest.specs.Texts.{schema_error_text, duplicate_text}
 use Rattle.manifest.specs.declared.manifest_fault.ManifestFault.{ManifestFault}
 use Rattle.manifest.specs.declared.manifest_fault.ManifestFault.TheVariants as unread
-use Rattle.load.specs.Folder.{files_beside}
+use Rattle.load.specs.Folder.{files_in_folder}
 use Rattle.load.specs.Load.{IsLoadFault}
 use Rattle.load.specs.Loaded.{RefusesPath}
 use Rattle.load.specs.Made.{IsMadeFrom}
@@ -79,7 +79,7 @@ module _ (known : KnownFiles) (path : List ℕ) (old : List CellArray) where
   abbrev pub RefusesWithCause : PathFault → Option (String Global) → Type 0
   RefusesWithCause (Load fault) cause =
       (bytes : List ℕ) × Gives (regular_files known) path (Some bytes)
-      × IsFaultWithCause (files_beside known path) old bytes fault cause
+      × IsFaultWithCause (files_in_folder known path) old bytes fault cause
   RefusesWithCause (Resource fault) cause =
       RefusesPath known path old (Resource fault) × (cause ≡ None)
 

@@ -5,7 +5,7 @@ use Rattle.std.specs.Prelude.{ℕ, List, Some, None, Result, Ok, Err}
 use Rattle.cells.specs.declared.array.CellArray.{CellArray}
 use Rattle.bounded_files.specs.Files.{KnownFiles, Gives, regular_files}
 use Rattle.bounded_files.specs.declared.resource_fault.ResourceFault.TheVariants.{File, Memory}
-use Rattle.load.specs.Folder.{files_beside}
+use Rattle.load.specs.Folder.{files_in_folder}
 use Rattle.load.specs.Load.{IsRulesetOf, IsLoadFault}
 use Rattle.load.specs.declared.load_fault.PathFault.{PathFault}
 use Rattle.load.specs.declared.load_fault.PathFault.TheVariants.{Resource, Load}
@@ -16,7 +16,7 @@ module _ (known : KnownFiles) (path : List ℕ) (old : List CellArray) where
   pub record IsLoadedFrom (rules : Rules) (new : List CellArray) : Type 0 where
     pub bytes : List ℕ
     pub given : Gives (regular_files known) path (Some bytes)
-    pub loaded : IsRulesetOf (files_beside known path) old bytes rules new
+    pub loaded : IsRulesetOf (files_in_folder known path) old bytes rules new
 
   -- the file can't be read, or its bytes give no ruleset; running out of memory is always allowed
   abbrev pub RefusesPath : PathFault → Type 0
@@ -24,7 +24,7 @@ module _ (known : KnownFiles) (path : List ℕ) (old : List CellArray) where
   RefusesPath (Resource Memory) = Unit {0}
   RefusesPath (Load fault) =
       (bytes : List ℕ) × Gives (regular_files known) path (Some bytes)
-      × IsLoadFault (files_beside known path) old bytes fault
+      × IsLoadFault (files_in_folder known path) old bytes fault
 
   abbrev pub LoadsFrom : Result (Rules × List CellArray) PathFault → Type 0
   LoadsFrom (Ok loaded) = IsLoadedFrom loaded.0 loaded.1

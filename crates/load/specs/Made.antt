@@ -5,7 +5,7 @@ use Rattle.bounded_files.specs.Files.{KnownFiles, Gives, regular_files}
 use Rattle.bpf_semantics.specs.Program.{ShapedProgram}
 use Rattle.cells.specs.declared.array.CellArray.{CellArray}
 use Rattle.load.specs.Digest.{digest_of}
-use Rattle.load.specs.Folder.{files_beside}
+use Rattle.load.specs.Folder.{files_in_folder}
 use Rattle.load.specs.Sources.{AreSources}
 use Rattle.load.specs.Judged.{AreJudged, apps_of}
 use Rattle.load.specs.Load.{IsRulesetOf}
@@ -38,7 +38,7 @@ pub record IsMadeFrom (known : KnownFiles) (path : List ℕ) (old : List CellArr
   pub bytes : List ℕ
   pub given : Gives (regular_files known) path (Some bytes)
   pub sources : Sources
-  pub are_sources : AreSources (files_beside known path) old bytes sources
+  pub are_sources : AreSources (files_in_folder known path) old bytes sources
   pub made_of : IsMadeOf bytes sources made
 
 -- ---- the ruleset made of what was gathered is the one that is loaded

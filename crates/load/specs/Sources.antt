@@ -43,14 +43,15 @@ module _ (known : KnownFiles) (directory : List CellArray) (numbers : List Array
 
   -- the same for the entries whose files are read, after `long` bytes of files that are too long;
   -- `unread` entries follow whose files aren't read
-  pub data AreTaken : (long : ℕ) → List AppEntry → List AppSources → (unread : ℕ) → Type 0 where
-    all_read : {long : ℕ} → AreTaken long [] [] 0
+  pub data AreReadInTurn : (long : ℕ) → List AppEntry → List AppSources → (unread : ℕ)
+      → Type 0 where
+    all_read : {long : ℕ} → AreReadInTurn long [] [] 0
     not_read : {long : ℕ} {entries : List AppEntry} → most_long < long
-        → AreTaken long entries [] (length entries)
+        → AreReadInTurn long entries [] (length entries)
     next_read : {long : ℕ} {entries : List AppEntry} {apps : List AppSources} {entry : AppEntry}
         {app : AppSources} {unread : ℕ} → long ≤ most_long → AreAppSources entry app
-        → AreTaken (long + long_count app.kept) entries apps unread
-        → AreTaken long (entry ∷ entries) (app ∷ apps) unread
+        → AreReadInTurn (long + long_count app.kept) entries apps unread
+        → AreReadInTurn long (entry ∷ entries) (app ∷ apps) unread
 
 -- how many files of these apps couldn't be read
 abbrev pub failures_in : List AppSources → ℕ
@@ -70,7 +71,7 @@ pub record AreSources (known : KnownFiles) (old : List CellArray) (bytes : List 
   pub arrays_are : g.arrays.items ≡ manifest.arrays
   pub numbers : List ArrayNo
   pub declared : AreDeclared old manifest.arrays numbers g.directory
-  pub apps_are : AreTaken known g.directory numbers 0 manifest.apps g.apps.items g.unread
+  pub apps_are : AreReadInTurn known g.directory numbers 0 manifest.apps g.apps.items g.unread
 
 -- the arrays of the manifest that these bytes spell
 abbrev pub AreArraysOf : List ℕ → List Declaration → Type 0
@@ -79,11 +80,11 @@ AreArraysOf bytes arrays =
 
 -- the arrays that come with a fault that depends on no file: none if the bytes aren't a manifest;
 -- the manifest's if one of them can't be declared; either if memory ran out
-abbrev pub AreArraysBeside : List ℕ → LoadFault → List Declaration → Type 0
-AreArraysBeside bytes (NoManifest fault) arrays = arrays ≡ []
-AreArraysBeside bytes (Cells number fault) arrays = AreArraysOf bytes arrays
-AreArraysBeside bytes Memory arrays = (arrays ≡ []) ⊎ AreArraysOf bytes arrays
-AreArraysBeside bytes fault arrays = ⊥
+abbrev pub AreArraysWithFault : List ℕ → LoadFault → List Declaration → Type 0
+AreArraysWithFault bytes (NoManifest fault) arrays = arrays ≡ []
+AreArraysWithFault bytes (Cells number fault) arrays = AreArraysOf bytes arrays
+AreArraysWithFault bytes Memory arrays = (arrays ≡ []) ⊎ AreArraysOf bytes arrays
+AreArraysWithFault bytes fault arrays = ⊥
 
 -- the fault of a manifest, as the fault of its load
 abbrev pub of_manifest : ManifestFault → LoadFault
@@ -91,14 +92,14 @@ of_manifest unread.Memory = Memory
 of_manifest fault = NoManifest fault
 
 -- what the bytes were parsed as, if they aren't a manifest; nothing for any other fault
-abbrev pub IsParsedBeside : List ℕ → LoadFault → Parsed → Type 0
-IsParsedBeside bytes (NoManifest fault) parsed = IsParsed bytes fault parsed
-IsParsedBeside bytes fault parsed = parsed ≡ Nothing
+abbrev pub IsParsedWithFault : List ℕ → LoadFault → Parsed → Type 0
+IsParsedWithFault bytes (NoManifest fault) parsed = IsParsed bytes fault parsed
+IsParsedWithFault bytes fault parsed = parsed ≡ Nothing
 
 -- why nothing is gathered, whatever the files would give; the arrays that are known then; and what
 -- the bytes were parsed as
 pub record IsSourcesRefusal (old : List CellArray) (bytes : List ℕ)
     (u : SourcesRefusal) : Type 0 where
   pub fault_is : (known : KnownFiles) → IsLoadFault known old bytes u.fault
-  pub arrays_are : AreArraysBeside bytes u.fault u.arrays.items
-  pub parsed_is : IsParsedBeside bytes u.fault u.parsed
+  pub arrays_are : AreArraysWithFault bytes u.fault u.arrays.items
+  pub parsed_is : IsParsedWithFault bytes u.fault u.parsed

@@ -67,7 +67,7 @@ fn array_cause(
 {
     match fault {
         CellsFault::Redefined => match array_named(directory.arrays(), array.name()) {
-            Some(standing) => change_text(alloc, standing, array).ok(),
+            Some(existing) => change_text(alloc, existing, array).ok(),
             None => None,
         },
         CellsFault::CellsFull => full_text(alloc, array).ok(),
@@ -77,14 +77,14 @@ fn array_cause(
 
 fn change_text(
     alloc: Global,
-    standing: &CellArray,
+    existing: &CellArray,
     array: &ArrayDeclaration,
 ) -> Result<String, AllocError>
     ensures { IfOk result
-        (λ text. string_bytes text ≡ specs.change_text standing.now array.now) }
+        (λ text. string_bytes text ≡ specs.change_text existing.now array.now) }
 {
     let mut text = String::new(alloc);
-    push_array(&mut text, standing)?;
+    push_array(&mut text, existing)?;
     write!(text, " to {array}")?;
     Ok(text)
 }

@@ -37,14 +37,14 @@ impl<'a, D> FolderFiles<'a, D> {
 }
 
 impl<'a, D: Disk> Files for FolderFiles<'a, D> {
-    ghost use Rattle.load.specs.Folder.{files_beside};
+    ghost use Rattle.load.specs.Folder.{files_in_folder};
 
-    ghost known = { λ files. files_beside (D.known files.disk.now) files.manifest.now };
+    ghost known = { λ files. files_in_folder (D.known files.disk.now) files.manifest.now };
 
     ghost failed = { λ files. files.failures };
 
     fn bytes(&mut self, name: &str) -> Result<Vec<u8>, ResourceFault> {
-        let Ok(path) = path_beside(self.alloc, self.manifest, name) else {
+        let Ok(path) = path_in_folder(self.alloc, self.manifest, name) else {
             return Err(ResourceFault::Memory);
         };
         match read_regular_within(self.disk, path.as_str(), MOST_BYTES) {
@@ -59,7 +59,7 @@ impl<'a, D: Disk> Files for FolderFiles<'a, D> {
 
     // Without holding all bytes of a longer file.
     fn keep(&mut self, name: &str, most: u32) -> Result<KeptBytes, ResourceFault> {
-        let Ok(place) = path_beside(self.alloc, self.manifest, name) else {
+        let Ok(place) = path_in_folder(self.alloc, self.manifest, name) else {
             return Err(ResourceFault::Memory);
         };
         match self.disk.keep_regular(place.as_str(), most) {
@@ -78,7 +78,7 @@ impl<'a, D: Disk> Files for FolderFiles<'a, D> {
 
     fn is_through_link(&self, name: &str) -> bool {
         for part in Path::new(name).ancestors() {
-            if is_link_beside(self.alloc, self.disk, self.manifest, part.as_os_str()) {
+            if is_link_in_folder(self.alloc, self.disk, self.manifest, part.as_os_str()) {
                 return true;
             }
         }
@@ -92,19 +92,20 @@ impl<'a, D: Disk> Files for FolderFiles<'a, D> {
 
 // Whether a name, or a prefix of one, is a symbolic link; if an allocation for its path fails, it
 // counts as one. The folder itself isn't tested.
-fn is_link_beside<D: Disk>(alloc: Global, disk: &D, manifest: &str, part: &str) -> bool {
+fn is_link_in_folder<D: Disk>(alloc: Global, disk: &D, manifest: &str, part: &str) -> bool {
     if part.is_empty() {
         return false;
     }
-    match path_beside(alloc, manifest, part) {
+    match path_in_folder(alloc, manifest, part) {
         Ok(path) => disk.is_link(path.as_str()),
         Err(_) => true,
     }
 }
 
 // The path of a name, relative to the folder of a manifest.
-fn path_beside(alloc: Global, manifest: &str, name: &str) -> Result<PathBuf, AllocError>
-    ensures { IfOk result (λ path. path_buf_bytes path ≡ specs.path_beside manifest.now name.now) }
+fn path_in_folder(alloc: Global, manifest: &str, name: &str) -> Result<PathBuf, AllocError>
+    ensures { IfOk result
+        (λ path. path_buf_bytes path ≡ specs.path_in_folder manifest.now name.now) }
 {
     let folder = Path::new(manifest).parent().unwrap_or(Path::new(""));
     folder.join(alloc, name)

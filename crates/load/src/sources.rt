@@ -4,7 +4,7 @@ ghost use Rattle.std.specs.Prelude.{◌≡◌, ◌≢◌, ◌^◌, ◌+◌, ◌-
 ghost use Rattle.std.specs.Prelude.{All, IsTrue, IfOk, IfErr, Ok};
 ghost use mathlib.Core.List.{IsPrefix};
 ghost use Rattle.cells.specs.declared.array.CellArray.{CellArray};
-ghost use Rattle.load.specs.Sources.{AreAppSources, AreArraysOf, AreSources, AreTaken};
+ghost use Rattle.load.specs.Sources.{AreAppSources, AreArraysOf, AreReadInTurn, AreSources};
 ghost use Rattle.load.specs.Sources.{IsSourcesRefusal, failures_in};
 ghost use Rattle.load.specs.Sources as specs;
 ghost use Rattle.load.specs.Kept.{CountsFile};
@@ -186,7 +186,7 @@ fn collect_apps<F: Files>(
     requires { All (λ n. n.number < length directory.now) numbers.now }
     ensures known { F.known files.new ≡ F.known files.old }
     ensures apps { IfOk result (λ read.
-        AreTaken (F.known files.old) directory.now numbers.now 0 entries.items read.apps.items
+        AreReadInTurn (F.known files.old) directory.now numbers.now 0 entries.items read.apps.items
         read.unread) }
     ensures count { IfOk result (λ read.
         F.failed files.new ≡ F.failed files.old + failures_in read.apps.items) }

@@ -3,7 +3,7 @@
 use Rattle.std.specs.Prelude.{ℕ, List, [], Option, Some, map}
 use Rattle.bounded_files.specs.Files.{KnownFiles, Gives, regular_files}
 use Rattle.app_rules.specs.Rules.{AreRulesKept}
-use Rattle.load.specs.Folder.{files_beside}
+use Rattle.load.specs.Folder.{files_in_folder}
 use Rattle.load.specs.Sources.{AreSources}
 use Rattle.load.specs.Judged.{AreJudged}
 use Rattle.load.specs.Loaded.{RefusesPath}
@@ -17,7 +17,7 @@ use Rattle.manifest_diff.specs.declared.opened.OpenedManifest.{OpenedManifest}
 pub record IsOpened (known : KnownFiles) (path : List ℕ) (o : OpenedManifest) : Type 0 where
   pub bytes : List ℕ
   pub given : Gives (regular_files known) path (Some bytes)
-  pub are_sources : AreSources (files_beside known path) [] bytes o.sources
+  pub are_sources : AreSources (files_in_folder known path) [] bytes o.sources
   pub judged : AreJudged o.sources.apps.items o.programs.items
   pub rules_are : AreRulesKept o.sources.apps.items o.programs.items o.rules.items
 

@@ -2,7 +2,7 @@
 use Rattle.std.specs.Prelude.{ℕ, List, ◌++◌, codes, None}
 use Rattle.diagnosis.specs.Check.{PassesCheck, FailsCheck}
 use Rattle.diagnosis.specs.declared.accepted.CheckedManifest.{CheckedManifest}
-use Rattle.load.specs.Folder.{files_beside}
+use Rattle.load.specs.Folder.{files_in_folder}
 use Rattle.load.specs.Texts.{load_fault_text, path_fault_text}
 use Rattle.bounded_files.specs.Files.{KnownFiles, Gives, OfFile, regular_files}
 use Rattle.bounded_files.specs.Texts.{resource_text}
@@ -15,7 +15,7 @@ module _ (known : KnownFiles) where
   -- warnings
   abbrev pub IsChecked : (path : List ℕ) → CheckedManifest → Type 0
   IsChecked path checked = OfFile (regular_files known) path (λ bytes.
-      PassesCheck (files_beside known path) bytes checked)
+      PassesCheck (files_in_folder known path) bytes checked)
 
   -- the file can't be read or isn't regular, or its manifest is refused, with where and why;
   -- running out of memory for the file is always allowed
@@ -24,7 +24,7 @@ module _ (known : KnownFiles) where
   IsCheckRefusal path (fault.Resource resource.Memory) = Unit {0}
   IsCheckRefusal path (fault.Diagnosed refused) =
       OfFile (regular_files known) path (λ bytes.
-      FailsCheck (files_beside known path) bytes refused)
+      FailsCheck (files_in_folder known path) bytes refused)
   IsCheckRefusal path refused = ⊥
 
 -- ---- texts; B8: a simulated manifest doesn't have the one app that is to be reported

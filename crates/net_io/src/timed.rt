@@ -22,7 +22,7 @@ use std::time::{Clock, Duration, Instant};
 const DRAIN_SECONDS: u64 = 1;
 
 /// The size of the buffer for what a client sends after its request.
-const REST_ROOM: usize = 512;
+const REST_SIZE: usize = 512;
 
 /// One direction of a connection.
 #[derive(Drop)]
@@ -179,6 +179,6 @@ pub fn drain<R: Clock>(stream: &TcpStream, clock: &R) -> io::Result<()> {
 // open: what is read at a connection's end: tests.
 pub fn take_rest(stream: &TcpStream) -> io::Result<()> {
     let mut rest = stream;
-    let _taken = rest.read(&mut [0; REST_ROOM])?;
+    let _taken = rest.read(&mut [0; REST_SIZE])?;
     Ok(())
 }

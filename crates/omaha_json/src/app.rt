@@ -39,7 +39,7 @@ fn write_app(
         (tokens_of (specs.app_value app.now found.now))) }
 {
     match found {
-        Some(found) => write_known(writer, app, found),
+        Some(found) => write_listed(writer, app, found),
         None => write_unknown(writer, app.appid()),
     }
 }
@@ -63,7 +63,7 @@ fn write_unknown(writer: &mut Writer, appid: &str) -> Result<(), AllocError>
 }
 
 // An app that is in the ruleset.
-fn write_known(
+fn write_listed(
     writer: &mut Writer,
     app: &SharedFacts,
     found: &FoundApp<'_>,

@@ -42,7 +42,7 @@ within_cells arrays i array known below found =
     let before : taken w (take i arrays) + array.length ≤ taken w arrays =
     subst (λ (n : ℕ). taken w (take i arrays) + n ≤ taken w arrays) own
     (sum_by_more_le (cells_of w) arrays i array below) in
-    omega (arith, known.places i array at, before, known.room w, ends_within w)
+    omega (arith, known.places i array at, before, known.cells_fit w, ends_within w)
 
 -- ---- reading consists only of loads
 

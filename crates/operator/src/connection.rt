@@ -21,7 +21,7 @@ use std::io::{self, Read, Write};
 use std::sync::Wait;
 
 /// One byte more than a line may have, so that a longer line is noticed.
-const LINE_ROOM: usize = LINE_LIMIT + 1;
+const LINE_SIZE: usize = LINE_LIMIT + 1;
 
 /// Reads a line, does what it requests, and returns the reply. Returns `None` if the reader failed;
 /// then nothing was done.
@@ -50,7 +50,7 @@ pub fn answer<H: Wait, R: Read, L: Loader, C: CellSteps>(
     ensures unreceived { IfNone result ((control.new ≡ control.old) × (pass.new ≡ pass.old)) }
     ensures unreadable { IfNone result (reader.new.failures ≡ reader.old.failures + 1) }
 {
-    let mut room = [0; LINE_ROOM];
+    let mut room = [0; LINE_SIZE];
     let Ok(size) = read_line(reader, &mut room) else {
         return None;
     };

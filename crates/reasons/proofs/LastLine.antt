@@ -63,10 +63,10 @@ module _ (a : Attributes) (s : AppShape) where
       (by_this_when old steps release rest holds)
   when_chooses old steps release rest false e last holds ends more =
       let r = read_steps a s old steps in
-      let tokens_after = rule_lines a s r.counters rest in
+      let rest_lines = rule_lines a s r.counters rest in
       subst (λ (x : Ending). ChoosesByLastLine a s old (When steps release ∷ rest)
-      (when_line steps r.text ∷ tokens_after) x.choice x.counters) (sym ends)
-      (after_when old steps release rest tokens_after last.choice last.counters holds more)
+      (when_line steps r.text ∷ rest_lines) x.choice x.counters) (sym ends)
+      (after_when old steps release rest rest_lines last.choice last.counters holds more)
 
   rule_chooses : (rule : List Statement) (old : List ℕ)
       → ChoosesByLastLine a s old rule (rule_lines a s old rule)

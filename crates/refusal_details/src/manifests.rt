@@ -31,7 +31,8 @@ where
     printed
 }
 
-/// Prints what `print_unread_manifest` prints, or else which command says why a manifest is refused.
+/// Prints what `print_unread_manifest` prints, or else which command says why a manifest is
+/// refused.
 // open: the line: rows.
 pub fn print_manifest_hint<R, D, E>(rt: &R, disk: &D, path: &str, err: &mut E) -> bool
 where
@@ -138,7 +139,7 @@ where
     E: Write,
 {
     for app in apps {
-        let Ok(path) = path_beside(rt.alloc(), manifest, file_of(app.source())) else {
+        let Ok(path) = path_in_folder(rt.alloc(), manifest, file_of(app.source())) else {
             return false;
         };
         if print_read_fault(rt, path.as_str(), err) {
@@ -149,7 +150,7 @@ where
 }
 
 // The path of a name, relative to the folder of a manifest.
-fn path_beside(alloc: Global, manifest: &str, name: &str) -> Result<PathBuf, AllocError> {
+fn path_in_folder(alloc: Global, manifest: &str, name: &str) -> Result<PathBuf, AllocError> {
     let folder = Path::new(manifest).parent().unwrap_or(Path::new(""));
     folder.join(alloc, name)
 }

@@ -141,7 +141,7 @@ module _ (old new : Tally) (name : RowName) (n m : ℕ) (had : get_by_text old.r
       others = up_others;
       full = λ some. rw as_long (counted.full (rw (sets.others) at some));
       within = rw as_long counted.within;
-      room = sets.limit ∙ counted.room;
+      limit_is = sets.limit ∙ counted.limit_is;
     }
 
   pub goes_up : Notes old new (name ∷ [])
@@ -160,7 +160,7 @@ module _ (old new : Tally) (name : RowName) (none : get_by_text old.rows name �
   module _ (limit : ℕ) (before : List RowName) (counted : IsTally limit before old) where
     no_others : old.others ≡ 0
     no_others =
-        zero_if_none old.others (λ some. omega (arith, counted.full some, counted.room, free))
+        zero_if_none old.others (λ some. omega (arith, counted.full some, counted.limit_is, free))
 
     all_have_rows : count_by (has_no_row old) before ≡ 0
     all_have_rows = none_zero _ (sym no_others ∙ counted.others)
@@ -201,8 +201,8 @@ module _ (old new : Tally) (name : RowName) (none : get_by_text old.rows name �
       rows = λ other k found. first_row other k found (bytes_eq name other) refl;
       others = sets.others ∙ no_others ∙ sym (ap capped none_behind);
       full = λ some. absurd (omega (arith, some, sets.others, no_others));
-      within = omega (arith, one_longer, free, counted.room);
-      room = sets.limit ∙ counted.room;
+      within = omega (arith, one_longer, free, counted.limit_is);
+      limit_is = sets.limit ∙ counted.limit_is;
     }
 
   pub gets_row : Notes old new (name ∷ [])
@@ -236,9 +236,9 @@ module _ (old new : Tally) (name : RowName) (none : get_by_text old.rows name �
     joined = record {
       rows = λ other k found. other_row other k (rw rows at found) (bytes_eq name other) refl;
       others = rw rows one_other;
-      full = λ some. rw rows (omega (arith, full, counted.room));
+      full = λ some. rw rows (omega (arith, full, counted.limit_is));
       within = rw rows counted.within;
-      room = limit_is ∙ counted.room;
+      limit_is = limit_is ∙ counted.limit_is;
     }
 
   pub joins_others : Notes old new (name ∷ [])
@@ -269,10 +269,10 @@ notes_both a b c xs ys first last = record {
 
 pub empty_tally : (limit : ℕ) (t : Tally) → t.others ≡ 0 → btree_map_len t.rows ≡ 0
     → t.limit ≡ limit → ((name : RowName) → get_by_text t.rows name ≡ None) → IsTally limit [] t
-empty_tally limit t none_else none_long room none = record {
+empty_tally limit t none_else none_long limit_is none = record {
   rows = λ name n found. absurd (no_some n _ (none name) found);
   others = none_else;
   full = λ some. absurd (omega (arith, some, none_else));
   within = omega (arith, none_long);
-  room = room;
+  limit_is = limit_is;
 }

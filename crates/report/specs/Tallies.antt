@@ -29,7 +29,7 @@ pub record IsTally (limit : ℕ) (names : List RowName) (t : Tally) : Type 0 whe
   -- there are others only if no row is free
   pub full : 0 < t.others → limit ≤ btree_map_len t.rows
   pub within : btree_map_len t.rows ≤ limit
-  pub room : t.limit ≡ limit
+  pub limit_is : t.limit ≡ limit
 
 -- adds these names to any names counted before
 pub record Notes (old new : Tally) (names : List RowName) : Type 0 where

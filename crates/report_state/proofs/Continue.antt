@@ -77,7 +77,7 @@ module _ (limit : ℕ) (names : List RowName) (a b : Tally) where
         full = λ some. subst (λ (k : ℕ). limit ≤ k) len
             (t.full (subst (λ (k : ℕ). 0 < k) (sym others) some));
         within = subst (λ (k : ℕ). k ≤ limit) len t.within;
-        room = sym limits ∙ t.room;
+        limit_is = sym limits ∙ t.limit_is;
       }
 
   with_rows : (o : Option Items)

@@ -22,7 +22,7 @@ use Rattle.abs_value.specs.States.{register_at, value_at, with_value}
 use Rattle.bpf_checks.specs.Arrays.{wide_abs, has_quota_cell, has_quota}
 use Rattle.bpf_checks.specs.Rules.{first_rule}
 use Rattle.bpf_checks.specs.Transfer.{after, fetched_value}
-use Rattle.bpf_verify.specs.Table.{Known, Knows}
+use Rattle.bpf_verify.specs.Table.{SlotFacts, HasFacts}
 use Rattle.rule_compile.specs.Instructions as insn
 use Rattle.rule_compile.proofs.Counters.{IsCellOf}
 use Rattle.rule_compile.proofs.Typed.{IsStep}
@@ -94,13 +94,15 @@ module _ (shape : AppShape) where
   unfolding first_rule
   cell_passes array index c e is = rw is refl
 
-  cell_gives : (array index c : ℕ) (d : Known) (e : AbsState)
-      → wide_abs shape (wide.Cell (pos array) (pos (8 * index))) ≡ Some (Cell (Fixed c)) → Knows d e
-      → Knows (writes d R3 (Cell (Fixed c))) (after shape 0 e (insn.load_cell array index))
+  cell_gives : (array index c : ℕ) (d : SlotFacts) (e : AbsState)
+      → wide_abs shape (wide.Cell (pos array) (pos (8 * index))) ≡ Some (Cell (Fixed c))
+      → HasFacts d e
+      → HasFacts (writes d R3 (Cell (Fixed c))) (after shape 0 e (insn.load_cell array index))
   cell_gives array index c d e is h =
       rw is (knows_write d e R3 (Cell (Fixed c)) (Cell (Fixed c)) h refl)
 
-  pub cell_step : (array index c : ℕ) (a : CellArray) (d : Known) (q : Program) (ds : List Known)
+  pub cell_step : (array index c : ℕ) (a : CellArray) (d : SlotFacts) (q : Program)
+      (ds : List SlotFacts)
       → slice_get shape.arrays array ≡ Some a → index < a.length → a.base + index ≡ c
       → Takes (None ∷ q) ds 1 (writes d R3 (Cell (Fixed c)))
       → IsStep shape d (insn.load_cell array index) (None ∷ q) ds
@@ -129,7 +131,7 @@ module _ (shape : AppShape) where
   unfolding first_rule
   add_passes size c e n three two whole free = rw (three, two, whole, free) refl
 
-  pub add_step : (size : AtomicSize) (c : ℕ) (d : Known) (q : Program) (ds : List Known)
+  pub add_step : (size : AtomicSize) (c : ℕ) (d : SlotFacts) (q : Program) (ds : List SlotFacts)
       → register_at d.registers 3 ≡ Cell (Fixed c) → register_at d.registers 2 ≡ Num (single 1)
       → IsCellOf size c → has_quota shape (Fixed c) ≡ false → Takes q ds 0 d
       → IsStep shape d (insn.add_to_cell size) q ds
@@ -152,7 +154,7 @@ module _ (shape : AppShape) where
     | inr free ↦ rw (three, two, whole, free) refl
   ]
 
-  pub take_step : (c : ℕ) (d : Known) (q : Program) (ds : List Known)
+  pub take_step : (c : ℕ) (d : SlotFacts) (q : Program) (ds : List SlotFacts)
       → register_at d.registers 3 ≡ Cell (Fixed c) → register_at d.registers 2 ≡ Num (single 1)
       → c < 4096 → Takes q ds 0 (writes d R2 (Num any)) → IsStep shape d insn.take_from_cell q ds
   take_step c d q ds three two cell takes = record {

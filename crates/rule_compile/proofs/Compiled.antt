@@ -7,7 +7,7 @@ use Rattle.bpf_semantics.specs.Program.{ShapedProgram}
 use Rattle.cells.specs.Arrays.{AppShape, IsShape}
 use Rattle.flow_check.specs.Flow.{IsFlow}
 use Rattle.bpf_verify.specs.Accepted.{IsAccepted}
-use Rattle.bpf_verify.specs.Table.{Known, IsTable}
+use Rattle.bpf_verify.specs.Table.{SlotFacts, IsTable}
 use Rattle.rule_lang.specs.declared.rule.Statement.{Statement}
 use Rattle.rule_lang.specs.Fits.{fits}
 use Rattle.rule_compile.specs.Code.{rule_code}
@@ -32,7 +32,7 @@ module _ (s : AppShape) (xs ys : List Statement) (code : Program) (same : ys ≡
       (subst (AllByRecursion CanEncode) whole encodable)
       (subst (λ (p : Program). length p ≤ 4096) code_is short))
 
-  pub written_accepted : ((p : Program) (s : AppShape) (table : ℕ → Known) → IsTable p s table
+  pub written_accepted : ((p : Program) (s : AppShape) (table : ℕ → SlotFacts) → IsTable p s table
       → IsAccepted p s) → (p : Program) → p ≡ code → IsAccepted p s
   written_accepted law p p_is =
       let t = rule_table s shape xs (subst IsRuleInRange same range) fit

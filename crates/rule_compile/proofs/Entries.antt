@@ -17,7 +17,7 @@ use Rattle.abs_value.specs.declared.state.AbsState.{AbsState}
 use Rattle.abs_value.specs.Numbers.{up_to, full}
 use Rattle.abs_value.specs.Values.{places}
 use Rattle.abs_value.specs.States.{register_at, value_at, with_value}
-use Rattle.bpf_verify.specs.Table.{Known, IsWider, Knows}
+use Rattle.bpf_verify.specs.Table.{SlotFacts, IsWider, HasFacts}
 use Rattle.rule_compile.proofs.Typed.{entry_at}
 
 -- ---- entries: R6 is the context, R7 a choice, R10 the top of the stack
@@ -25,7 +25,7 @@ use Rattle.rule_compile.proofs.Typed.{entry_at}
 abbrev pub none_set : ℕ → Bool
 none_set place = false
 
-abbrev pub frame : Abs → Abs → Abs → Abs → Abs → Abs → (ℕ → Bool) → Known
+abbrev pub frame : Abs → Abs → Abs → Abs → Abs → Abs → (ℕ → Bool) → SlotFacts
 frame zero_is one two three four choice set = record {
   registers = zero_is ∷ one ∷ two ∷ three ∷ four ∷ Unusable ∷ Ctx
       (places 0 0) ∷ choice ∷ Unusable ∷ Unusable ∷ Stk 512 ∷ [];
@@ -40,11 +40,12 @@ abbrev pub choice : AppShape → Abs
 choice shape = Num (up_to shape.releases)
 
 -- between two pieces, and with values in R0 to R4
-abbrev pub chosen : AppShape → Known
+abbrev pub chosen : AppShape → SlotFacts
 chosen shape = frame Unusable Unusable Unusable Unusable Unusable (choice shape) none_set
 
-pub forgets : (a b c d e v : Abs) (set : ℕ → Bool) (f : AbsState) → Knows (frame a b c d e v set) f
-    → Knows (frame Unusable Unusable Unusable Unusable Unusable v none_set) f
+pub forgets : (a b c d e v : Abs) (set : ℕ → Bool) (f : AbsState)
+    → HasFacts (frame a b c d e v set) f
+    → HasFacts (frame Unusable Unusable Unusable Unusable Unusable v none_set) f
 forgets a b c d e v set f h = record {
   long = h.long;
   wide = h.wide;
@@ -64,13 +65,13 @@ forgets a b c d e v set f h = record {
 
 -- ---- the entry at a place covers what is known
 
-pub record Takes (q : Program) (ds : List Known) (k : ℕ) (d : Known) : Type 0 where
+pub record Takes (q : Program) (ds : List SlotFacts) (k : ℕ) (d : SlotFacts) : Type 0 where
   pub place : IsSome (at q k)
-  pub known : (f : AbsState) → Knows d f → Knows (entry_at ds k) f
+  pub known : (f : AbsState) → HasFacts d f → HasFacts (entry_at ds k) f
 
 -- ---- a register is written
 
-abbrev pub writes : Known → Reg → Abs → Known
+abbrev pub writes : SlotFacts → Reg → Abs → SlotFacts
 writes d r v = record { registers = slice_set d.registers (number_of r) v; set = d.set }
 
 written : (vs es : List Abs) (r : ℕ) (v w : Abs) → r < length es
@@ -98,8 +99,8 @@ overwritten vs es r w lt h hv q = grind (arith, common_steps, h q)
 register_in : (r : Reg) → number_of r < 11
 register_in r = grind arith
 
-pub knows_write : (d : Known) (e : AbsState) (r : Reg) (v w : Abs) → Knows d e → IsWider v w
-    → Knows (writes d r v) (with_value e r w)
+pub knows_write : (d : SlotFacts) (e : AbsState) (r : Reg) (v w : Abs) → HasFacts d e → IsWider v w
+    → HasFacts (writes d r v) (with_value e r w)
 knows_write d e r v w h hv = record {
   long = grind (arith, common_steps, h.long);
   wide = h.wide;
@@ -108,8 +109,8 @@ knows_write d e r v w h hv = record {
   bytes = h.bytes;
 }
 
-pub knows_over : (d : Known) (e : AbsState) (r : Reg) (w : Abs) → Knows d e
-    → IsWider (register_at d.registers (number_of r)) w → Knows d (with_value e r w)
+pub knows_over : (d : SlotFacts) (e : AbsState) (r : Reg) (w : Abs) → HasFacts d e
+    → IsWider (register_at d.registers (number_of r)) w → HasFacts d (with_value e r w)
 knows_over d e r w h hv = record {
   long = grind (arith, common_steps, h.long);
   wide = h.wide;

@@ -34,7 +34,7 @@ use Rattle.bpf_checks.specs.Memory.{changes, lies_in, stack_place}
 use Rattle.bpf_checks.specs.Reads.{load_use}
 use Rattle.bpf_checks.specs.Rules.{first_rule}
 use Rattle.bpf_checks.specs.Transfer.{after, loaded_at}
-use Rattle.bpf_verify.specs.Table.{Known, LiesIn, IsWider, Knows}
+use Rattle.bpf_verify.specs.Table.{SlotFacts, LiesIn, IsWider, HasFacts}
 use Rattle.rule_compile.specs.Instructions as insn
 use Rattle.rule_compile.proofs.Typed.{IsStep}
 use Rattle.rule_compile.proofs.Entries.{any, Takes, writes, knows_write}
@@ -131,15 +131,15 @@ module _ (shape : AppShape) where
   load_passes kind offset e a is hi within =
       rw (is, lies a offset (load_count kind) hi within, only_reads kind) refl
 
-  load_gives : (kind : LoadKind) (offset : ℕ) (d : Known) (e : AbsState) (a : Places)
-      → value_at e 6 ≡ Ctx a → Knows d e
-      → Knows (writes d R2 (Num any))
+  load_gives : (kind : LoadKind) (offset : ℕ) (d : SlotFacts) (e : AbsState) (a : Places)
+      → value_at e 6 ≡ Ctx a → HasFacts d e
+      → HasFacts (writes d R2 (Num any))
       (with_value e R2 (loaded_at e (stack_place (value_at e 6) (pos offset) (load_count kind))
       kind))
   load_gives kind offset d e a is h =
       rw is (knows_write d e R2 (Num any) (loaded_value kind) h (any_loaded kind))
 
-  pub load_step : (kind : LoadKind) (offset : ℕ) (d : Known) (q : Program) (ds : List Known)
+  pub load_step : (kind : LoadKind) (offset : ℕ) (d : SlotFacts) (q : Program) (ds : List SlotFacts)
       → register_at d.registers 6 ≡ Ctx (places 0 0) → offset + load_count kind ≤ 64
       → Takes q ds 0 (writes d R2 (Num any))
       → IsStep shape d (insn.load_field kind offset) q ds
@@ -162,13 +162,14 @@ module _ (shape : AppShape) where
   unfolding first_rule
   remainder_passes r m e a is frame = rw (is, frame) refl
 
-  remainder_gives : (r : Reg) (m : ℕ) (d : Known) (e : AbsState) (a : Number) → value_of e r ≡ Num a
-      → Knows d e → Knows (writes d r (Num any)) (after shape 0 e (insn.take_remainder r m))
+  remainder_gives : (r : Reg) (m : ℕ) (d : SlotFacts) (e : AbsState) (a : Number)
+      → value_of e r ≡ Num a
+      → HasFacts d e → HasFacts (writes d r (Num any)) (after shape 0 e (insn.take_remainder r m))
   remainder_gives r m d e a is h =
       let b : Number = single (immediate Bits32 (insn.imm_of m)) in
       rw is (knows_write d e r (Num any) (Num (alu_number Bits32 Mod a b)) h (any_remainder a b))
 
-  pub remainder_step : (r : Reg) (m : ℕ) (d : Known) (q : Program) (ds : List Known)
+  pub remainder_step : (r : Reg) (m : ℕ) (d : SlotFacts) (q : Program) (ds : List SlotFacts)
       → (number_of r == 10) ≡ false → register_at d.registers (number_of r) ≡ Num any
       → Takes q ds 0 (writes d r (Num any)) → IsStep shape d (insn.take_remainder r m) q ds
   remainder_step r m d q ds frame is takes = record {
@@ -198,14 +199,14 @@ module _ (shape : AppShape) where
         (and_bits a.bits (exactly mask)) (omega arith, omega arith, omega (arith, h.2)))
   ]
 
-  mask_gives : (mask : ℕ) (d : Known) (e : AbsState) (a : Number) → value_at e 2 ≡ Num a
-      → LiesIn (least any) (most any) (least a) (most a) → Knows d e
-      → Knows (writes d R2 (Num any)) (after shape 0 e (insn.mask_field mask))
+  mask_gives : (mask : ℕ) (d : SlotFacts) (e : AbsState) (a : Number) → value_at e 2 ≡ Num a
+      → LiesIn (least any) (most any) (least a) (most a) → HasFacts d e
+      → HasFacts (writes d R2 (Num any)) (after shape 0 e (insn.mask_field mask))
   mask_gives mask d e a is range h =
       rw is (knows_write d e R2 (Num any) (Num (alu_number Bits64 And a (single mask))) h
       (masked a mask range))
 
-  pub mask_step : (mask : ℕ) (d : Known) (q : Program) (ds : List Known)
+  pub mask_step : (mask : ℕ) (d : SlotFacts) (q : Program) (ds : List SlotFacts)
       → register_at d.registers 2 ≡ Num any → Takes q ds 0 (writes d R2 (Num any))
       → IsStep shape d (insn.mask_field mask) q ds
   mask_step mask d q ds two takes = record {

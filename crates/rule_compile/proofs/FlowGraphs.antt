@@ -18,7 +18,7 @@ use Rattle.flow_check.specs.declared.flow_fault.FlowRule.TheVariants.{BackJump, 
 use Rattle.flow_check.specs.declared.flow_fault.FlowRule.TheVariants.{InsideWide, FallsOff}
 use Rattle.flow_check.specs.Flow.{IsFlow}
 use Rattle.cells.specs.Arrays.{AppShape}
-use Rattle.bpf_verify.specs.Table.{Known}
+use Rattle.bpf_verify.specs.Table.{SlotFacts}
 use Rattle.rule_compile.specs.Writing.{CanEncode}
 use Rattle.rule_compile.proofs.Typed.{GoesOn, JumpsTo, HasHalf, halves, IsTyped}
 use Rattle.rule_compile.proofs.Typed.{IsStep, entry_at, located, at_drop, next_is}
@@ -26,7 +26,7 @@ use Rattle.rule_compile.proofs.Flows.{StartsWell, laid, starts_after, starts_lat
 
 -- ---- edges
 
-module _ (shape : AppShape) (p : Program) (ds : List Known) (typed : IsTyped shape p ds) where
+module _ (shape : AppShape) (p : Program) (ds : List SlotFacts) (typed : IsTyped shape p ds) where
   no_place : (t : ℕ) → IsSome (at p t) → length p ≤ t → ⊥
   no_place t some le = let none = slice_get_past p t le in let bad : is_some (at p t) ≡ false =
       ap (λ (o : Option (Option Insn)). is_some (o >>= λ x. x)) none in absurd cc
@@ -36,7 +36,7 @@ module _ (shape : AppShape) (p : Program) (ds : List Known) (typed : IsTyped sha
       ap (λ (o : Option (Option Insn)). is_some (o >>= λ x. x)) half in absurd cc
 
   -- a jump leads forward to an instruction
-  lands : (s : ℕ) (d : Known) (i : Insn) (es : List Known) (o : Option Distance)
+  lands : (s : ℕ) (d : SlotFacts) (i : Insn) (es : List SlotFacts) (o : Option Distance)
       → JumpsTo o (drop (suc s) p) es d i → (t : ℕ)
       → (o >>= λ distance. landing s (slots_moved distance)) ≡ Some t
       → (suc s ≤ t) × IsSome (at p t)
@@ -51,7 +51,7 @@ module _ (shape : AppShape) (p : Program) (ds : List Known) (typed : IsTyped sha
       )
 
   -- a jump has a target
-  some_target : (s : ℕ) (d : Known) (i : Insn) (es : List Known) (o : Option Distance)
+  some_target : (s : ℕ) (d : SlotFacts) (i : Insn) (es : List SlotFacts) (o : Option Distance)
       → JumpsTo o (drop (suc s) p) es d i → IsSome o → (t : ℕ)
       × ((o >>= λ distance. landing s (slots_moved distance)) ≡ Some t)
   some_target s d i es None h some = absurd cc
@@ -61,7 +61,7 @@ module _ (shape : AppShape) (p : Program) (ds : List Known) (typed : IsTyped sha
       → IsStep shape (entry_at ds s) i (drop (suc s) p) (drop (suc s) ds)
   step_at s i is = located shape p ds s i typed is
 
-  next_stands : (s : ℕ) (d : Known) (i : Insn) (es : List Known) (b : Bool) → goes_on i ≡ b
+  next_stands : (s : ℕ) (d : SlotFacts) (i : Insn) (es : List SlotFacts) (b : Bool) → goes_on i ≡ b
       → GoesOn shape b (drop (suc s) p) es d i → b ≡ true → IsSome (at p (next_of s i))
   next_stands s d i es true is h on =
       let place : suc s + halves (width_of i) ≡ next_of s i = let n = next_is s i in
@@ -99,14 +99,14 @@ module _ (shape : AppShape) (p : Program) (ds : List Known) (typed : IsTyped sha
       (next_of s i)) (sym on) here)
 
   -- an instruction that has code after it falls through to it
-  goes_there : (q : Program) (es : List Known) (d : Known) (i : Insn) (k : ℕ) (b : Bool)
+  goes_there : (q : Program) (es : List SlotFacts) (d : SlotFacts) (i : Insn) (k : ℕ) (b : Bool)
       → GoesOn shape b q es d i → IsSome (at q k) → goes_on i ≡ b → goes_on i ≡ true
   goes_there q es d i k true h some is = is
   goes_there q es d i k false h some is =
       let bad : is_some (at q k) ≡ false = ap (λ (r : Program). is_some (at r k)) h in
       absurd cc
 
-  next_reached : (n : ℕ) (i : Insn) (q : Program) (es : List Known) (d : Known) (k : ℕ)
+  next_reached : (n : ℕ) (i : Insn) (q : Program) (es : List SlotFacts) (d : SlotFacts) (k : ℕ)
       → at p n ≡ Some i → GoesOn shape (goes_on i) q es d i → IsSome (at q k) → Reached p n
       → Reached p (n + 1 + halves (width_of i))
   next_reached n i q es d k is next some r =
@@ -126,7 +126,8 @@ module _ (shape : AppShape) (p : Program) (ds : List Known) (typed : IsTyped sha
   stays : (n : ℕ) → Reached p n → Reached p (n + 0)
   stays n r = let e : n ≡ n + 0 = omega arith in subst (Reached p) e r
 
-  reached_step : (n : ℕ) (i : Insn) (q : Program) (es : List Known) (d : Known) (w : Width) (k : ℕ)
+  reached_step : (n : ℕ) (i : Insn) (q : Program) (es : List SlotFacts) (d : SlotFacts)
+      (w : Width) (k : ℕ)
       → width_of i ≡ w → HasHalf w q → at p n ≡ Some i → GoesOn shape (goes_on i) q es d i
       → IsReached q (n + 1) → Reached p n → IsSome (at q k) → Reached p (n + 1 + k)
   reached_step n i q es d One k is half here next h r some =
@@ -148,7 +149,7 @@ module _ (shape : AppShape) (p : Program) (ds : List Known) (typed : IsTyped sha
   behind_half q n h s r zero some = absurd cc
   behind_half q n h s r (suc k) some = moved n k (h.whole s r k some)
 
-  from_place : (i : Insn) (q : Program) (es : List Known) (d : Known) (n : ℕ)
+  from_place : (i : Insn) (q : Program) (es : List SlotFacts) (d : SlotFacts) (n : ℕ)
       → HasHalf (width_of i) q → at p n ≡ Some i → GoesOn shape (goes_on i) q es d i
       → IsReached q (n + 1) → Reached p n → (k : ℕ) → IsSome (at (Some i ∷ q) k)
       → Reached p (n + k)
@@ -160,7 +161,7 @@ module _ (shape : AppShape) (p : Program) (ds : List Known) (typed : IsTyped sha
       → at p n ≡ Some i
   at_first i q n same = let e : n ≡ n + 0 = omega arith in ap (at p) e ∙ same 0
 
-  reached_rest : (q : Program) (es : List Known) (n : ℕ) → IsTyped shape q es
+  reached_rest : (q : Program) (es : List SlotFacts) (n : ℕ) → IsTyped shape q es
       → ((k : ℕ) → at p (n + k) ≡ at q k) → IsReached q n
   reached_rest [] es n h same = record
       { whole = λ s r k some. absurd cc; behind = λ half s r k some. absurd cc }
@@ -183,7 +184,7 @@ module _ (shape : AppShape) (p : Program) (ds : List Known) (typed : IsTyped sha
       subst (Reached p) e ((reached_rest p ds 0 typed
       (λ k. let f : 0 + k ≡ k = omega arith in ap (at p) f)).whole (inr first) start s some)
 
-pub is_flow : (shape : AppShape) (p : Program) (ds : List Known) → IsTyped shape p ds
+pub is_flow : (shape : AppShape) (p : Program) (ds : List SlotFacts) → IsTyped shape p ds
     → AllByRecursion CanEncode p → IsSome (at p 0) → 0 < length p → length p ≤ 4096 → IsFlow p
 is_flow shape p ds typed fits first some short = record {
   program = (laid shape p ds typed fits).whole (inr first);

@@ -14,7 +14,7 @@ use Rattle.bpf_insn.specs.Program.{Program, at, layout, slots}
 use Rattle.flow_check.specs.Edges.{goes_on}
 use Rattle.flow_check.specs.Flow.{IsLayout}
 use Rattle.cells.specs.Arrays.{AppShape}
-use Rattle.bpf_verify.specs.Table.{Known}
+use Rattle.bpf_verify.specs.Table.{SlotFacts}
 use Rattle.rule_compile.specs.Writing.{CanEncode}
 use Rattle.rule_compile.proofs.Typed.{GoesOn, HasHalf, halves, IsTyped, at_drop}
 
@@ -24,14 +24,14 @@ use Rattle.rule_compile.proofs.Typed.{GoesOn, HasHalf, halves, IsTyped, at_drop}
 abbrev pub StartsWell : Program → Type 0
 StartsWell q = (q ≡ []) ⊎ IsSome (at q 0)
 
-pub starts_after : (shape : AppShape) (q : Program) (ds : List Known) (d : Known)
+pub starts_after : (shape : AppShape) (q : Program) (ds : List SlotFacts) (d : SlotFacts)
     (i : Insn) (b : Bool)
     → GoesOn shape b q ds d i → width_of i ≡ One → StartsWell q
 starts_after shape q ds d i true h one =
     inr (subst (λ (w : Width). IsSome (at q (halves w))) one (h 0).0)
 starts_after shape q ds d i false h one = inl h
 
-pub starts_later : (shape : AppShape) (q : Program) (ds : List Known) (d : Known)
+pub starts_later : (shape : AppShape) (q : Program) (ds : List SlotFacts) (d : SlotFacts)
     (i : Insn) (b : Bool)
     → GoesOn shape b q ds d i → width_of i ≡ Two → slice_get q 0 ≡ Some None
     → StartsWell (drop 1 q)
@@ -80,7 +80,8 @@ pub record IsLaid (q : Program) : Type 0 where
   pub whole : StartsWell q → IsLayout q
   pub behind : slice_get q 0 ≡ Some None → StartsWell (drop 1 q) → IsLayout (drop 1 q)
 
-laid_step : (shape : AppShape) (i : Insn) (q : Program) (ds : List Known) (d : Known) (w : Width)
+laid_step : (shape : AppShape) (i : Insn) (q : Program) (ds : List SlotFacts) (d : SlotFacts)
+    (w : Width)
     → width_of i ≡ w → IsEncodable i → HasHalf w q → GoesOn shape (goes_on i) q ds d i → IsLaid q
     → IsLayout (Some i ∷ q)
 laid_step shape i q ds d One is fits half next h =
@@ -93,7 +94,7 @@ pub starts_none : (q : Program) → StartsWell (None ∷ q) → ⊥
 starts_none q (inl is) = absurd cc
 starts_none q (inr is) = absurd cc
 
-pub laid : (shape : AppShape) (p : Program) (ds : List Known) → IsTyped shape p ds
+pub laid : (shape : AppShape) (p : Program) (ds : List SlotFacts) → IsTyped shape p ds
     → AllByRecursion CanEncode p → IsLaid p
 laid shape [] ds h fits = record {
   whole = λ s. ([], refl, All-nil IsEncodable);

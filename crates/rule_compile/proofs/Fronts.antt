@@ -13,7 +13,7 @@ use Rattle.bpf_semantics.specs.Reads.{load_count}
 use Rattle.cells.specs.Arrays.{AppShape}
 use Rattle.abs_value.specs.declared.value.Abs.{Abs}
 use Rattle.abs_value.specs.declared.value.Abs.TheVariants.{Unusable, Num}
-use Rattle.bpf_verify.specs.Table.{Known}
+use Rattle.bpf_verify.specs.Table.{SlotFacts}
 use Rattle.rule_compile.specs.Instructions as insn
 use Rattle.rule_compile.specs.Blocks as code
 use Rattle.rule_compile.proofs.Typed.{IsStep, IsTyped, nothing}
@@ -23,17 +23,17 @@ use Rattle.rule_compile.proofs.FieldSteps.{load_step, mask_step, remainder_step}
 use Rattle.rule_compile.proofs.JumpSteps.{jump_step}
 
 -- the first instruction is covered by its entry
-pub takes_here : (i : Insn) (q : Program) (d : Known) (ds : List Known)
+pub takes_here : (i : Insn) (q : Program) (d : SlotFacts) (ds : List SlotFacts)
     → Takes (Some i ∷ q) (d ∷ ds) 0 d
 takes_here i q d ds = record { place = refl; known = λ f h. h }
 
-pub takes_behind : (i : Insn) (q : Program) (c d : Known) (ds : List Known)
+pub takes_behind : (i : Insn) (q : Program) (c d : SlotFacts) (ds : List SlotFacts)
     → Takes (None ∷ Some i ∷ q) (c ∷ d ∷ ds) 1 d
 takes_behind i q c d ds = record { place = refl; known = λ f h. h }
 
 module _ (shape : AppShape) where
   -- a place at which a piece may begin also covers more knowledge
-  pub takes_more : (a b c d e : Abs) (set : ℕ → Bool) (q : Program) (ds : List Known) (k : ℕ)
+  pub takes_more : (a b c d e : Abs) (set : ℕ → Bool) (q : Program) (ds : List SlotFacts) (k : ℕ)
       → Takes q ds k (chosen shape) → Takes q ds k (frame a b c d e (choice shape) set)
   takes_more a b c d e set q ds k h =
       record {
@@ -44,11 +44,11 @@ module _ (shape : AppShape) where
   -- ---- labels
 
   -- a place of the rest, by its distance from the end, at which a piece may begin
-  pub record IsLabel (q : Program) (ds : List Known) (l : ℕ) : Type 0 where
+  pub record IsLabel (q : Program) (ds : List SlotFacts) (l : ℕ) : Type 0 where
     pub within : l ≤ length q
     pub takes : Takes q ds (length q - l) (chosen shape)
 
-  pub label_more : (x : Option Insn) (q : Program) (d : Known) (ds : List Known) (l : ℕ)
+  pub label_more : (x : Option Insn) (q : Program) (d : SlotFacts) (ds : List SlotFacts) (l : ℕ)
       → IsLabel q ds l → IsLabel (x ∷ q) (d ∷ ds) l
   label_more x q d ds l h =
       let within : l ≤ length q = h.within in
@@ -60,11 +60,11 @@ module _ (shape : AppShape) where
       }
 
   -- typed code that may follow a piece
-  pub record IsRest (q : Program) (ds : List Known) : Type 0 where
+  pub record IsRest (q : Program) (ds : List SlotFacts) : Type 0 where
     pub typed : IsTyped shape q ds
     pub first : Takes q ds 0 (chosen shape)
 
-  pub first_label : (q : Program) (ds : List Known) → IsRest q ds → IsLabel q ds (length q)
+  pub first_label : (q : Program) (ds : List SlotFacts) → IsRest q ds → IsLabel q ds (length q)
   first_label q ds h = let e : 0 ≡ length q - length q = omega arith in
       record {
         within = omega arith;
@@ -73,24 +73,25 @@ module _ (shape : AppShape) where
 
   -- ---- code in front of code: it is typed, and all labels of the rest stay
 
-  pub record IsTail (q' q : Program) (ds : List Known) : Type 0 where
-    pub entries : List Known
+  pub record IsTail (q' q : Program) (ds : List SlotFacts) : Type 0 where
+    pub entries : List SlotFacts
     pub typed : IsTyped shape q' entries
     pub keeps : (l : ℕ) → IsLabel q ds l → IsLabel q' entries l
 
   -- also, a piece may begin there
-  pub record IsFront (q' q : Program) (ds : List Known) : Type 0 where
-    pub entries : List Known
+  pub record IsFront (q' q : Program) (ds : List SlotFacts) : Type 0 where
+    pub entries : List SlotFacts
     pub rest : IsRest q' entries
     pub keeps : (l : ℕ) → IsLabel q ds l → IsLabel q' entries l
 
-  abbrev pub tail_itself : (q : Program) (ds : List Known) → IsRest q ds → IsTail q q ds
+  abbrev pub tail_itself : (q : Program) (ds : List SlotFacts) → IsRest q ds → IsTail q q ds
   tail_itself q ds h = record { entries = ds; typed = h.typed; keeps = λ l x. x }
 
-  abbrev pub tail_of : (q' q : Program) (ds : List Known) → IsFront q' q ds → IsTail q' q ds
+  abbrev pub tail_of : (q' q : Program) (ds : List SlotFacts) → IsFront q' q ds → IsTail q' q ds
   tail_of q' q ds h = record { entries = h.entries; typed = h.rest.typed; keeps = h.keeps }
 
-  abbrev pub put : (i : Insn) (d : Known) (q' q : Program) (ds : List Known) (t : IsTail q' q ds)
+  abbrev pub put : (i : Insn) (d : SlotFacts) (q' q : Program) (ds : List SlotFacts)
+      (t : IsTail q' q ds)
       → IsStep shape d i q' t.entries → IsTail (Some i ∷ q') q ds
   put i d q' q ds t step = record {
     entries = d ∷ t.entries;
@@ -98,7 +99,7 @@ module _ (shape : AppShape) where
     keeps = λ l x. label_more (Some i) q' d t.entries l (t.keeps l x);
   }
 
-  abbrev pub put_half : (q' q : Program) (ds : List Known) → IsTail q' q ds
+  abbrev pub put_half : (q' q : Program) (ds : List SlotFacts) → IsTail q' q ds
       → IsTail (None ∷ q') q ds
   put_half q' q ds t = record {
     entries = nothing ∷ t.entries;
@@ -106,26 +107,26 @@ module _ (shape : AppShape) where
     keeps = λ l x. label_more None q' nothing t.entries l (t.keeps l x);
   }
 
-  pub front_of : (q' q : Program) (ds : List Known) (t : IsTail q' q ds)
+  pub front_of : (q' q : Program) (ds : List SlotFacts) (t : IsTail q' q ds)
       → Takes q' t.entries 0 (chosen shape) → IsFront q' q ds
   front_of q' q ds t takes = record
       { entries = t.entries; rest = record { typed = t.typed; first = takes }; keeps = t.keeps }
 
   -- the first instruction of a piece
-  pub put_first : (i : Insn) (q' q : Program) (ds : List Known) (t : IsTail q' q ds)
+  pub put_first : (i : Insn) (q' q : Program) (ds : List SlotFacts) (t : IsTail q' q ds)
       → IsStep shape (chosen shape) i q' t.entries → IsFront (Some i ∷ q') q ds
   put_first i q' q ds t step = front_of (Some i ∷ q') q ds (put i (chosen shape) q' q ds t step)
       (takes_here i q' (chosen shape) t.entries)
 
-  pub front_itself : (q : Program) (ds : List Known) → IsRest q ds → IsFront q q ds
+  pub front_itself : (q : Program) (ds : List SlotFacts) → IsRest q ds → IsFront q q ds
   front_itself q ds h = record { entries = ds; rest = h; keeps = λ l x. x }
 
-  pub front_then : (q'' q' q : Program) (ds : List Known) (h : IsFront q' q ds)
+  pub front_then : (q'' q' q : Program) (ds : List SlotFacts) (h : IsFront q' q ds)
       → IsFront q'' q' h.entries → IsFront q'' q ds
   front_then q'' q' q ds h g = record
       { entries = g.entries; rest = g.rest; keeps = λ l x. g.keeps l (h.keeps l x) }
 
-  pub label_if : (b : Bool) (q : Program) (ds : List Known) (k l : ℕ) → IsLabel q ds k
+  pub label_if : (b : Bool) (q : Program) (ds : List SlotFacts) (k l : ℕ) → IsLabel q ds k
       → IsLabel q ds l → IsLabel q ds (if b then k else l)
   label_if true q ds k l x y = x
   label_if false q ds k l x y = y
@@ -133,17 +134,18 @@ module _ (shape : AppShape) where
   -- ---- a field of the context
 
   -- R2 has a number, or R0
-  abbrev pub tested : Known
+  abbrev pub tested : SlotFacts
   tested = frame Unusable Unusable (Num any) Unusable Unusable (choice shape) none_set
 
-  abbrev pub asked : (ℕ → Bool) → Known
+  abbrev pub asked : (ℕ → Bool) → SlotFacts
   asked set = frame (Num any) Unusable Unusable Unusable Unusable (choice shape) set
 
-  pub tested_takes : (q : Program) (ds : List Known) (k : ℕ) → Takes q ds k (chosen shape)
+  pub tested_takes : (q : Program) (ds : List SlotFacts) (k : ℕ) → Takes q ds k (chosen shape)
       → Takes q ds k tested
   tested_takes q ds k h = takes_more Unusable Unusable (Num any) Unusable Unusable none_set q ds k h
 
-  abbrev jump_tail : (condition : Condition) (n l : ℕ) (q : Program) (ds : List Known) → IsRest q ds
+  abbrev jump_tail : (condition : Condition) (n l : ℕ) (q : Program) (ds : List SlotFacts)
+      → IsRest q ds
       → IsLabel q ds l → IsTail (code.jump_to (insn.jump_if condition R2 n) l q) q ds
   jump_tail condition n l q ds h label =
       put (insn.jump_if condition R2 n (length q - l)) tested q q ds (tail_itself q ds h)
@@ -151,7 +153,7 @@ module _ (shape : AppShape) where
       (tested_takes q ds (length q - l) label.takes))
 
   pub field_front : (kind : LoadKind) (offset : ℕ) (condition : Condition) (n l : ℕ) (q : Program)
-      (ds : List Known) → offset + load_count kind ≤ 64 → IsRest q ds → IsLabel q ds l
+      (ds : List SlotFacts) → offset + load_count kind ≤ 64 → IsRest q ds → IsLabel q ds l
       → IsFront (code.field_code kind offset condition n l q) q ds
   field_front kind offset condition n l q ds within h label =
       let away : Insn = insn.jump_if condition R2 n (length q - l) in
@@ -160,7 +162,8 @@ module _ (shape : AppShape) where
       (load_step shape kind offset (chosen shape) (Some away ∷ q) (tested ∷ ds) refl within
       (takes_here away q tested ds))
 
-  pub flag_front : (mask : ℕ) (sense : Bool) (l : ℕ) (q : Program) (ds : List Known) → IsRest q ds
+  pub flag_front : (mask : ℕ) (sense : Bool) (l : ℕ) (q : Program) (ds : List SlotFacts)
+      → IsRest q ds
       → IsLabel q ds l → IsFront (code.flag_code mask sense l q) q ds
   flag_front mask true l q ds h label =
       field_front load.Byte 18 jump.Set mask l q ds (omega arith) h label
@@ -177,7 +180,7 @@ module _ (shape : AppShape) where
 
   -- ---- versions
 
-  pub equal_front : (k : ℕ) (ns : List ℕ) (sense : Bool) (l : ℕ) (q : Program) (ds : List Known)
+  pub equal_front : (k : ℕ) (ns : List ℕ) (sense : Bool) (l : ℕ) (q : Program) (ds : List SlotFacts)
       → k + length ns ≤ 4 → IsRest q ds → IsLabel q ds l
       → IsFront (code.equal_code k ns sense l q) q ds
   equal_front k [] sense l q ds few h label = front_itself q ds h
@@ -194,7 +197,8 @@ module _ (shape : AppShape) where
       (behind.keeps out (label_if sense q ds (length q) l (first_label q ds h) label)))
 
   -- a word that decides at once, or leaves it to the next words
-  word_front : (k : ℕ) (strict : Condition) (n there here : ℕ) (rest : Program) (es : List Known)
+  word_front : (k : ℕ) (strict : Condition) (n there here : ℕ) (rest : Program)
+      (es : List SlotFacts)
       → 4 * k + 4 ≤ 64 → IsRest rest es → IsLabel rest es there → IsLabel rest es here
       → IsFront (code.word_code k strict n there
       (code.jump_to (insn.jump_if jump.Ne R2 n) here rest)) rest es
@@ -215,7 +219,7 @@ module _ (shape : AppShape) where
       (takes_here first differs tested unequal.entries))
 
   pub order_front : (strict last : Condition) (k : ℕ) (ns : List ℕ) (sense : Bool) (l : ℕ)
-      (q : Program) (ds : List Known) → k + length ns ≤ 4 → IsRest q ds → IsLabel q ds l
+      (q : Program) (ds : List SlotFacts) → k + length ns ≤ 4 → IsRest q ds → IsLabel q ds l
       → IsFront (code.order_code strict last k ns sense l q) q ds
   order_front strict last k [] sense l q ds few h label = front_itself q ds h
   order_front strict last k (n ∷ []) sense l q ds few h label =
@@ -236,7 +240,7 @@ module _ (shape : AppShape) where
   -- ---- a jump on the result of a call
 
   abbrev pub answer_tail : (condition : Condition) (n l : ℕ) (set : ℕ → Bool) (q : Program)
-      (ds : List Known) → IsRest q ds → IsLabel q ds l
+      (ds : List SlotFacts) → IsRest q ds → IsLabel q ds l
       → IsTail (code.jump_to (insn.jump_if condition R0 n) l q) q ds
   answer_tail condition n l set q ds h label =
       put (insn.jump_if condition R0 n (length q - l)) (asked set) q q ds (tail_itself q ds h)
@@ -248,12 +252,12 @@ module _ (shape : AppShape) where
   -- ---- a bucket
 
   -- code in front of code, which begins with this knowledge
-  record Begins (q' q : Program) (ds : List Known) (d : Known) : Type 0 where
+  record Begins (q' q : Program) (ds : List SlotFacts) (d : SlotFacts) : Type 0 where
     tail : IsTail q' q ds
     first : Takes q' tail.entries 0 d
 
   field_begins : (modulus : Option ℕ) (condition : Condition) (n l : ℕ) (q : Program)
-      (ds : List Known) → IsRest q ds → IsLabel q ds l
+      (ds : List SlotFacts) → IsRest q ds → IsLabel q ds l
       → Begins (code.remainder_code modulus condition R2 n l q) q ds tested
   field_begins None condition n l q ds h label = record {
     tail = jump_tail condition n l q ds h label;
@@ -270,7 +274,7 @@ module _ (shape : AppShape) where
       }
 
   answer_begins : (modulus : Option ℕ) (condition : Condition) (n l : ℕ) (q : Program)
-      (ds : List Known) → IsRest q ds → IsLabel q ds l
+      (ds : List SlotFacts) → IsRest q ds → IsLabel q ds l
       → Begins (code.remainder_code modulus condition R0 n l q) q ds (asked none_set)
   answer_begins None condition n l q ds h label = record {
     tail = answer_tail condition n l none_set q ds h label;
@@ -288,7 +292,7 @@ module _ (shape : AppShape) where
       }
 
   pub bucket_front : (salt modulus : Option ℕ) (condition : Condition) (n l : ℕ) (q : Program)
-      (ds : List Known) → IfSome salt (λ s. s < 2 ^ 64) → IsRest q ds → IsLabel q ds l
+      (ds : List SlotFacts) → IfSome salt (λ s. s < 2 ^ 64) → IsRest q ds → IsLabel q ds l
       → IsFront (code.bucket_code salt modulus condition n l q) q ds
   bucket_front None modulus condition n l q ds small h label =
       let last : Program = code.remainder_code modulus condition R2 n l q in
@@ -298,7 +302,7 @@ module _ (shape : AppShape) where
   bucket_front (Some salt) modulus condition n l q ds small h label =
       let last : Program = code.remainder_code modulus condition R0 n l q in
       let b = answer_begins modulus condition n l q ds h label in
-      let given : Known = frame Unusable (Num any) Unusable Unusable Unusable
+      let given : SlotFacts = frame Unusable (Num any) Unusable Unusable Unusable
       (choice shape) none_set in
       let called : IsTail (Some (insn.call 4) ∷ last) q ds =
       put (insn.call 4) given last q ds b.tail

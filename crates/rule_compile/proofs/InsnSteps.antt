@@ -22,20 +22,21 @@ use Rattle.abs_value.specs.Values.{is_unusable, copied_value}
 use Rattle.abs_value.specs.Lookups.{called_registers, called}
 use Rattle.abs_value.specs.States.{register_at, value_at, value_of, with_value}
 use Rattle.bpf_checks.specs.Rules.{first_rule}
-use Rattle.bpf_verify.specs.Table.{Known, IsWider, Knows}
+use Rattle.bpf_verify.specs.Table.{SlotFacts, IsWider, HasFacts}
 use Rattle.rule_compile.specs.Instructions as insn
 use Rattle.rule_compile.proofs.Typed.{IsStep, Leads, entry_at}
 use Rattle.rule_compile.proofs.Entries.{any, Takes, writes, knows_write}
 use Rattle.rule_compile.proofs.Narrowings.{wider_at, number_in, tidied_lies}
 
 -- the next entry covers the result of an instruction
-pub onward : (q : Program) (ds : List Known) (k : ℕ) (d next : Known) (make : AbsState → AbsState)
-    → Takes q ds k next → ((e : AbsState) → Knows d e → Knows next (make e))
+pub onward : (q : Program) (ds : List SlotFacts) (k : ℕ) (d next : SlotFacts)
+    (make : AbsState → AbsState)
+    → Takes q ds k next → ((e : AbsState) → HasFacts d e → HasFacts next (make e))
     → Leads q ds k d (λ e. Some (make e))
 onward q ds k d next make takes h = (
   takes.place,
   λ e f knows is. let same : make e ≡ f = cc in
-      subst (λ (x : AbsState). Knows (entry_at ds k) x) same (takes.known (make e) (h e knows)),
+      subst (λ (x : AbsState). HasFacts (entry_at ds k) x) same (takes.known (make e) (h e knows)),
 )
 
 -- ---- registers
@@ -66,7 +67,7 @@ copied_within (Cell c) v h = subst (λ (x : Abs). Cell c ≡ copied_value Bits64
 -- ---- calls
 
 -- R0 has a result, and R1 to R5 are unset
-abbrev pub calls : Known → Abs → Known
+abbrev pub calls : SlotFacts → Abs → SlotFacts
 calls d v = record { registers = called_registers d.registers v; set = d.set }
 
 answered : (vs es : List Abs) (v w : Abs)
@@ -81,8 +82,8 @@ answered vs es v w h hv (suc (suc (suc (suc (suc zero))))) = tt
 answered vs es v w h hv (suc (suc (suc (suc (suc (suc r)))))) =
     rw (get_or-drop 6 vs r Unusable, get_or-drop 6 es r Unusable) (h (6 + r))
 
-pub knows_call : (d : Known) (e : AbsState) (v w : Abs) → Knows d e → IsWider v w
-    → Knows (calls d v) (record e { registers = called_registers e.registers w })
+pub knows_call : (d : SlotFacts) (e : AbsState) (v w : Abs) → HasFacts d e → IsWider v w
+    → HasFacts (calls d v) (record e { registers = called_registers e.registers w })
 knows_call d e v w h hv = record {
   long = let left = length-drop 6 e.registers in omega (arith, left, h.long);
   wide = h.wide;
@@ -109,7 +110,7 @@ module _ (shape : AppShape) where
   copy_passes e dst src (Cell a) is some frame = rw (is, frame) refl
 
   -- mov r, n
-  pub set_step : (r : Reg) (n : ℕ) (v : Abs) (d : Known) (q : Program) (ds : List Known)
+  pub set_step : (r : Reg) (n : ℕ) (v : Abs) (d : SlotFacts) (q : Program) (ds : List SlotFacts)
       → (number_of r == 10) ≡ false → IsWider v (Num (single n)) → Takes q ds 0 (writes d r v)
       → IsStep shape d (insn.set_argument r n) q ds
   set_step r n v d q ds frame wide takes = record {
@@ -123,7 +124,7 @@ module _ (shape : AppShape) where
   }
 
   -- mov dst, src
-  pub copy_step : (dst src : Reg) (v : Abs) (d : Known) (q : Program) (ds : List Known)
+  pub copy_step : (dst src : Reg) (v : Abs) (d : SlotFacts) (q : Program) (ds : List SlotFacts)
       → (number_of dst == 10) ≡ false → is_unusable v ≡ false
       → register_at d.registers (number_of src) ≡ v
       → Takes q ds 0 (writes d dst v) → IsStep shape d (Mov Bits64 dst (Register src)) q ds
@@ -145,7 +146,7 @@ module _ (shape : AppShape) where
   unfolding first_rule
   exit_passes e a is hi = rw (is, le-leb (most a) shape.releases hi) refl
 
-  pub exit_step : (d : Known) (ds : List Known)
+  pub exit_step : (d : SlotFacts) (ds : List SlotFacts)
       → register_at d.registers 0 ≡ Num (up_to shape.releases) → IsStep shape d Exit [] ds
   exit_step d ds zero_is = record {
     half = tt;
@@ -162,7 +163,7 @@ module _ (shape : AppShape) where
   unfolding first_rule
   wide_passes e r n frame = rw frame refl
 
-  pub wide_step : (r : Reg) (n : ℕ) (v : Abs) (d : Known) (q : Program) (ds : List Known)
+  pub wide_step : (r : Reg) (n : ℕ) (v : Abs) (d : SlotFacts) (q : Program) (ds : List SlotFacts)
       → (number_of r == 10) ≡ false → IsWider v (Num (single n))
       → Takes (None ∷ q) ds 1 (writes d r v)
       → IsStep shape d (Wide r (WideNumber n)) (None ∷ q) ds
@@ -181,7 +182,7 @@ module _ (shape : AppShape) where
   unfolding first_rule
   bucket_passes e a is = rw is refl
 
-  pub bucket_step : (d : Known) (q : Program) (ds : List Known)
+  pub bucket_step : (d : SlotFacts) (q : Program) (ds : List SlotFacts)
       → register_at d.registers 1 ≡ Num any → Takes q ds 0 (calls d (Num any))
       → IsStep shape d (insn.call 4) q ds
   bucket_step d q ds one takes = record {

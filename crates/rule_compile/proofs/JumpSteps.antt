@@ -22,7 +22,7 @@ use Rattle.abs_value.specs.Values.{numbers}
 use Rattle.abs_value.specs.Lookups.{compares_with_zero, with_both, refined_state}
 use Rattle.abs_value.specs.States.{register_at, value_at, value_of, with_value}
 use Rattle.bpf_checks.specs.Rules.{first_rule}
-use Rattle.bpf_verify.specs.Table.{Known, IsWider, Knows}
+use Rattle.bpf_verify.specs.Table.{SlotFacts, IsWider, HasFacts}
 use Rattle.rule_compile.specs.Instructions as insn
 use Rattle.rule_compile.proofs.Typed.{IsStep}
 use Rattle.rule_compile.proofs.Entries.{any, Takes, knows_over}
@@ -37,23 +37,23 @@ module _ (shape : AppShape) where
   unfolding first_rule
   jump_passes condition left k n e a is = rw is refl
 
-  after_narrowing : (d : Known) (e f : AbsState) (left : Reg) (k : ℤ) (a b : Number)
-      (o : Option NumberPair) → Knows d e → register_at d.registers (number_of left) ≡ Num any
+  after_narrowing : (d : SlotFacts) (e f : AbsState) (left : Reg) (k : ℤ) (a b : Number)
+      (o : Option NumberPair) → HasFacts d e → register_at d.registers (number_of left) ≡ Num any
       → most a ≤ most any
       → ((p : NumberPair) → o ≡ Some p → IsNarrower a b p)
-      → option_map (with_both e left (Imm k)) (option_map numbers o) ≡ Some f → Knows d f
+      → option_map (with_both e left (Imm k)) (option_map numbers o) ≡ Some f → HasFacts d f
   after_narrowing d e f left k a b None h is hi narrow makes = absurd cc
   after_narrowing d e f left k a b (Some p) h is hi narrow makes =
       let same : with_value e left (Num p.0) ≡ f = cc in
       let n = narrow p refl in
       let range : IsWider (Num any) (Num p.0) =
       (omega arith, n.ordered, omega (arith, n.within, hi)) in
-      subst (Knows d) same (knows_over d e left (Num p.0) h
+      subst (HasFacts d) same (knows_over d e left (Num p.0) h
       (subst (λ (v : Abs). IsWider v (Num p.0)) (sym is) range))
 
-  jump_leaves : (condition : Condition) (left : Reg) (k : ℤ) (jumps : Bool) (d : Known)
-      (e f : AbsState) → Knows d e → register_at d.registers (number_of left) ≡ Num any
-      → refined_state e Bits32 condition left (Imm k) jumps ≡ Some f → Knows d f
+  jump_leaves : (condition : Condition) (left : Reg) (k : ℤ) (jumps : Bool) (d : SlotFacts)
+      (e f : AbsState) → HasFacts d e → register_at d.registers (number_of left) ≡ Num any
+      → refined_state e Bits32 condition left (Imm k) jumps ≡ Some f → HasFacts d f
   jump_leaves condition left k jumps d e f h is makes =
       let n = number_in any (value_of e left) (wider_at d e (number_of left) (Num any) h is) in
       let b : Number = single (immediate Bits32 k) in
@@ -61,8 +61,8 @@ module _ (shape : AppShape) where
       (λ p. narrowed_narrow Bits32 condition jumps n.0 b p n.2.1 (omega arith))
       (rw n.1 at makes)
 
-  pub jump_step : (condition : Condition) (left : Reg) (n k : ℕ) (d : Known) (q : Program)
-      (ds : List Known) → register_at d.registers (number_of left) ≡ Num any
+  pub jump_step : (condition : Condition) (left : Reg) (n k : ℕ) (d : SlotFacts) (q : Program)
+      (ds : List SlotFacts) → register_at d.registers (number_of left) ≡ Num any
       → Takes q ds 0 d → Takes q ds k d → IsStep shape d (insn.jump_if condition left n k) q ds
   jump_step condition left n k d q ds is next to = record {
     half = tt;
@@ -92,12 +92,13 @@ module _ (shape : AppShape) where
   unfolding first_rule
   both_pass condition n e a b is is_too = rw (is, is_too) refl
 
-  both_narrowed : (d : Known) (e f : AbsState) (a b : Number) (o : Option NumberPair) → Knows d e
+  both_narrowed : (d : SlotFacts) (e f : AbsState) (a b : Number) (o : Option NumberPair)
+      → HasFacts d e
       → register_at d.registers 2 ≡ Num any → register_at d.registers 4 ≡ Num any
       → most a ≤ most any
       → most b ≤ most any
       → ((p : NumberPair) → o ≡ Some p → IsNarrower a b p)
-      → option_map (with_both e R2 (Register R4)) (option_map numbers o) ≡ Some f → Knows d f
+      → option_map (with_both e R2 (Register R4)) (option_map numbers o) ≡ Some f → HasFacts d f
   both_narrowed d e f a b None h two four hi hi_too narrow makes = absurd cc
   both_narrowed d e f a b (Some p) h two four hi hi_too narrow makes =
       let same : with_value (with_value e R2 (Num p.0)) R4 (Num p.1) ≡ f = cc in
@@ -108,13 +109,13 @@ module _ (shape : AppShape) where
       (omega arith, n.ordered_too, omega (arith, n.within_too, hi_too)) in
       let once = knows_over d e R2 (Num p.0) h
       (subst (λ (v : Abs). IsWider v (Num p.0)) (sym two) first) in
-      subst (Knows d) same (knows_over d (with_value e R2 (Num p.0)) R4 (Num p.1) once
+      subst (HasFacts d) same (knows_over d (with_value e R2 (Num p.0)) R4 (Num p.1) once
       (subst (λ (v : Abs). IsWider v (Num p.1)) (sym four) second))
 
-  both_leave : (condition : Condition) (jumps : Bool) (d : Known) (e f : AbsState)
-      → compares_with_zero Bits64 condition (Register R4) ≡ false → Knows d e
+  both_leave : (condition : Condition) (jumps : Bool) (d : SlotFacts) (e f : AbsState)
+      → compares_with_zero Bits64 condition (Register R4) ≡ false → HasFacts d e
       → register_at d.registers 2 ≡ Num any → register_at d.registers 4 ≡ Num any
-      → refined_state e Bits64 condition R2 (Register R4) jumps ≡ Some f → Knows d f
+      → refined_state e Bits64 condition R2 (Register R4) jumps ≡ Some f → HasFacts d f
   both_leave condition jumps d e f other h two four makes =
       let a = number_in any (value_at e 2) (wider_at d e 2 (Num any) h two) in
       let b = number_in any (value_at e 4) (wider_at d e 4 (Num any) h four) in
@@ -126,7 +127,7 @@ module _ (shape : AppShape) where
   no_zero true = refl
   no_zero false = refl
 
-  pub quota_jump_step : (sense : Bool) (k : ℕ) (d : Known) (q : Program) (ds : List Known)
+  pub quota_jump_step : (sense : Bool) (k : ℕ) (d : SlotFacts) (q : Program) (ds : List SlotFacts)
       → register_at d.registers 2 ≡ Num any → register_at d.registers 4 ≡ Num any
       → Takes q ds 0 d → Takes q ds k d → IsStep shape d (insn.jump_on_quota sense k) q ds
   quota_jump_step sense k d q ds two four next to = record {

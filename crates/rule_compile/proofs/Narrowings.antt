@@ -24,11 +24,11 @@ use Rattle.abs_value.specs.Narrowing.{overlap, apart_from, swapped, kept, kept_i
 use Rattle.abs_value.specs.Narrowing.{kept_with, with_one_of, without_bits, meeting}
 use Rattle.abs_value.specs.Narrowing.{left_by, is_comparable, is_taken, narrowed}
 use Rattle.abs_value.specs.States.{register_at, value_at}
-use Rattle.bpf_verify.specs.Table.{Known, LiesIn, IsWider, Knows}
+use Rattle.bpf_verify.specs.Table.{SlotFacts, LiesIn, IsWider, HasFacts}
 
 -- ---- what is known of a register
 
-pub wider_at : (d : Known) (e : AbsState) (r : ℕ) (v : Abs) → Knows d e
+pub wider_at : (d : SlotFacts) (e : AbsState) (r : ℕ) (v : Abs) → HasFacts d e
     → register_at d.registers r ≡ v → IsWider v (value_at e r)
 wider_at d e r v h is = subst (λ (x : Abs). IsWider x (value_at e r)) is (h.each r)
 

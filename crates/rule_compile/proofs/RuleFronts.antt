@@ -5,7 +5,7 @@ use Rattle.bpf_insn.specs.declared.operand.Condition.TheVariants as jump
 use Rattle.bpf_insn.specs.declared.operand.LoadKind.TheVariants as load
 use Rattle.bpf_insn.specs.Program.{Program}
 use Rattle.cells.specs.Arrays.{AppShape, IsShape}
-use Rattle.bpf_verify.specs.Table.{Known}
+use Rattle.bpf_verify.specs.Table.{SlotFacts}
 use Rattle.attrs.specs.declared.vocabulary.Attribute.{Attribute}
 use Rattle.attrs.specs.declared.vocabulary.Attribute.TheVariants as attribute
 use Rattle.attrs.specs.Vocabulary.{flag_bit, attribute_number}
@@ -40,7 +40,7 @@ module _ (shape : AppShape) (is_shape : IsShape shape) where
   -- ---- tests
 
   version_front : (r : Comparison) (w : List ℕ) (sense : Bool) (l : ℕ) (q : Program)
-      (ds : List Known)
+      (ds : List SlotFacts)
       → IsRest shape q ds → IsLabel shape q ds l
       → IsFront shape (version_code r (four_of w) sense l q) q ds
   version_front comparison.Lt w sense l q ds h label =
@@ -56,7 +56,7 @@ module _ (shape : AppShape) (is_shape : IsShape shape) where
   version_front comparison.Gt w sense l q ds h label =
       order_front shape jump.Gt jump.Gt 0 (four_of w) sense l q ds (omega arith) h label
 
-  test_front : (t : the_test.Test) (sense : Bool) (l : ℕ) (q : Program) (ds : List Known)
+  test_front : (t : the_test.Test) (sense : Bool) (l : ℕ) (q : Program) (ds : List SlotFacts)
       → IsInRange t → test_fits shape t ≡ true → IsRest shape q ds → IsLabel shape q ds l
       → IsFront shape (test_code shape t sense l q) q ds
   test_front (test.Version r w) sense l q ds range fit h label =
@@ -83,7 +83,8 @@ module _ (shape : AppShape) (is_shape : IsShape shape) where
 
   -- ---- conditions
 
-  pub tree_front : (c : Tree) (sense : Bool) (l : ℕ) (q : Program) (ds : List Known) → Suits shape c
+  pub tree_front : (c : Tree) (sense : Bool) (l : ℕ) (q : Program) (ds : List SlotFacts)
+      → Suits shape c
       → IsRest shape q ds → IsLabel shape q ds l → IsFront shape (tree_code shape c sense l q) q ds
   tree_front (Leaf line t) sense l q ds suit h label =
       test_front t sense l q ds suit.0 suit.1 h label

@@ -9,7 +9,7 @@ use Rattle.std.proofs.lemmas.Nat.Bits.{bit_at_or, bit_at-lt, bit_at_mask_inside}
 use Rattle.abs_value.specs.declared.slot.AbsSlot.{AbsSlot}
 use Rattle.abs_value.specs.declared.slot.AbsSlot.TheVariants.{Bytes}
 use Rattle.abs_value.specs.Stack.{mask_of, slot_at, is_set, first_bits, with_set}
-use Rattle.bpf_verify.specs.Table.{Known}
+use Rattle.bpf_verify.specs.Table.{SlotFacts}
 
 -- ---- the bytes that a store sets
 
@@ -85,7 +85,7 @@ new_byte slots place q wide lt four h =
 abbrev pub text_set : ℕ → ℕ → Bool
 text_set n place = nat_le 448 place && nat_lt place (448 + n)
 
-abbrev pub with_text : Known → ℕ → Known
+abbrev pub with_text : SlotFacts → ℕ → SlotFacts
 with_text d n = record { registers = d.registers; set = text_set n }
 
 pub text_place : (n place : ℕ) → text_set n place ≡ true → (448 ≤ place) × (place < 448 + n)

@@ -20,7 +20,7 @@ use Rattle.abs_value.specs.States.{register_at, value_at}
 use Rattle.bpf_checks.specs.Memory.{lies_in, stack_place}
 use Rattle.bpf_checks.specs.Rules.{first_rule}
 use Rattle.bpf_checks.specs.Transfer.{after}
-use Rattle.bpf_verify.specs.Table.{Known, Knows}
+use Rattle.bpf_verify.specs.Table.{SlotFacts, HasFacts}
 use Rattle.rule_compile.specs.Instructions as insn
 use Rattle.rule_compile.proofs.Typed.{IsStep}
 use Rattle.rule_compile.proofs.Entries.{any, Takes, writes, knows_write}
@@ -48,9 +48,9 @@ module _ (shape : AppShape) where
   place_is n left sum four = rw (in_stack left (omega (arith, sum, four)) (omega (arith, sum)))
       (ap Some (below_top n left sum))
 
-  store_gives : (n left word : ℕ) (d : Known) (e : AbsState) → n + left ≡ 63 → n % 4 ≡ 0
-      → value_at e 10 ≡ Stk 512 → Knows (with_text d n) e
-      → Knows (with_text d (n + 4)) (after shape 0 e (insn.store_word left word))
+  store_gives : (n left word : ℕ) (d : SlotFacts) (e : AbsState) → n + left ≡ 63 → n % 4 ≡ 0
+      → value_at e 10 ≡ Stk 512 → HasFacts (with_text d n) e
+      → HasFacts (with_text d (n + 4)) (after shape 0 e (insn.store_word left word))
   store_gives n left word d e sum four ten h =
       let one : nat_le ((448 + n) % 8 + 4) 8 ≡ true =
       le-leb ((448 + n) % 8 + 4) 8 (omega (arith, four)) in
@@ -61,7 +61,8 @@ module _ (shape : AppShape) where
         bytes = more_set e.stack n h.wide (omega (arith, sum)) four h.bytes;
       })
 
-  pub store_step : (n left word : ℕ) (d : Known) (q : Program) (ds : List Known) → n + left ≡ 63
+  pub store_step : (n left word : ℕ) (d : SlotFacts) (q : Program) (ds : List SlotFacts)
+      → n + left ≡ 63
       → n % 4 ≡ 0 → register_at d.registers 10 ≡ Stk 512 → Takes q ds 0 (with_text d (n + 4))
       → IsStep shape (with_text d n) (insn.store_word left word) q ds
   store_step n left word d q ds sum four ten takes = record {
@@ -82,11 +83,12 @@ module _ (shape : AppShape) where
   unfolding first_rule
   point_passes e is = rw is refl
 
-  point_gives : (d : Known) (e : AbsState) → value_at e 2 ≡ Stk 512 → Knows d e
-      → Knows (writes d R2 (Stk 448)) (after shape 0 e insn.point_at_text)
+  point_gives : (d : SlotFacts) (e : AbsState) → value_at e 2 ≡ Stk 512 → HasFacts d e
+      → HasFacts (writes d R2 (Stk 448)) (after shape 0 e insn.point_at_text)
   point_gives d e is h = rw is (knows_write d e R2 (Stk 448) (Stk 448) h refl)
 
-  pub point_step : (d : Known) (q : Program) (ds : List Known) → register_at d.registers 2 ≡ Stk 512
+  pub point_step : (d : SlotFacts) (q : Program) (ds : List SlotFacts)
+      → register_at d.registers 2 ≡ Stk 512
       → Takes q ds 0 (writes d R2 (Stk 448)) → IsStep shape d insn.point_at_text q ds
   point_step d q ds two takes = record {
     half = tt;
@@ -137,7 +139,7 @@ module _ (shape : AppShape) where
             (omega (arith, short)),
       ) refl
 
-  pub compare_step : (n m : ℕ) (d : Known) (q : Program) (ds : List Known) → n ≤ 64 → n ≤ m
+  pub compare_step : (n m : ℕ) (d : SlotFacts) (q : Program) (ds : List SlotFacts) → n ≤ 64 → n ≤ m
       → register_at d.registers 1 ≡ Num any → register_at d.registers 2 ≡ Stk 448
       → register_at d.registers 3 ≡ Num (single n)
       → Takes q ds 0 (calls (with_text d m) (Num any))

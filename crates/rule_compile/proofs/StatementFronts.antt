@@ -11,7 +11,7 @@ use Rattle.cells.specs.Arrays.{AppShape, IsShape}
 use Rattle.abs_value.specs.declared.value.Abs.TheVariants.{Unusable, Ctx, Stk}
 use Rattle.abs_value.specs.Values.{places}
 use Rattle.abs_value.specs.States.{register_at, value_at, opening_state}
-use Rattle.bpf_verify.specs.Table.{Known, IsWider, Knows, IsTable}
+use Rattle.bpf_verify.specs.Table.{SlotFacts, IsWider, HasFacts, IsTable}
 use Rattle.rule_lang.specs.declared.rule.Statement.{Statement}
 use Rattle.rule_lang.specs.declared.rule.Statement.TheVariants.{Count, When}
 use Rattle.rule_lang.specs.Fits.{step_fits, statement_fits, is_release, fits}
@@ -40,12 +40,12 @@ module _ (shape : AppShape) (is_shape : IsShape shape) where
 
   -- the rest of a rule: label 2 is its end
   record IsWhole (q : Program) : Type 0 where
-    entries : List Known
+    entries : List SlotFacts
     rest : IsRest shape q entries
     exit : IsLabel shape q entries 2
 
   -- R0 has the choice
-  abbrev given : Known
+  abbrev given : SlotFacts
   given = frame (choice shape) Unusable Unusable Unusable Unusable (choice shape) none_set
 
   end_rest : IsRest shape end_code (chosen shape ∷ given ∷ [])
@@ -58,7 +58,8 @@ module _ (shape : AppShape) (is_shape : IsShape shape) where
     first = takes_here insn.give_choice (Some Exit ∷ []) (chosen shape) (given ∷ []);
   }
 
-  choice_front : (k : ℕ) (q : Program) (ds : List Known) → k ≤ shape.releases → IsRest shape q ds
+  choice_front : (k : ℕ) (q : Program) (ds : List SlotFacts) → k ≤ shape.releases
+      → IsRest shape q ds
       → IsFront shape (Some (insn.set_choice k) ∷ q) q ds
   choice_front k q ds le h = put_first shape (insn.set_choice k) q q ds (tail_itself shape q ds h)
       (set_step shape R7 k (choice shape) (chosen shape) q ds refl
@@ -73,7 +74,7 @@ module _ (shape : AppShape) (is_shape : IsShape shape) where
         exit = front.keeps 2 (first_label shape end_code (chosen shape ∷ given ∷ []) end_rest);
       }
 
-  made_front : (o : Option (List Tree)) (t : Tree) (l : ℕ) (q : Program) (ds : List Known)
+  made_front : (o : Option (List Tree)) (t : Tree) (l : ℕ) (q : Program) (ds : List SlotFacts)
       → o ≡ Some (t ∷ []) → Suits shape t → IsRest shape q ds → IsLabel shape q ds l
       → IsFront shape (made_code shape o (goal true l ∷ []) q) q ds
   made_front o t l q ds is suit h label =
@@ -120,7 +121,7 @@ module _ (shape : AppShape) (is_shape : IsShape shape) where
   -- ---- the rule
 
   -- the start of a run, and with the context in R6
-  abbrev opened : Known
+  abbrev opened : SlotFacts
   opened = record {
     registers =
         Unusable ∷ Ctx (places 0 0) ∷ Unusable ∷ Unusable ∷ Unusable ∷ Unusable ∷ Unusable ∷
@@ -128,10 +129,10 @@ module _ (shape : AppShape) (is_shape : IsShape shape) where
     set = none_set;
   }
 
-  abbrev kept : Known
+  abbrev kept : SlotFacts
   kept = frame Unusable (Ctx (places 0 0)) Unusable Unusable Unusable Unusable none_set
 
-  opened_start : Knows opened opening_state
+  opened_start : HasFacts opened opening_state
   opened_start = record { long = refl; wide = refl; each = each; bytes = λ place lt set. absurd cc }
     where
       each : (r : ℕ) → IsWider (register_at opened.registers r) (value_at opening_state r)
@@ -149,7 +150,7 @@ module _ (shape : AppShape) (is_shape : IsShape shape) where
       each (suc (suc (suc (suc (suc (suc (suc (suc (suc (suc (suc r))))))))))) = tt
 
   record IsCompiled (xs : List Statement) : Type 0 where
-    entries : List Known
+    entries : List SlotFacts
     typed : IsTyped shape (rule_code shape xs) (opened ∷ entries)
 
   compiled : (xs : List Statement) → IsRuleInRange xs → fits shape xs ≡ true → AreMade xs
@@ -184,7 +185,7 @@ module _ (shape : AppShape) (is_shape : IsShape shape) where
       (omega arith) short
 
   pub rule_table : (xs : List Statement) → IsRuleInRange xs → fits shape xs ≡ true → AreMade xs
-      → (table : ℕ → Known) × IsTable (rule_code shape xs) shape table
+      → (table : ℕ → SlotFacts) × IsTable (rule_code shape xs) shape table
   rule_table xs range fit made =
       let done = compiled xs range fit made in (
         entry_at (opened ∷ done.entries),

@@ -15,7 +15,7 @@ use Rattle.abs_value.specs.declared.value.Abs.{Abs}
 use Rattle.abs_value.specs.declared.value.Abs.TheVariants.{Unusable, Num, Stk, Cell}
 use Rattle.abs_value.specs.Numbers.{single}
 use Rattle.bpf_checks.specs.Arrays.{has_quota}
-use Rattle.bpf_verify.specs.Table.{Known}
+use Rattle.bpf_verify.specs.Table.{SlotFacts}
 use Rattle.rule_compile.specs.Instructions as insn
 use Rattle.rule_compile.specs.Blocks as code
 use Rattle.rule_compile.proofs.Counters.{IsCellOf}
@@ -49,11 +49,11 @@ padded_longer (a ∷ b ∷ c ∷ d ∷ text) = let h = padded_longer text in ome
 
 module _ (shape : AppShape) where
   -- between two pieces, with n bytes of a text set
-  abbrev pub storing : ℕ → Known
+  abbrev pub storing : ℕ → SlotFacts
   storing n = with_text (chosen shape) n
 
   -- no byte yet
-  storing_none : (q : Program) (ds : List Known) → Takes q ds 0 (storing 0)
+  storing_none : (q : Program) (ds : List SlotFacts) → Takes q ds 0 (storing 0)
       → Takes q ds 0 (chosen shape)
   storing_none q ds h = record {
     place = h.place;
@@ -67,11 +67,11 @@ module _ (shape : AppShape) where
   }
 
   -- a tail at whose start n bytes are set
-  record Stores (q' q : Program) (ds : List Known) (n : ℕ) : Type 0 where
+  record Stores (q' q : Program) (ds : List SlotFacts) (n : ℕ) : Type 0 where
     tail : IsTail shape q' q ds
     takes : Takes q' tail.entries 0 (storing n)
 
-  one_store : (n left word : ℕ) (q' q : Program) (ds : List Known) (t : IsTail shape q' q ds)
+  one_store : (n left word : ℕ) (q' q : Program) (ds : List SlotFacts) (t : IsTail shape q' q ds)
       → n + left ≡ 63 → n % 4 ≡ 0 → Takes q' t.entries 0 (storing (n + 4))
       → Stores (Some (insn.store_word left word) ∷ q') q ds n
   one_store n left word q' q ds t sum four takes = record {
@@ -80,7 +80,7 @@ module _ (shape : AppShape) where
     takes = takes_here (insn.store_word left word) q' (storing n) t.entries;
   }
 
-  stores : (n left : ℕ) (text : List ℕ) (q' q : Program) (ds : List Known)
+  stores : (n left : ℕ) (text : List ℕ) (q' q : Program) (ds : List SlotFacts)
       (t : IsTail shape q' q ds) → left ≡ 63 - n → n % 4 ≡ 0 → n + length text ≤ 64
       → Takes q' t.entries 0 (storing (n + padded text))
       → Stores (code.stores_code left text q') q ds n
@@ -107,11 +107,11 @@ module _ (shape : AppShape) where
       (omega (arith, is, short)) four behind.takes
 
   -- the helper's arguments in turn
-  abbrev arguments : Abs → Abs → Abs → ℕ → Known
+  abbrev arguments : Abs → Abs → Abs → ℕ → SlotFacts
   arguments one two three m = frame Unusable one two three Unusable (choice shape) (text_set m)
 
   pub attribute_front : (attribute : ℕ) (text : List ℕ) (sense : Bool) (l : ℕ) (q : Program)
-      (ds : List Known) → attribute < 64 → length text ≤ 64 → IsRest shape q ds
+      (ds : List SlotFacts) → attribute < 64 → length text ≤ 64 → IsRest shape q ds
       → IsLabel shape q ds l
       → IsFront shape (code.attribute_code attribute text sense l q) q ds
   attribute_front attribute text sense l q ds small short h label =
@@ -121,31 +121,31 @@ module _ (shape : AppShape) where
       let q1 : Program = Some away ∷ q in
       let t1 : IsTail shape q1 q ds =
       answer_tail shape (insn.turned sense jump.Ne) 0 l (text_set m) q ds h label in
-      let d2 : Known = arguments (Num any) (Stk 448) (Num (single n)) m in
+      let d2 : SlotFacts = arguments (Num any) (Stk 448) (Num (single n)) m in
       let q2 : Program = Some (insn.call 2) ∷ q1 in
       let t2 : IsTail shape q2 q ds =
       put shape (insn.call 2) d2 q1 q ds t1
       (compare_step shape n m d2 q1 t1.entries short (padded_longer text) refl refl refl
       (takes_here away q (asked shape (text_set m)) ds)) in
-      let d3 : Known = arguments (Num any) (Stk 448) Unusable m in
+      let d3 : SlotFacts = arguments (Num any) (Stk 448) Unusable m in
       let q3 : Program = Some (insn.set_argument R3 n) ∷ q2 in
       let t3 : IsTail shape q3 q ds =
       put shape (insn.set_argument R3 n) d3 q2 q ds t2
       (set_step shape R3 n (Num (single n)) d3 q2 t2.entries refl
       (omega arith, omega arith, omega arith) (takes_here (insn.call 2) q1 d2 t1.entries)) in
-      let d4 : Known = arguments (Num any) (Stk 512) Unusable m in
+      let d4 : SlotFacts = arguments (Num any) (Stk 512) Unusable m in
       let q4 : Program = Some insn.point_at_text ∷ q3 in
       let t4 : IsTail shape q4 q ds =
       put shape insn.point_at_text d4 q3 q ds t3
       (point_step shape d4 q3 t3.entries refl
       (takes_here (insn.set_argument R3 n) q2 d3 t2.entries)) in
-      let d5 : Known = arguments (Num any) Unusable Unusable m in
+      let d5 : SlotFacts = arguments (Num any) Unusable Unusable m in
       let q5 : Program = Some insn.copy_top ∷ q4 in
       let t5 : IsTail shape q5 q ds =
       put shape insn.copy_top d5 q4 q ds t4
       (copy_step shape R2 R10 (Stk 512) d5 q4 t4.entries refl refl refl
       (takes_here insn.point_at_text q3 d4 t3.entries)) in
-      let d6 : Known = storing m in
+      let d6 : SlotFacts = storing m in
       let q6 : Program = Some (insn.set_argument R1 attribute) ∷ q5 in
       let t6 : IsTail shape q6 q ds =
       put shape (insn.set_argument R1 attribute) d6 q5 q ds t5
@@ -164,22 +164,22 @@ module _ (shape : AppShape) where
   -- ---- counters
 
   -- the address of a cell, and numbers
-  abbrev counting : Abs → Abs → Abs → Known
+  abbrev counting : Abs → Abs → Abs → SlotFacts
   counting two three four = frame Unusable Unusable two three four (choice shape) none_set
 
   pub count_front : (size : AtomicSize) (array index c : ℕ) (a : CellArray) (q : Program)
-      (ds : List Known) → slice_get shape.arrays array ≡ Some a → index < a.length
+      (ds : List SlotFacts) → slice_get shape.arrays array ≡ Some a → index < a.length
       → a.base + index ≡ c → IsCellOf size c → has_quota shape (Fixed c) ≡ false
       → IsRest shape q ds → IsFront shape (code.count_code size array index q) q ds
   count_front size array index c a q ds found within sum cell free h =
-      let d1 : Known = counting (Num (single 1)) (Cell (Fixed c)) Unusable in
+      let d1 : SlotFacts = counting (Num (single 1)) (Cell (Fixed c)) Unusable in
       let q1 : Program = Some (insn.add_to_cell size) ∷ q in
       let t1 : IsTail shape q1 q ds =
       put shape (insn.add_to_cell size) d1 q q ds (tail_itself shape q ds h)
       (add_step shape size c d1 q ds refl refl cell free
       (takes_more shape Unusable Unusable (Num (single 1))
       (Cell (Fixed c)) Unusable none_set q ds 0 h.first)) in
-      let d2 : Known = counting Unusable (Cell (Fixed c)) Unusable in
+      let d2 : SlotFacts = counting Unusable (Cell (Fixed c)) Unusable in
       let q2 : Program = Some (insn.set_argument R2 1) ∷ q1 in
       let t2 : IsTail shape q2 q ds =
       put shape (insn.set_argument R2 1) d2 q1 q ds t1
@@ -190,12 +190,12 @@ module _ (shape : AppShape) where
       (takes_behind (insn.set_argument R2 1) q1 nothing d2 t1.entries))
 
   pub take_front : (array index c quota : ℕ) (a : CellArray) (sense : Bool) (l : ℕ) (q : Program)
-      (ds : List Known) → slice_get shape.arrays array ≡ Some a → index < a.length
+      (ds : List SlotFacts) → slice_get shape.arrays array ≡ Some a → index < a.length
       → a.base + index ≡ c → c < 4096 → quota < 2 ^ 63
       → IsRest shape q ds → IsLabel shape q ds l
       → IsFront shape (code.take_code array index quota sense l q) q ds
   take_front array index c quota a sense l q ds found within sum cell small h label =
-      let d1 : Known = counting (Num any) (Cell (Fixed c)) (Num any) in
+      let d1 : SlotFacts = counting (Num any) (Cell (Fixed c)) (Num any) in
       let away : Insn = insn.jump_on_quota sense (length q - l) in
       let q1 : Program = Some away ∷ q in
       let t1 : IsTail shape q1 q ds = put shape away d1 q q ds (tail_itself shape q ds h)
@@ -204,18 +204,18 @@ module _ (shape : AppShape) where
       (Num any) none_set q ds 0 h.first)
       (takes_more shape Unusable Unusable (Num any) (Cell (Fixed c)) (Num any) none_set q ds
       (length q - l) label.takes)) in
-      let d2 : Known = counting (Num any) (Cell (Fixed c)) Unusable in
+      let d2 : SlotFacts = counting (Num any) (Cell (Fixed c)) Unusable in
       let q2 : Program = Some (insn.load_quota quota) ∷ None ∷ q1 in
       let t2 : IsTail shape q2 q ds =
       put shape (insn.load_quota quota) d2 (None ∷ q1) q ds (put_half shape q1 q ds t1)
       (wide_step shape R4 quota (Num any) d2 q1 (nothing ∷ t1.entries) refl
       (omega arith, omega arith, omega (arith, small)) (takes_behind away q nothing d1 ds)) in
-      let d3 : Known = counting (Num (single 1)) (Cell (Fixed c)) Unusable in
+      let d3 : SlotFacts = counting (Num (single 1)) (Cell (Fixed c)) Unusable in
       let q3 : Program = Some insn.take_from_cell ∷ q2 in
       let t3 : IsTail shape q3 q ds = put shape insn.take_from_cell d3 q2 q ds t2
       (take_step shape c d3 q2 t2.entries refl refl cell
       (takes_here (insn.load_quota quota) (None ∷ q1) d2 (nothing ∷ t1.entries))) in
-      let d4 : Known = counting Unusable (Cell (Fixed c)) Unusable in
+      let d4 : SlotFacts = counting Unusable (Cell (Fixed c)) Unusable in
       let q4 : Program = Some (insn.set_argument R2 1) ∷ q3 in
       let t4 : IsTail shape q4 q ds =
       put shape (insn.set_argument R2 1) d4 q3 q ds t3

@@ -27,7 +27,7 @@ fn flow_of(alloc: Global, slots: Vec<Insn>) -> Result<Flow, AllocError>
     ensures { IfOk result (λ flow. flow ≡ laid slots.items) }
 {
     let bytes = program_bytes(alloc, &slots)?;
-    Ok(Flow::known(bytes, slots))
+    Ok(Flow::proved(bytes, slots))
 }
 
 /// The program of a rule that fits the shape, accepted under it. For any replies of cells, its run
@@ -51,5 +51,5 @@ pub fn compile(alloc: Global, rule: &Rule, shape: &Shape) -> Result<Verified, Co
     code.invariant_law();
     let flow = flow_of(alloc, code.into_slots())?;
     table_is_enough();
-    Ok(Verified::known(alloc, flow, shape)?)
+    Ok(Verified::proved(alloc, flow, shape)?)
 }

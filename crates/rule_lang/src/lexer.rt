@@ -16,7 +16,7 @@ pub struct Placed<N> {
 }
 
 // What follows a piece of `bytes` bytes, given that the first is already passed.
-fn tokens_after(s: &[u8], bytes: usize) -> &[u8]
+fn bytes_after_piece(s: &[u8], bytes: usize) -> &[u8]
     ensures is { result.now ≡ drop (bytes - 1) s.now }
     ensures within { length result.now ≤ length s.now }
 {
@@ -47,14 +47,14 @@ pub fn tokens_of<'a>(alloc: Global, text: &'a [u8]) -> Result<Vec<Placed<&'a str
     let mut rest = text;
     while let Some((first, after)) = rest.split_first() {
         match piece_of(rest, *first, after) {
-            Some(Piece::Blank(bytes)) => rest = tokens_after(after, bytes),
+            Some(Piece::Blank(bytes)) => rest = bytes_after_piece(after, bytes),
             Some(Piece::LineEnd(bytes)) => {
                 line += 1;
-                rest = tokens_after(after, bytes);
+                rest = bytes_after_piece(after, bytes);
             }
             Some(Piece::Token(token, bytes)) => {
                 add(&mut tokens, line, token)?;
-                rest = tokens_after(after, bytes);
+                rest = bytes_after_piece(after, bytes);
             }
             None => {
                 return Err(RuleFault::At {

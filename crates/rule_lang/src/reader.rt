@@ -209,8 +209,8 @@ fn advance<'a>(
     ensures further { IfOk result (λ p. (place < p) × (p ≤ length tokens.now)) }
 {
     let (_, rest) = tokens.split_at(place);
-    let tokens_after = read_next(alloc, shape, draft, rest)?;
-    Ok(tokens.len() - tokens_after.len())
+    let left = read_next(alloc, shape, draft, rest)?;
+    Ok(tokens.len() - left.len())
 }
 
 fn is_done(mode: Mode) -> bool
@@ -232,7 +232,7 @@ pub fn read<'a>(alloc: Global, shape: &Shape, tokens: &[Placed<&'a str>]) -> Res
     let mut place = 0;
     while !is_done(draft.mode) {
         match advance(alloc, shape, &mut draft, tokens, place) {
-            Ok(tokens_after) => place = tokens_after,
+            Ok(after) => place = after,
             Err(fault) => return Err(fault),
         }
     }

@@ -17,8 +17,8 @@ bits_of n = is_set n 1 ∷ is_set n 16 ∷ is_set n 32 ∷ is_set n 2 ∷ []
 abbrev are : (v c i u : Bool) → List Bool
 are v c i u = v ∷ c ∷ i ∷ u ∷ []
 
-abbrev Sums : (v c i : Bool) → (known : ℕ) → Bool → ℕ → Type 0
-Sums v c i known u n = bits_of (known + n) ≡ are v c i u
+abbrev Sums : (v c i : Bool) → (own : ℕ) → Bool → ℕ → Type 0
+Sums v c i own u n = bits_of (own + n) ≡ are v c i u
 
 by_asked : (P : Bool → ℕ → Type 0) → P false 0 → P false 8 → P false 4 → P false 12 → P true 2
     → P true 10 → P true 6 → P true 14 → (u p e : Bool) → P u (flag u 2 + flag p 4 + flag e 8)

@@ -87,39 +87,40 @@ module _ (f : Family) (ds : List Dimension) where
   }
 
   pub next_text : (old new : Group) (number text : ℕ) → GrowsTo old new
-      → ((k : ℕ) → k < text → (known : Bool)
-      → HasCombination f ds old (combination number known k))
-      → ((known : Bool) → HasCombination f ds new (combination number known text))
-      → (k : ℕ) → k < text + 1 → (known : Bool)
-      → HasCombination f ds new (combination number known k)
+      → ((k : ℕ) → k < text → (is_known : Bool)
+      → HasCombination f ds old (combination number is_known k))
+      → ((is_known : Bool) → HasCombination f ds new (combination number is_known text))
+      → (k : ℕ) → k < text + 1 → (is_known : Bool)
+      → HasCombination f ds new (combination number is_known k)
   next_text old new number text grows before here =
       below_more
-      (λ (k : ℕ). (known : Bool) → HasCombination f ds new (combination number known k)) text
-      (λ k below known. has_still old new (combination number known k) grows (before k below known))
+      (λ (k : ℕ). (is_known : Bool) → HasCombination f ds new (combination number is_known k)) text
+      (λ k below is_known. has_still old new (combination number is_known k) grows
+      (before k below is_known))
       here
 
   pub next_number : (old new : Group) (number most : ℕ) → GrowsTo old new
-      → ((k : ℕ) → k < number → (text : ℕ) → text ≤ most → (known : Bool)
-      → HasCombination f ds old (combination k known text))
-      → ((text : ℕ) → text ≤ most → (known : Bool)
-      → HasCombination f ds new (combination number known text))
-      → (k : ℕ) → k < number + 1 → (text : ℕ) → text ≤ most → (known : Bool)
-      → HasCombination f ds new (combination k known text)
+      → ((k : ℕ) → k < number → (text : ℕ) → text ≤ most → (is_known : Bool)
+      → HasCombination f ds old (combination k is_known text))
+      → ((text : ℕ) → text ≤ most → (is_known : Bool)
+      → HasCombination f ds new (combination number is_known text))
+      → (k : ℕ) → k < number + 1 → (text : ℕ) → text ≤ most → (is_known : Bool)
+      → HasCombination f ds new (combination k is_known text)
   next_number old new number most grows before here =
       below_more
-      (λ (k : ℕ). (text : ℕ) → text ≤ most → (known : Bool)
-      → HasCombination f ds new (combination k known text)) number
-      (λ k below text within known.
-      has_still old new (combination k known text) grows (before k below text within known))
+      (λ (k : ℕ). (text : ℕ) → text ≤ most → (is_known : Bool)
+      → HasCombination f ds new (combination k is_known text)) number
+      (λ k below text within is_known.
+      has_still old new (combination k is_known text) grows (before k below text within is_known))
       here
 
   pub of_two : (old new : Group) (number text : ℕ) → GrowsTo old new
       → HasCombination f ds old (combination number false text)
       → HasCombination f ds new (combination number true text)
-      → (known : Bool) → HasCombination f ds new (combination number known text)
-  of_two old new number text grows unknown known true = known
-  of_two old new number text grows unknown known false =
-      has_still old new (combination number false text) grows unknown
+      → (is_known : Bool) → HasCombination f ds new (combination number is_known text)
+  of_two old new number text grows if_unknown if_known true = if_known
+  of_two old new number text grows if_unknown if_known false =
+      has_still old new (combination number false text) grows if_unknown
 
 -- ---- cells
 

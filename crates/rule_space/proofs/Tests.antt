@@ -35,7 +35,7 @@ use Rattle.rule_space.specs.Machines.{State}
 use Rattle.rule_space.specs.Numbers.{version_number}
 use Rattle.rule_space.specs.Plans.{ComparesAs, IsConstant}
 use Rattle.rule_space.specs.Scopes.{IsWithin, Scope}
-use Rattle.rule_space.specs.Tests.{IsAgainst, IsAgainstAt}
+use Rattle.rule_space.specs.Tests.{ComparesNumber, ComparesNumberAt}
 use Rattle.rule_space.proofs.Cells.{begins_alike}
 use Rattle.rule_space.proofs.Flags.{has_flags, is_set}
 use Rattle.rule_space.proofs.Ranges.{from_first, to_last}
@@ -50,28 +50,28 @@ all_at P xs k x is all =
 abbrev pub by : Comparison → ℕ → NumberComparison
 by r n = record { comparison = r; number = n }
 
-pub version_against : (texts : List (List ℕ)) (r : Comparison) (w : List ℕ) (n : ℕ)
+pub version_comparison : (texts : List (List ℕ)) (r : Comparison) (w : List ℕ) (n : ℕ)
     → All (λ k. k < 2 ^ 32) w → n ≡ version_number w
-    → IsAgainst coordinate.Version texts (test.Version r w) (by r n)
-version_against texts r w n all is = record {
+    → ComparesNumber coordinate.Version texts (test.Version r w) (by r n)
+version_comparison texts r w n all is = record {
   no_cell = λ s. refl;
   holds = λ s x a g within.
       ap (allows r) (sym (numbers_order a.context.version w within.machine.ranges.version all)
       ∙ ap (nat_cmp (version_number a.context.version)) (sym is));
 }
 
-pub today_against : (texts : List (List ℕ)) (r : Comparison) (n : ℕ)
-    → IsAgainst coordinate.Today texts (test.Today r n) (by r n)
-today_against texts r n = record { no_cell = λ s. refl; holds = λ s x a g within. refl }
+pub today_comparison : (texts : List (List ℕ)) (r : Comparison) (n : ℕ)
+    → ComparesNumber coordinate.Today texts (test.Today r n) (by r n)
+today_comparison texts r n = record { no_cell = λ s. refl; holds = λ s x a g within. refl }
 
-pub installed_against : (texts : List (List ℕ)) (r : Comparison) (n : ℕ)
-    → IsAgainst coordinate.Installed texts (test.Installed r n) (by r n)
-installed_against texts r n = record { no_cell = λ s. refl; holds = λ s x a g within. refl }
+pub installed_comparison : (texts : List (List ℕ)) (r : Comparison) (n : ℕ)
+    → ComparesNumber coordinate.Installed texts (test.Installed r n) (by r n)
+installed_comparison texts r n = record { no_cell = λ s. refl; holds = λ s x a g within. refl }
 
-pub bucket_against : (texts : List (List ℕ)) (salt modulus other divisor : Option ℕ)
+pub bucket_comparison : (texts : List (List ℕ)) (salt modulus other divisor : Option ℕ)
     (r : Comparison) (n : ℕ) → salt ≡ other → modulus ≡ divisor
-    → IsAgainst (coordinate.Bucket salt modulus) texts (test.Bucket other divisor r n) (by r n)
-bucket_against texts salt modulus other divisor r n salts moduli = record {
+    → ComparesNumber (coordinate.Bucket salt modulus) texts (test.Bucket other divisor r n) (by r n)
+bucket_comparison texts salt modulus other divisor r n salts moduli = record {
   no_cell = λ s. refl;
   holds = λ s x a g within.
       ap₂ (λ (m b : Option ℕ). allows r (nat_cmp (remainder m (bucket_by a b)) n)) (sym moduli)
@@ -84,9 +84,9 @@ flag_compares : (b : Bool) → not b ≡ allows Ge (nat_cmp (if b then 0 else 1)
 flag_compares true = refl
 flag_compares false = refl
 
-pub flag_against : (texts : List (List ℕ)) (own f : Flag) → own ≡ f
-    → IsAgainst (coordinate.Flag own) texts (test.Flag f) (by Ge 1)
-flag_against texts own f same = record {
+pub flag_comparison : (texts : List (List ℕ)) (own f : Flag) → own ≡ f
+    → ComparesNumber (coordinate.Flag own) texts (test.Flag f) (by Ge 1)
+flag_comparison texts own f same = record {
   no_cell = λ s. refl;
   holds = λ s x a g within.
       ap (λ (h : Flag). is_set a.context.flags (flag_bit h)) (sym same)
@@ -105,9 +105,9 @@ day_compares (Some day) = by_test (nat_lt day 4294967295) refl
     by_test true is = ap (allows Lt) (nat_cmp_is day 4294967295 Less (ltb-true day 4294967295 is))
     by_test false is = refl
 
-pub known_against : (texts : List (List ℕ))
-    → IsAgainst coordinate.Installed texts (test.Flag flag.InstalldateKnown) (by Lt 4294967295)
-known_against texts = record {
+pub known_comparison : (texts : List (List ℕ))
+    → ComparesNumber coordinate.Installed texts (test.Flag flag.InstalldateKnown) (by Lt 4294967295)
+known_comparison texts = record {
   no_cell = λ s. refl;
   holds = λ s x a g within.
       let m = within.machine in
@@ -181,10 +181,10 @@ module _ (texts : List (List ℕ)) (text : List ℕ)
         (λ equal. let both = sym other ∙ (bytes_eq-Decides u text).1 (apart u equal) in cc)
   ]
 
-pub text_against : (texts : List (List ℕ)) (own n : Attribute) (text : List ℕ) (k : ℕ) → own ≡ n
+pub text_comparison : (texts : List (List ℕ)) (own n : Attribute) (text : List ℕ) (k : ℕ) → own ≡ n
     → k ≡ index_or_count texts text → k < length texts
-    → IsAgainst (coordinate.Text own) texts (test.Attr n text) (by Eq k)
-text_against texts own n text k same is there = record {
+    → ComparesNumber (coordinate.Text own) texts (test.Attr n text) (by Eq k)
+text_comparison texts own n text k same is there = record {
   no_cell = λ s. refl;
   holds = λ s x a g within.
       let named : index_or_count texts text < length texts =
@@ -199,17 +199,17 @@ text_against texts own n text k same is there = record {
 -- ---- the begin of a cell compares as the number
 
 pub compares : (x : Scope) (ds : List Dimension) (s : AppShape) (at : ℕ) (t : the_test.Test)
-    (against : NumberComparison) → All (IsLine x) ds → IsAgainstAt ds at t against
-    → ComparesAs (IsWithin x) ds s t at against.comparison against.number
-compares x ds s at t against lines h = record {
+    (compared : NumberComparison) → All (IsLine x) ds → ComparesNumberAt ds at t compared
+    → ComparesAs (IsWithin x) ds s t at compared.comparison compared.number
+compares x ds s at t compared lines h = record {
   dimension = h.dimension;
   is_at = h.is_at;
-  no_cell = h.against.no_cell s;
+  no_cell = h.compared.no_cell s;
   holds = λ a g within.
       let line = all_at (IsLine x) ds at h.dimension h.is_at lines in
-      h.against.holds s x a g within
+      h.compared.holds s x a g within
       ∙ sym (begins_alike h.dimension.starts h.dimension.last (number_of h.dimension a g)
-      against.number against.comparison line.rises (from_first x a g within h.dimension line)
+      compared.number compared.comparison line.rises (from_first x a g within h.dimension line)
       (to_last x a g within h.dimension line) h.decided);
 }
 

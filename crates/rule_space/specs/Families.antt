@@ -79,7 +79,7 @@ abbrev pub cell_by : Coordinate → (starts : List ℕ) → Combination → ℕ
 cell_by coordinate.Version starts c = c.number
 cell_by (coordinate.Bucket salt modulus) starts c =
     cell_at starts (remainder modulus (bucket_by (plain [] None c.number) salt))
-cell_by (coordinate.Flag f) starts c = cell_at starts (if c.known then 1 else 0)
+cell_by (coordinate.Flag f) starts c = cell_at starts (if c.is_known then 1 else 0)
 cell_by of starts c = cell_at starts c.text
 
 abbrev pub cell_or : Option Dimension → Combination → ℕ
@@ -92,14 +92,14 @@ cells_by ds members c = map (λ m. cell_or (slice_get ds m) c) members
 -- a version can be in this cell of the line (without a line, have any number) and have this text
 abbrev pub version_may : (line : Option Dimension) → (text : Option (List ℕ)) → Combination → Bool
 version_may (Some d) text c =
-    version_fits text c.known (begin_of d c.number) (slice_get d.starts (c.number + 1))
-version_may None text c = version_fits text c.known 0 None
+    version_fits text c.is_known (begin_of d c.number) (slice_get d.starts (c.number + 1))
+version_may None text c = version_fits text c.is_known 0 None
 
 abbrev pub is_possible_as : GroupKind → (line : Option Dimension) → (texts : List (List ℕ))
     → Combination → Bool
 is_possible_as kind.Version line texts c = version_may line (slice_get texts c.text) c
 is_possible_as kind.Bucket line texts c =
-    cohort_fits texts (slice_get texts c.text) c.known c.number
+    cohort_fits texts (slice_get texts c.text) c.is_known c.number
 
 -- a machine can have this combination
 abbrev pub is_possible : Family → List Dimension → Combination → Bool
@@ -115,8 +115,8 @@ count_by_line None = 1
 abbrev pub count_of : Family → List Dimension → ℕ
 count_of f ds = if is_version f.kind then count_by_line (line_at ds f.line) else 10000
 
-abbrev pub combination : (number : ℕ) → (known : Bool) → (text : ℕ) → Combination
-combination number known text = record { number = number; known = known; text = text }
+abbrev pub combination : (number : ℕ) → (is_known : Bool) → (text : ℕ) → Combination
+combination number is_known text = record { number = number; is_known = is_known; text = text }
 
 -- a line has at most 65535 cells
 pub record AreFew (ds : List Dimension) : Type 0 where
@@ -131,8 +131,8 @@ pub record HasCombination (f : Family) (ds : List Dimension) (group : Group) (c 
 pub record IsMadeOf (f : Family) (ds : List Dimension) (group : Group) : Type 0 where
   pub members : All (λ place. is_member_at f place (slice_get ds place) ≡ true) group.dimensions
   pub has : (number : ℕ) → number < count_of f ds → (text : ℕ)
-      → text ≤ length (texts_at ds f.text) → (known : Bool)
-      → HasCombination f ds group (combination number known text)
+      → text ≤ length (texts_at ds f.text) → (is_known : Bool)
+      → HasCombination f ds group (combination number is_known text)
 
 -- ---- additions
 

@@ -15,17 +15,17 @@ in_cell low (Some high) n = nat_le low n && nat_lt n high
 in_cell low None n = nat_le low n
 
 -- a text that is a version is known, and has its number; any other isn't known, and counts as 0
-abbrev pub numbers_fit : Option (List ℕ) → (known : Bool) → (low : ℕ) → (high : Option ℕ) → Bool
-numbers_fit (Some v) known low high = known && in_cell low high (version_number v)
-numbers_fit None known low high = not known && (low == 0)
+abbrev pub numbers_fit : Option (List ℕ) → (is_known : Bool) → (low : ℕ) → (high : Option ℕ) → Bool
+numbers_fit (Some v) is_known low high = is_known && in_cell low high (version_number v)
+numbers_fit None is_known low high = not is_known && (low == 0)
 
 -- a text that isn't named may be any version, or none. The empty text may be that of a version that
 -- is too long to be kept
-abbrev pub version_fits : (text : Option (List ℕ)) → (known : Bool) → (low : ℕ)
+abbrev pub version_fits : (text : Option (List ℕ)) → (is_known : Bool) → (low : ℕ)
     → (high : Option ℕ) → Bool
-version_fits None known low high = known || (low == 0)
-version_fits (Some []) known low high = known || (low == 0)
-version_fits (Some (c ∷ cs)) known low high = numbers_fit (version_of (c ∷ cs)) known low high
+version_fits None is_known low high = is_known || (low == 0)
+version_fits (Some []) is_known low high = is_known || (low == 0)
+version_fits (Some (c ∷ cs)) is_known low high = numbers_fit (version_of (c ∷ cs)) is_known low high
 
 -- ---- buckets
 
@@ -38,8 +38,8 @@ names_bucket bucket cohort = is_bucket (cohort_bucket cohort) bucket
 
 -- a cohort that names a bucket fits only that one. A cohort that isn't among the texts may name any
 -- bucket that none of them names
-abbrev pub cohort_fits : (texts : List (List ℕ)) → (cohort : Option (List ℕ)) → (known : Bool)
+abbrev pub cohort_fits : (texts : List (List ℕ)) → (cohort : Option (List ℕ)) → (is_known : Bool)
     → (bucket : ℕ) → Bool
-cohort_fits texts None known bucket = not known || not (list_any (names_bucket bucket) texts)
-cohort_fits texts (Some cohort) known bucket =
-    if is_some (cohort_bucket cohort) then known && names_bucket bucket cohort else not known
+cohort_fits texts None is_known bucket = not is_known || not (list_any (names_bucket bucket) texts)
+cohort_fits texts (Some cohort) is_known bucket =
+    if is_some (cohort_bucket cohort) then is_known && names_bucket bucket cohort else not is_known

@@ -16,18 +16,19 @@ use Rattle.rule_space.specs.Numbers.{decides}
 use Rattle.rule_space.specs.Scopes.{IsWithin, Scope}
 
 -- the test uses no cell, and holds if the machine's number compares so
-pub record IsAgainst (of : Coordinate) (texts : List (List ℕ)) (t : Test) (by : NumberComparison)
+pub record ComparesNumber (of : Coordinate) (texts : List (List ℕ)) (t : Test)
+    (by : NumberComparison)
     : Type 0 where
   pub no_cell : (s : AppShape) → cell_used s t ≡ None
   pub holds : (s : AppShape) (x : Scope) (a : Attributes) (g : State) → IsWithin x a g
       → test_holds a s 0 t ≡ allows by.comparison (nat_cmp (number_in of texts a g) by.number)
 
 -- the same for a dimension at a place, whose cells decide it
-pub record IsAgainstAt (ds : List Dimension) (at : ℕ) (t : Test) (by : NumberComparison)
+pub record ComparesNumberAt (ds : List Dimension) (at : ℕ) (t : Test) (by : NumberComparison)
     : Type 0 where
   pub dimension : Dimension
   pub is_at : slice_get ds at ≡ Some dimension
-  pub against : IsAgainst dimension.of dimension.texts t by
+  pub compared : ComparesNumber dimension.of dimension.texts t by
   pub decided : decides dimension.starts dimension.last by.comparison by.number ≡ true
 
 -- the number says how many takes this cell of an array grants

@@ -20,7 +20,7 @@ use std::alloc::{AllocError, Global};
 #[derive(Clone, Copy)]
 pub(crate) struct Combination {
     pub number: u16,
-    pub known: bool,
+    pub is_known: bool,
     pub text: usize,
 }
 
@@ -62,7 +62,7 @@ fn cell_of(of: &Coordinate, starts: &[u128], combination: Combination) -> u16
             let bucket = bucket_by(combination.number, *salt);
             cell_at(starts, remainder(*modulus, bucket) as u128)
         }
-        Coordinate::Flag(_) => cell_at(starts, combination.known as u128),
+        Coordinate::Flag(_) => cell_at(starts, combination.is_known as u128),
         _ => cell_at(starts, combination.text as u128),
     }
 }
@@ -100,15 +100,15 @@ fn version_may(line: Option<&Dimension>, text: Option<&Literal>, combination: Co
     ensures { result ≡ specs.version_may (option_copied line.entry) (option_copied text.entry)
         combination }
 {
-    let known = combination.known;
+    let is_known = combination.is_known;
     match line {
         Some(line) => version_fits(
             text,
-            known,
+            is_known,
             line.begin(combination.number),
             line.end(combination.number),
         ),
-        None => version_fits(text, known, 0, None),
+        None => version_fits(text, is_known, 0, None),
     }
 }
 
@@ -124,6 +124,6 @@ pub(crate) fn is_possible(
     let text = texts.get(combination.text);
     match family.kind {
         GroupKind::Version => version_may(line_at(dimensions, family.line), text, combination),
-        GroupKind::Bucket => cohort_fits(texts, text, combination.known, combination.number),
+        GroupKind::Bucket => cohort_fits(texts, text, combination.is_known, combination.number),
     }
 }

@@ -22,21 +22,21 @@ fn in_cell(low: u128, high: Option<u128>, number: u128) -> bool
 /// isn't named.
 pub(crate) fn version_fits(
     text: Option<&Literal>,
-    known: bool,
+    is_known: bool,
     low: u128,
     high: Option<u128>,
 ) -> bool
-    ensures { result ≡ specs.version_fits (option_copied text.entry) known low high }
+    ensures { result ≡ specs.version_fits (option_copied text.entry) is_known low high }
 {
     let Some(text) = text else {
-        return known || low == 0;
+        return is_known || low == 0;
     };
     if text.as_str().is_empty() {
-        return known || low == 0;
+        return is_known || low == 0;
     }
     match read_version(text.as_str()) {
-        Some(version) => known && in_cell(low, high, version_number(version)),
-        None => !known && low == 0,
+        Some(version) => is_known && in_cell(low, high, version_number(version)),
+        None => !is_known && low == 0,
     }
 }
 
@@ -67,16 +67,16 @@ fn some_names(texts: &[Literal], bucket: u16) -> bool
 pub(crate) fn cohort_fits(
     texts: &[Literal],
     cohort: Option<&Literal>,
-    known: bool,
+    is_known: bool,
     bucket: u16,
 ) -> bool
-    ensures { result ≡ specs.cohort_fits texts.now (option_copied cohort.entry) known bucket }
+    ensures { result ≡ specs.cohort_fits texts.now (option_copied cohort.entry) is_known bucket }
 {
     let Some(cohort) = cohort else {
-        return !known || !some_names(texts, bucket);
+        return !is_known || !some_names(texts, bucket);
     };
     if cohort_bucket(cohort.as_str()).is_some() {
-        return known && names_bucket(cohort, bucket);
+        return is_known && names_bucket(cohort, bucket);
     }
-    !known
+    !is_known
 }

@@ -54,21 +54,21 @@ fn add_text(
     text: usize,
 ) -> Result<(), AllocError>
     ensures grows { OnOk result (GrowsTo group.old group.new) }
-    ensures has { AreFew dimensions.now → OnOk result ((known : Bool)
-        → HasCombination family dimensions.now group.new (combination number known text)) }
+    ensures has { AreFew dimensions.now → OnOk result ((is_known : Bool)
+        → HasCombination family dimensions.now group.new (combination number is_known text)) }
 {
     let unknown = Combination {
         number,
-        known: false,
+        is_known: false,
         text,
     };
-    let known = Combination {
+    let with_known = Combination {
         number,
-        known: true,
+        is_known: true,
         text,
     };
     add_combination(alloc, dimensions, family, group, unknown)?;
-    add_combination(alloc, dimensions, family, group, known)?;
+    add_combination(alloc, dimensions, family, group, with_known)?;
     Ok(())
 }
 
@@ -82,8 +82,8 @@ fn add_number(
 ) -> Result<(), AllocError>
     ensures grows { OnOk result (GrowsTo group.old group.new) }
     ensures has { AreFew dimensions.now → OnOk result ((text : ℕ)
-        → text ≤ length (specs.texts_at dimensions.now family.text) → (known : Bool)
-        → HasCombination family dimensions.now group.new (combination number known text)) }
+        → text ≤ length (specs.texts_at dimensions.now family.text) → (is_known : Bool)
+        → HasCombination family dimensions.now group.new (combination number is_known text)) }
 {
     let texts = texts_at(dimensions, family.text);
     for text in 0..texts.len() + 1 {

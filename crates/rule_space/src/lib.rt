@@ -39,6 +39,6 @@ pub use dimension::Dimension;
 pub use group::{Group, Tuple};
 pub use number_line::decides;
 pub use plan::{Plan, PlanCondition, PlanStatement, PlanStep};
-pub use plan_test::{PlanTest, against_at};
+pub use plan_test::{PlanTest, number_comparison_at};
 pub use space::{Space, space_of};
 pub use test_line::NumberComparison;

@@ -6,7 +6,7 @@ use crate::coordinate::Coordinate;
 use crate::dimension::{Dimension, dimension_of};
 use crate::number_line::{add_cuts, add_start};
 use crate::plan_test::is_declared_as;
-use crate::test_line::{against_of, index_or_count};
+use crate::test_line::{index_or_count, number_comparison_of};
 use attrs::Flag;
 use cells::{ArrayName, CellArray, Shape};
 use rule_lang::{Comparison, Literal, Statement, Step, Test, array_named};
@@ -79,15 +79,15 @@ fn add_cells(alloc: Global, dimension: &mut Dimension, test: &Test) -> Result<()
     if let Test::Attr { text, .. } = test {
         add_text(alloc, dimension, text)?;
     }
-    let Some(against) = against_of(&dimension.of, &dimension.texts, test) else {
+    let Some(compared) = number_comparison_of(&dimension.of, &dimension.texts, test) else {
         return Ok(());
     };
     let last = dimension.last;
     add_cuts(
         &mut dimension.starts,
         last,
-        against.comparison,
-        against.number,
+        compared.comparison,
+        compared.number,
     )
 }
 

@@ -8,14 +8,14 @@ ghost use Rattle.rule_space.specs.Lines.{IsLine};
 ghost use Rattle.rule_space.specs.Machines.{declared};
 ghost use Rattle.rule_space.specs.Plans.{DecidesAs, IsConstant};
 ghost use Rattle.rule_space.specs.Scopes.{IsWithin, Scope, scope_of};
-ghost use Rattle.rule_space.specs.Tests.{IsAgainstAt, IsGrantAt, IsGrantOf};
+ghost use Rattle.rule_space.specs.Tests.{ComparesNumberAt, IsGrantAt, IsGrantOf};
 
 use crate::bounds::Bounds;
 use crate::coordinate::Coordinate;
 use crate::dimension::Dimension;
 use crate::naming::find_dimension;
 use crate::number_line::decides;
-use crate::test_line::{NumberComparison, against_of};
+use crate::test_line::{NumberComparison, number_comparison_of};
 use attrs::{Attribute, Flag};
 use cells::{ArrayName, CellArray, Shape};
 use rule_lang::{Comparison, Test, array_named};
@@ -77,22 +77,26 @@ fn constant_of(bounds: &Bounds<'_>, test: &Test) -> Option<bool>
 /// The comparison that a test makes with the number of the dimension at a place, if it is about
 /// that number, and the dimension's cells decide it; none for a take.
 // open: for which tests of the dimension it returns none.
-pub fn against_at(dimensions: &[Dimension], place: usize, test: &Test) -> Option<NumberComparison>
-    ensures { IfSome result (IsAgainstAt dimensions.now place test.now) }
+pub fn number_comparison_at(
+    dimensions: &[Dimension],
+    place: usize,
+    test: &Test,
+) -> Option<NumberComparison>
+    ensures { IfSome result (ComparesNumberAt dimensions.now place test.now) }
 {
     let Some(dimension) = dimensions.get(place) else {
         return None;
     };
-    let Some(against) = against_of(&dimension.of, &dimension.texts, test) else {
+    let Some(compared) = number_comparison_of(&dimension.of, &dimension.texts, test) else {
         return None;
     };
     if decides(
         &dimension.starts,
         dimension.last,
-        against.comparison,
-        against.number,
+        compared.comparison,
+        compared.number,
     ) {
-        return Some(against);
+        return Some(compared);
     }
     None
 }
@@ -101,11 +105,11 @@ fn compares_at(dimensions: &[Dimension], place: usize, test: &Test) -> Option<Pl
     ensures { (x : Scope) (s : AppShape) → All (IsLine x) dimensions.now
         → IfSome result (DecidesAs (IsWithin x) dimensions.now s test.now) }
 {
-    match against_at(dimensions, place, test) {
-        Some(against) => Some(PlanTest::Compares {
+    match number_comparison_at(dimensions, place, test) {
+        Some(compared) => Some(PlanTest::Compares {
             dimension: place,
-            comparison: against.comparison,
-            number: against.number,
+            comparison: compared.comparison,
+            number: compared.number,
         }),
         None => None,
     }

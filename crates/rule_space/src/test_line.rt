@@ -2,7 +2,7 @@
 
 ghost use Rattle.std.specs.Prelude.{◌≡◌, ℕ, List, IfSome, true};
 ghost use Rattle.rule_space.specs.Coordinates as coordinates;
-ghost use Rattle.rule_space.specs.Tests.{IsAgainst};
+ghost use Rattle.rule_space.specs.Tests.{ComparesNumber};
 
 use crate::coordinate::Coordinate;
 use crate::number_line::version_number;
@@ -32,9 +32,9 @@ pub(crate) fn index_or_count(texts: &[Literal], text: &str) -> usize
     place
 }
 
-fn version_against(test: &Test) -> Option<NumberComparison>
+fn version_comparison(test: &Test) -> Option<NumberComparison>
     ensures { (texts : List (List ℕ))
-        → IfSome result (IsAgainst Coordinate.Version texts test.now) }
+        → IfSome result (ComparesNumber Coordinate.Version texts test.now) }
 {
     match test {
         Test::Version {
@@ -48,8 +48,9 @@ fn version_against(test: &Test) -> Option<NumberComparison>
     }
 }
 
-fn today_against(test: &Test) -> Option<NumberComparison>
-    ensures { (texts : List (List ℕ)) → IfSome result (IsAgainst Coordinate.Today texts test.now) }
+fn today_comparison(test: &Test) -> Option<NumberComparison>
+    ensures { (texts : List (List ℕ))
+        → IfSome result (ComparesNumber Coordinate.Today texts test.now) }
 {
     match test {
         Test::Today { comparison, number } => Some(NumberComparison {
@@ -61,9 +62,9 @@ fn today_against(test: &Test) -> Option<NumberComparison>
 }
 
 // The flag `installdate_known` is about the day of the installation.
-fn installed_against(test: &Test) -> Option<NumberComparison>
+fn installed_comparison(test: &Test) -> Option<NumberComparison>
     ensures { (texts : List (List ℕ))
-        → IfSome result (IsAgainst Coordinate.Installed texts test.now) }
+        → IfSome result (ComparesNumber Coordinate.Installed texts test.now) }
 {
     match test {
         Test::Installed { comparison, number } => Some(NumberComparison {
@@ -98,9 +99,13 @@ fn is_same_modulus(modulus: Option<u32>, other: Option<u32>) -> bool
     }
 }
 
-fn bucket_against(salt: Option<u64>, modulus: Option<u32>, test: &Test) -> Option<NumberComparison>
+fn bucket_comparison(
+    salt: Option<u64>,
+    modulus: Option<u32>,
+    test: &Test,
+) -> Option<NumberComparison>
     ensures { (texts : List (List ℕ))
-        → IfSome result (IsAgainst (Coordinate.Bucket salt modulus) texts test.now) }
+        → IfSome result (ComparesNumber (Coordinate.Bucket salt modulus) texts test.now) }
 {
     match test {
         Test::Bucket {
@@ -121,9 +126,9 @@ fn bucket_against(salt: Option<u64>, modulus: Option<u32>, test: &Test) -> Optio
     }
 }
 
-fn flag_against(own: Flag, test: &Test) -> Option<NumberComparison>
+fn flag_comparison(own: Flag, test: &Test) -> Option<NumberComparison>
     ensures { (texts : List (List ℕ))
-        → IfSome result (IsAgainst (Coordinate.Flag own) texts test.now) }
+        → IfSome result (ComparesNumber (Coordinate.Flag own) texts test.now) }
 {
     match test {
         Test::Flag(flag) => {
@@ -139,8 +144,8 @@ fn flag_against(own: Flag, test: &Test) -> Option<NumberComparison>
     }
 }
 
-fn text_against(own: Attribute, texts: &[Literal], test: &Test) -> Option<NumberComparison>
-    ensures { IfSome result (IsAgainst (Coordinate.Text own) texts.now test.now) }
+fn text_comparison(own: Attribute, texts: &[Literal], test: &Test) -> Option<NumberComparison>
+    ensures { IfSome result (ComparesNumber (Coordinate.Text own) texts.now test.now) }
 {
     match test {
         Test::Attr { attribute, text } => {
@@ -159,20 +164,20 @@ fn text_against(own: Attribute, texts: &[Literal], test: &Test) -> Option<Number
 
 /// The comparison that a test makes with the number of a coordinate, if it is about that; none for
 /// a take, whose number changes along a run, or for a text that isn't among these.
-pub(crate) fn against_of(
+pub(crate) fn number_comparison_of(
     of: &Coordinate,
     texts: &[Literal],
     test: &Test,
 ) -> Option<NumberComparison>
-    ensures { IfSome result (IsAgainst of.now texts.now test.now) }
+    ensures { IfSome result (ComparesNumber of.now texts.now test.now) }
 {
     match of {
-        Coordinate::Version => version_against(test),
-        Coordinate::Today => today_against(test),
-        Coordinate::Installed => installed_against(test),
-        Coordinate::Bucket { salt, modulus } => bucket_against(*salt, *modulus, test),
-        Coordinate::Flag(flag) => flag_against(*flag, test),
-        Coordinate::Text(attribute) => text_against(*attribute, texts, test),
+        Coordinate::Version => version_comparison(test),
+        Coordinate::Today => today_comparison(test),
+        Coordinate::Installed => installed_comparison(test),
+        Coordinate::Bucket { salt, modulus } => bucket_comparison(*salt, *modulus, test),
+        Coordinate::Flag(flag) => flag_comparison(*flag, test),
+        Coordinate::Text(attribute) => text_comparison(*attribute, texts, test),
         Coordinate::Takes { .. } => None,
     }
 }

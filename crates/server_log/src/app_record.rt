@@ -11,13 +11,13 @@ use std::alloc::AllocError;
 /// An app, with what was found for it.
 #[derive(Drop)]
 pub(crate) struct AppRecord {
-    said: SharedFacts,
+    facts: SharedFacts,
     bucket: Bucket,
     /// Whether the server has such an app.
     pub(crate) is_known: bool,
     choice: Option<u8>,
     release: Option<TextPlace>,
-    beside: AppExtras,
+    extras: AppExtras,
 }
 
 /// The details of an app that its facts don't have.
@@ -60,49 +60,49 @@ impl AppRecord {
     /// Keeps an app, what was found for it, and its other details.
     pub(crate) fn of(
         texts: &mut KeptTexts,
-        said: SharedFacts,
+        facts: SharedFacts,
         found: &Option<FoundApp<'_>>,
         hashed: Bucket,
-        beside: AppExtras,
+        extras: AppExtras,
     ) -> Result<AppRecord, AllocError> {
         let (bucket, choice, release) = match found {
             Some(found) => (found.bucket(), found.choice(), release_of(texts, found)?),
-            None => (named_or_hashed(said.facts(), hashed), None, None),
+            None => (named_or_hashed(facts.facts(), hashed), None, None),
         };
         Ok(AppRecord {
-            said,
+            facts,
             bucket,
             is_known: found.is_some(),
             choice,
             release,
-            beside,
+            extras,
         })
     }
 
     /// The app, for the line.
     pub(crate) fn logged<'x>(&'x self, texts: &'x KeptTexts) -> LoggedApp<'x> {
-        let said = self.said.facts();
+        let facts = self.facts.facts();
         LoggedApp {
-            appid: Excerpt::brief(said.appid.as_str()),
-            version: brief_of(&said.version),
+            appid: Excerpt::brief(facts.appid.as_str()),
+            version: brief_of(&facts.version),
             bucket: self.bucket.number(),
-            named: is_named(&said.cohort),
+            named: is_named(&facts.cohort),
             outcome: self.outcome(texts),
-            event: excerpt_of(texts, self.beside.details.event),
+            event: excerpt_of(texts, self.extras.details.event),
             more: self.more(texts),
         }
     }
 
     // Its members other than its id and version.
     fn more<'x>(&'x self, texts: &'x KeptTexts) -> FurtherMembers<'x> {
-        let said = self.said.facts();
+        let facts = self.facts.facts();
         FurtherMembers {
-            ap: short_of(&said.ap),
-            lang: short_of(&said.lang),
-            brand: short_of(&said.brand),
-            platform: excerpt_of(texts, self.beside.platform),
-            installdate: said.installdate,
-            ignored: texts.at_some(self.beside.details.ignored),
+            ap: short_of(&facts.ap),
+            lang: short_of(&facts.lang),
+            brand: short_of(&facts.brand),
+            platform: excerpt_of(texts, self.extras.platform),
+            installdate: facts.installdate,
+            ignored: texts.at_some(self.extras.details.ignored),
         }
     }
 

@@ -36,7 +36,7 @@ pub struct ConnectionRecord {
     /// The number of bytes written.
     pub(crate) bytes: u64,
     /// The buffer for what is read.
-    room: Vec<u8>,
+    buffer: Vec<u8>,
     texts: KeptTexts,
     /// The details of each app, in the request's order.
     events: Vec<AppDetails>,
@@ -66,7 +66,7 @@ impl ConnectionRecord {
             lacks_id: false,
             cause: None,
             bytes: 0,
-            room: Vec::new(alloc),
+            buffer: Vec::new(alloc),
             texts: KeptTexts::new(alloc),
             events: Vec::new(alloc),
             apps: Vec::new(alloc),
@@ -99,8 +99,8 @@ impl ConnectionRecord {
         ensures failure { result.failure ≡ None }
         ensures same { IsSameRequest self.old self.new }
     {
-        let room = mem::replace(&mut self.room, Vec::new(self.alloc));
-        Recorder::with_buffer(room, reader, self.is_kept)
+        let buffer = mem::replace(&mut self.buffer, Vec::new(self.alloc));
+        Recorder::with_buffer(buffer, reader, self.is_kept)
     }
 
     /// Takes the details of a connection from its devices: the address that a proxy names, how the
@@ -119,7 +119,7 @@ impl ConnectionRecord {
             None => writer.cause(),
         };
         self.bytes = writer.into_inner().bytes();
-        self.room = reader.into_buffer();
+        self.buffer = reader.into_buffer();
     }
 
     /// Sets why the connection failed, if its devices don't know.

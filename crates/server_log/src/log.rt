@@ -103,7 +103,7 @@ impl<'a> Log<'a> {
     }
 
     /// Flushes the lines if they are of another second than `moment`, which is then the log's.
-    pub fn hand_on_earlier<H>(&mut self, rt: &H, moment: i64)
+    pub fn flush_earlier<H>(&mut self, rt: &H, moment: i64)
     where
         H: Wait + AllocGlobal + Clock,
         ensures queue { self.new.queue ≡ self.old.queue }
@@ -128,8 +128,8 @@ impl<'a> Log<'a> {
         if self.lines == 0 {
             return;
         }
-        let room = buffer_for(rt.alloc(), self.text.len());
-        let text = mem::replace(&mut self.text, room);
+        let buffer = buffer_for(rt.alloc(), self.text.len());
+        let text = mem::replace(&mut self.text, buffer);
         let lines = self.lines;
         self.lines = 0;
         queue.put(rt, LogPiece { text, lines });

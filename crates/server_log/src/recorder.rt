@@ -37,17 +37,17 @@ impl<T> Recorder<T> {
     }
 
     /// A device from which nothing is read yet, with a buffer for what is read.
-    pub(crate) fn with_buffer(mut room: Vec<u8>, inner: T, is_kept: bool) -> Recorder<T>
+    pub(crate) fn with_buffer(mut buffer: Vec<u8>, inner: T, is_kept: bool) -> Recorder<T>
         ensures inner { result.inner ≡ inner }
         ensures kept { result.is_kept ≡ is_kept }
         ensures bytes { result.bytes.items ≡ [] }
         ensures failure { result.failure ≡ None }
     {
-        room.clear();
+        buffer.clear();
         Recorder {
             inner,
             is_kept,
-            bytes: room,
+            bytes: buffer,
             failure: None,
         }
     }

@@ -50,21 +50,22 @@ All-reverse P (x ∷ xs) all =
 
 -- ---- what each worker has read
 
-abbrev pub HasSeen : List Rules → PassView × KnownPrefix → Type 0
-HasSeen published worker = IsPrefix worker.1.rulesets published
+abbrev pub IsPublishedPrefix : List Rules → PassView × KnownPrefix → Type 0
+IsPublishedPrefix published worker = IsPrefix worker.1.rulesets published
 
 -- if all remaining workers have read only what was published, all have
 pub one_more_has : (published : List Rules) (workers rest : List (PassView × KnownPrefix))
     (worker : PassView × KnownPrefix) (all : List (PassView × KnownPrefix))
     → workers ≡ rest ++ worker ∷ [] → IsPrefix worker.1.rulesets published
-    → (All (HasSeen published) workers → All (HasSeen published) all)
-    → All (HasSeen published) rest → All (HasSeen published) all
+    → (All (IsPublishedPrefix published) workers → All (IsPublishedPrefix published) all)
+    → All (IsPublishedPrefix published) rest → All (IsPublishedPrefix published) all
 one_more_has published workers rest worker all split seen before others =
-    let P = HasSeen published in
+    let P = IsPublishedPrefix published in
     before (All-same P workers (rest ++ worker ∷ []) split (All-push P rest worker others seen))
 
-pub all_have_seen : (published : List Rules) (workers all : List (PassView × KnownPrefix))
-    → length workers ≡ 0 → (All (HasSeen published) workers → All (HasSeen published) all)
-    → All (HasSeen published) all
-all_have_seen published [] all none before = before (All-nil (HasSeen published))
-all_have_seen published (w ∷ workers) all none before = absurd (omega (arith, none))
+pub all_are_prefixes : (published : List Rules) (workers all : List (PassView × KnownPrefix))
+    → length workers ≡ 0
+    → (All (IsPublishedPrefix published) workers → All (IsPublishedPrefix published) all)
+    → All (IsPublishedPrefix published) all
+all_are_prefixes published [] all none before = before (All-nil (IsPublishedPrefix published))
+all_are_prefixes published (w ∷ workers) all none before = absurd (omega (arith, none))

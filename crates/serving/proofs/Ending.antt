@@ -75,12 +75,13 @@ shorter a b goes =
     let size = sym (ap length goes.onwards.1) ∙ length-append a.rulesets goes.onwards.0 in
     omega (arith, size)
 
-pub has_seen : ShorterBegins → (old told learned new : KnownPrefix) (generation : ℕ) (rules : Rules)
-    → Extends old learned → Extends told learned → Extends learned new
-    → IsLatest new generation rules → generation ≤ length told.rulesets
-    → IsPrefix old.rulesets told.rulesets
-has_seen begins old told learned new generation rules first second last is less =
+pub reads_published : ShorterBegins → (old noticed learned new : KnownPrefix) (generation : ℕ)
+    (rules : Rules)
+    → Extends old learned → Extends noticed learned → Extends learned new
+    → IsLatest new generation rules → generation ≤ length noticed.rulesets
+    → IsPrefix old.rulesets noticed.rulesets
+reads_published begins old noticed learned new generation rules first second last is less =
     let a = shorter old learned first in
     let b = shorter learned new last in
     let g = is.generation_is in
-    (begins old told learned first second (omega (arith, a, b, g, less))).onwards
+    (begins old noticed learned first second (omega (arith, a, b, g, less))).onwards

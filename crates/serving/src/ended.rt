@@ -28,7 +28,7 @@ pub(crate) fn close_cells(
     ensures passes { result.0.passes ≡ passes_of back.operator back.workers.items }
     ensures history { AreLeftBy result.0.passes result.0.values }
     ensures quotas { QuotasAreExact result.0.passes result.0.values }
-    ensures seen { IsTrue result.1
+    ensures prefix { IsTrue result.1
         → All (λ worker. IsPrefix worker.1.rulesets back.published.rulesets) back.workers.items }
 {
     let Returned {
@@ -41,9 +41,9 @@ pub(crate) fn close_cells(
     room.push_reserved(operator);
     let mut is_known = true;
     while let Some(worker) = workers.pop() {
-        let (pass, has_seen) = pass_of(worker, &published, generation);
+        let (pass, reads_published) = pass_of(worker, &published, generation);
         room.push_reserved(pass);
-        is_known = both(is_known, has_seen);
+        is_known = both(is_known, reads_published);
     }
     let Ok(closed) = cells.close(room) else {
         unreachable!()
@@ -61,7 +61,7 @@ fn pass_of(
     requires publisher { published.now.publisher ≡ worker.1.publisher }
     requires generation { generation ≡ length published.now.rulesets }
     ensures same { result.0 ≡ worker.0 }
-    ensures seen { IsTrue result.1 → IsPrefix worker.1.rulesets published.now.rulesets }
+    ensures prefix { IsTrue result.1 → IsPrefix worker.1.rulesets published.now.rulesets }
 {
     generations_go_onwards();
     let (pass, mut watcher) = worker;

@@ -141,7 +141,7 @@ impl StaffedServer {
         requires few { length self.workers.items ≤ 64 }
         ensures world { IfOk result
             (LeavesOneWorld (L.loads loader.now) self.cells self.control) }
-        ensures said { OnOk result (Appends (O.contents out.old) (O.contents out.new)
+        ensures printed { OnOk result (Appends (O.contents out.old) (O.contents out.new)
             (serving_line self.control.publishing.latest.generation)) }
         ensures fault { IfErr result IsEndFault }
     {

@@ -174,7 +174,7 @@ exact passes values closed c counter =
     sum_by-IsPermutation (λ (x : CellEvent). one_if
     (x.cell == c && adds_one x.op && nat_lt x.reply top)) made all shuffle in
     let none = legal.zeros.zero c in
-    let room = counter.room in
+    let room = counter.adds_fit in
     let along : (top : ℕ) → (slice_index values c ≡ slice_index legal.opening c + add_count c made)
     × (yes_count c top made + min top (slice_index legal.opening c) ≡ min top
     (slice_index legal.opening c + add_count c made)) = λ top.

@@ -29,7 +29,7 @@ OnlyCounts _ = ⊥
 pub record IsCounter (cell : ℕ) (made : List CellEvent) : Type 0 where
   pub wide : cell < 4096
   pub counts : All (λ e. e.cell ≡ cell → OnlyCounts e.op) made
-  pub room : add_count cell made < 2 ^ 64
+  pub adds_fit : add_count cell made < 2 ^ 64
 
 -- the value is the number of Adds, of which as many as the quota allows take a place
 pub record CountsExactly (cell value : ℕ) (made : List CellEvent) : Type 0 where

@@ -21,7 +21,7 @@ impl Client {
 
     /// Changes the app for which the client requests an update.
     pub(crate) fn set_appid(&mut self, alloc: Global, appid: &str) -> Result<(), AllocError>
-        ensures asks { OnOk result (self.new ≡ requesting self.old appid.now) }
+        ensures requests { OnOk result (self.new ≡ requesting self.old appid.now) }
         ensures same { IsSameButApp self.old self.new }
     {
         let appid = String::from_str(alloc, appid)?;

@@ -1,7 +1,7 @@
 -- What is gathered and judged may be compared.
 use Rattle.std.proofs.Common.{ℕ, List, [], Some}
 use Rattle.bounded_files.specs.Files.{Gives, KnownFiles, regular_files}
-use Rattle.load.specs.Folder.{files_beside}
+use Rattle.load.specs.Folder.{files_in_folder}
 use Rattle.load.specs.Sources.{AreSources}
 use Rattle.load.specs.declared.sources.Sources.{Sources}
 use Rattle.stage_commands.specs.Apps.{IsCollected}
@@ -14,7 +14,7 @@ use Rattle.stage_commands.specs.Compared.{IsJudged}
 
 pub is_collected : (known : KnownFiles) (path bytes : List ℕ) (sources : Sources)
     → Gives (regular_files known) path (Some bytes)
-    → AreSources (files_beside known path) [] bytes sources
+    → AreSources (files_in_folder known path) [] bytes sources
     → IsCollected known path bytes sources
 is_collected known path bytes sources given is = record { given = given; are_sources = is }
 

@@ -2,7 +2,7 @@
 use Rattle.std.specs.Prelude.{◌≡◌, ◌⊎◌, ℕ, List, [], find, Option, Some, None}
 use Rattle.std.specs.Str.{bytes_eq}
 use Rattle.bounded_files.specs.Files.{Gives, KnownFiles, regular_files}
-use Rattle.load.specs.Folder.{files_beside}
+use Rattle.load.specs.Folder.{files_in_folder}
 use Rattle.load.specs.Sources.{AreSources}
 use Rattle.load.specs.declared.sources.AppSources.{AppSources}
 use Rattle.load.specs.declared.sources.Sources.{Sources}
@@ -17,7 +17,7 @@ app_named apps appid = find (λ app. bytes_eq app.entry.appid appid) apps
 pub record IsCollected (known : KnownFiles) (path bytes : List ℕ) (sources : Sources)
     : Type 0 where
   pub given : Gives (regular_files known) path (Some bytes)
-  pub are_sources : AreSources (files_beside known path) [] bytes sources
+  pub are_sources : AreSources (files_in_folder known path) [] bytes sources
 
 -- the app with this appid of the manifest at a path
 pub record IsAppOf (known : KnownFiles) (path appid : List ℕ) (app : AppSources) : Type 0 where

@@ -18,7 +18,7 @@ use std::path::{Path, PathBuf};
 use std::rt::Files;
 
 // The path of a name in a manifest.
-fn path_beside(alloc: Global, manifest: &str, name: &str) -> Result<PathBuf, AllocError> {
+fn path_in_folder(alloc: Global, manifest: &str, name: &str) -> Result<PathBuf, AllocError> {
     let folder = Path::new(manifest).parent().unwrap_or(Path::new(""));
     folder.join(alloc, name)
 }
@@ -39,13 +39,13 @@ where
     if one == other {
         return Ok(true);
     }
-    let path = path_beside(rt.alloc(), manifest, one)?;
-    let another = path_beside(rt.alloc(), manifest, other)?;
+    let path = path_in_folder(rt.alloc(), manifest, one)?;
+    let another = path_in_folder(rt.alloc(), manifest, other)?;
     Ok(leads_to_same(rt, path.as_str(), another.as_str()))
 }
 
 // Another app of the manifest with the same file.
-fn app_beside<'a, R>(
+fn app_with_file<'a, R>(
     rt: &R,
     manifest: &str,
     apps: &'a [AppSources],
@@ -82,7 +82,7 @@ where
     let Some(app) = app_named(apps, appid) else {
         return Err(no_app(alloc, appid, apps));
     };
-    if let Some(other) = app_beside(rt, manifest, apps, app)? {
+    if let Some(other) = app_with_file(rt, manifest, apps, app)? {
         let refusal = one_file(alloc, file_of(app.entry.source()), other);
         lines.go_on_if(options.anyway, refusal)?;
     }

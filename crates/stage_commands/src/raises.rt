@@ -91,9 +91,9 @@ fn judged_with<D: Disk>(
 ) -> Result<OpenedManifest, Stop>
     ensures { IfOk result IsJudged }
 {
-    let beside = FolderFiles::in_folder_of(alloc, disk, manifest);
+    let folder = FolderFiles::in_folder_of(alloc, disk, manifest);
     let name = file.name.as_str();
-    let mut files = WithNewFile::new(alloc, beside, name, file.after.as_slice());
+    let mut files = WithNewFile::new(alloc, folder, name, file.after.as_slice());
     let none = Directory::new(alloc);
     let sources = match collect_sources(alloc, bytes, &mut files, &none) {
         Ok(sources) => sources,

@@ -38,9 +38,9 @@ quotas_are_granted keep apart wide there published passes looker history values 
     (only_quotas apart there arrays array cell directory listed quota has published sound only) in
     record {
       only = counts;
-      exact = λ room. exact cell (record {
+      exact = λ adds_fit. exact cell (record {
         wide = wide arrays array cell directory listed quota has;
         counts = counts;
-        room = room;
+        adds_fit = adds_fit;
       });
     }

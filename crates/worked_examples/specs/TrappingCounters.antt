@@ -45,9 +45,9 @@ compare_program place count = layout (
     ∷ Alu Bits64 Add R2 (Imm place) ∷ Mov Bits64 R3 (Imm count) ∷ Call (pos 2) ∷ [])
 
 -- call 3, which leaves R1 to R5 unset, followed by these
-abbrev pub behind_call : List Insn → Program
-behind_call rest = layout (Call (pos 3) ∷ rest)
+abbrev pub after_call : List Insn → Program
+after_call rest = layout (Call (pos 3) ∷ rest)
 
 -- mov r1, 1 / call HELPER / call HELPER
-abbrev pub twice_program : ℤ → Program
-twice_program helper = layout (Mov Bits64 R1 (Imm (pos 1)) ∷ Call helper ∷ Call helper ∷ [])
+abbrev pub two_calls : ℤ → Program
+two_calls helper = layout (Mov Bits64 R1 (Imm (pos 1)) ∷ Call helper ∷ Call helper ∷ [])

@@ -45,7 +45,7 @@ pub fn signed_load()
 /// r0, [r6+4]`. The last counter is at 0x3000FFF8: `lddw r6, 0x30010000 / mov r2, 1 / ldxw r0,
 /// [r6+0]`. The number of a map isn't an address: `lddw r6, 0x40000000 / mov r2, 1 / ldxdw r0,
 /// [r6+0]`.
-pub fn beside_counters()
+pub fn other_addresses()
     ensures unaligned { TrapsOver one_wide (traps.on_cell (Load load.Double R0 R6 (pos 1) ∷ [])) 2 }
     ensures upper_half { TrapsOver one_narrow
         (traps.on_cell (Load load.Word R0 R6 (pos 4) ∷ [])) 2 }
@@ -94,12 +94,12 @@ pub fn unset_helper_arguments()
     ensures map { TrapsOver one_wide (layout (Wide R1 (Map (pos 0)) ∷ Call (pos 3)
         ∷ Mov Bits64 R2 (Imm (pos 0)) ∷ Call (pos 1) ∷ [])) 3 }
     ensures key { TrapsOver one_wide traps.no_key_program 1 }
-    ensures number { AlwaysTraps (traps.behind_call
+    ensures number { AlwaysTraps (traps.after_call
         (Mov Bits64 R2 (Register R10) ∷ Mov Bits64 R3 (Imm (pos 0)) ∷ Call (pos 2) ∷ [])) 3 }
     ensures address { AlwaysTraps (layout (Mov Bits64 R3 (Imm (pos 0)) ∷ Call (pos 2) ∷ [])) 1 }
     ensures count { AlwaysTraps (layout (Mov Bits64 R2 (Register R10) ∷ Call (pos 2) ∷ [])) 1 }
-    ensures length { AlwaysTraps (traps.twice_program (pos 3)) 2 }
-    ensures salt { AlwaysTraps (traps.twice_program (pos 4)) 2 }
+    ensures length { AlwaysTraps (traps.two_calls (pos 3)) 2 }
+    ensures salt { AlwaysTraps (traps.two_calls (pos 4)) 2 }
 {}
 
 /// A wide load names an array that exists: with one array, `ldmap r2, 1`, `ldmap r2, -1`, `ldcell

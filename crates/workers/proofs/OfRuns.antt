@@ -155,11 +155,11 @@ module _ (law : Laws) (watcher : KnownPrefix) (moment : ℤ) where
   of_body body events reply (refused fault is) = law.nothing watcher.rulesets
   of_body body events reply unread = law.nothing watcher.rulesets
 
-  of_reply : (told : Option (List ℕ)) (events : List CellEvent) (reply : HttpReply)
-      (replies : RepliesTo told watcher moment events reply)
+  of_reply : (input : Option (List ℕ)) (events : List CellEvent) (reply : HttpReply)
+      (replies : RepliesTo input watcher moment events reply)
       → AreOfRuns watcher.rulesets (runs_of_reply replies) events
-  of_reply told events reply (taken body is replies) = of_body body events reply replies
-  of_reply told events reply (rejected fault status is code) = law.nothing watcher.rulesets
+  of_reply input events reply (taken body is replies) = of_body body events reply replies
+  of_reply input events reply (rejected fault status is code) = law.nothing watcher.rulesets
 
 -- ---- one answer after the other
 

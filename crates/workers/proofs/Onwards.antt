@@ -19,10 +19,10 @@ goes_further u v w first then_on = record {
 }
 
 -- the notice of a publisher with this list
-pub is_published : (known told : KnownPrefix) (generation latest : ℕ) (rules : Rules)
-    → told ≡ known → generation ≡ latest → IsLatest known latest rules
-    → All IsRuleset known.rulesets → IsPublished told generation
-is_published known told generation latest rules same is last sound = record {
+pub is_published : (known published : KnownPrefix) (generation latest : ℕ) (rules : Rules)
+    → published ≡ known → generation ≡ latest → IsLatest known latest rules
+    → All IsRuleset known.rulesets → IsPublished published generation
+is_published known published generation latest rules same is last sound = record {
   sound = subst (λ (b : KnownPrefix). All IsRuleset b.rulesets) (sym same) sound;
   rules = rules;
   last = record {

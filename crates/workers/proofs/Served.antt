@@ -29,19 +29,20 @@ use Rattle.workers.specs.declared.promise.WorkerPromises.{WorkerPromises}
 -- ---- one connection
 
 -- a reply to some bytes is also one without known bytes
-untold : (told : Option (List ℕ)) (w : KnownPrefix) (moment : ℤ) (events : List CellEvent)
-    (reply : HttpReply) → RepliesTo told w moment events reply
+unknown_input : (input : Option (List ℕ)) (w : KnownPrefix) (moment : ℤ) (events : List CellEvent)
+    (reply : HttpReply) → RepliesTo input w moment events reply
     → RepliesTo None w moment events reply
-untold told w moment events reply (taken body is replies) = taken body tt replies
-untold told w moment events reply (rejected fault status is code) = rejected fault status tt code
+unknown_input input w moment events reply (taken body is replies) = taken body tt replies
+unknown_input input w moment events reply (rejected fault status is code) =
+    rejected fault status tt code
 
 abbrev IsAt : ℤ → WorkerAnswer → Type 0
 IsAt moment answer = answer.moment ≡ moment
 
 module _ {P : Type 0} (belongs : P → Type 0) (grew : P → CellEvent → P → Type 0)
-    (told : Option (List ℕ)) (v w : KnownPrefix) (moment : ℤ) (p q : P) (here : belongs q)
+    (input : Option (List ℕ)) (v w : KnownPrefix) (moment : ℤ) (p q : P) (here : belongs q)
     (goes : Extends v w) where
-  by_reply : (reply : HttpReply) → RepliesByRuns grew told w moment p q reply
+  by_reply : (reply : HttpReply) → RepliesByRuns grew input w moment p q reply
       → MomentBack belongs grew moment (p, v) (q, w)
   by_reply reply is =
       let answer : WorkerAnswer = record {
@@ -49,7 +50,7 @@ module _ {P : Type 0} (belongs : P → Type 0) (grew : P → CellEvent → P →
         moment = moment;
         events = is.events;
         reply = reply;
-        replies = untold told w moment is.events reply is.of;
+        replies = unknown_input input w moment is.events reply is.of;
       } in
       let back : WorkerBack belongs grew (p, v) (q, w) = record {
         belongs_yet = here;
@@ -76,9 +77,9 @@ module _ {P : Type 0} (belongs : P → Type 0) (grew : P → CellEvent → P →
   pub by_answer : {S : Type 0} (outcome : Result S AnswerFault) (X Y Z : S → HttpReply → Type 0)
       (U V : ℕ → HttpReply → Type 0) (T : Type 0)
       → IfOk outcome (λ sent. (reply : HttpReply) × X sent reply × Y sent reply
-      × RepliesByRuns grew told w moment p q reply × Z sent reply)
+      × RepliesByRuns grew input w moment p q reply × Z sent reply)
       → ((n : ℕ) → outcome ≡ Err (Writing n)
-      → (reply : HttpReply) × U n reply × RepliesByRuns grew told w moment p q reply × V n reply)
+      → (reply : HttpReply) × U n reply × RepliesByRuns grew input w moment p q reply × V n reply)
       → IfErr outcome (λ e. WritesNothing e → (q ≡ p) × T)
       → MomentBack belongs grew moment (p, v) (q, w)
   by_answer (Ok sent) X Y Z U V T replied begun unread = by_reply replied.0 replied.3

@@ -61,9 +61,9 @@ runs_of_body (refused fault is) = []
 runs_of_body unread = []
 
 -- the runs for a reply: none if no body was read
-abbrev pub runs_of_reply : {told : Option (List ℕ)} {known : KnownPrefix} {moment : ℤ}
+abbrev pub runs_of_reply : {input : Option (List ℕ)} {known : KnownPrefix} {moment : ℤ}
     {events : List CellEvent} {reply : HttpReply}
-    → RepliesTo told known moment events reply → List AppRun
+    → RepliesTo input known moment events reply → List AppRun
 runs_of_reply (taken body is replies) = runs_of_body replies
 runs_of_reply (rejected fault status is code) = []
 

@@ -1,5 +1,6 @@
 //! The clients' side of a server: its queue, the workers that answer the queued connections, and
-//! the caller's thread, which accepts connections. The program runs it in a thread (`beside`).
+//! the caller's thread, which accepts connections. The program runs it in a thread
+//! (`serving_thread`).
 
 ghost use Rattle.std.specs.Prelude.{◌≤◌, All, IfOk, length};
 ghost use Rattle.workers.specs.Back.{WorkersBack};
@@ -90,7 +91,7 @@ where
             let Ok(threads) = start_workers(rt, gate, scope, from, cells, workers, service) else {
                 return Err(ServeFault::Memory);
             };
-            tell_started(rt, started);
+            send_started(rt, started);
             fill(rt, listener, &queue, stop, service.log);
             drop(queue);
             Ok(joined(rt, threads, room))
@@ -99,8 +100,8 @@ where
 }
 
 // Sends the message that all threads exist.
-fn tell_started<H: Wait>(rt: &H, started: Option<Sender<()>>) {
+fn send_started<H: Wait>(rt: &H, started: Option<Sender<()>>) {
     if let Some(started) = started {
-        let _heard = started.send(rt, ());
+        let _sent = started.send(rt, ());
     }
 }

@@ -20,7 +20,6 @@
 #![tactic(auto)]
 
 mod accept;
-mod beside;
 mod clients;
 mod clock;
 mod crew;
@@ -34,6 +33,7 @@ mod ready;
 mod returned;
 mod running;
 mod serve_fault;
+mod serving_thread;
 mod stopping;
 mod worker;
 

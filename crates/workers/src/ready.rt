@@ -11,16 +11,16 @@ use hot_swap::Generation;
 use std::io::{self, Write};
 
 /// More bytes than the line of any generation has.
-const LINE_ROOM: usize = 64;
+const LINE_SIZE: usize = 64;
 
 /// Writes that a server serves the ruleset of a generation.
 pub(crate) trait Ready {
-    type Said: Drop;
+    type Out: Drop;
 
-    ghost says: { Self → ℕ → Self.Said → Type 0 };
+    ghost prints: { Self → ℕ → Self.Out → Type 0 };
 
-    fn say(self, generation: Generation) -> io::Result<Self::Said>
-        ensures { IfOk result (λ said. says self generation said) };
+    fn print(self, generation: Generation) -> io::Result<Self::Out>
+        ensures { IfOk result (λ printed. prints self generation printed) };
 }
 
 /// A writer, to which the line is written at once.
@@ -30,12 +30,12 @@ pub(crate) struct ReadyLine<'a, O> {
 }
 
 impl<'a, O: Write> Ready for ReadyLine<'a, O> {
-    type Said = &'a mut O;
+    type Out = &'a mut O;
 
-    ghost says = { λ line generation said. (said.ghost_name ≡ line.out.ghost_name)
-        × Appends (O.contents line.out.now) (O.contents said.now) (serving_line generation) };
+    ghost prints = { λ line generation printed. (printed.ghost_name ≡ line.out.ghost_name)
+        × Appends (O.contents line.out.now) (O.contents printed.now) (serving_line generation) };
 
-    fn say(self, generation: Generation) -> io::Result<&'a mut O> {
+    fn print(self, generation: Generation) -> io::Result<&'a mut O> {
         let ReadyLine { out } = self;
         write_line(out, generation)?;
         Ok(out)
@@ -48,7 +48,7 @@ fn write_line<O: Write>(out: &mut O, generation: Generation) -> io::Result<()>
     ensures { OnOk result
         (Appends (O.contents out.old) (O.contents out.new) (serving_line generation)) }
 {
-    let mut line = ArrayVec::<u8, LINE_ROOM>::new();
+    let mut line = ArrayVec::<u8, LINE_SIZE>::new();
     writeln!(line, "serving generation {generation}")?;
     out.write_all(line.as_slice())?;
     out.flush()

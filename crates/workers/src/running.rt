@@ -1,6 +1,6 @@
 //! A server from its start to its end. Its clients' side is `serve_returning`, in a thread of its
-//! own (`beside`); this thread answers the operator's port. All threads exist before the server
-//! prints that it serves. Once the operator has requested a stop, the clients' port is ended
+//! own (`serving_thread`); this thread answers the operator's port. All threads exist before the
+//! server prints that it serves. Once the operator has requested a stop, the clients' port is ended
 //! (`ports`), then their queue, and the workers end. The operator's port stays open until they have
 //! ended (`stopping`). The threads return what they were given (`promise`), so all is returned at
 //! the end.
@@ -12,13 +12,13 @@ ghost use Rattle.workers.specs.Back.{IsPublished, OperatorBack, ServerBack};
 ghost use Rattle.workers.specs.Texts.{serving_line};
 
 use crate::accept::OperatorEnd;
-use crate::beside::{StopFlags, start_serving};
 use crate::gate::Gate;
 use crate::operating::{OperatorSeat, operate};
 use crate::ports::{PortEnd, Ports};
 use crate::ready::{Ready, ReadyLine, take_back};
 use crate::returned::Returned;
-use crate::stopping::tell_stopping;
+use crate::serving_thread::{StopFlags, start_serving};
+use crate::stopping::reply_stopping;
 use crate::worker::ServeOptions;
 use bounded_files::ResourceFault;
 use cells::CellSteps;
@@ -34,7 +34,7 @@ use std::time::Clock;
 // Answers the operator until a stop is requested, and then ends the clients' side. Until that has
 // ended it replies to each connection that the server stops. Returns the operator's pass, and how
 // its thread ended.
-fn operate_beside<H, L, C>(
+fn operate_then_end<H, L, C>(
     rt: &H,
     listener: &TcpListener,
     mut seat: OperatorSeat<'_, L, C>,
@@ -55,7 +55,7 @@ where
 {
     let end = operate(rt, listener, &mut seat, control, &ends.operator, service);
     clients.end(rt, &ends.clients);
-    tell_stopping(rt, listener, &ends.operator);
+    reply_stopping(rt, listener, &ends.operator);
     let OperatorSeat {
         loader: _loader,
         cells: _cells,
@@ -89,7 +89,7 @@ fn returned<P: Drop>(
 }
 
 // Serves as `run` does, and also returns what `ready` returns.
-fn run_saying<H, G, L, C, S>(
+fn run_and_print<H, G, L, C, S>(
     rt: &H,
     gate: &G,
     ports: Ports,
@@ -98,7 +98,7 @@ fn run_saying<H, G, L, C, S>(
     workers: Vec<(C::Pass, Watcher)>,
     service: ServeOptions<'_>,
     ready: S,
-) -> Result<(Returned<C::Pass>, S::Said), ResourceFault>
+) -> Result<(Returned<C::Pass>, S::Out), ResourceFault>
 where
     H: Threads + Wait + AllocGlobal + Clock + Sync,
     H: Net<Listener = TcpListener, Stream = TcpStream>,
@@ -113,8 +113,8 @@ where
     requires few { length workers.items ≤ 64 }
     ensures back { IfOk result (λ r. ServerBack (C.belongs seat.entry.cells.now) C.grew
         (L.loads seat.entry.loader.now) seat.entry.pass workers.items control.old r.0) }
-    ensures said { IfOk result
-        (λ r. S.says ready control.old.publishing.latest.generation r.1) }
+    ensures printed { IfOk result
+        (λ r. S.prints ready control.old.publishing.latest.generation r.1) }
 {
     let ends = StopFlags::new();
     let OperatorSeat {
@@ -126,22 +126,22 @@ where
     thread::scope(
         thread::scope_env(),
         rt,
-        |scope| -> Result<(Returned<C::Pass>, S::Said), ResourceFault>
+        |scope| -> Result<(Returned<C::Pass>, S::Out), ResourceFault>
             requires pass { C.belongs cells.now pass }
             requires workers { All (λ worker. C.belongs cells.now worker.0) workers.items }
             requires some { 1 ≤ length workers.items }
             requires few { length workers.items ≤ 64 }
             ensures back { IfOk result (λ r. ServerBack (C.belongs cells.entry.now) C.grew
                 (L.loads loader.entry.now) pass workers.items control.entry.now r.0) }
-            ensures said { IfOk result
-                (λ r. S.says ready control.entry.now.publishing.latest.generation r.1) }
+            ensures printed { IfOk result
+                (λ r. S.prints ready control.entry.now.publishing.latest.generation r.1) }
         {
             let Ok(serving) = start_serving(
                 rt, gate, scope, listener, cells, workers, &ends, service,
             ) else {
                 return Err(ResourceFault::Memory);
             };
-            let Ok(said) = ready.say(control.generation()) else {
+            let Ok(printed) = ready.print(control.generation()) else {
                 clients.end(rt, &ends.clients);
                 return Err(ResourceFault::File);
             };
@@ -151,12 +151,12 @@ where
                 cells,
                 pass,
             };
-            let ended = operate_beside(rt, &operator, seat, control, clients, &ends, service);
+            let ended = operate_then_end(rt, &operator, seat, control, clients, &ends, service);
             let Ok(workers) = serving.join(rt) else {
                 return Err(ResourceFault::Memory);
             };
             let back = returned(ended, workers, control);
-            Ok((back, said))
+            Ok((back, printed))
         },
     )
 }
@@ -196,11 +196,11 @@ where
     requires few { length workers.items ≤ 64 }
     ensures back { IfOk result (ServerBack (C.belongs seat.entry.cells.now) C.grew
         (L.loads seat.entry.loader.now) seat.entry.pass workers.items control.old) }
-    ensures said { OnOk result (Appends (O.contents out.old) (O.contents out.new)
+    ensures printed { OnOk result (Appends (O.contents out.old) (O.contents out.new)
         (serving_line control.old.publishing.latest.generation)) }
 {
     let ready = ReadyLine { out };
-    match run_saying(rt, gate, ports, seat, control, workers, service, ready) {
+    match run_and_print(rt, gate, ports, seat, control, workers, service, ready) {
         Ok((back, out)) => {
             take_back(out);
             Ok(back)

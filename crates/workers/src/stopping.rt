@@ -11,25 +11,25 @@ use std::time::{Clock, Duration};
 
 /// How many seconds a client has to read the reply. The server's end may wait for it that long, and
 /// one second to close.
-const TELL_SECONDS: u64 = 1;
+const REPLY_SECONDS: u64 = 1;
 
 /// Replies to each connection that the server stops, until the flag is set. Accept doesn't block
 /// meanwhile: the port and the flag are polled a hundred times a second. So the server's end needs
 /// no connection to wake it.
-pub(crate) fn tell_stopping<'x, H>(rt: &H, listener: &'x TcpListener, ended: &'x AtomicBool)
+pub(crate) fn reply_stopping<'x, H>(rt: &H, listener: &'x TcpListener, ended: &'x AtomicBool)
 where
     H: Wait + AllocGlobal + Clock,
 {
     if listener.set_nonblocking(true).is_err() {
         return;
     }
-    let limit = Duration::from_secs(TELL_SECONDS);
+    let limit = Duration::from_secs(REPLY_SECONDS);
     let stopping = OperatorReply::<RequestFault>::Stopping;
     let mut port = Port::new(listener, ended, None);
     for _ in rt.forever() {
         let Some(call) = port.accept(rt) else {
             return;
         };
-        let _told = send(rt, &call.stream, &stopping, limit);
+        let _sent = send(rt, &call.stream, &stopping, limit);
     }
 }

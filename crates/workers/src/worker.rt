@@ -38,7 +38,7 @@ where
     cells: &'a C,
     pass: C::Pass,
     watcher: Watcher,
-    room: AnswerBuffers,
+    buffers: AnswerBuffers,
 }
 
 /// Answers until the queue is closed, and returns the pass and the watcher.
@@ -63,7 +63,7 @@ where
         cells,
         pass,
         watcher,
-        room: AnswerBuffers::new(rt.alloc()),
+        buffers: AnswerBuffers::new(rt.alloc()),
     };
     let mut calls = Calls::of(queue);
     attend_all(rt, gate, &mut calls, &mut seat, service);
@@ -71,7 +71,7 @@ where
         cells: _cells,
         pass,
         watcher,
-        room: _room,
+        buffers: _buffers,
     } = seat;
     (pass, watcher)
 }
@@ -127,7 +127,7 @@ where
         (seat.old.pass, seat.old.watcher) (seat.new.pass, seat.new.watcher) }
 {
     let moment = unix_second(rt);
-    log.hand_on_earlier(rt, moment);
+    log.flush_earlier(rt, moment);
     let limits = Limits::begin(rt, service.timeout);
     let waited = micros_between(call.accepted, begun(limits));
     count_begun(service.log, waited);
@@ -182,7 +182,7 @@ where
     };
     let outcome = answer_in(
         &turn,
-        &mut seat.room,
+        &mut seat.buffers,
         &mut reader,
         &mut writer,
         &mut seat.pass,

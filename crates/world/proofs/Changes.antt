@@ -9,7 +9,7 @@ use Rattle.std.proofs.lemmas.Option.{slice_get-get_or, slice_get_read, get_or_fr
 use Rattle.world.specs.World.{WorldState, Worker, Idle, IsWorker, with_worker}
 use Rattle.world.specs.Happens.{Answer}
 use Rattle.world.specs.Seats.{SeatRepresents, IsSoundSeat, SeatIsOffered, StaysOffered}
-use Rattle.world.specs.Represents.{Parts, WorldRepresents, AreKept, seat_at}
+use Rattle.world.specs.Represents.{Parts, WorldRepresents, AreSoundParts, seat_at}
 use Rattle.world.specs.declared.seat.Seat.{Seat}
 use Rattle.world.specs.declared.seat.Seat.TheVariants.{Empty}
 
@@ -79,14 +79,14 @@ stands_with parts w old new k seat y within represents same here = record {
 }
 
 pub kept_with : (parts : Parts) (cells : List ℕ) (k : ℕ) (seat : Seat) → k < length parts.seats
-    → AreKept parts → IsSoundSeat seat → SeatIsOffered parts.rulesets seat
-    → AreKept (with_seat parts cells k seat)
-kept_with parts cells k seat within kept keeps offered = record {
+    → AreSoundParts parts → IsSoundSeat seat → SeatIsOffered parts.rulesets seat
+    → AreSoundParts (with_seat parts cells k seat)
+kept_with parts cells k seat within kept is_sound offered = record {
   ruled = kept.ruled;
   sound = kept.sound;
   kept =
       each_with (λ s t. IsSoundSeat s) parts.seats parts.seats k seat Empty seat Empty refl within
-      keeps
+      is_sound
       kept.kept;
   offered =
       each_with (λ s t. SeatIsOffered parts.rulesets s) parts.seats parts.seats k seat Empty seat
@@ -96,10 +96,10 @@ kept_with parts cells k seat within kept keeps offered = record {
 
 pub kept_after : (parts : Parts) (cells : List ℕ) (k : ℕ) (before after : Seat)
     → k < length parts.seats
-    → before ≡ get_or parts.seats k before → AreKept parts → IsSoundSeat after
-    → StaysOffered before after → AreKept (with_seat parts cells k after)
-kept_after parts cells k before after within found kept keeps offered =
-    kept_with parts cells k after within kept keeps
+    → before ≡ get_or parts.seats k before → AreSoundParts parts → IsSoundSeat after
+    → StaysOffered before after → AreSoundParts (with_seat parts cells k after)
+kept_after parts cells k before after within found kept is_sound offered =
+    kept_with parts cells k after within kept is_sound
     (offered parts.rulesets
     (subst (SeatIsOffered parts.rulesets) (seat_found parts k before within found)
     (kept.offered k)))

@@ -11,7 +11,7 @@ use Rattle.world.specs.World.{WorldState, Worker, Idle, Running, Ended, HasProgr
 use Rattle.world.specs.Safe.{IsSafeWorld}
 use Rattle.bpf_machine.specs.Represents.{Held}
 use Rattle.world.specs.Seats.{SeatRepresents, IsSoundSeat, SeatIsOffered, ContinuesAs, EndedAs}
-use Rattle.world.specs.Represents.{Parts, WorldRepresents, AreKept, seat_at}
+use Rattle.world.specs.Represents.{Parts, WorldRepresents, AreSoundParts, seat_at}
 use Rattle.world.specs.Headline.{IsOnTheWay}
 use Rattle.world.specs.declared.seat.Seat.{Seat}
 use Rattle.world.specs.declared.seat.Seat.TheVariants.{Empty, Taken}
@@ -28,28 +28,28 @@ offered_as rulesets n m appid text p q number same program offered =
 
 held_safe : (rulesets : List Rules) (seat : Seat) (x : Worker) → IsSoundSeat seat
     → SeatIsOffered rulesets seat → SeatRepresents seat x → SafeWorker rulesets x
-held_safe rulesets Empty Idle keeps offered represents = tt
-held_safe rulesets (Taken run n None) (Running number program s) keeps offered represents =
+held_safe rulesets Empty Idle is_sound offered represents = tt
+held_safe rulesets (Taken run n None) (Running number program s) is_sound offered represents =
     let appid : appid_of run.attributes ≡ appid_of s.attributes =
     ap (λ (a : Attributes). appid_of a) (sym represents.represents.shows.attributes) in (
       offered_as rulesets n number (appid_of run.attributes) (appid_of s.attributes) run.program
           program represents.number_is appid represents.program_is offered,
       subst (λ (p : ShapedProgram). EndsWell p s) represents.program_is
-          (keeps.ends s represents.represents),
+          (is_sound.ends s represents.represents),
     )
-held_safe rulesets (Taken run n (Some chosen)) (Ended number program a choice instructions) keeps
+held_safe rulesets (Taken run n (Some chosen)) (Ended number program a choice instructions) is_sound
     offered represents = (
       offered_as rulesets n number (appid_of run.attributes) (appid_of a) run.program program
           represents.number_is (ap (λ (b : Attributes). appid_of b) represents.attributes_are)
           represents.program_is offered,
       subst (λ (p : ShapedProgram). choice ≤ p.shape.releases) represents.program_is
-          (subst (λ (c : ℕ). c ≤ run.program.shape.releases) represents.choice_is keeps.release),
+          (subst (λ (c : ℕ). c ≤ run.program.shape.releases) represents.choice_is is_sound.release),
       subst (λ (p : ShapedProgram). instructions ≤ length p.code) represents.program_is
-          (subst (λ (c : ℕ). c ≤ length run.program.code) represents.count_is keeps.short),
+          (subst (λ (c : ℕ). c ≤ length run.program.code) represents.count_is is_sound.short),
     )
-held_safe rulesets seat x keeps offered represents = absurd represents
+held_safe rulesets seat x is_sound offered represents = absurd represents
 
-pub stands_safe : (parts : Parts) (w : WorldState) → AreCells parts.cells → AreKept parts
+pub stands_safe : (parts : Parts) (w : WorldState) → AreCells parts.cells → AreSoundParts parts
     → WorldRepresents parts w → AllSafe w
 stands_safe parts w fit kept represents = record {
   cells = subst AreCells represents.cells fit;
@@ -63,7 +63,7 @@ stands_safe parts w fit kept represents = record {
 
 -- each world on the way
 pub safe_on_the_way : Laws → (parts : Parts) (events : List Event) (u : WorldState)
-    → AreCells parts.cells → AreKept parts → IsOnTheWay parts events u → IsSafeWorld u
+    → AreCells parts.cells → AreSoundParts parts → IsOnTheWay parts events u → IsSafeWorld u
 safe_on_the_way law parts events u fit kept way =
     is_safe law u
     (plays_safe law way.opening u (take way.count events) way.answers
@@ -82,21 +82,21 @@ ended_as run n choice = record {
 }
 
 worker_for : (seat : Seat) → IsSoundSeat seat → (x : Worker) × SeatRepresents seat x
-worker_for Empty keeps = (Idle, tt)
-worker_for (Taken run n None) keeps =
-    let run_is : ContinuesAs run n n run.program keeps.represents.0 =
-    record { number_is = refl; program_is = refl; represents = keeps.represents.1 } in
-    (Running n run.program keeps.represents.0, run_is)
-worker_for (Taken run n (Some choice)) keeps =
+worker_for Empty is_sound = (Idle, tt)
+worker_for (Taken run n None) is_sound =
+    let run_is : ContinuesAs run n n run.program is_sound.represents.0 =
+    record { number_is = refl; program_is = refl; represents = is_sound.represents.1 } in
+    (Running n run.program is_sound.represents.0, run_is)
+worker_for (Taken run n (Some choice)) is_sound =
     (Ended n run.program run.attributes choice (run.count + 1), ended_as run n choice)
 
 workers_for : (seats : List Seat) → ((k : ℕ) → IsSoundSeat (get_or seats k Empty))
     → (ws : List Worker) × (length seats ≡ length ws) ×
     ((k : ℕ) → SeatRepresents (get_or seats k Empty) (get_or ws k Idle))
-workers_for [] keeps = ([], refl, λ k. tt)
-workers_for (s ∷ ss) keeps =
-    let first = worker_for s (keeps 0) in
-    let rest = workers_for ss (λ k. keeps (suc k)) in
+workers_for [] is_sound = ([], refl, λ k. tt)
+workers_for (s ∷ ss) is_sound =
+    let first = worker_for s (is_sound 0) in
+    let rest = workers_for ss (λ k. is_sound (suc k)) in
     (first.0 ∷ rest.0, ap suc rest.1, each s first.0 ss rest.0 first.1 rest.2)
   where
     each : (s : Seat) (x : Worker) (ss : List Seat) (xs : List Worker) → SeatRepresents s x
@@ -105,7 +105,7 @@ workers_for (s ∷ ss) keeps =
     each s x ss xs here later zero = here
     each s x ss xs here later (suc k) = later k
 
-pub some_world : (parts : Parts) → AreKept parts → (w : WorldState) × WorldRepresents parts w
+pub some_world : (parts : Parts) → AreSoundParts parts → (w : WorldState) × WorldRepresents parts w
 some_world parts kept =
     let workers = workers_for parts.seats kept.kept in (
       record { rulesets = parts.rulesets; cells = parts.cells; workers = workers.0 },

@@ -10,7 +10,7 @@ use Rattle.std.proofs.lemmas.Option.{slice_get_read}
 use Rattle.cells.specs.Events.{AreZeros}
 use Rattle.ruleset.specs.Rules.{Rules, IsRuleset}
 use Rattle.world.specs.World.{Idle, ruleset_at, newest, zeros}
-use Rattle.world.specs.Represents.{AreKept, IsOpening, parts_of, Parts}
+use Rattle.world.specs.Represents.{AreSoundParts, IsOpening, parts_of, Parts}
 use Rattle.world.specs.declared.world.World.TheInside.{Inside}
 use Rattle.world.proofs.Rulesets.{sound_alone}
 use Rattle.world.specs.declared.seat.Seat.{Seat}
@@ -53,7 +53,7 @@ idle_at (suc n) (suc k) = idle_at n k
 
 pub opening_kept : (first : Arc Rules Global) (rulesets : List (Arc Rules Global)) (cells : List ℕ)
     (seats : List Seat) (n : ℕ) → rulesets ≡ first ∷ [] → seats ≡ replicate n Empty
-    → IsRuleset (arc_value first) → AreKept (parts_of rulesets cells seats)
+    → IsRuleset (arc_value first) → AreSoundParts (parts_of rulesets cells seats)
 opening_kept first rulesets cells seats n one empty sound = rw (one, empty) (record {
   ruled = lit< tt;
   sound = sound_alone (arc_value first) sound;

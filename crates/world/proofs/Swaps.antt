@@ -10,7 +10,7 @@ use Rattle.world.specs.Happens.{Answer, Happens}
 use Rattle.world.specs.Headline.{IsApplied}
 use Rattle.world.specs.Course.{RulesetsStay}
 use Rattle.world.specs.Seats.{SeatIsOffered}
-use Rattle.world.specs.Represents.{Parts, AreKept, parts_of, seat_at}
+use Rattle.world.specs.Represents.{Parts, AreSoundParts, parts_of, seat_at}
 use Rattle.world.specs.declared.seat.Seat.{Seat}
 use Rattle.world.specs.declared.seat.Seat.TheVariants.{Empty, Taken}
 use Rattle.world.specs.declared.event.Event.{Event}
@@ -60,8 +60,8 @@ seat_offered rulesets rules Empty offered = tt
 seat_offered rulesets rules (Taken run number choice) offered =
     still_offered rulesets rules number _ run.program offered
 
-pub kept_with_rules : (parts : Parts) (rules : Rules) → IsRuleset rules → AreKept parts
-    → AreKept (with_rules parts rules)
+pub kept_with_rules : (parts : Parts) (rules : Rules) → IsRuleset rules → AreSoundParts parts
+    → AreSoundParts (with_rules parts rules)
 kept_with_rules parts rules sound kept = record {
   ruled = some_ruleset parts.rulesets rules;
   sound = still_sound parts.rulesets rules kept.sound sound;

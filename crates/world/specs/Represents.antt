@@ -37,7 +37,7 @@ abbrev pub IsOpening : Parts → Rules → ℕ → Type 0
 IsOpening parts rules workers = WorldRepresents parts (opening_world rules workers)
 
 -- the type's invariant
-pub record AreKept (parts : Parts) : Type 0 where
+pub record AreSoundParts (parts : Parts) : Type 0 where
   pub ruled : 0 < length parts.rulesets
   pub sound : All IsRuleset parts.rulesets
   pub kept : (k : ℕ) → IsSoundSeat (seat_at parts k)

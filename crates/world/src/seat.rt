@@ -39,9 +39,9 @@ impl Seat {
     pub fn step(&mut self, cells: &PlainCells, pass: &mut PlainPass) -> Result<Effect, WorldFault>
         requires { IsSoundSeat self.old }
         ensures same { IfErr result (λ e. self.new ≡ self.old) }
-        ensures unasked { IfErr result (λ e. pass.new ≡ pass.old) }
+        ensures untouched { IfErr result (λ e. pass.new ≡ pass.old) }
         ensures steps { SeatSteps pass.old self.old result pass.new self.new }
-        ensures keeps { IsSoundSeat self.new }
+        ensures is_sound { IsSoundSeat self.new }
         ensures offered { StaysOffered self.old self.new }
     {
         match self {
@@ -72,7 +72,7 @@ impl Seat {
         requires { IsSoundSeat self.old }
         ensures same { IfErr result (λ e. self.new ≡ self.old) }
         ensures finishes { SeatFinishes self.old result self.new }
-        ensures keeps { IsSoundSeat self.new }
+        ensures is_sound { IsSoundSeat self.new }
         ensures offered { StaysOffered self.old self.new }
     {
         let finished = self.finished()?;

@@ -30,13 +30,13 @@ pub struct World {
 }
 
 impl Model for World {
-    ghost use Rattle.world.specs.Represents.{Parts, AreKept, parts_of};
+    ghost use Rattle.world.specs.Represents.{Parts, AreSoundParts, parts_of};
 
     ghost Value = { Parts };
 
     ghost view = { λ w. parts_of w.rulesets.items w.pass w.seats.items };
 
-    ghost invariant = { λ w. AreKept (parts_of w.rulesets.items w.pass w.seats.items) };
+    ghost invariant = { λ w. AreSoundParts (parts_of w.rulesets.items w.pass w.seats.items) };
 }
 
 impl World {

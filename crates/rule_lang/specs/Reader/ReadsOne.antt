@@ -7,6 +7,6 @@ use Rattle.rule_lang.specs.Lexed.{Placed}
 use Rattle.rule_lang.specs.Reader.Reading.{Draft, next}
 
 abbrev pub ReadsOne : Result ℕ RuleFault → AppShape → Draft → Draft → List Placed → ℕ → Type 0
-ReadsOne (Ok tokens_after) s old new ts place = next s old (drop place ts)
-    ≡ Ok (new, drop tokens_after ts)
+ReadsOne (Ok after) s old new ts place = next s old (drop place ts)
+    ≡ Ok (new, drop after ts)
 ReadsOne (Err e) s old new ts place = (e ≡ Memory) ⊎ (next s old (drop place ts) ≡ Err e)

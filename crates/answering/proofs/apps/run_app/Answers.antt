@@ -14,19 +14,19 @@ returns-in_default-clause-finds g c =
     (finds_none c.args.rules.now c.args.facts.now c.args.turn.now.moment.now c.args.app.now
     (sym same ∙ sym c.in_default.ensures.found))
 
-pub returns-then-not-told-clause-finds : goal.returns-then-not-told-clause-finds
-returns-then-not-told-clause-finds g c =
+pub returns-then-not-app_facts-clause-finds : goal.returns-then-not-app_facts-clause-finds
+returns-then-not-app_facts-clause-finds g c =
     let rules' = c.args.rules.now in
     let facts' = c.args.facts.now in
     let app' = c.args.app.now in
-    let told = c.facts-told.ensures in
-    let asks : c.facts-told.result.now.updatecheck ≡ false =
+    let is_facts = c.facts-app_facts.ensures in
+    let asks : c.facts-app_facts.result.now.updatecheck ≡ false =
     first_of (search rules, search (rules, not_true)) in
     let same = ap (λ (z : List ℕ). app_of rules' z) c.appid.ensures in
     let knows = sym same ∙ sym c.in-Some.ensures.found in
     let bucket =
     c.named_or_hashed-bucket.ensures
-    ∙ ap (λ (f : AppFacts). unwrap_or (named_bucket f) c.args.hashed) told
+    ∙ ap (λ (f : AppFacts). unwrap_or (named_bucket f) c.args.hashed) is_facts
     ∙ ap (unwrap_or (named_bucket app')) c.requires.hashed in
     let is =
     found_is rules' facts' app' None c.in-Some.known.now c.named_or_hashed-bucket.result
@@ -34,22 +34,22 @@ returns-then-not-told-clause-finds g c =
     knows bucket c.new.ensures in
     grows_none (g.C.CellSteps.grew) _ _
     (finds_unrequested rules' facts' c.args.turn.now.moment.now app' (Some c.new.result)
-    (sym (ap (λ (f : AppFacts). f.updatecheck) told) ∙ asks) is)
+    (sym (ap (λ (f : AppFacts). f.updatecheck) is_facts) ∙ asks) is)
 
 pub returns-clause-finds : goal.returns-clause-finds
 returns-clause-finds g c =
     let rules' = c.args.rules.now in
     let facts' = c.args.facts.now in
     let app' = c.args.app.now in
-    let accepted : c.facts-told.result.now.updatecheck ≡ true =
+    let accepted : c.facts-app_facts.result.now.updatecheck ≡ true =
     first_of (search rules, search (rules, not_false)) in
-    let asks = sym (ap (λ (f : AppFacts). f.updatecheck) c.facts-told.ensures) ∙ accepted in
+    let asks = sym (ap (λ (f : AppFacts). f.updatecheck) c.facts-app_facts.ensures) ∙ accepted in
     let same = ap (λ (z : List ℕ). app_of rules' z) c.appid.ensures in
     let knows = sym same ∙ sym c.in-Some.ensures.found in
     let choice = Some c.run-choice.result.0 in
     let bucket =
     c.named_or_hashed-bucket.ensures
-    ∙ ap (λ (f : AppFacts). unwrap_or (named_bucket f) c.args.hashed) c.facts-told.ensures
+    ∙ ap (λ (f : AppFacts). unwrap_or (named_bucket f) c.args.hashed) c.facts-app_facts.ensures
     ∙ ap (unwrap_or (named_bucket app')) c.requires.hashed in
     let is =
     found_is rules' facts' app' choice c.in-Some.known.now c.named_or_hashed-bucket.result

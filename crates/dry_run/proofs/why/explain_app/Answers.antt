@@ -1,5 +1,5 @@
 use Rattle.std.proofs.Common.{◌∙◌, List, ap}
-use Rattle.dry_run.proofs.Explaining.{run_explained, unasked_explained, unknown_explained}
+use Rattle.dry_run.proofs.Explaining.{run_explained, no_request_explained, unknown_explained}
 use Rattle.app_rules.specs.Rules.{OptionalRule}
 use Rattle.dry_run.specs.Meanings.{optional_rule_of}
 use Rattle.dry_run.proofs.why.explain_app.Goals as goal
@@ -12,7 +12,7 @@ returns-in_default c =
 
 pub returns-then-not-stated : goal.returns-then-not-stated
 returns-then-not-stated c =
-    unasked_explained c.args.why.now.rules c.args.why.now.optional_rules.items c.args.facts.now
+    no_request_explained c.args.why.now.rules c.args.why.now.optional_rules.items c.args.facts.now
     c.args.moment.now c.args.app.now c.facts-stated.result.now c.appid-appid.result.now
     c.args.note.now c.args.counters.now _ c.in-Some.known.now c.in-Ok.attrs c.context.result
     c.appid-appid.ensures c.in-Some.ensures.found c.facts-stated.ensures c.in-Ok.ensures

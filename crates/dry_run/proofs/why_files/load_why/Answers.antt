@@ -1,6 +1,6 @@
 use Rattle.std.proofs.Common.{rules, ℕ, List, [], subst}
 use Rattle.app_rules.specs.Rules.{AreRulesOf}
-use Rattle.load.specs.Folder.{files_beside}
+use Rattle.load.specs.Folder.{files_in_folder}
 use Rattle.load.specs.Sources.{AreSources}
 use Rattle.load.specs.Made.{IsMadeOf}
 use Rattle.load.specs.declared.sources.AppSources.{AppSources}
@@ -20,7 +20,7 @@ returns-in-Ok-make_ruleset-clause-loaded g c =
     let sources = c.in-Ok-collect_sources.sources in
     let made = c.in-Ok-make_ruleset.made in
     let optional_rules = c.in-Ok-read_rules.optional_rules.items in
-    let is : AreSources (files_beside known c.args.path.now) [] c.in-Ok.bytes.items sources =
+    let is : AreSources (files_in_folder known c.args.path.now) [] c.in-Ok.bytes.items sources =
     search rules in
     loaded known c.args.path.now c.in-Ok.bytes.items sources made optional_rules
     c.in-Ok.ensures.given is
@@ -32,7 +32,7 @@ returns-in-Ok-make_ruleset-clause-loaded g c =
 pub returns-clause-fault : goal.returns-clause-fault
 returns-clause-fault g c =
     let known = g.D.Disk.known c.args.disk.now in
-    let is : AreSources (files_beside known c.args.path.now) [] c.in-Ok.bytes.items
+    let is : AreSources (files_in_folder known c.args.path.now) [] c.in-Ok.bytes.items
     c.in-Ok-collect_sources.sources = search rules in
     let load = c.sources_are_loaded.ensures.manifest _ _ _ _ is in (
       c.in-Ok.bytes.items,

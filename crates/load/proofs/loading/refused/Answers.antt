@@ -1,6 +1,6 @@
 use Rattle.std.proofs.Common.{rules, ◌≡◌, List, sym, subst}
 use Rattle.cells.specs.Directory.{Declaration}
-use Rattle.load.specs.Sources.{AreArraysBeside}
+use Rattle.load.specs.Sources.{AreArraysWithFault}
 use Rattle.load.proofs.Causes.{cause_told}
 use Rattle.load.proofs.loading.refused.Goals as goal
 
@@ -13,6 +13,6 @@ returns-clause-cause c =
       cause_is = cause_told c.args.directory.now bytes arrays c.args.refused_sources.fault
           c.cause_of-cause.result
           (subst (λ (l : List Declaration).
-          AreArraysBeside bytes c.args.refused_sources.fault l) (sym same) un.arrays_are)
+          AreArraysWithFault bytes c.args.refused_sources.fault l) (sym same) un.arrays_are)
           c.cause_of-cause.ensures;
     }

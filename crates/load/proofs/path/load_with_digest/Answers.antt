@@ -1,5 +1,5 @@
 use Rattle.std.proofs.Common.{rules, ◌≡◌}
-use Rattle.load.specs.Folder.{files_beside}
+use Rattle.load.specs.Folder.{files_in_folder}
 use Rattle.load.specs.Made.{IsMadeOver}
 use Rattle.load.proofs.Causes.{untold}
 use Rattle.load.proofs.Making.{from_path}
@@ -16,7 +16,7 @@ returns-in-Ok-load_bytes-clause-loads g c =
     let known = g.D.Disk.known c.args.disk.now in
     let bytes = c.deref.result.now in
     let same : bytes ≡ c.in-Ok.bytes.items = search rules in
-    let over : IsMadeOver (files_beside known c.args.path.now) c.args.directory.now bytes
+    let over : IsMadeOver (files_in_folder known c.args.path.now) c.args.directory.now bytes
     c.in-Ok-load_bytes.made = search rules in
     from_path known c.args.path.now c.args.directory.now bytes c.in-Ok.bytes.items
     c.in-Ok-load_bytes.made same c.in-Ok.ensures.given over

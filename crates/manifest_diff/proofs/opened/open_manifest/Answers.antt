@@ -1,6 +1,6 @@
 use Rattle.std.proofs.Common.{rules, List, [], subst}
 use Rattle.app_rules.specs.Rules.{AreRulesOf}
-use Rattle.load.specs.Folder.{files_beside}
+use Rattle.load.specs.Folder.{files_in_folder}
 use Rattle.load.specs.Sources.{AreSources}
 use Rattle.load.specs.Judged.{AreJudged, RefusesFirst}
 use Rattle.load.specs.declared.sources.AppSources.{AppSources}
@@ -16,7 +16,7 @@ returns-in-Ok-judge-clause-opened g c =
     let sources = c.in-Ok-collect_sources.sources in
     let programs = c.in-Ok-judge.programs in
     let read = c.in-Ok-read_rules.rules in
-    let is : AreSources (files_beside known c.args.path.now) [] c.in-Ok.bytes.items sources =
+    let is : AreSources (files_in_folder known c.args.path.now) [] c.in-Ok.bytes.items sources =
     search rules in
     is_opened known c.args.path.now c.in-Ok.bytes.items
     (record { sources = sources; programs = programs; rules = read }) c.in-Ok.ensures.given is
@@ -28,7 +28,7 @@ returns-in-Ok-judge-clause-opened g c =
 pub returns-clause-fault : goal.returns-clause-fault
 returns-clause-fault g c =
     let known = g.D.Disk.known c.args.disk.now in
-    let is : AreSources (files_beside known c.args.path.now) [] c.in-Ok.bytes.items
+    let is : AreSources (files_in_folder known c.args.path.now) [] c.in-Ok.bytes.items
     c.in-Ok-collect_sources.sources = search rules in
     let load = c.sources_are_loaded.ensures.manifest _ _ _ _ is in (
       c.in-Ok.bytes.items,

@@ -11,8 +11,8 @@ flow_of-requires c =
     c.in_ok-code.ensures.code (laid c.into_slots.result.items) c.into_slots.ensures
     c.invariant_law-2.ensures
 
-pub known-requires : goal.known-requires
-known-requires c =
+pub proved-requires : goal.proved-requires
+proved-requires c =
     written_accepted c.args.shape.now c.args.rule.now c.statements.result.now c.in_ok-code.code
     c.statements.ensures c.invariant_law.ensures c.requires c.in_ok-code.ensures.range
     c.in_ok-code.ensures.made
@@ -24,5 +24,6 @@ returns-clause-meaning c =
     written_means c.args.shape.now c.args.rule.now c.statements.result.now c.in_ok-code.code
     c.statements.ensures c.invariant_law.ensures c.requires c.in_ok-code.ensures.range
     c.in_ok-code.ensures.made
-    c.in_ok-code.ensures.code c.in_ok-known.field-0
-    (c.in_ok-known.ensures.0 ∙ c.in_ok-flow.ensures ∙ c.into_slots.ensures) c.in_ok-known.ensures.1
+    c.in_ok-code.ensures.code c.in_ok-proved.field-0
+    (c.in_ok-proved.ensures.0 ∙ c.in_ok-flow.ensures ∙ c.into_slots.ensures)
+    c.in_ok-proved.ensures.1

@@ -9,16 +9,16 @@ pub loop-first-preserved-in-Some-Blank : goal.loop-first-preserved-in-Some-Blank
 loop-first-preserved-in-Some-Blank c =
     let all = c.loop-first.rest.now in
     let rest = c.in-Some.after.now in
-    let back = c.tokens_after-rest.result.now in
+    let back = c.bytes_after_piece-rest.result.now in
     let whole : all ≡ c.in-Some.first.now ∷ rest = search rules in
     let is : ◌≡◌ {A = Option tokens.Piece} (Some (Blank c.in-Some-Blank.bytes)) (tokens.piece_of
     all c.in-Some.first.now rest) = search rules in
     let less = fewer all rest back c.in-Some.first.now c.in-Some-Blank.bytes c.loop-first.line _
-    c.loop-first.invariant.lines whole c.tokens_after-rest.ensures.is in
+    c.loop-first.invariant.lines whole c.bytes_after_piece-rest.ensures.is in
     record {
       so_far = blank_step c.args.text.now all rest back (placed_all c.loop-first.tokens.items)
           c.in-Some.first.now c.in-Some-Blank.bytes c.loop-first.line
-          c.loop-first.invariant.so_far whole is c.tokens_after-rest.ensures.is;
+          c.loop-first.invariant.so_far whole is c.bytes_after_piece-rest.ensures.is;
       lines = omega (arith, less);
     }
 
@@ -26,34 +26,35 @@ pub loop-first-preserved-in-Some-LineEnd : goal.loop-first-preserved-in-Some-Lin
 loop-first-preserved-in-Some-LineEnd c =
     let all = c.loop-first.rest.now in
     let rest = c.in-Some.after.now in
-    let back = c.tokens_after-rest-in-Some-LineEnd.result.now in
+    let back = c.bytes_after_piece-rest-in-Some-LineEnd.result.now in
     let whole : all ≡ c.in-Some.first.now ∷ rest = search rules in
     let is : ◌≡◌ {A = Option tokens.Piece} (Some (LineEnd c.in-Some-LineEnd.bytes))
     (tokens.piece_of all c.in-Some.first.now rest) = search rules in
     record {
       so_far = line_step c.args.text.now all rest back (placed_all c.loop-first.tokens.items)
           c.in-Some.first.now c.in-Some-LineEnd.bytes c.loop-first.line
-          c.loop-first.invariant.so_far whole is c.tokens_after-rest-in-Some-LineEnd.ensures.is;
+          c.loop-first.invariant.so_far whole is
+          c.bytes_after_piece-rest-in-Some-LineEnd.ensures.is;
       lines = fewer all rest back c.in-Some.first.now c.in-Some-LineEnd.bytes c.loop-first.line _
-          c.loop-first.invariant.lines whole c.tokens_after-rest-in-Some-LineEnd.ensures.is;
+          c.loop-first.invariant.lines whole c.bytes_after_piece-rest-in-Some-LineEnd.ensures.is;
     }
 
 pub loop-first-preserved : goal.loop-first-preserved
 loop-first-preserved c =
     let all = c.loop-first.rest.now in
     let rest = c.in-Some.after.now in
-    let back = c.tokens_after-rest-in-Some-Token.result.now in
+    let back = c.bytes_after_piece-rest-in-Some-Token.result.now in
     let whole : all ≡ c.in-Some.first.now ∷ rest = search rules in
     let is : ◌≡◌ {A = Option tokens.Piece} (Some (Token (token_named c.in-Some-Token.token)
     c.in-Some-Token.bytes)) (tokens.piece_of all c.in-Some.first.now rest) = search rules in
     let less = fewer all rest back c.in-Some.first.now c.in-Some-Token.bytes c.loop-first.line _
-    c.loop-first.invariant.lines whole c.tokens_after-rest-in-Some-Token.ensures.is in
+    c.loop-first.invariant.lines whole c.bytes_after_piece-rest-in-Some-Token.ensures.is in
     record {
       so_far = token_step c.args.text.now all rest back (placed_all c.loop-first.tokens.items)
           (placed_all c.add.new.tokens.items) (token_named c.in-Some-Token.token)
           c.in-Some.first.now c.in-Some-Token.bytes c.loop-first.line
           c.loop-first.invariant.so_far whole is
-          c.tokens_after-rest-in-Some-Token.ensures.is (search
+          c.bytes_after_piece-rest-in-Some-Token.ensures.is (search
           rules);
       lines = omega (arith, less);
     }

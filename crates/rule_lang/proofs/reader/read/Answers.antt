@@ -24,13 +24,13 @@ loop-alloc-preserved c =
     let new = draft_as_lists c.advance.new.draft in
     let step : ◌≡◌ {A = Next} (next c.args.shape.now old (drop c.loop-alloc.place ts)) (Ok (
       new,
-      drop c.in-Ok.tokens_after ts,
+      drop c.in-Ok.after ts,
     )) = search rules in
     let going : is_done c.loop-alloc.draft.mode ≡ false = search rules in
     record {
       so_far = λ v r. c.loop-alloc.invariant.so_far v (goes_on going step r);
       sound = sound_next c.args.shape.now old new (drop c.loop-alloc.place ts) (drop
-          c.in-Ok.tokens_after ts) c.loop-alloc.invariant.sound step;
+          c.in-Ok.after ts) c.loop-alloc.invariant.sound step;
       within = search rules;
     }
 

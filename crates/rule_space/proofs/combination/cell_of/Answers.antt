@@ -25,5 +25,5 @@ returns-in-Bucket c = λ few.
 pub returns-in-Flag : goal.returns-in-Flag
 returns-in-Flag c = λ few.
     c.cell_at-in-Flag.ensures few
-    ∙ ap (cell_at c.args.starts.now) (byte_is c.args.combination.known)
+    ∙ ap (cell_at c.args.starts.now) (byte_is c.args.combination.is_known)
     ∙ ap (λ (of : Coordinate). cell_by of c.args.starts.now c.args.combination) (sym c.in-Flag.is)

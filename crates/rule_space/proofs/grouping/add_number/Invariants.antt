@@ -5,6 +5,6 @@ use Rattle.rule_space.proofs.grouping.add_number.Given as goal
 abbrev pub invariant-loop-text : goal.invariant-loop-text
 invariant-loop-text l = record {
   grows : GrowsTo l.initial.group l.group;
-  has : AreFew l.dimensions → (text : ℕ) → text < l.text → (known : Bool)
-      → HasCombination l.family l.dimensions l.group (combination l.number known text);
+  has : AreFew l.dimensions → (text : ℕ) → text < l.text → (is_known : Bool)
+      → HasCombination l.family l.dimensions l.group (combination l.number is_known text);
 }

@@ -3,7 +3,8 @@ use Rattle.std.proofs.lemmas.List.{length_push}
 use Rattle.std.proofs.lemmas.List.Elements.{All-nil, All-pop, All-push, All-same}
 use Rattle.shared_cells.specs.Passes.{PassView, IsPassOf}
 use Rattle.serving.specs.Ended.{IsOfServer}
-use Rattle.serving.proofs.Closing.{all_gathered, all_have_seen, one_gathered, one_more_has, turned}
+use Rattle.serving.proofs.Closing.{all_gathered, all_are_prefixes, one_gathered, one_more_has}
+use Rattle.serving.proofs.Closing.{turned}
 use Rattle.serving.proofs.Staffing.{one_less}
 use Rattle.serving.proofs.ended.close_cells.Goals as goal
 
@@ -36,7 +37,7 @@ loop-worker-init c =
           (All-push (IsPassOf c.args.cells) [] c.args.back.operator
           (All-nil (IsPassOf c.args.cells)) c.requires.operator);
       gathered = ap (λ (ps : List PassView). ps ++ turned c.args.back.workers.items) first;
-      seen = λ known all. all;
+      prefix = λ known all. all;
     }
 
 pub pass_of-pass-requires-clause-publisher : goal.pass_of-pass-requires-clause-publisher
@@ -64,7 +65,7 @@ loop-worker-preserved c =
     let enough = before.enough in
     let popped = All-pop (IsOfServer c.args.cells c.args.back.published.publisher)
     c.loop-worker.workers.items c.pop.new.self.items (Some c.in-Some.worker) split before.each in
-    let told = c.pass_of-pass.ensures in
+    let returned = c.pass_of-pass.ensures in
     let P = IsPassOf c.args.cells in
     record {
       all = one_less _ _ _ _ _ _ split grown ∙ before.all;
@@ -73,14 +74,14 @@ loop-worker-preserved c =
       own = All-same P c.push_reserved-in-Some.new.self.items
           (c.loop-worker.room.items ++ c.pass_of-pass.result.0 ∷ []) grown
           (All-push P c.loop-worker.room.items c.pass_of-pass.result.0 before.own
-          (ap (λ (pass : PassView). pass.table) told.same ∙ popped.1.pass));
+          (ap (λ (pass : PassView). pass.table) returned.same ∙ popped.1.pass));
       gathered = one_gathered c.loop-worker.room.items c.push_reserved-in-Some.new.self.items
           c.loop-worker.workers.items c.pop.new.self.items c.in-Some.worker
-          c.pass_of-pass.result.0 _ split grown told.same before.gathered;
-      seen = λ known. one_more_has c.args.back.published.rulesets c.loop-worker.workers.items
+          c.pass_of-pass.result.0 _ split grown returned.same before.gathered;
+      prefix = λ known. one_more_has c.args.back.published.rulesets c.loop-worker.workers.items
           c.pop.new.self.items c.in-Some.worker c.args.back.workers.items split
-          (told.seen (c.both-is_known.ensures.second known))
-          (before.seen (c.both-is_known.ensures.first known));
+          (returned.prefix (c.both-is_known.ensures.second known))
+          (before.prefix (c.both-is_known.ensures.first known));
     }
 
 pub close-requires-clause-all : goal.close-requires-clause-all
@@ -99,8 +100,8 @@ returns-clause-passes c =
     ∙ all_gathered c.loop-worker.room.items c.loop-worker.workers.items _ none
     c.loop-worker.invariant.gathered
 
-pub returns-clause-seen : goal.returns-clause-seen
-returns-clause-seen c = λ known.
+pub returns-clause-prefix : goal.returns-clause-prefix
+returns-clause-prefix c = λ known.
     let none = sym c.loop-worker.workers.ok.0 ∙ c.in_default.ensures.cases.0 in
-    all_have_seen c.args.back.published.rulesets c.loop-worker.workers.items
-    c.args.back.workers.items none (c.loop-worker.invariant.seen known)
+    all_are_prefixes c.args.back.published.rulesets c.loop-worker.workers.items
+    c.args.back.workers.items none (c.loop-worker.invariant.prefix known)

@@ -2,7 +2,7 @@ use Rattle.std.proofs.Common.{◌≡◌, ◌+◌, ◌≤◌, ◌++◌, All, leng
 use Rattle.std.specs.Prelude.{IsTrue}
 use Rattle.shared_cells.specs.Passes.{IsPassOf}
 use Rattle.serving.specs.Ended.{IsOfServer, passes_of}
-use Rattle.serving.proofs.Closing.{HasSeen, turned}
+use Rattle.serving.proofs.Closing.{IsPublishedPrefix, turned}
 use Rattle.serving.proofs.ended.close_cells.Given as goal
 
 -- one pass more and one worker fewer each time, and `room` has places for all passes
@@ -14,8 +14,8 @@ invariant-loop-worker l = record {
   own : All (IsPassOf l.fn.cells) l.room.items;
   gathered : l.room.items ++ turned l.workers.items
       ≡ passes_of l.fn.back.operator l.fn.back.workers.items;
-  seen : IsTrue l.is_known → All (HasSeen l.fn.back.published.rulesets) l.workers.items
-      → All (HasSeen l.fn.back.published.rulesets) l.fn.back.workers.items;
+  prefix : IsTrue l.is_known → All (IsPublishedPrefix l.fn.back.published.rulesets) l.workers.items
+      → All (IsPublishedPrefix l.fn.back.published.rulesets) l.fn.back.workers.items;
 }
 
 abbrev pub decreases-loop-worker : goal.decreases-loop-worker

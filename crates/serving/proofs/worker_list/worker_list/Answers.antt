@@ -17,7 +17,7 @@ loop-pass-preserved c =
       all = same ∙ all;
       places = omega (arith, less, places, room);
       each = λ table new. one_worker table _ _ _ _ _ _ _ split grown
-          (c.in-Ok.ensures.seen ∙ before.known) (before.each table new);
+          (c.in-Ok.ensures.watches ∙ before.known) (before.each table new);
       known = c.in-Ok.ensures.known ∙ before.known;
       latest = c.in-Ok.ensures.latest ∙ before.latest;
     }

@@ -72,5 +72,5 @@ returns-then-is_known-clause-world g c =
     server.workers.items c.in-Ok.back.workers.items c.close_cells-closed.result.0
     published.last.rules_are published.sound looked
     (ap (λ (b : KnownPrefix). b.publisher) back.published_are ∙ onwards.publisher)
-    server.staff.each back.workers (done.seen c.if-is_known.true) done.passes done.history
+    server.staff.each back.workers (done.prefix c.if-is_known.true) done.passes done.history
     done.quotas)

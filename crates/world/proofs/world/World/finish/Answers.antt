@@ -8,7 +8,7 @@ pub invariant_of-self : goal.invariant_of-self
 invariant_of-self c =
     kept_after (inside_of c.self.inside) c.self.inside.pass c.args.worker c.index_mut.result.now
     c.finish.new.self
-    (search rules) c.index_mut.ensures.value c.self.invariant c.finish.ensures.keeps
+    (search rules) c.index_mut.ensures.value c.self.invariant c.finish.ensures.is_sound
     c.finish.ensures.offered
 
 pub returns : goal.returns

@@ -8,7 +8,7 @@ pub invariant_of-self : goal.invariant_of-self
 invariant_of-self c =
     kept_after (inside_of c.self.inside) c.step.new.pass c.args.worker c.index_mut.result.now
     c.step.new.self
-    (search rules) c.index_mut.ensures.value c.self.invariant c.step.ensures.keeps
+    (search rules) c.index_mut.ensures.value c.self.invariant c.step.ensures.is_sound
     c.step.ensures.offered
 
 pub returns : goal.returns
@@ -18,5 +18,5 @@ returns c = rw (← c.self.view_is) (record {
       c.step.result (search rules) c.index_mut.ensures.value c.step.ensures.steps);
   same = unchanged (inside_of c.self.inside) c.step.new.pass c.args.worker c.index_mut.result.now
       c.step.new.self
-      c.step.result c.index_mut.ensures.value c.step.ensures.unasked c.step.ensures.same;
+      c.step.result c.index_mut.ensures.value c.step.ensures.untouched c.step.ensures.same;
 })

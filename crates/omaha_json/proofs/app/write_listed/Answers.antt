@@ -1,5 +1,5 @@
 use Rattle.omaha_json.proofs.Added.{then_adds}
-use Rattle.omaha_json.proofs.app.write_known.Goals as goal
+use Rattle.omaha_json.proofs.app.write_listed.Goals as goal
 
 pub returns : goal.returns
 returns c =

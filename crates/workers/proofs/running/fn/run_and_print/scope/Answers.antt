@@ -5,7 +5,7 @@ use Rattle.hot_swap.specs.Published.{KnownPrefix}
 use Rattle.workers.specs.Back.{WorkersBack}
 use Rattle.workers.proofs.Lines.{returned_by}
 use Rattle.workers.proofs.Served.{are_back}
-use Rattle.workers.proofs.running.fn.run_saying.scope.Goals as goal
+use Rattle.workers.proofs.running.fn.run_and_print.scope.Goals as goal
 
 pub returns : goal.returns
 returns g c =
@@ -17,9 +17,9 @@ returns g c =
     let back = c.returned-back.ensures in
     record {
       back = record {
-        last = c.operate_beside-ended.new.control;
+        last = c.operate_then_end-ended.new.control;
         operator = returned_by _ grew (belongs cells) _ _ _ _ _ _ back.operator back.end
-            c.operate_beside-ended.ensures;
+            c.operate_then_end-ended.ensures;
         workers = subst (WorkersBack (belongs cells) grew old)
             (sym (ap (λ (v : Vec (P × KnownPrefix) Global). v.items) back.workers))
             (are_back belongs grew cells c.captures.workers c.in-Ok.serving.promise
@@ -28,6 +28,6 @@ returns g c =
         published_are = back.known;
         published = back.published;
       };
-      said = subst (λ (n : ℕ). g.S.Ready.says c.captures.ready n c.in-Ok-say.said)
-          c.generation.ensures c.in-Ok-say.ensures;
+      printed = subst (λ (n : ℕ). g.S.Ready.prints c.captures.ready n c.in-Ok-print.printed)
+          c.generation.ensures c.in-Ok-print.ensures;
     }

@@ -1,6 +1,6 @@
 use Rattle.std.proofs.Common.{refl}
 use Rattle.bpf_semantics.specs.Run.{now, later}
-use Rattle.worked_examples.proofs.counter_traps.beside_counters.Goals as goal
+use Rattle.worked_examples.proofs.counter_traps.other_addresses.Goals as goal
 
 pub returns : goal.returns
 returns c = record {

@@ -4,8 +4,8 @@ use Rattle.bpf_verify.specs.Pool.{index_at}
 use Rattle.bpf_verify.proofs.Pools.{given_up}
 use Rattle.bpf_verify.proofs.WaitingThen.{changed_none, held_most}
 use Rattle.bpf_verify.proofs.Lists.{index_within}
-use Rattle.bpf_verify.proofs.pool.Pool.give_up.Goals as goal
-use Rattle.bpf_verify.proofs.pool.Pool.give_up.Goals.{In_ok-push}
+use Rattle.bpf_verify.proofs.pool.Pool.free_entry.Goals as goal
+use Rattle.bpf_verify.proofs.pool.Pool.free_entry.Goals.{In_ok-push}
 
 is : (c : In_ok-push) → index_at c.self.inside.places.items c.args.place ≡ Some c.in-Some-Some.index
 is c = search rules

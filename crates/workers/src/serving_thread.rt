@@ -75,7 +75,7 @@ where
         requires few { length workers.items ≤ 64 }
         ensures { IfOk result
             (λ back. WorkersBack (C.belongs cells.entry.now) C.grew workers.items back.items) }
-    { serve_beside(rt, gate, listener, cells, workers, ends, service, started) };
+    { serve_then_end(rt, gate, listener, cells, workers, ends, service, started) };
     let Ok(thread) = scope.spawn_with(promise, job) else {
         return Err(ServeFault::Memory);
     };
@@ -86,7 +86,7 @@ where
 }
 
 // Serves clients until their side has to end, and then ends the operator's side.
-fn serve_beside<H, G, C>(
+fn serve_then_end<H, G, C>(
     rt: &H,
     gate: &G,
     listener: TcpListener,

@@ -4,9 +4,9 @@ use Rattle.rule_lang.specs.declared.test.Test.{Test}
 use Rattle.rule_lang.specs.declared.test.Test.TheVariants as test
 use Rattle.rule_space.specs.declared.coordinate.Coordinate.TheVariants as coordinate
 use Rattle.rule_space.specs.Coordinates.{index_or_count}
-use Rattle.rule_space.specs.Tests.{IsAgainst}
-use Rattle.rule_space.proofs.Tests.{by, text_against}
-use Rattle.rule_space.proofs.test_line.text_against.Goals as goal
+use Rattle.rule_space.specs.Tests.{ComparesNumber}
+use Rattle.rule_space.proofs.Tests.{by, text_comparison}
+use Rattle.rule_space.proofs.test_line.text_comparison.Goals as goal
 
 pub returns-then-place-texts : goal.returns-then-place-texts
 returns-then-place-texts c =
@@ -14,8 +14,8 @@ returns-then-place-texts c =
     let same : c.args.own ≡ c.in-Attr.attribute = search rules in
     let is : c.args.test.now ≡ test.Attr c.in-Attr.attribute c.in-Attr.text = search rules in
     subst
-    (λ (t : Test). IsAgainst (coordinate.Text c.args.own) c.args.texts.now t (by Eq place))
+    (λ (t : Test). ComparesNumber (coordinate.Text c.args.own) c.args.texts.now t (by Eq place))
     (sym is)
-    (text_against c.args.texts.now c.args.own c.in-Attr.attribute c.in-Attr.text place same
+    (text_comparison c.args.texts.now c.args.own c.in-Attr.attribute c.in-Attr.text place same
     (c.index_or_count-place.ensures ∙ ap (index_or_count c.args.texts.now) c.as_str.ensures.text)
     (omega arith))
