@@ -13,7 +13,7 @@ use std::error::Error;
 use std::fmt;
 
 /// Why bytes aren't a program of a shape.
-#[derive(Debug, Drop, PartialEq, Eq)]
+#[derive(Debug, Drop)]
 pub enum ProgramFault {
     /// F1 to F9: the bytes aren't a program whose edges lead forward.
     Flow(FlowFault),
@@ -49,7 +49,7 @@ impl fmt::Display for ProgramFault {
 impl Error for ProgramFault {}
 
 /// Why a text doesn't give a program of a shape.
-#[derive(Debug, Drop, PartialEq, Eq)]
+#[derive(Debug, Drop)]
 pub enum RuleTextFault {
     /// L1 to L5: the text isn't a rule.
     Text(RuleFault),

@@ -20,7 +20,7 @@ use std::fmt;
 use std::marker::Model;
 
 /// Why no attributes were made.
-#[derive(Clone, Copy, Debug, PartialEq, Eq)]
+#[derive(Clone, Copy, Debug)]
 pub enum AttrFault {
     /// An allocation failed.
     Memory,

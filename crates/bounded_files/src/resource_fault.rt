@@ -7,7 +7,7 @@ use std::fmt;
 use std::io::{Error, ErrorKind};
 
 /// What the machine couldn't provide.
-#[derive(Clone, Copy, Debug, Drop, PartialEq, Eq)]
+#[derive(Clone, Copy, Debug, Drop)]
 pub enum ResourceFault {
     /// B3: a file can't be read or written.
     File,

@@ -9,7 +9,7 @@ use std::error::Error;
 use std::fmt;
 
 /// A rule that an instruction breaks; the first, if it breaks several.
-#[derive(Clone, Copy, Debug, PartialEq, Eq)]
+#[derive(Clone, Copy, Debug)]
 pub enum VerifierRule {
     /// The instruction reads a register that may be unset or holds different kinds on different
     /// paths, or a byte of the stack that may be unset.
@@ -69,7 +69,7 @@ impl VerifierRule {
 }
 
 /// Why `verify` refuses a program.
-#[derive(Clone, Copy, Debug, Drop, PartialEq, Eq)]
+#[derive(Clone, Copy, Debug, Drop)]
 pub enum Refusal {
     /// The first slot at which an instruction breaks a rule, and the first rule that it breaks.
     Rule { slot: usize, rule: VerifierRule },

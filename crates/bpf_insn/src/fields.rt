@@ -16,7 +16,7 @@ pub struct Fields {
 }
 
 /// Why bytes spell no instruction; if there are several faults, the least is returned.
-#[derive(Clone, Copy, Debug, PartialEq, Eq)]
+#[derive(Clone, Copy, Debug)]
 pub enum InsnFault {
     /// I1: a half is incomplete.
     Truncated,

@@ -10,7 +10,7 @@ use std::alloc::AllocError;
 use std::fmt;
 
 /// Why bytes have no listing.
-#[derive(Clone, Copy, Debug, PartialEq, Eq)]
+#[derive(Clone, Copy, Debug)]
 pub enum ListFault {
     /// No instruction begins at this slot.
     Insn { slot: usize, fault: InsnFault },
@@ -40,7 +40,7 @@ impl From<AllocError> for ListFault {
 }
 
 /// Why a text doesn't assemble.
-#[derive(Clone, Copy, Debug, PartialEq, Eq)]
+#[derive(Clone, Copy, Debug)]
 pub enum AsmFaultKind {
     /// A1: a character or a number that isn't a token.
     Token,
@@ -57,7 +57,7 @@ pub enum AsmFaultKind {
 }
 
 /// The first fault of a text, or that an allocation failed (A7).
-#[derive(Clone, Copy, Debug, PartialEq, Eq)]
+#[derive(Clone, Copy, Debug)]
 pub enum AsmFault {
     /// The fault of a line, counted from 1. `Range` is always about a number in the text: a label
     /// can't be too far for a jump, since distances between slots are at most 4095.

@@ -11,7 +11,7 @@ use cells::{ArrayNo, CellsFault, Directory};
 use std::alloc::Global;
 
 /// A refused array: its number in the list, from 1, and why.
-#[derive(Clone, Copy, Debug, PartialEq, Eq)]
+#[derive(Clone, Copy, Debug)]
 pub struct RefusedArray {
     pub number: usize,
     pub fault: CellsFault,

@@ -11,7 +11,7 @@ use lexing::decimal_within;
 use std::alloc::Global;
 
 /// Why a text isn't a list of declarations.
-#[derive(Clone, Copy, Debug, PartialEq, Eq)]
+#[derive(Clone, Copy, Debug)]
 pub enum SpecFault {
     /// It isn't of that form, or a number is out of range.
     Malformed,

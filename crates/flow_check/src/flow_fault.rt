@@ -10,7 +10,7 @@ use std::error::Error;
 use std::fmt;
 
 /// The rules, in the order of their printed numbers F1 to F8.
-#[derive(Clone, Copy, Debug, PartialEq, Eq)]
+#[derive(Clone, Copy, Debug)]
 pub enum FlowRule {
     /// A jump leads to its own slot or below.
     BackJump,
@@ -48,7 +48,7 @@ impl fmt::Display for FlowRule {
 }
 
 /// Why `Flow::check` refuses bytes.
-#[derive(Debug, Drop, PartialEq, Eq)]
+#[derive(Debug, Drop)]
 pub enum FlowFault {
     Rule { slot: usize, rule: FlowRule },
     /// F9: out of memory.

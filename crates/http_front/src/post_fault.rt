@@ -9,7 +9,7 @@ use std::fmt::{self, Display};
 
 /// What is wrong, with the numbers P1 to P9 that are sent and logged. They are found in this order:
 /// P1, P6 and P7 while the head arrives, then P2, P3, P4, P1 and P5 of a whole head, then P7.
-#[derive(Clone, Copy, Debug, PartialEq, Eq, Drop)]
+#[derive(Clone, Copy, Debug, Drop)]
 pub enum PostFault {
     /// P1: no bytes can follow that make a head (RFC 9112, sections 2 to 5); or a Content-Length
     /// isn't a number, or two give different numbers.

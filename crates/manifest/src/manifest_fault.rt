@@ -39,7 +39,7 @@ impl Display for ManifestFault {
 impl Error for ManifestFault {}
 
 /// Why bytes aren't a document.
-#[derive(Clone, Copy, Debug, Drop, PartialEq, Eq)]
+#[derive(Clone, Copy, Debug, Drop)]
 pub enum TomlFault {
     /// There are more than 1048576 bytes.
     TooLong,

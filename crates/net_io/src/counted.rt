@@ -16,7 +16,7 @@ pub struct Counted<T> {
 }
 
 /// The device failed.
-#[derive(Clone, Copy, Debug, PartialEq, Eq, Drop)]
+#[derive(Clone, Copy, Debug, Drop)]
 pub struct Failed;
 
 /// The device failed after it took `written` bytes, which are a prefix of what was to be written.

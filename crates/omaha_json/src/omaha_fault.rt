@@ -9,7 +9,7 @@ use std::fmt::{self, Display};
 /// Why a body isn't a request. If there are several faults, the first is returned. The checks are,
 /// in order: that it is JSON, that `request` is an object, the protocol, that `app` is a list, how
 /// long it is, and then its items.
-#[derive(Clone, Copy, Debug, Drop, PartialEq, Eq)]
+#[derive(Clone, Copy, Debug, Drop)]
 pub enum OmahaFault {
     /// O1: it isn't a JSON text, nests deeper than 127 levels, or has a number too large for a
     /// float.

@@ -9,7 +9,7 @@ use std::error::Error;
 use std::fmt;
 
 /// Why a text isn't a script.
-#[derive(Clone, Copy, Debug, PartialEq, Eq)]
+#[derive(Clone, Copy, Debug)]
 pub enum ScriptFault {
     /// The first line without an event, from 1; line 1 if the text isn't UTF-8.
     Malformed { line: usize },

@@ -9,7 +9,7 @@ use std::error::Error;
 use std::fmt;
 
 /// Why `compile` refuses a rule.
-#[derive(Debug, Drop, PartialEq, Eq)]
+#[derive(Debug, Drop)]
 pub enum CompileFault {
     /// Its code would exceed 4096 slots.
     TooLong,

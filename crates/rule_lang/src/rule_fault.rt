@@ -37,7 +37,7 @@ impl RuleFaultKind {
 }
 
 /// The fault of a text, or a failed allocation.
-#[derive(Clone, Copy, Debug, PartialEq, Eq)]
+#[derive(Clone, Copy, Debug)]
 pub enum RuleFault {
     /// The fault that counts, with its line from 1.
     At { line: usize, kind: RuleFaultKind },

@@ -10,7 +10,7 @@ use std::fmt::{self, Display};
 
 /// The fault of `SharedCells::new`, with the number that is printed; `close` has it only in its
 /// type.
-#[derive(Clone, Copy, Debug, PartialEq, Eq)]
+#[derive(Clone, Copy, Debug)]
 pub enum SharedFault {
     /// S1: an allocation failed.
     Memory,

@@ -5,7 +5,7 @@ use std::error::Error;
 use std::fmt::{self, Display};
 
 /// The fault of a server that doesn't serve.
-#[derive(Clone, Copy, Debug, Drop, PartialEq, Eq)]
+#[derive(Clone, Copy, Debug, Drop)]
 pub enum ServeFault {
     /// B4: an allocation, or a thread, failed.
     Memory,

@@ -45,7 +45,7 @@ pub enum Effect {
 }
 
 /// Why an event is refused; if there are several reasons, the lowest number.
-#[derive(Clone, Copy, Debug, PartialEq, Eq)]
+#[derive(Clone, Copy, Debug)]
 pub enum WorldFault {
     /// E1: the worker doesn't exist.
     NoWorker,
