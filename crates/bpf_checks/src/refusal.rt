@@ -9,7 +9,7 @@ use std::error::Error;
 use std::fmt;
 
 /// A rule that an instruction breaks; the first, if it breaks several.
-#[derive(Clone, Copy, Debug)]
+#[derive(Clone, Copy)]
 pub enum VerifierRule {
     /// The instruction reads a register that may be unset or holds different kinds on different
     /// paths, or a byte of the stack that may be unset.
@@ -69,7 +69,7 @@ impl VerifierRule {
 }
 
 /// Why `verify` refuses a program.
-#[derive(Clone, Copy, Debug, Drop)]
+#[derive(Clone, Copy, Drop)]
 pub enum Refusal {
     /// The first slot at which an instruction breaks a rule, and the first rule that it breaks.
     Rule { slot: usize, rule: VerifierRule },
@@ -88,6 +88,12 @@ impl fmt::Display for Refusal {
             }
             Refusal::Memory => f.write_str("V15 Memory"),
         }
+    }
+}
+
+impl fmt::Debug for Refusal {
+    fn fmt<W: fmt::Write>(&self, f: &mut fmt::Formatter<W>) -> fmt::Result {
+        fmt::Display::fmt(self, f)
     }
 }
 

@@ -16,7 +16,7 @@ pub struct Fields {
 }
 
 /// Why bytes spell no instruction; if there are several faults, the least is returned.
-#[derive(Clone, Copy, Debug)]
+#[derive(Clone, Copy)]
 pub enum InsnFault {
     /// I1: a half is incomplete.
     Truncated,
@@ -47,6 +47,12 @@ impl fmt::Display for InsnFault {
             InsnFault::Offset => "I6 Offset",
             InsnFault::SecondHalf => "I7 SecondHalf",
         })
+    }
+}
+
+impl fmt::Debug for InsnFault {
+    fn fmt<W: fmt::Write>(&self, f: &mut fmt::Formatter<W>) -> fmt::Result {
+        fmt::Display::fmt(self, f)
     }
 }
 

@@ -40,7 +40,7 @@ impl From<AllocError> for ListFault {
 }
 
 /// Why a text doesn't assemble.
-#[derive(Clone, Copy, Debug)]
+#[derive(Clone, Copy)]
 pub enum AsmFaultKind {
     /// A1: a character or a number that isn't a token.
     Token,
@@ -57,7 +57,7 @@ pub enum AsmFaultKind {
 }
 
 /// The first fault of a text, or that an allocation failed (A7).
-#[derive(Clone, Copy, Debug)]
+#[derive(Clone, Copy)]
 pub enum AsmFault {
     /// The fault of a line, counted from 1. `Range` is always about a number in the text: a label
     /// can't be too far for a jump, since distances between slots are at most 4095.
@@ -90,6 +90,12 @@ impl fmt::Display for AsmFault {
             }
             AsmFault::Memory => f.write_str("A7 Memory"),
         }
+    }
+}
+
+impl fmt::Debug for AsmFault {
+    fn fmt<W: fmt::Write>(&self, f: &mut fmt::Formatter<W>) -> fmt::Result {
+        fmt::Display::fmt(self, f)
     }
 }
 

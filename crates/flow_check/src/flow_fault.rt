@@ -10,7 +10,7 @@ use std::error::Error;
 use std::fmt;
 
 /// The rules, in the order of their printed numbers F1 to F8.
-#[derive(Clone, Copy, Debug)]
+#[derive(Clone, Copy)]
 pub enum FlowRule {
     /// A jump leads to its own slot or below.
     BackJump,
@@ -48,7 +48,7 @@ impl fmt::Display for FlowRule {
 }
 
 /// Why `Flow::check` refuses bytes.
-#[derive(Debug, Drop)]
+#[derive(Drop)]
 pub enum FlowFault {
     Rule { slot: usize, rule: FlowRule },
     /// F9: out of memory.
@@ -63,6 +63,12 @@ impl fmt::Display for FlowFault {
             FlowFault::Rule { slot, rule } => write!(f, "{rule} at slot {slot}"),
             FlowFault::Memory => f.write_str("F9 Memory"),
         }
+    }
+}
+
+impl fmt::Debug for FlowFault {
+    fn fmt<W: fmt::Write>(&self, f: &mut fmt::Formatter<W>) -> fmt::Result {
+        fmt::Display::fmt(self, f)
     }
 }
 

@@ -9,7 +9,7 @@ use std::fmt::{self, Display};
 
 /// What is wrong, with the numbers P1 to P9 that are sent and logged. They are found in this order:
 /// P1, P6 and P7 while the head arrives, then P2, P3, P4, P1 and P5 of a whole head, then P7.
-#[derive(Clone, Copy, Debug, Drop)]
+#[derive(Clone, Copy, Drop)]
 pub enum PostFault {
     /// P1: no bytes can follow that make a head (RFC 9112, sections 2 to 5); or a Content-Length
     /// isn't a number, or two give different numbers.
@@ -71,6 +71,12 @@ impl PostFault {
 impl Display for PostFault {
     fn fmt<W: fmt::Write>(&self, f: &mut fmt::Formatter<W>) -> fmt::Result {
         f.write_str(self.line().trim_end())
+    }
+}
+
+impl fmt::Debug for PostFault {
+    fn fmt<W: fmt::Write>(&self, f: &mut fmt::Formatter<W>) -> fmt::Result {
+        Display::fmt(self, f)
     }
 }
 

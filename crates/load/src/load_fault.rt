@@ -12,7 +12,7 @@ use std::fmt;
 
 /// What is wrong, with the codes M1 to M8 that are printed. Arrays and apps are numbered from 1 in
 /// the order of the manifest.
-#[derive(Debug, Drop)]
+#[derive(Drop)]
 pub enum LoadFault {
     /// M1 to M3: the bytes aren't a manifest. The fault inside has more details than are printed.
     Manifest(ManifestFault),
@@ -40,6 +40,12 @@ impl fmt::Display for LoadFault {
             LoadFault::Cells { array, fault } => write!(f, "M7 Cells {fault} in array {array}"),
             LoadFault::Memory => f.write_str("M8 Memory"),
         }
+    }
+}
+
+impl fmt::Debug for LoadFault {
+    fn fmt<W: fmt::Write>(&self, f: &mut fmt::Formatter<W>) -> fmt::Result {
+        fmt::Display::fmt(self, f)
     }
 }
 

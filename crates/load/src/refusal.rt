@@ -8,7 +8,7 @@ use std::error::Error;
 use std::fmt;
 
 /// Why the manifest at a path gives no ruleset. It is displayed as its fault.
-#[derive(Debug, Drop)]
+#[derive(Drop)]
 pub struct LoadRefusal {
     pub fault: PathFault,
     /// The details that are logged with the fault: the wrong member, and what is expected there;
@@ -33,6 +33,12 @@ impl fmt::Display for LoadRefusal {
     fn fmt<W: fmt::Write>(&self, f: &mut fmt::Formatter<W>) -> fmt::Result {
         let fault = &self.fault;
         write!(f, "{fault}")
+    }
+}
+
+impl fmt::Debug for LoadRefusal {
+    fn fmt<W: fmt::Write>(&self, f: &mut fmt::Formatter<W>) -> fmt::Result {
+        fmt::Display::fmt(self, f)
     }
 }
 

@@ -11,7 +11,7 @@ use std::fmt::{Display, Formatter, Write};
 
 /// What is wrong, with the printed numbers. `Display` gives only number and name; the variants have
 /// the details.
-#[derive(Debug, Drop)]
+#[derive(Drop)]
 pub enum ManifestFault {
     /// The bytes aren't a TOML document, or are more than 1048576.
     Toml(TomlFault),
@@ -36,10 +36,16 @@ impl Display for ManifestFault {
     }
 }
 
+impl fmt::Debug for ManifestFault {
+    fn fmt<W: Write>(&self, f: &mut Formatter<W>) -> fmt::Result {
+        Display::fmt(self, f)
+    }
+}
+
 impl Error for ManifestFault {}
 
 /// Why bytes aren't a document.
-#[derive(Clone, Copy, Debug, Drop)]
+#[derive(Clone, Copy, Drop)]
 pub enum TomlFault {
     /// There are more than 1048576 bytes.
     TooLong,
@@ -48,7 +54,7 @@ pub enum TomlFault {
 }
 
 /// A duplicate name.
-#[derive(Debug, Drop)]
+#[derive(Drop)]
 pub enum DuplicateName {
     /// The name of an array.
     Array(Quote),

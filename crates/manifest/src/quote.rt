@@ -8,7 +8,7 @@ use std::fmt;
 use std::marker::Model;
 
 /// A key or a name of the manifest. `Display` escapes it for printing.
-#[derive(Debug, Drop)]
+#[derive(Drop)]
 pub struct Quote {
     text: String,
 }

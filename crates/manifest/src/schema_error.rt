@@ -11,7 +11,7 @@ use std::fmt;
 use std::fmt::{Display, Formatter, Write};
 
 /// A schema error of a manifest.
-#[derive(Debug, Drop)]
+#[derive(Drop)]
 pub enum SchemaError {
     Unknown(Quote),
     Server,
@@ -20,7 +20,7 @@ pub enum SchemaError {
 }
 
 /// A schema error in a list of tables.
-#[derive(Debug, Drop)]
+#[derive(Drop)]
 pub enum InList<M> {
     /// It isn't a list, or has too few or too many items.
     Count,
@@ -31,7 +31,7 @@ pub enum InList<M> {
 }
 
 /// A schema error in the table of an array.
-#[derive(Debug, Drop)]
+#[derive(Drop)]
 pub enum ArrayError {
     Unknown(Quote),
     Name,
@@ -41,7 +41,7 @@ pub enum ArrayError {
 }
 
 /// A schema error in the table of an app.
-#[derive(Debug, Drop)]
+#[derive(Drop)]
 pub enum AppError {
     Unknown(Quote),
     Appid,
@@ -51,7 +51,7 @@ pub enum AppError {
 }
 
 /// A schema error in the table of a release.
-#[derive(Debug, Drop)]
+#[derive(Drop)]
 pub enum ReleaseError {
     Unknown(Quote),
     Version,
@@ -60,7 +60,7 @@ pub enum ReleaseError {
 }
 
 /// A schema error in the table of a package.
-#[derive(Debug, Drop)]
+#[derive(Drop)]
 pub enum PackageError {
     Unknown(Quote),
     Name,

@@ -9,7 +9,7 @@ use std::error::Error;
 use std::fmt;
 
 /// What is wrong with a line, with the printed numbers L1 to L4.
-#[derive(Clone, Copy, Debug, PartialEq, Eq)]
+#[derive(Clone, Copy, PartialEq, Eq)]
 pub enum RuleFaultKind {
     /// No token begins at this character.
     Token,
@@ -37,7 +37,7 @@ impl RuleFaultKind {
 }
 
 /// The fault of a text, or a failed allocation.
-#[derive(Clone, Copy, Debug)]
+#[derive(Clone, Copy)]
 pub enum RuleFault {
     /// The fault that counts, with its line from 1.
     At { line: usize, kind: RuleFaultKind },
@@ -56,6 +56,12 @@ impl fmt::Display for RuleFault {
             }
             RuleFault::Memory => f.write_str("L5 Memory"),
         }
+    }
+}
+
+impl fmt::Debug for RuleFault {
+    fn fmt<W: fmt::Write>(&self, f: &mut fmt::Formatter<W>) -> fmt::Result {
+        fmt::Display::fmt(self, f)
     }
 }
 
