@@ -115,12 +115,18 @@ fn read_app(alloc: Global, table: &Table) -> Result<AppEntry, TableFault<AppErro
     ensures { ReadsAs (specs.app_of (table_view table.now)) result }
 {
     if let Some(key) = unknown_member(Kind::App, table) {
-        return Err(TableFault::SchemaError(AppError::Unknown(quote(alloc, key)?)));
+        let Ok(key) = quote(alloc, key) else {
+            return Err(TableFault::Memory);
+        };
+        return Err(TableFault::SchemaError(AppError::Unknown(key)));
     }
     let Some(appid) = appid(table) else {
         return Err(TableFault::SchemaError(AppError::Appid));
     };
-    let source = read_source(alloc, table)?;
+    let source = match read_source(alloc, table) {
+        Ok(source) => source,
+        Err(fault) => return Err(fault),
+    };
     let releases = match read_releases(alloc, table) {
         Ok(releases) => releases,
         Err(TableFault::SchemaError(schema_error)) => return Err(TableFault::SchemaError(
@@ -128,8 +134,11 @@ fn read_app(alloc: Global, table: &Table) -> Result<AppEntry, TableFault<AppErro
         )),
         Err(TableFault::Memory) => return Err(TableFault::Memory),
     };
+    let Ok(appid) = copy(alloc, appid) else {
+        return Err(TableFault::Memory);
+    };
     Ok(AppEntry {
-        appid: copy(alloc, appid)?,
+        appid,
         source,
         releases,
     })
@@ -152,11 +161,17 @@ fn read_source(alloc: Global, table: &Table) -> Result<ProgramSource, TableFault
 {
     match (member(table, "program"), member(table, "rule")) {
         (Some(program), None) => match program.as_str() {
-            Some(file) => Ok(ProgramSource::Program(copy(alloc, file)?)),
+            Some(file) => match copy(alloc, file) {
+                Ok(file) => Ok(ProgramSource::Program(file)),
+                Err(_) => Err(TableFault::Memory),
+            },
             None => Err(TableFault::SchemaError(AppError::ProgramSource)),
         },
         (None, Some(rule)) => match rule.as_str() {
-            Some(file) => Ok(ProgramSource::Rule(copy(alloc, file)?)),
+            Some(file) => match copy(alloc, file) {
+                Ok(file) => Ok(ProgramSource::Rule(file)),
+                Err(_) => Err(TableFault::Memory),
+            },
             None => Err(TableFault::SchemaError(AppError::ProgramSource)),
         },
         _ => Err(TableFault::SchemaError(AppError::ProgramSource)),

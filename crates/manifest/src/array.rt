@@ -32,7 +32,10 @@ fn read_array(alloc: Global, table: &Table) -> Result<ArrayDeclaration, TableFau
     ensures { ReadsAs (specs.array_of (table_view table.now)) result }
 {
     if let Some(key) = unknown_member(Kind::Array, table) {
-        return Err(TableFault::SchemaError(ArrayError::Unknown(quote(alloc, key)?)));
+        let Ok(key) = quote(alloc, key) else {
+            return Err(TableFault::Memory);
+        };
+        return Err(TableFault::SchemaError(ArrayError::Unknown(key)));
     }
     let Some(name) = name(table) else {
         return Err(TableFault::SchemaError(ArrayError::Name));

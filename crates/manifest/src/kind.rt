@@ -8,7 +8,7 @@ ghost use Rattle.manifest.specs.Kind as specs;
 
 use toml::Table;
 
-#[derive(Clone, Copy, PartialEq, Eq)]
+#[derive(Clone, Copy)]
 pub(crate) enum Kind {
     Manifest,
     Array,

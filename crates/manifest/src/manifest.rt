@@ -93,7 +93,10 @@ pub(crate) fn read_tables(alloc: Global, table: &Table) -> Result<Manifest, Tabl
     ensures { ReadsAs (specs.tables_of (table_view table.now)) result }
 {
     if let Some(key) = unknown_member(Kind::Manifest, table) {
-        return Err(TableFault::SchemaError(SchemaError::Unknown(quote(alloc, key)?)));
+        let Ok(key) = quote(alloc, key) else {
+            return Err(TableFault::Memory);
+        };
+        return Err(TableFault::SchemaError(SchemaError::Unknown(key)));
     }
     let Some(server) = text(table, "server") else {
         return Err(TableFault::SchemaError(SchemaError::Server));
@@ -112,8 +115,11 @@ pub(crate) fn read_tables(alloc: Global, table: &Table) -> Result<Manifest, Tabl
         )),
         Err(TableFault::Memory) => return Err(TableFault::Memory),
     };
+    let Ok(server) = copy(alloc, server) else {
+        return Err(TableFault::Memory);
+    };
     Ok(Manifest {
-        server: copy(alloc, server)?,
+        server,
         arrays,
         apps,
     })
@@ -142,10 +148,16 @@ pub(crate) fn without_duplicates(
     ensures { ReadsAs (specs.once manifest) result }
 {
     if let Some(name) = repeated_name(manifest.arrays()) {
-        return Err(TableFault::SchemaError(DuplicateName::Array(quote(alloc, name)?)));
+        let Ok(name) = quote(alloc, name) else {
+            return Err(TableFault::Memory);
+        };
+        return Err(TableFault::SchemaError(DuplicateName::Array(name)));
     }
     if let Some(appid) = repeated_name(manifest.apps()) {
-        return Err(TableFault::SchemaError(DuplicateName::App(quote(alloc, appid)?)));
+        let Ok(appid) = quote(alloc, appid) else {
+            return Err(TableFault::Memory);
+        };
+        return Err(TableFault::SchemaError(DuplicateName::App(appid)));
     }
     Ok(manifest)
 }

@@ -34,7 +34,10 @@ fn read_package(alloc: Global, table: &Table) -> Result<Package, TableFault<Pack
     ensures { ReadsAs (specs.package_of (table_view table.now)) result }
 {
     if let Some(key) = unknown_member(Kind::Package, table) {
-        return Err(TableFault::SchemaError(PackageError::Unknown(quote(alloc, key)?)));
+        let Ok(key) = quote(alloc, key) else {
+            return Err(TableFault::Memory);
+        };
+        return Err(TableFault::SchemaError(PackageError::Unknown(key)));
     }
     let Some(name) = text(table, "name") else {
         return Err(TableFault::SchemaError(PackageError::Name));
@@ -48,8 +51,12 @@ fn read_package(alloc: Global, table: &Table) -> Result<Package, TableFault<Pack
     let Some(required) = truth(table, "required") else {
         return Err(TableFault::SchemaError(PackageError::Required));
     };
-    let name = copy(alloc, name)?;
-    let hash = copy(alloc, hash)?;
+    let Ok(name) = copy(alloc, name) else {
+        return Err(TableFault::Memory);
+    };
+    let Ok(hash) = copy(alloc, hash) else {
+        return Err(TableFault::Memory);
+    };
     Ok(Package::new(name, hash, size, required))
 }
 

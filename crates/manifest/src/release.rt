@@ -32,7 +32,10 @@ fn read_release(alloc: Global, table: &Table) -> Result<Release, TableFault<Rele
     ensures { ReadsAs (specs.release_of (table_view table.now)) result }
 {
     if let Some(key) = unknown_member(Kind::Release, table) {
-        return Err(TableFault::SchemaError(ReleaseError::Unknown(quote(alloc, key)?)));
+        let Ok(key) = quote(alloc, key) else {
+            return Err(TableFault::Memory);
+        };
+        return Err(TableFault::SchemaError(ReleaseError::Unknown(key)));
     }
     let Some(version) = version(table) else {
         return Err(TableFault::SchemaError(ReleaseError::Version));
@@ -47,8 +50,12 @@ fn read_release(alloc: Global, table: &Table) -> Result<Release, TableFault<Rele
         }
         Err(TableFault::Memory) => return Err(TableFault::Memory),
     };
-    let version = copy(alloc, version)?;
-    let codebase = copy(alloc, codebase)?;
+    let Ok(version) = copy(alloc, version) else {
+        return Err(TableFault::Memory);
+    };
+    let Ok(codebase) = copy(alloc, codebase) else {
+        return Err(TableFault::Memory);
+    };
     Ok(Release::new(version, codebase, packages))
 }
 

@@ -1,10 +1,10 @@
 //! Why a table wasn't read.
 
-ghost use Rattle.std.specs.Prelude.{◌≡◌, IfOk, IfErr};
+ghost use Rattle.std.specs.Prelude.{◌≡◌, IfOk};
 
 use crate::quote::Quote;
 use attrs::Text;
-use std::alloc::Global;
+use std::alloc::{AllocError, Global};
 
 /// A schema error of the table, or a failed allocation.
 #[derive(Drop)]
@@ -13,23 +13,16 @@ pub(crate) enum TableFault<M> {
     Memory,
 }
 
-pub(crate) fn copy<M>(alloc: Global, text: &str) -> Result<Text, TableFault<M>>
-    ensures same { IfOk result (λ t. t ≡ text.now) }
-    ensures memory { IfErr result (λ e. e ≡ TableFault.Memory) }
+/// A copy of a text of the manifest.
+pub(crate) fn copy(alloc: Global, text: &str) -> Result<Text, AllocError>
+    ensures { IfOk result (λ t. t ≡ text.now) }
 {
-    match String::from_str(alloc, text) {
-        Ok(text) => Ok(Text::new(text)),
-        Err(_) => Err(TableFault::Memory),
-    }
+    Ok(Text::new(String::from_str(alloc, text)?))
 }
 
 /// A copy of a text that a schema error quotes.
-pub(crate) fn quote<M>(alloc: Global, text: &str) -> Result<Quote, TableFault<M>>
-    ensures same { IfOk result (λ t. t ≡ text.now) }
-    ensures memory { IfErr result (λ e. e ≡ TableFault.Memory) }
+pub(crate) fn quote(alloc: Global, text: &str) -> Result<Quote, AllocError>
+    ensures { IfOk result (λ t. t ≡ text.now) }
 {
-    match String::from_str(alloc, text) {
-        Ok(text) => Ok(Quote::new(text)),
-        Err(_) => Err(TableFault::Memory),
-    }
+    Ok(Quote::new(String::from_str(alloc, text)?))
 }
