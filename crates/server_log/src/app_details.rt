@@ -30,19 +30,40 @@ impl AppDetails {
         texts: &mut KeptTexts,
         app: WrittenApp<'_>,
     ) -> Result<AppDetails, AllocError> {
-        let event = match app.event_text(alloc)? {
-            Some(text) => Some(KeptExcerpt::of(texts, Excerpt::of(&text))?),
-            None => None,
-        };
-        let mut ignored = None;
-        for name in TEXTS {
-            if app.ignores_text(name) {
-                ignored = Some(texts.keep_name(ignored, name)?);
-            }
-        }
-        if app.ignores_installdate() {
-            ignored = Some(texts.keep_name(ignored, "installdate")?);
-        }
+        let event = event_of(alloc, texts, &app)?;
+        let ignored = ignored_of(texts, &app)?;
         Ok(AppDetails { event, ignored })
     }
+}
+
+// The event of an app, if its client sent one.
+fn event_of(
+    alloc: Global,
+    texts: &mut KeptTexts,
+    app: &WrittenApp<'_>,
+) -> Result<Option<KeptExcerpt>, AllocError> {
+    let Some(text) = app.event_text(alloc)? else {
+        return Ok(None);
+    };
+    match KeptExcerpt::of(texts, Excerpt::of(&text)) {
+        Ok(kept) => Ok(Some(kept)),
+        Err(_) => Err(AllocError),
+    }
+}
+
+// The names of the app's members that are ignored.
+fn ignored_of(
+    texts: &mut KeptTexts,
+    app: &WrittenApp<'_>,
+) -> Result<Option<TextPlace>, AllocError> {
+    let mut ignored = None;
+    for name in TEXTS {
+        if app.ignores_text(name) {
+            ignored = Some(texts.keep_name(ignored, name)?);
+        }
+    }
+    if app.ignores_installdate() {
+        ignored = Some(texts.keep_name(ignored, "installdate")?);
+    }
+    Ok(ignored)
 }

@@ -64,24 +64,22 @@ impl KeptTexts {
     /// Appends the text of an address and a port.
     pub(crate) fn keep_socket(&mut self, socket: SocketAddr) -> Result<TextPlace, AllocError> {
         let begin = self.all.len();
-        match socket {
-            SocketAddr::V4(v4) => {
-                push_v4(&mut self.all, *v4.ip())?;
-                self.all.push_str(":")?;
-                push_number(&mut self.all, v4.port())?;
-            }
-            SocketAddr::V6(v6) => write!(self.all, "{v6}")?,
-        }
+        let written = match socket {
+            SocketAddr::V4(v4) => push_socket(&mut self.all, *v4.ip(), v4.port()),
+            SocketAddr::V6(v6) => write!(self.all, "{v6}"),
+        };
+        written?;
         Ok(self.since(begin))
     }
 
     /// Appends the text of an address.
     pub(crate) fn keep_address(&mut self, address: IpAddr) -> Result<TextPlace, AllocError> {
         let begin = self.all.len();
-        match address {
-            IpAddr::V4(v4) => push_v4(&mut self.all, v4)?,
-            IpAddr::V6(v6) => write!(self.all, "{v6}")?,
-        }
+        let written = match address {
+            IpAddr::V4(v4) => push_v4(&mut self.all, v4),
+            IpAddr::V6(v6) => write!(self.all, "{v6}"),
+        };
+        written?;
         Ok(self.since(begin))
     }
 
@@ -107,16 +105,22 @@ impl KeptTexts {
     }
 }
 
+// Appends an address and a port.
+fn push_socket(text: &mut String, address: Ipv4Addr, port: u16) -> Result<(), AllocError> {
+    push_v4(text, address)?;
+    text.push_str(":")?;
+    push_number(text, port)
+}
+
 // Appends an address as four numbers.
 fn push_v4(text: &mut String, address: Ipv4Addr) -> Result<(), AllocError> {
     let [first, second, third, fourth] = address.octets();
     push_number(text, u16::from(first))?;
-    text.push_str(".")?;
-    push_number(text, u16::from(second))?;
-    text.push_str(".")?;
-    push_number(text, u16::from(third))?;
-    text.push_str(".")?;
-    push_number(text, u16::from(fourth))
+    for part in [second, third, fourth] {
+        text.push_str(".")?;
+        push_number(text, u16::from(part))?;
+    }
+    Ok(())
 }
 
 fn push_number(text: &mut String, number: u16) -> Result<(), AllocError> {

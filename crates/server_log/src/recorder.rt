@@ -151,9 +151,11 @@ fn first_line(bytes: &[u8]) -> &[u8] {
 
 // The first line without its end, and the bytes after it; `None` without a line feed.
 fn split_line(bytes: &[u8]) -> Option<(&[u8], &[u8])> {
-    let end = memchr(b'\n', bytes)?;
-    let (_, behind) = bytes.get(end..)?.split_first()?;
-    match bytes.get(..end)? {
+    let (line, end) = bytes.split_at_checked(memchr(b'\n', bytes)?)?;
+    let [_, behind @ ..] = end else {
+        return None;
+    };
+    match line {
         [line @ .., b'\r'] => Some((line, behind)),
         line => Some((line, behind)),
     }
