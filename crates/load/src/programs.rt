@@ -74,8 +74,12 @@ pub fn supply(
         let Some(program) = left.next() else {
             return Err(AllocError);
         };
-        let one = with_program(alloc, app, program)?;
-        supplied.push(one)?;
+        let Ok(one) = with_program(alloc, app, program) else {
+            return Err(AllocError);
+        };
+        let Ok(()) = supplied.push(one) else {
+            return Err(AllocError);
+        };
     }
     Ok(supplied)
 }
@@ -96,6 +100,8 @@ fn with_program(alloc: Global, app: AppSources, program: Verified) -> Result<App
         source: _source,
         releases,
     } = entry.into_parts();
-    let program = Arc::new(alloc, program)?;
+    let Ok(program) = Arc::new(alloc, program) else {
+        return Err(AllocError);
+    };
     Ok(App::new(appid.into_string(), program, releases))
 }

@@ -199,9 +199,13 @@ fn collect_apps<F: Files>(
             let unread = count - apps.len();
             return Ok(ReadApps { apps, unread });
         }
-        let app = collect_app(alloc, files, directory, numbers, entry)?;
+        let Ok(app) = collect_app(alloc, files, directory, numbers, entry) else {
+            return Err(AllocError);
+        };
         long += long_count(&app.kept);
-        apps.push(app)?;
+        let Ok(()) = apps.push(app) else {
+            return Err(AllocError);
+        };
     }
     Ok(ReadApps { apps, unread: 0 })
 }
@@ -228,7 +232,9 @@ fn collect_app<F: Files>(
         return Err(AllocError);
     };
     let through_link = files.is_through_link(file_of(entry.source()));
-    let kept = collect_file(files, entry.source())?;
+    let Ok(kept) = collect_file(files, entry.source()) else {
+        return Err(AllocError);
+    };
     Ok(AppSources {
         entry,
         shape,

@@ -13,7 +13,7 @@ loop-app-preserved c =
     let programs = c.in-Some-next.ensures.items in
     record {
       so_far = supplied_more _ _ _ _ c.in-Some.app c.in-Some-next.program apps programs _ _ _ _
-          c.loop-app.invariant.so_far c.in_ok-push.ensures.items c.in_ok-one.ensures;
+          c.loop-app.invariant.so_far c.in-Ok-push.ensures.items c.in-Ok.ensures;
       judged = judged_tail _ _ _ _ c.in-Some.app c.in-Some-next.program apps programs
           c.loop-app.invariant.judged;
       shaped = shaped_tail _ _ _ _ c.in-Some.app c.in-Some-next.program apps programs

@@ -30,14 +30,14 @@ pub loop-entry-preserved : goal.loop-entry-preserved
 loop-entry-preserved g c =
     let i = c.loop-entry.invariant in
     let left = c.in-Some.ensures.steps.0 in
-    let more = c.in_ok-push.ensures.items in (
+    let more = c.in-Ok-push.ensures.items in (
       c.collect_app.ensures.known ∙ i.0,
-      read_more _ _ _ _ _ _ _ i.1 c.in-Some.entry _ c.in_ok-app.app _ _ left
-          (omega (arith, c.if-long-gt-MOST_LONG.false)) (rw i.0 at c.in_ok-app.ensures.app) more
+      read_more _ _ _ _ _ _ _ i.1 c.in-Some.entry _ c.in-Ok.app _ _ left
+          (omega (arith, c.if-long-gt-MOST_LONG.false)) (rw i.0 at c.in-Ok.ensures.app) more
           (omega (arith, c.long_count-long.ensures.count)),
       omega (arith, i.2, ap length left, ap length more ∙ length-append c.loop-entry.apps.items _),
       search rules,
-      failed_more _ _ _ _ _ c.in_ok-app.app i.4 c.in_ok-app.ensures.count more,
+      failed_more _ _ _ _ _ c.in-Ok.app i.4 c.in-Ok.ensures.count more,
     )
 
 pub returns-clause-known : goal.returns-clause-known
