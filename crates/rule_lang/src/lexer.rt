@@ -1,6 +1,6 @@
 //! From a text to its tokens, each with its line.
 
-ghost use Rattle.std.specs.Prelude.{◌≡◌, ◌≤◌, ◌-◌, drop, length, map, IfOk, IfErr, OnOk, Ok};
+ghost use Rattle.std.specs.Prelude.{◌≡◌, ◌≤◌, ◌-◌, ⊤, drop, length, map, IfOk, IfErr, OnOk, Ok};
 ghost use Rattle.rule_lang.specs.Lexed.{tokens_in, IsTokenFault};
 ghost use Rattle.rule_lang.specs.Named.{placed_named, AddsToken};
 
@@ -9,11 +9,22 @@ use crate::token::{Piece, Token, piece_of};
 use std::alloc::{AllocError, Global};
 
 /// A token with its line, from 1.
-#[derive(Clone, Copy)]
 pub struct Placed<N> {
     pub line: usize,
     pub token: Token<N>,
 }
+
+impl<N: Copy> Clone for Placed<N> {
+    ghost is_clone = { λ x y. y ≡ x };
+
+    ghost is_infallible = { λ _. ⊤ };
+
+    fn clone(&self) -> Result<Placed<N>, AllocError> {
+        Ok(*self)
+    }
+}
+
+impl<N: Copy> Copy for Placed<N> {}
 
 // What follows a piece of `bytes` bytes, given that the first is already passed.
 fn bytes_after_piece(s: &[u8], bytes: usize) -> &[u8]

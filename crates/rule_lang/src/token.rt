@@ -1,6 +1,6 @@
 //! The tokens of a rule's text. At each place the longest possible token counts.
 
-ghost use Rattle.std.specs.Prelude.{◌≡◌, ◌≤◌, ◌∷◌, take, length, option_map, true};
+ghost use Rattle.std.specs.Prelude.{◌≡◌, ◌≤◌, ◌∷◌, ⊤, take, length, option_map, true};
 ghost use Rattle.std.specs.List.{prefix_len};
 ghost use Rattle.rule_lang.specs.Named.{piece_named};
 ghost use Rattle.rule_lang.specs.Tokens as tokens;
@@ -9,10 +9,10 @@ ghost use Rattle.rule_lang.specs.declared.token.Class.TheVariants.{Number as num
 use crate::keyword::{Keyword, keyword_named};
 use crate::test::Comparison;
 use lexing::{is_letter, is_word_byte};
+use std::alloc::AllocError;
 
 /// One token. The texts of names, numbers and literals have type `N`: slices of the text here,
 /// lists of bytes in definitions.
-#[derive(Clone, Copy)]
 pub enum Token<N> {
     Keyword(Keyword),
     Name(N),
@@ -32,6 +32,18 @@ pub enum Token<N> {
     /// The end of the text.
     End,
 }
+
+impl<N: Copy> Clone for Token<N> {
+    ghost is_clone = { λ x y. y ≡ x };
+
+    ghost is_infallible = { λ _. ⊤ };
+
+    fn clone(&self) -> Result<Token<N>, AllocError> {
+        Ok(*self)
+    }
+}
+
+impl<N: Copy> Copy for Token<N> {}
 
 /// A blank, a line's end or a token, with its number of bytes.
 #[derive(Drop)]
