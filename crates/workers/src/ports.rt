@@ -12,6 +12,10 @@ use std::time::Duration;
 /// How long the end of a port waits for its own connection.
 const WAKE_SECONDS: u64 = 1;
 
+/// How many descriptors a server needs at least in addition to its ports: one to keep the
+/// operator's port open, one for each side's connection, and one for a file that is loaded.
+const DESCRIPTORS: u8 = 4;
+
 /// The two listening ports, and their addresses.
 #[derive(Drop)]
 pub struct Ports {
@@ -67,7 +71,7 @@ where
     let (service, address) = bind_one(rt, service)?;
     let (operator, operator_address) = bind_one(rt, operator)?;
     let handle = service.try_clone()?;
-    require_descriptors(&handle)?;
+    require_descriptors(&handle, DESCRIPTORS)?;
     Ok(Ports {
         service,
         service_end: PortEnd { handle, address },
@@ -76,13 +80,13 @@ where
     })
 }
 
-// Opens as many descriptors as a server needs at least in addition to its ports, and closes them.
-fn require_descriptors(port: &TcpListener) -> io::Result<()> {
-    let _kept_open = port.try_clone()?;
-    let _client = port.try_clone()?;
-    let _operator = port.try_clone()?;
-    let _file = port.try_clone()?;
-    Ok(())
+// Opens this many descriptors, and closes them.
+fn require_descriptors(port: &TcpListener, count: u8) -> io::Result<()> {
+    if count == 0 {
+        return Ok(());
+    }
+    let open = port.try_clone()?;
+    require_descriptors(&open, count - 1)
 }
 
 fn bind_one<H>(rt: &H, port: u16) -> io::Result<(TcpListener, SocketAddr)>
