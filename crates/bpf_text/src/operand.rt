@@ -1,7 +1,7 @@
 //! Operands read as the kinds that their instruction requires: A3 if the kind is wrong, and A5 if a
 //! number doesn't fit its field.
 
-ghost use Rattle.std.specs.Prelude.{◌≡◌, option_map, Option, Result};
+ghost use Rattle.std.specs.Prelude.{◌≡◌, ⊤, option_map, Option, Result};
 ghost use Rattle.bpf_text.specs.Results.{map_ok};
 ghost use Rattle.bpf_text.specs.Operands.{
   if_of_kind,
@@ -36,9 +36,9 @@ use crate::three::UpToThree;
 use crate::token::{Figure, Sign};
 use crate::vocabulary::register_named;
 use bpf_insn::Distance;
+use std::alloc::AllocError;
 
 /// The meaning of an operand: an argument, or a label in place of a distance.
-#[derive(Clone, Copy)]
 pub enum Given<N> {
     Argument(Argument),
     /// The label of a jump with a 16-bit distance.
@@ -46,6 +46,18 @@ pub enum Given<N> {
     /// The label of a jump with a 32-bit distance.
     LongTo(N),
 }
+
+impl<N: Copy> Clone for Given<N> {
+    ghost is_clone = { λ x y. y ≡ x };
+
+    ghost is_infallible = { λ _. ⊤ };
+
+    fn clone(&self) -> Result<Given<N>, AllocError> {
+        Ok(*self)
+    }
+}
+
+impl<N: Copy> Copy for Given<N> {}
 
 type GivenOrFault<'a> = Result<Given<&'a [u8]>, AsmFaultKind>;
 

@@ -4,6 +4,7 @@
 ghost use Rattle.std.specs.Prelude.{
   ◌≡◌,
   ◌∷◌,
+  ⊤,
   ◌+◌,
   [],
   ◌≤◌,
@@ -55,7 +56,6 @@ pub struct Figure {
 }
 
 /// One token of a line, with names of type `N`: bytes of the text in code, lists in definitions.
-#[derive(Clone, Copy)]
 pub enum AsmToken<N> {
     Word(N),
     Number(Figure),
@@ -64,6 +64,18 @@ pub enum AsmToken<N> {
     Open,
     Close,
 }
+
+impl<N: Copy> Clone for AsmToken<N> {
+    ghost is_clone = { λ x y. y ≡ x };
+
+    ghost is_infallible = { λ _. ⊤ };
+
+    fn clone(&self) -> Result<AsmToken<N>, AllocError> {
+        Ok(*self)
+    }
+}
+
+impl<N: Copy> Copy for AsmToken<N> {}
 
 fn is_blank(c: u8) -> bool
     ensures { result ≡ is_blank c }
