@@ -80,17 +80,17 @@ fn replace<R: Files + AllocGlobal>(
     mode: Option<Permissions>,
     bytes: &[u8],
 ) -> io::Result<()> {
-    let (beside, file) = match open_beside(rt, path) {
+    let (temporary, file) = match open_temporary(rt, path) {
         Ok(opened) => opened,
         Err(error) if takes_no_file(&error) => return fs::write(rt, path, bytes),
         Err(error) => return Err(error),
     };
     let moved = match fill(file, mode, bytes) {
-        Ok(()) => fs::rename(rt, beside.as_str(), path),
+        Ok(()) => fs::rename(rt, temporary.as_str(), path),
         Err(error) => Err(error),
     };
     if moved.is_err() {
-        let _gone = fs::remove_file(rt, beside.as_str());
+        let _gone = fs::remove_file(rt, temporary.as_str());
     }
     moved
 }
@@ -104,7 +104,7 @@ fn takes_no_file(error: &Error) -> bool {
 }
 
 // A new file next to the path, and its name.
-fn open_beside<R: Files + AllocGlobal>(rt: &R, path: &str) -> io::Result<(String, R::File)> {
+fn open_temporary<R: Files + AllocGlobal>(rt: &R, path: &str) -> io::Result<(String, R::File)> {
     for number in 0..MOST_NAMES {
         let name = format!(in rt.alloc(); "{path}.{number}.new")?;
         match File::create_new(rt, name.as_str()) {

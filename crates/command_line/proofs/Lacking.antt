@@ -4,7 +4,7 @@ use Rattle.std.specs.Borrow.{Bor}
 use Rattle.std.specs.Option.{option_copied}
 use Rattle.std.specs.Prelude.{IsSomeAnd, OnErr, Result, Ok, Err}
 use Rattle.clap.specs.Words.{Row, Text}
-use Rattle.command_line.specs.AppOptions.{HasApp, HasAppBucket, IsBucketBeside, LacksAppBucket}
+use Rattle.command_line.specs.AppOptions.{HasApp, HasAppBucket, IsGivenBucket, LacksAppBucket}
 use Rattle.command_line.specs.Runs.{LacksPlaced}
 use Rattle.command_line.specs.Values.{HasBucket, LacksBucket}
 use Rattle.command_line.specs.declared.app_args.AppArgs.{AppArgs}
@@ -23,13 +23,13 @@ no_bucket rows None lacks has = has
 no_bucket rows (Some bucket) lacks has = lacks bucket has
 
 -- a malformed `--bucket`, with a cohort that names no bucket
-pub no_bucket_beside : (rows : List Row) (named : Option ℕ) (text : Option (Bor Text))
+pub no_given_bucket : (rows : List Row) (named : Option ℕ) (text : Option (Bor Text))
     (given : Bor Text) (bucket : Option ℕ) → named ≡ None → text ≡ Some given → LacksBucket rows
-    → IsBucketBeside rows named (option_copied text) bucket → ⊥
-no_bucket_beside rows named text given bucket none some lacks has =
+    → IsGivenBucket rows named (option_copied text) bucket → ⊥
+no_given_bucket rows named text given bucket none some lacks has =
     no_bucket rows bucket lacks (subst (λ (t : Option (Bor Text)).
-    IsBucketBeside rows None (option_copied t) bucket) some (subst (λ (n : Option ℕ).
-    IsBucketBeside rows n (option_copied text) bucket) none has))
+    IsGivenBucket rows None (option_copied t) bucket) some (subst (λ (n : Option ℕ).
+    IsGivenBucket rows n (option_copied text) bucket) none has))
 
 -- the cohort of the options allows no bucket
 pub not_placed : (rows : List Row) (app : AppArgs) → HasApp rows app

@@ -77,19 +77,19 @@ LacksApp rows = (app : AppArgs) → ¬ HasApp rows app
 
 -- `None` if the cohort names a bucket, and then `--bucket` is an error; else that of `--bucket`, or
 -- 0 without it
-abbrev pub IsBucketBeside : List Row → (named : Option ℕ) → (text : Option Text) → Option ℕ
+abbrev pub IsGivenBucket : List Row → (named : Option ℕ) → (text : Option Text) → Option ℕ
     → Type 0
-IsBucketBeside rows (Some named) (Some text) bucket = ⊥
-IsBucketBeside rows (Some named) None bucket = bucket ≡ None
-IsBucketBeside rows None (Some text) bucket = IsSomeAnd bucket (HasBucket rows)
-IsBucketBeside rows None None bucket = bucket ≡ Some 0
+IsGivenBucket rows (Some named) (Some text) bucket = ⊥
+IsGivenBucket rows (Some named) None bucket = bucket ≡ None
+IsGivenBucket rows None (Some text) bucket = IsSomeAnd bucket (HasBucket rows)
+IsGivenBucket rows None None bucket = bucket ≡ Some 0
 
-abbrev pub LacksBucketBeside : List Row → (named : Option ℕ) → (text : Option Text) → Type 0
-LacksBucketBeside rows named text = (bucket : Option ℕ) → ¬ IsBucketBeside rows named text bucket
+abbrev pub LacksGivenBucket : List Row → (named : Option ℕ) → (text : Option Text) → Type 0
+LacksGivenBucket rows named text = (bucket : Option ℕ) → ¬ IsGivenBucket rows named text bucket
 
 abbrev pub HasAppBucket : List Row → (cohort : Option Text) → Option ℕ → Type 0
 HasAppBucket rows cohort bucket =
-    IsBucketBeside rows (option_and_then cohort_bucket cohort) (first_of (codes "bucket") rows)
+    IsGivenBucket rows (option_and_then cohort_bucket cohort) (first_of (codes "bucket") rows)
     bucket
 
 abbrev pub LacksAppBucket : List Row → (cohort : Option Text) → Type 0

@@ -173,18 +173,18 @@ pub fn read_bucket(
     ensures lacking { OnErr result
         (specs.LacksAppBucket (rows_of (found_of found.now)) (option_copied cohort.entry)) }
 {
-    bucket_beside(found, bucket_named(cohort), optional_text(found, "bucket"))
+    given_bucket(found, bucket_named(cohort), optional_text(found, "bucket"))
 }
 
-fn bucket_beside(
+fn given_bucket(
     found: &ArgMatches<'_>,
     named: Option<Bucket>,
     text: Option<&str>,
 ) -> Result<Option<Bucket>, ArgsError>
     ensures given { IfOk result
-        (specs.IsBucketBeside (rows_of (found_of found.now)) named (option_copied text.entry)) }
+        (specs.IsGivenBucket (rows_of (found_of found.now)) named (option_copied text.entry)) }
     ensures lacking { OnErr result
-        (specs.LacksBucketBeside (rows_of (found_of found.now)) named (option_copied text.entry)) }
+        (specs.LacksGivenBucket (rows_of (found_of found.now)) named (option_copied text.entry)) }
 {
     match (named, text) {
         (Some(_), Some(_)) => Err(ArgsError::Wrong(ArgumentFault::Bucket)),

@@ -46,7 +46,7 @@ pub(crate) fn show<R: Wait>(
 ) -> (PublishedWriter, Option<KnownPrefix>)
     requires one { writer.desk.shown.value.known.publisher ≡ next.known.publisher }
     ensures one { result.0.desk.shown.value.known.publisher ≡ next.known.publisher }
-    ensures keeps { view writer.desk.place ≡ Some next.known.publisher
+    ensures same_publisher { view writer.desk.place ≡ Some next.known.publisher
         → view result.0.desk.place ≡ Some next.known.publisher }
     ensures grown { IfSome result.1 (λ k. (view result.0.desk.place ≡ Some next.known.publisher)
         × (k.publisher ≡ next.known.publisher)

@@ -40,20 +40,20 @@ fn write_and_rename<R: Files<File = File> + AllocGlobal>(
     mode: u32,
 ) -> io::Result<()> {
     let first_mode = if old.is_some() { 0o600 } else { mode };
-    let (beside, file) = open_beside(rt, path, first_mode)?;
+    let (temporary, file) = open_temporary(rt, path, first_mode)?;
     let moved = match fill(file, old, bytes) {
-        Ok(()) => fs::rename(rt, beside.as_str(), path),
+        Ok(()) => fs::rename(rt, temporary.as_str(), path),
         Err(error) => Err(error),
     };
     if let Err(error) = moved {
-        let _gone = fs::remove_file(rt, beside.as_str());
+        let _gone = fs::remove_file(rt, temporary.as_str());
         return Err(error);
     }
     sync_folder_of(rt, path)
 }
 
 // A new file next to the path, and its name. No file that is there is opened, and no link followed.
-fn open_beside<R: Files<File = File> + AllocGlobal>(
+fn open_temporary<R: Files<File = File> + AllocGlobal>(
     rt: &R,
     path: &str,
     mode: u32,

@@ -3,7 +3,7 @@ use Rattle.std.proofs.Common.{◌≡◌, ℕ, List, [], ◌∷◌, ◌++◌, cod
 use Rattle.std.proofs.Common.{arith}
 use Rattle.svg.specs.WellFormed.{attribute_text, closing, is_given, opening, root_opening, tag_end}
 use Rattle.svg.specs.WellFormed.{IsWritten}
-use Rattle.svg.specs.WellFormed.IsBegun.{root, has, says, breaks, opens, closes}
+use Rattle.svg.specs.WellFormed.IsBegun.{root, has, appends_text, breaks, opens, closes}
 use Rattle.svg.specs.Xml.{xml_text}
 use Rattle.svg.specs.declared.names.SvgAttribute.{SvgAttribute}
 use Rattle.svg.specs.declared.names.SvgAttribute.TheVariants as attribute
@@ -32,11 +32,12 @@ module _ (tags after : List Tag) (before given : List SvgAttribute) (old new : L
       rw (put, pushed) (has tags before old name value other was)
   given_one false false name value was inside other put pushed = absurd (grind (arith, inside))
 
-  pub said : (failed in_tag : Bool) (more : List ℕ) → IsWritten failed tags before in_tag old
+  pub text_written : (failed in_tag : Bool) (more : List ℕ)
+      → IsWritten failed tags before in_tag old
       → new ≡ old ++ (tag_end in_tag ++ xml_text more) → IsWritten failed tags before false new
-  said true in_tag more was put = tt
-  said false true more was put = rw put (says tags (Some before) old more was)
-  said false false more was put = rw put (says tags None old more was)
+  text_written true in_tag more was put = tt
+  text_written false true more was put = rw put (appends_text tags (Some before) old more was)
+  text_written false false more was put = rw put (appends_text tags None old more was)
 
   pub broken : (failed in_tag : Bool) → IsWritten failed tags before in_tag old
       → new ≡ old ++ (tag_end in_tag ++ codes "\n") → IsWritten failed tags before false new

@@ -54,7 +54,7 @@ pub data IsBegun : List Tag → Option (List SvgAttribute) → List ℕ → Type
   has : (tags : List Tag) (given : List SvgAttribute) (text : List ℕ) (name : SvgAttribute)
       (value : List ℕ) → is_given given name ≡ false → IsBegun tags (Some given) text
       → IsBegun tags (Some (given ++ name ∷ [])) (text ++ attribute_text name value)
-  says : (tags : List Tag) (given : Option (List SvgAttribute)) (text more : List ℕ)
+  appends_text : (tags : List Tag) (given : Option (List SvgAttribute)) (text more : List ℕ)
       → IsBegun tags given text
       → IsBegun tags None (text ++ (tag_end (is_some given) ++ xml_text more))
   breaks : (tags : List Tag) (given : Option (List SvgAttribute)) (text : List ℕ)

@@ -159,7 +159,7 @@ impl Picture {
         Ok(())
     }
 
-    #[tactic(auto, using(crate::proofs::Steps::said))]
+    #[tactic(auto, using(crate::proofs::Steps::text_written))]
     fn try_text<T: Display + Drop>(&mut self, value: T) -> Result<(), AllocError> {
         let failed = self.failed;
         self.failed = true;
