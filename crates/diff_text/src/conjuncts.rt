@@ -2,29 +2,37 @@
 //! them here: the condition is read back.
 
 use crate::intervals::{Interval, LineForm, form_of};
-use crate::line_tests::{push_equal, push_interval, push_line_test, push_other, push_up_to};
+use crate::line_tests::{push_comparison, push_interval, push_owned_test};
 use crate::matching::has_segment;
 use attrs::{Attribute, Flag};
-use reasons::push_test;
 use rule_diff::SegmentSet;
 use rule_lang::{Comparison, Literal, Test};
 use rule_space::{Coordinate, Dimension};
 use std::alloc::{AllocError, Global};
 
-fn flag_text(alloc: Global, flag: Flag, segments: &[u16]) -> Result<String, AllocError> {
+fn push_text(texts: &mut Vec<String>, text: String) -> Result<(), AllocError> {
+    Ok(texts.push(text)?)
+}
+
+fn add_flag(
+    alloc: Global,
+    texts: &mut Vec<String>,
+    flag: Flag,
+    segments: &[u16],
+) -> Result<(), AllocError> {
     let mut text = String::new(alloc);
     if !has_segment(segments, 1) {
         text.push_str("not ")?;
     }
-    push_test(&mut text, &Test::Flag(flag))?;
-    Ok(text)
+    push_owned_test(&mut text, Test::Flag(flag))?;
+    push_text(texts, text)
 }
 
 fn push_attr(text: &mut String, attribute: Attribute, literal: &Literal) -> Result<(), AllocError> {
     let copy = Literal::of(*text.allocator(), literal.as_str())?;
-    push_test(
+    push_owned_test(
         text,
-        &Test::Attr {
+        Test::Attr {
             attribute,
             text: copy,
         },
@@ -43,10 +51,24 @@ fn grouped(alloc: Global, count: usize, text: String) -> Result<String, AllocErr
     if count < 2 {
         return Ok(text);
     }
-    let mut all = String::from_str(alloc, "(")?;
-    all.push_str(text.as_str())?;
-    all.push_str(")")?;
-    Ok(all)
+    let all = format!(in alloc; "({text})");
+    drop(text);
+    all
+}
+
+// The named text of a segment, if it has one; `or` before all but the first.
+fn push_named(
+    text: &mut String,
+    dimension: &Dimension,
+    attribute: Attribute,
+    place: usize,
+    segment: u16,
+) -> Result<(), AllocError> {
+    push_or(text, place)?;
+    match dimension.texts.get(segment as usize) {
+        Some(literal) => push_attr(text, attribute, literal),
+        None => Ok(()),
+    }
 }
 
 // One of these texts.
@@ -58,13 +80,21 @@ fn texts_text(
 ) -> Result<String, AllocError> {
     let mut text = String::new(alloc);
     for k in 0..segments.len() {
-        push_or(&mut text, k)?;
-        match dimension.texts.get(segments[k] as usize) {
-            Some(literal) => push_attr(&mut text, attribute, literal)?,
-            None => {}
-        }
+        push_named(&mut text, dimension, attribute, k, segments[k])?;
     }
     grouped(alloc, segments.len(), text)
+}
+
+// That the text isn't this one.
+fn add_other(
+    alloc: Global,
+    texts: &mut Vec<String>,
+    attribute: Attribute,
+    literal: &Literal,
+) -> Result<(), AllocError> {
+    let mut text = String::from_str(alloc, "not ")?;
+    push_attr(&mut text, attribute, literal)?;
+    push_text(texts, text)
 }
 
 // If another text is among the segments, each named text that is missing is ruled out.
@@ -78,16 +108,26 @@ fn add_texts(
     let named = dimension.texts.as_slice();
     if !has_segment(segments, named.len()) {
         let text = texts_text(alloc, dimension, attribute, segments)?;
-        return Ok(texts.push(text)?);
+        return push_text(texts, text);
     }
     for k in 0..named.len() {
         if !has_segment(segments, k) {
-            let mut text = String::from_str(alloc, "not ")?;
-            push_attr(&mut text, attribute, &named[k])?;
-            texts.push(text)?;
+            add_other(alloc, texts, attribute, &named[k])?;
         }
     }
     Ok(())
+}
+
+fn add_comparison(
+    alloc: Global,
+    texts: &mut Vec<String>,
+    of: &Coordinate,
+    comparison: Comparison,
+    number: u128,
+) -> Result<(), AllocError> {
+    let mut text = String::new(alloc);
+    push_comparison(&mut text, of, comparison, number)?;
+    push_text(texts, text)
 }
 
 // One interval: its tests are joined by `and`.
@@ -98,21 +138,15 @@ fn add_interval(
     interval: Interval,
 ) -> Result<(), AllocError> {
     if interval.is_single() {
-        let mut text = String::new(alloc);
-        push_equal(&mut text, of, interval.low)?;
-        return Ok(texts.push(text)?);
+        return add_comparison(alloc, texts, of, Comparison::Eq, interval.low);
     }
     if !interval.from_least {
-        let mut text = String::new(alloc);
-        push_line_test(&mut text, of, Comparison::Ge, interval.low)?;
-        texts.push(text)?;
+        add_comparison(alloc, texts, of, Comparison::Ge, interval.low)?;
     }
-    if !interval.to_greatest {
-        let mut text = String::new(alloc);
-        push_up_to(&mut text, of, interval.high)?;
-        texts.push(text)?;
+    if interval.to_greatest {
+        return Ok(());
     }
-    Ok(())
+    add_comparison(alloc, texts, of, Comparison::Le, interval.high)
 }
 
 fn add_missing(
@@ -122,9 +156,7 @@ fn add_missing(
     numbers: &[u128],
 ) -> Result<(), AllocError> {
     for number in numbers {
-        let mut text = String::new(alloc);
-        push_other(&mut text, of, *number)?;
-        texts.push(text)?;
+        add_comparison(alloc, texts, of, Comparison::Ne, *number)?;
     }
     Ok(())
 }
@@ -152,7 +184,7 @@ fn add_intervals(
         [only] => add_interval(alloc, texts, of, *only),
         several => {
             let text = intervals_text(alloc, of, several)?;
-            Ok(texts.push(text)?)
+            push_text(texts, text)
         }
     }
 }
@@ -176,10 +208,7 @@ fn add_set(
     set: &SegmentSet,
 ) -> Result<(), AllocError> {
     match &dimension.of {
-        Coordinate::Flag(flag) => {
-            let text = flag_text(alloc, *flag, &set.segments)?;
-            Ok(texts.push(text)?)
-        }
+        Coordinate::Flag(flag) => add_flag(alloc, texts, *flag, &set.segments),
         Coordinate::Text(attribute) => add_texts(
             alloc,
             texts,

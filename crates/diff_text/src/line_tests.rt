@@ -54,15 +54,21 @@ fn test_of(of: &Coordinate, comparison: Comparison, number: u128) -> Option<Test
     }
 }
 
-/// Adds a test of the coordinate's number.
-pub(crate) fn push_line_test(
+/// Adds the text of a test, which is dropped.
+pub(crate) fn push_owned_test(text: &mut String, test: Test) -> Result<(), AllocError> {
+    let pushed = push_test(text, &test);
+    drop(test);
+    pushed
+}
+
+fn push_line_test(
     text: &mut String,
     of: &Coordinate,
     comparison: Comparison,
     number: u128,
 ) -> Result<(), AllocError> {
     match test_of(of, comparison, number) {
-        Some(test) => push_test(text, &test),
+        Some(test) => push_owned_test(text, test),
         None => Ok(()),
     }
 }
@@ -75,42 +81,34 @@ fn is_unknown(of: &Coordinate, number: u128) -> bool {
 }
 
 fn push_known_install(text: &mut String) -> Result<(), AllocError> {
-    push_test(text, &Test::Flag(Flag::InstalldateKnown))
+    push_owned_test(text, Test::Flag(Flag::InstalldateKnown))
 }
 
-/// Adds the test that a number is at most this one, which isn't the greatest. An installation on
-/// any day is a known one.
-pub(crate) fn push_up_to(text: &mut String, of: &Coordinate, high: u128) -> Result<(), AllocError> {
-    let after = high.saturating_add(1);
-    if is_unknown(of, after) {
+// The test that a number is below this one. An installation before the unknown day is a known one.
+fn push_below(text: &mut String, of: &Coordinate, end: u128) -> Result<(), AllocError> {
+    if is_unknown(of, end) {
         return push_known_install(text);
     }
-    push_line_test(text, of, Comparison::Lt, after)
+    push_line_test(text, of, Comparison::Lt, end)
 }
 
-/// Adds the test that a number is this one.
-pub(crate) fn push_equal(
+/// Adds the test of the coordinate's number against this one. A number that is compared by `Le`
+/// isn't the greatest.
+pub(crate) fn push_comparison(
     text: &mut String,
     of: &Coordinate,
+    comparison: Comparison,
     number: u128,
 ) -> Result<(), AllocError> {
-    if is_unknown(of, number) {
-        text.push_str("not ")?;
-        return push_known_install(text);
+    match comparison {
+        Comparison::Eq if is_unknown(of, number) => {
+            text.push_str("not ")?;
+            push_known_install(text)
+        }
+        Comparison::Ne if is_unknown(of, number) => push_known_install(text),
+        Comparison::Le => push_below(text, of, number.saturating_add(1)),
+        _ => push_line_test(text, of, comparison, number),
     }
-    push_line_test(text, of, Comparison::Eq, number)
-}
-
-/// Adds the test that a number isn't this one.
-pub(crate) fn push_other(
-    text: &mut String,
-    of: &Coordinate,
-    number: u128,
-) -> Result<(), AllocError> {
-    if is_unknown(of, number) {
-        return push_known_install(text);
-    }
-    push_line_test(text, of, Comparison::Ne, number)
 }
 
 /// Adds the test or the two tests of an interval, joined by `and`.
@@ -120,7 +118,7 @@ pub(crate) fn push_interval(
     interval: Interval,
 ) -> Result<(), AllocError> {
     if interval.is_single() {
-        return push_equal(text, of, interval.low);
+        return push_comparison(text, of, Comparison::Eq, interval.low);
     }
     if !interval.from_least {
         push_line_test(text, of, Comparison::Ge, interval.low)?;
@@ -131,5 +129,5 @@ pub(crate) fn push_interval(
     if !interval.from_least {
         text.push_str(" and ")?;
     }
-    push_up_to(text, of, interval.high)
+    push_comparison(text, of, Comparison::Le, interval.high)
 }

@@ -53,8 +53,15 @@ fn row_object(alloc: Global, row: &ShownRow) -> Result<Value, AllocError>
     ensures { IfOk result (λ value. view value ≡ specs.row_object row.now) }
 {
     let next = release_object(alloc, &row.next)?;
-    let current = release_object(alloc, &row.current)?;
-    let when = condition_values(alloc, row)?;
+    let Ok(current) = release_object(alloc, &row.current) else {
+        drop(next);
+        return Err(AllocError);
+    };
+    let Ok(when) = condition_values(alloc, row) else {
+        drop(next);
+        drop(current);
+        return Err(AllocError);
+    };
     let kind = row.kind.name();
     let lost = row.kind.is_lost();
     json!(in alloc; {
