@@ -75,8 +75,13 @@ where
     if let StageAction::Status = action {
         return push_status(rt, disk, folder, manifest, options, lines);
     }
-    change_files(rt, disk, folder, manifest, action, options, lines)?;
-    Ok(load_all(rt, disk, &*folder, manifest, options, lines)?)
+    if let Err(stop) = change_files(rt, disk, folder, manifest, action, options, lines) {
+        return Err(stop);
+    }
+    match load_all(rt, disk, &*folder, manifest, options, lines) {
+        Ok(is_done) => Ok(is_done),
+        Err(_) => Err(Stop::Memory),
+    }
 }
 
 /// Does an action in a folder that is opened and locked, and has the servers load its manifest,

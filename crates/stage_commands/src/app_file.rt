@@ -25,7 +25,10 @@ fn path_in_folder(alloc: Global, manifest: &str, name: &str) -> Result<PathBuf, 
 
 // Whether two paths lead to one file, links followed.
 fn leads_to_same<R: Files>(rt: &R, one: &str, other: &str) -> bool {
-    let (Ok(found), Ok(too)) = (fs::metadata(rt, one), fs::metadata(rt, other)) else {
+    let Ok(found) = fs::metadata(rt, one) else {
+        return false;
+    };
+    let Ok(too) = fs::metadata(rt, other) else {
         return false;
     };
     found.dev() == too.dev() && found.ino() == too.ino()
@@ -39,8 +42,12 @@ where
     if one == other {
         return Ok(true);
     }
-    let path = path_in_folder(rt.alloc(), manifest, one)?;
-    let another = path_in_folder(rt.alloc(), manifest, other)?;
+    let Ok(path) = path_in_folder(rt.alloc(), manifest, one) else {
+        return Err(AllocError);
+    };
+    let Ok(another) = path_in_folder(rt.alloc(), manifest, other) else {
+        return Err(AllocError);
+    };
     Ok(leads_to_same(rt, path.as_str(), another.as_str()))
 }
 
@@ -82,11 +89,17 @@ where
     let Some(app) = app_named(apps, appid) else {
         return Err(no_app(alloc, appid, apps));
     };
-    if let Some(other) = app_with_file(rt, manifest, apps, app)? {
-        let refusal = one_file(alloc, file_of(app.entry.source()), other);
-        lines.go_on_if(options.anyway, refusal)?;
+    let Ok(found) = app_with_file(rt, manifest, apps, app) else {
+        return Err(Stop::Memory);
+    };
+    let Some(other) = found else {
+        return Ok(app);
+    };
+    let refusal = one_file(alloc, file_of(app.entry.source()), other);
+    match lines.go_on_if(options.anyway, refusal) {
+        Ok(()) => Ok(app),
+        Err(stop) => Err(stop),
     }
-    Ok(app)
 }
 
 fn has_bytes(before: &Option<Vec<u8>>, bytes: &[u8]) -> bool

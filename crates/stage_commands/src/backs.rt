@@ -8,7 +8,7 @@ ghost use Rattle.stage_folder.specs.Steps.{undone};
 use crate::options::StageOptions;
 use crate::outcome::{Lines, Stop};
 use crate::restored::compare_restored;
-use crate::step_lines::{action_line, push_action};
+use crate::step_lines::push_action;
 use crate::steps::{RECORDS, name_at, read_steps};
 use crate::stop_texts::{in_folder, not_undone, nothing_to_undo};
 use bounded_files::Disk;
@@ -41,20 +41,59 @@ fn stop_at(alloc: Global, step: &StagingStep, at: StepFault) -> Stop {
 }
 
 // Undoes a step, and records that.
-fn undo_step<F: StageFolder>(alloc: Global, folder: &mut F, step: StagingStep) -> Result<(), Stop>
+fn undo_step<F: StageFolder>(
+    alloc: Global,
+    folder: &mut F,
+    step: &mut StagingStep,
+) -> Result<(), Stop>
     ensures { OnOk result
-        (F.files folder.new ≡ option_map (undone step.files) (F.files folder.old)) }
+        (F.files folder.new ≡ option_map (undone step.old.files) (F.files folder.old)) }
 {
     if let Err(at) = undo(folder, &step.files) {
-        return Err(stop_at(alloc, &step, at));
+        return Err(stop_at(alloc, &*step, at));
     }
-    let step = StagingStep {
-        is_undone: true,
-        ..step
-    };
-    match write_record(alloc, folder, &step) {
+    step.is_undone = true;
+    match write_record(alloc, folder, &*step) {
         Ok(()) => Ok(()),
         Err(fault) => Err(in_folder(alloc, RECORDS, fault)),
+    }
+}
+
+// Adds the line of a step.
+fn push_step(lines: &mut Lines, word: &str, step: &StagingStep) -> Result<(), Stop> {
+    match push_action(&mut lines.text, word, step) {
+        Ok(()) => Ok(()),
+        Err(_) => Err(Stop::Memory),
+    }
+}
+
+// Undoes a step once what changes is compared; for `--dry-run` it only prints the step.
+fn undo_compared<R, D, F>(
+    rt: &R,
+    disk: &D,
+    folder: &mut F,
+    manifest: &str,
+    step: &mut StagingStep,
+    options: &StageOptions<'_>,
+    lines: &mut Lines,
+) -> Result<(), Stop>
+where
+    R: AllocGlobal + Clock + Net<Stream = TcpStream>,
+    D: Disk,
+    F: StageFolder,
+    ensures done { OnOk result (options.now.dry_run ≡ false
+        → F.files folder.new ≡ option_map (undone step.old.files) (F.files folder.old)) }
+    ensures unchanged { options.now.dry_run ≡ true → F.files folder.new ≡ F.files folder.old }
+{
+    if let Err(stop) = compare_restored(rt, disk, manifest, &*step, options, lines) {
+        return Err(stop);
+    }
+    if options.dry_run {
+        return push_step(lines, "would undo", &*step);
+    }
+    match undo_step(rt.alloc(), folder, step) {
+        Ok(()) => push_step(lines, "undone", &*step),
+        Err(stop) => Err(stop),
     }
 }
 
@@ -82,16 +121,8 @@ where
     let Some(step) = take_last(recorded.steps) else {
         return Err(nothing_to_undo(alloc));
     };
-    if let Err(stop) = compare_restored(rt, disk, manifest, &step, options, lines) {
-        drop(step);
-        return Err(stop);
-    }
-    if options.dry_run {
-        push_action(&mut lines.text, "would undo", &step)?;
-        return Ok(());
-    }
-    let line = action_line(alloc, "undone", &step);
-    undo_step(alloc, folder, step)?;
-    lines.text.push_str(line?.as_str())?;
-    Ok(())
+    let mut step = step;
+    let gone_back = undo_compared(rt, disk, folder, manifest, &mut step, options, lines);
+    drop(step);
+    gone_back
 }

@@ -1,14 +1,17 @@
 //! Manifests, gathered with their files and judged, without a server.
 
-ghost use Rattle.std.specs.Prelude.{◌≡◌, IfOk, option_copied};
+ghost use Rattle.std.specs.Prelude.{◌≡◌, [], IfOk, option_copied};
+ghost use Rattle.load.specs.Sources.{AreSources};
 ghost use Rattle.stage_commands.specs.Apps as specs;
 ghost use Rattle.stage_commands.specs.Compared.{IsJudged};
 
+use crate::outcome::Stop;
+use crate::stop_texts::{no_manifest, not_judged};
 use app_rules::read_rules;
 use bounded_files::Disk;
 use cells::Directory;
 use load::{
-    AppSources, FolderFiles, LoadFault, PathFault, Sources, SourcesRefusal, collect_sources,
+    AppSources, Files, FolderFiles, LoadFault, PathFault, Sources, SourcesRefusal, collect_sources,
     digest_of, judge, manifest_bytes,
 };
 use manifest_diff::OpenedManifest;
@@ -19,6 +22,33 @@ use std::alloc::{AllocError, Global};
 pub(crate) struct CollectedManifest {
     pub(crate) bytes: Vec<u8>,
     pub(crate) sources: Sources,
+}
+
+// What isn't returned is dropped here, once.
+fn fault_of(refusal: SourcesRefusal) -> LoadFault {
+    let SourcesRefusal {
+        fault,
+        arrays,
+        parsed,
+    } = refusal;
+    drop(arrays);
+    drop(parsed);
+    fault
+}
+
+/// Gathers a manifest's bytes and its files, over no arrays.
+pub(crate) fn sources_over<L: Files>(
+    alloc: Global,
+    bytes: &[u8],
+    files: &mut L,
+) -> Result<Sources, LoadFault>
+    ensures { IfOk result (AreSources (L.known files.old) [] bytes.now) }
+{
+    let none = Directory::new(alloc);
+    match collect_sources(alloc, bytes, files, &none) {
+        Ok(sources) => Ok(sources),
+        Err(refusal) => Err(fault_of(refusal)),
+    }
 }
 
 /// Gathers the manifest at a path, over no arrays.
@@ -36,10 +66,27 @@ pub(crate) fn collect<D: Disk>(
         Err(fault) => return Err(fault),
     };
     let mut files = FolderFiles::in_folder_of(alloc, disk, path);
-    let none = Directory::new(alloc);
-    match collect_sources(alloc, &bytes, &mut files, &none) {
+    match sources_over(alloc, &bytes, &mut files) {
         Ok(sources) => Ok(CollectedManifest { bytes, sources }),
-        Err(SourcesRefusal { fault, .. }) => Err(PathFault::Load(fault)),
+        Err(fault) => {
+            drop(bytes);
+            Err(PathFault::Load(fault))
+        }
+    }
+}
+
+/// The same. That it can't be gathered is a refusal.
+pub(crate) fn collected_at<D: Disk>(
+    alloc: Global,
+    disk: &D,
+    path: &str,
+) -> Result<CollectedManifest, Stop>
+    ensures { IfOk result (λ collected. specs.IsCollected (D.known disk.now) path.now
+        collected.bytes.items collected.sources) }
+{
+    match collect(alloc, disk, path) {
+        Ok(collected) => Ok(collected),
+        Err(fault) => Err(no_manifest(alloc, path, fault)),
     }
 }
 
@@ -61,6 +108,7 @@ pub(crate) fn judged(alloc: Global, sources: Sources) -> Result<OpenedManifest, 
     ensures sources { IfOk result (λ opened. opened.sources ≡ sources) }
 {
     let Ok(rules) = read_rules(alloc, &sources.apps) else {
+        drop(sources);
         return Err(LoadFault::Memory);
     };
     match judge(alloc, &sources.apps) {
@@ -69,7 +117,22 @@ pub(crate) fn judged(alloc: Global, sources: Sources) -> Result<OpenedManifest, 
             programs,
             rules,
         }),
-        Err(fault) => Err(fault),
+        Err(fault) => {
+            drop(rules);
+            drop(sources);
+            Err(fault)
+        }
+    }
+}
+
+/// The same for the manifest at a path. That it can't be judged is a refusal.
+pub(crate) fn judged_at(alloc: Global, path: &str, sources: Sources) -> Result<OpenedManifest, Stop>
+    ensures judged { IfOk result IsJudged }
+    ensures sources { IfOk result (λ opened. opened.sources ≡ sources) }
+{
+    match judged(alloc, sources) {
+        Ok(opened) => Ok(opened),
+        Err(fault) => Err(not_judged(alloc, path, fault)),
     }
 }
 

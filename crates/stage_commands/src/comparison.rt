@@ -8,7 +8,7 @@ use crate::outcome::{Lines, Stop};
 use crate::quota_lines::push_quotas;
 use crate::stop_texts::{loses, not_compared};
 use attrs::Elapsed;
-use cell_assignments::read_assignments;
+use cell_assignments::{CellAssignment, read_assignments};
 use manifest_diff::{DiffOptions, OpenedBoth, OpenedManifest, diff_manifests};
 use operator::ask_server;
 use operator_request::OperatorRequest;
@@ -47,17 +47,50 @@ where
     match ask_server(rt, OperatorRequest::Cells, *port) {
         Ok(reply) => Ok(reply),
         Err(fault) => {
-            writeln!(
+            let pushed = writeln!(
                 lines.stderr,
                 "stage: no counters of the server at {port} ({fault}): all quotas count as open"
-            )?;
-            Ok(String::new(rt.alloc()))
+            );
+            drop(fault);
+            match pushed {
+                Ok(()) => Ok(String::new(rt.alloc())),
+                Err(_) => Err(Stop::Memory),
+            }
         }
     }
 }
 
-// Adds the quotas that are used, and the rows of the comparison. Returns whether somebody may lose
-// a release.
+// Adds the rows of the comparison. Returns whether somebody may lose a release.
+fn push_rows<R>(
+    rt: &R,
+    both: &OpenedBoth,
+    cells: &[CellAssignment<'_>],
+    lines: &mut Lines,
+) -> Result<bool, Stop>
+where
+    R: AllocGlobal + Clock,
+    requires { AreKept both.now }
+{
+    let options = DiffOptions {
+        only: None,
+        from_day: today(rt),
+        json: false,
+    };
+    match diff_manifests(rt.alloc(), both, cells, &[], &options) {
+        Ok(output) => {
+            let loses = output.loses;
+            let pushed = lines.text.push_str(output.text.as_str());
+            drop(output);
+            match pushed {
+                Ok(()) => Ok(loses),
+                Err(_) => Err(Stop::Memory),
+            }
+        }
+        Err(fault) => Err(not_compared(rt.alloc(), fault)),
+    }
+}
+
+// The same after the quotas that are used, by the lines of a server's counters.
 fn push_comparison<R>(
     rt: &R,
     both: &OpenedBoth,
@@ -68,19 +101,12 @@ where
     R: AllocGlobal + Clock,
     requires { AreKept both.now }
 {
-    let cells = read_assignments(rt.alloc(), reply)?;
-    push_quotas(&mut lines.text, &both.new.sources.arrays, &cells)?;
-    let options = DiffOptions {
-        only: None,
-        from_day: today(rt),
-        json: false,
+    let Ok(cells) = read_assignments(rt.alloc(), reply) else {
+        return Err(Stop::Memory);
     };
-    match diff_manifests(rt.alloc(), both, &cells, &[], &options) {
-        Ok(output) => {
-            lines.text.push_str(output.text.as_str())?;
-            Ok(output.loses)
-        }
-        Err(fault) => Err(not_compared(rt.alloc(), &fault)),
+    match push_quotas(&mut lines.text, &both.new.sources.arrays, &cells) {
+        Ok(()) => push_rows(rt, both, &cells, lines),
+        Err(_) => Err(Stop::Memory),
     }
 }
 
@@ -106,8 +132,9 @@ where
         Err(stop) => Err(stop),
     };
     drop(both);
-    if lost? {
-        return lines.go_on_if(options.anyway, loses(rt.alloc()));
+    match lost {
+        Ok(true) => lines.go_on_if(options.anyway, loses(rt.alloc())),
+        Ok(false) => Ok(()),
+        Err(stop) => Err(stop),
     }
-    Ok(())
 }

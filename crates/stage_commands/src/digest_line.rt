@@ -1,5 +1,6 @@
 //! The digest of what a server judged last, by its log.
 
+use std::alloc::Global;
 use std::io::{self, BufRead, BufReader};
 use std::rt::Files;
 use std::{fs, str};
@@ -16,9 +17,31 @@ fn digest_in(line: &[u8]) -> Option<&str> {
     let Ok(text) = str::from_utf8(line) else {
         return None;
     };
-    let (_, after) = text.split_once(MEMBER)?;
-    let (digest, _) = after.split_once('"')?;
-    Some(digest)
+    let Some((_, after)) = text.split_once(MEMBER) else {
+        return None;
+    };
+    match after.split_once('"') {
+        Some((digest, _)) => Some(digest),
+        None => None,
+    }
+}
+
+// The last digest in the lines that are left.
+fn last_in<B: BufRead>(alloc: Global, reader: &mut B) -> io::Result<Option<String>> {
+    let mut line = Vec::new(alloc);
+    let mut last = None;
+    for _ in 0..u64::MAX {
+        line.clear();
+        match reader.read_until(b'\n', &mut line) {
+            Ok(0) => return Ok(last),
+            Ok(_) => {}
+            Err(error) => return Err(error),
+        }
+        if let Some(digest) = digest_in(&line) {
+            last = Some(String::from_str(alloc, digest)?);
+        }
+    }
+    Ok(last)
 }
 
 /// The last digest in a log, which is that of the last start or load that wasn't refused; None if
@@ -29,16 +52,5 @@ where
 {
     let alloc = rt.alloc();
     let mut reader = BufReader::with_capacity(alloc, PIECE, fs::open(rt, log)?)?;
-    let mut line = Vec::new(alloc);
-    let mut last = None;
-    for _ in 0..u64::MAX {
-        line.clear();
-        if reader.read_until(b'\n', &mut line)? == 0 {
-            return Ok(last);
-        }
-        if let Some(digest) = digest_in(&line) {
-            last = Some(String::from_str(alloc, digest)?);
-        }
-    }
-    Ok(last)
+    last_in(alloc, &mut reader)
 }

@@ -5,12 +5,12 @@ ghost use Rattle.bounded_files.specs.Files.{KnownFiles};
 ghost use Rattle.stage_commands.specs.Apps.{IsCollected};
 ghost use Rattle.stage_commands.specs.Stages.{HasHalted, PlansHalt, PlansHaltOf};
 
-use crate::app_file::{app_to_change, files_of, replacement};
-use crate::collected::{CollectedManifest, collect};
+use crate::app_file::{app_to_change, replacement};
+use crate::collected::{CollectedManifest, collected_at};
 use crate::options::StageOptions;
 use crate::outcome::{Lines, Stop};
-use crate::steps::{owned_text, read_steps, take_step};
-use crate::stop_texts::{in_folder, no_manifest};
+use crate::steps::{number_in, owned_text, take_file};
+use crate::stop_texts::in_folder;
 use bounded_files::Disk;
 use load::{AppSources, file_of};
 use stage_folder::StageFolder;
@@ -78,10 +78,9 @@ where
     ensures { IfOk result (PlansHalt (D.known disk.now) manifest.now appid.now
         (F.files folder.now)) }
 {
-    let alloc = rt.alloc();
-    let collected = match collect(alloc, disk, manifest) {
+    let collected = match collected_at(rt.alloc(), disk, manifest) {
         Ok(collected) => collected,
-        Err(fault) => return Err(no_manifest(alloc, manifest, &fault)),
+        Err(stop) => return Err(stop),
     };
     let file = file_by(rt, folder, manifest, &collected, appid, options, lines);
     drop(collected);
@@ -108,11 +107,21 @@ where
     ensures unchanged { options.now.dry_run ≡ true → F.files folder.new ≡ F.files folder.old }
 {
     let alloc = rt.alloc();
-    let steps = read_steps(alloc, folder)?;
-    let file = planned_file(rt, disk, folder, manifest, appid, options, lines)?;
-    let files = files_of(alloc, file)?;
-    let action = StepAction::Halt {
-        appid: owned_text(alloc, appid)?,
+    let number = match number_in(alloc, folder) {
+        Ok(number) => number,
+        Err(stop) => return Err(stop),
     };
-    take_step(rt, folder, &steps.steps, action, files, options, lines)
+    let Ok(owned) = owned_text(alloc, appid) else {
+        return Err(Stop::Memory);
+    };
+    match planned_file(rt, disk, folder, manifest, appid, options, lines) {
+        Ok(file) => {
+            let action = StepAction::Halt { appid: owned };
+            take_file(rt, folder, number, action, file, options, lines)
+        }
+        Err(stop) => {
+            drop(owned);
+            Err(stop)
+        }
+    }
 }

@@ -60,6 +60,8 @@ pub(crate) fn with_note(
         }
     }
     let LoadNote { generation, digest } = note;
-    writeln!(text, "{port} {generation} {digest}")?;
+    let Ok(()) = writeln!(text, "{port} {generation} {digest}") else {
+        return Err(AllocError);
+    };
     Ok(text)
 }

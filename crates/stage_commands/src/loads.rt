@@ -12,7 +12,7 @@ use operator::{RequestFault, ask_server};
 use operator_request::OperatorRequest;
 use printing::Printed;
 use stage_folder::StageFolder;
-use std::alloc::AllocError;
+use std::alloc::{AllocError, Global};
 use std::fmt::Write;
 use std::net::{Net, TcpStream};
 
@@ -54,17 +54,53 @@ where
     match ask_server(rt, OperatorRequest::Load(manifest), port) {
         Ok(reply) => {
             let generation = reply.as_str().trim_end();
-            writeln!(lines.text, "server at {port}: {generation}")?;
-            Ok(Some(reply))
+            match writeln!(lines.text, "server at {port}: {generation}") {
+                Ok(()) => Ok(Some(reply)),
+                Err(_) => {
+                    drop(reply);
+                    Err(AllocError)
+                }
+            }
         }
         Err(fault) => {
-            push_fault(&mut lines.stderr, port, &fault, manifest)?;
-            Ok(None)
+            let pushed = push_fault(&mut lines.stderr, port, &fault, manifest);
+            drop(fault);
+            match pushed {
+                Ok(()) => Ok(None),
+                Err(_) => Err(AllocError),
+            }
         }
     }
 }
 
-// The same. Prints which apps the server no longer has, and returns the notes with this load.
+// The notes after a load, by what the server showed before it and replied to it. Adds which apps
+// the server no longer has.
+fn notes_after(
+    alloc: Global,
+    port: u16,
+    collected: Option<&CollectedManifest>,
+    shown: &str,
+    reply: &str,
+    notes: &str,
+    text: &mut String,
+) -> Result<String, AllocError> {
+    let Some(collected) = collected else {
+        return String::from_str(alloc, notes);
+    };
+    let Ok(()) = push_removed(text, port, shown, &collected.sources.apps) else {
+        return Err(AllocError);
+    };
+    let Ok(digest) = digest_text(alloc, collected) else {
+        return Err(AllocError);
+    };
+    let note = LoadNote {
+        generation: reply.trim_end(),
+        digest: digest.as_str(),
+    };
+    with_note(alloc, notes, port, note)
+}
+
+// Has the server at a port load the manifest, and returns the notes with this load.
 fn load_noted<R>(
     rt: &R,
     port: u16,
@@ -76,26 +112,45 @@ fn load_noted<R>(
 where
     R: AllocGlobal + Net<Stream = TcpStream>,
 {
-    let alloc = rt.alloc();
     let shown = apps_shown(rt, port);
-    let Some(reply) = load_at(rt, port, manifest, lines)? else {
-        return Ok(None);
-    };
-    let Some(collected) = collected else {
-        return Ok(Some(String::from_str(alloc, notes)?));
-    };
-    push_removed(
-        &mut lines.stderr,
-        port,
-        shown.as_str(),
-        &collected.sources.apps,
-    )?;
-    let digest = digest_text(alloc, collected)?;
-    let note = LoadNote {
-        generation: reply.as_str().trim_end(),
-        digest: digest.as_str(),
-    };
-    Ok(Some(with_note(alloc, notes, port, note)?))
+    match load_at(rt, port, manifest, lines) {
+        Ok(Some(reply)) => {
+            let text = &mut lines.stderr;
+            let (before, after) = (shown.as_str(), reply.as_str());
+            let noted = notes_after(rt.alloc(), port, collected, before, after, notes, text);
+            drop(reply);
+            drop(shown);
+            match noted {
+                Ok(text) => Ok(Some(text)),
+                Err(_) => Err(AllocError),
+            }
+        }
+        Ok(None) => Ok(None),
+        Err(_) => Err(AllocError),
+    }
+}
+
+// The same for one server more: its notes take the place of the others, or its port is added.
+fn load_next<R>(
+    rt: &R,
+    port: u16,
+    manifest: &str,
+    collected: Option<&CollectedManifest>,
+    notes: &mut String,
+    refused: &mut String,
+    lines: &mut Lines,
+) -> Result<(), AllocError>
+where
+    R: AllocGlobal + Net<Stream = TcpStream>,
+{
+    match load_noted(rt, port, manifest, collected, notes.as_str(), lines) {
+        Ok(Some(text)) => {
+            *notes = text;
+            Ok(())
+        }
+        Ok(None) => write!(refused, " {port}"),
+        Err(_) => Err(AllocError),
+    }
 }
 
 // Has each server load the manifest, and notes the loads. Returns the ports of those that didn't,
@@ -115,10 +170,15 @@ where
     let mut notes = read_notes(rt.alloc(), folder)?;
     let mut refused = String::new(rt.alloc());
     for port in options.ports() {
-        match load_noted(rt, *port, manifest, collected, notes.as_str(), lines)? {
-            Some(text) => notes = text,
-            None => write!(refused, " {port}")?,
-        }
+        load_next(
+            rt,
+            *port,
+            manifest,
+            collected,
+            &mut notes,
+            &mut refused,
+            lines,
+        )?;
     }
     if !notes.is_empty() {
         let _noted = folder.write_loads(notes.as_bytes());
@@ -146,7 +206,9 @@ where
     let collected = collect(rt.alloc(), disk, manifest).ok();
     let each = load_each(rt, folder, manifest, collected.as_ref(), options, lines);
     drop(collected);
-    let refused = each?;
+    let Ok(refused) = each else {
+        return Err(AllocError);
+    };
     if refused.is_empty() {
         return Ok(true);
     }

@@ -70,8 +70,12 @@ impl Lines {
         }
         match refusal {
             Stop::Refused(reason) => {
-                writeln!(self.stderr, "stage: {reason}; it goes on")?;
-                Ok(())
+                let pushed = writeln!(self.stderr, "stage: {reason}; it goes on");
+                drop(reason);
+                match pushed {
+                    Ok(()) => Ok(()),
+                    Err(_) => Err(Stop::Memory),
+                }
             }
             other => Err(other),
         }
@@ -94,7 +98,11 @@ impl Lines {
         ensures { IfOk result (λ outcome. outcome.is_done ≡ false) }
     {
         let mut lines = self;
-        lines.push_stop(&stop)?;
+        let pushed = lines.push_stop(&stop);
+        drop(stop);
+        let Ok(()) = pushed else {
+            return Err(AllocError);
+        };
         Ok(lines.into_outcome(false))
     }
 }

@@ -5,6 +5,7 @@ ghost use Rattle.stage_commands.specs.Puts.{AddsAppFile, AddsFile, AreFilesOf, I
 
 use crate::app_file::replacement;
 use crate::outcome::Stop;
+use crate::replaced_files::file_named;
 use crate::stop_texts::in_folder;
 use load::{AppSources, file_of, whole_file};
 use stage_folder::StageFolder;
@@ -13,15 +14,6 @@ use std::alloc::{AllocError, Global};
 
 // The name of the manifest in place.
 const CURRENT: &str = "current.toml";
-
-fn is_among(files: &[ReplacedFile], name: &str) -> bool {
-    for file in files {
-        if file.name.as_str() == name {
-            return true;
-        }
-    }
-    false
-}
 
 // Adds a file, unless one of its name is among them, or it has these bytes already.
 #[tactic(auto, using(crate::proofs::Put::adds_none))]
@@ -34,7 +26,7 @@ fn add_file<F: StageFolder>(
 ) -> Result<(), Stop>
     ensures { OnOk result (AddsFile name.now bytes.now files.old.items files.new.items) }
 {
-    if is_among(files, name) {
+    if file_named(files, name).is_some() {
         return Ok(());
     }
     let before = match folder.read(name) {

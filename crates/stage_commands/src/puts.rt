@@ -6,13 +6,13 @@ ghost use Rattle.stage_commands.specs.Compared.{IsJudged};
 ghost use Rattle.stage_commands.specs.Puts.{HasPut, LiftsNone, PlansPut};
 ghost use Rattle.staging.specs.Steps as specs;
 
-use crate::collected::{CollectedManifest, collect, judged};
+use crate::collected::{CollectedManifest, collected_at, judged_at};
 use crate::comparison::compare;
 use crate::options::StageOptions;
 use crate::outcome::{Lines, Stop};
 use crate::put_files::files_to_put;
-use crate::steps::{owned_text, read_steps, take_step};
-use crate::stop_texts::{lifts, no_manifest, not_judged};
+use crate::steps::{next_number, owned_text, read_steps, take_step};
+use crate::stop_texts::lifts;
 use bounded_files::Disk;
 use load::AppSources;
 use manifest_diff::OpenedManifest;
@@ -56,23 +56,25 @@ fn present_manifest<D: Disk>(
     ensures lifts { OnOk result (anyway ≡ false
         → LiftsNone (D.known disk.now) current.now steps.now next.now) }
 {
-    let sources = match collect(alloc, disk, current) {
+    let sources = match collected_at(alloc, disk, current) {
         Ok(CollectedManifest { sources, .. }) => sources,
-        Err(fault) => {
-            lines.go_on_if(anyway, no_manifest(alloc, current, &fault))?;
-            return Ok(None);
+        Err(stop) => {
+            return match lines.go_on_if(anyway, stop) {
+                Ok(()) => Ok(None),
+                Err(stop) => Err(stop),
+            };
         }
     };
     if let Err(stop) = stop_if_lifted(alloc, steps, &sources.apps, next, anyway, lines) {
         drop(sources);
         return Err(stop);
     }
-    match judged(alloc, sources) {
+    match judged_at(alloc, current, sources) {
         Ok(opened) => Ok(Some(opened)),
-        Err(fault) => {
-            lines.go_on_if(anyway, not_judged(alloc, current, &fault))?;
-            Ok(None)
-        }
+        Err(stop) => match lines.go_on_if(anyway, stop) {
+            Ok(()) => Ok(None),
+            Err(stop) => Err(stop),
+        },
     }
 }
 
@@ -119,15 +121,15 @@ fn next_manifest<D: Disk>(
         next.0.items next.1.sources) }
     ensures judged { IfOk result (λ next. IsJudged next.1) }
 {
-    let CollectedManifest { bytes, sources } = match collect(alloc, disk, manifest) {
+    let CollectedManifest { bytes, sources } = match collected_at(alloc, disk, manifest) {
         Ok(collected) => collected,
-        Err(fault) => return Err(no_manifest(alloc, manifest, &fault)),
+        Err(stop) => return Err(stop),
     };
-    match judged(alloc, sources) {
+    match judged_at(alloc, manifest, sources) {
         Ok(next) => Ok((bytes, next)),
-        Err(fault) => {
+        Err(stop) => {
             drop(bytes);
-            Err(not_judged(alloc, manifest, &fault))
+            Err(stop)
         }
     }
 }
@@ -153,10 +155,15 @@ where
 {
     let alloc = rt.alloc();
     let (bytes, next) = next_manifest(alloc, disk, manifest)?;
-    match files_to_put(alloc, folder, &bytes, &next.sources.apps) {
+    let files = files_to_put(alloc, folder, &bytes, &next.sources.apps);
+    drop(bytes);
+    match files {
         Ok(files) => match compare_next(rt, disk, current, steps, next, options, lines) {
             Ok(()) => Ok(files),
-            Err(stop) => Err(stop),
+            Err(stop) => {
+                drop(files);
+                Err(stop)
+            }
         },
         Err(stop) => {
             drop(next);
@@ -185,6 +192,9 @@ where
     ensures unchanged { options.now.dry_run ≡ true → F.files folder.new ≡ F.files folder.old }
 {
     let alloc = rt.alloc();
+    let Ok(owned) = owned_text(alloc, manifest) else {
+        return Err(Stop::Memory);
+    };
     let steps = read_steps(alloc, folder)?;
     let files = planned_files(
         rt,
@@ -196,8 +206,8 @@ where
         options,
         lines,
     )?;
-    let action = StepAction::Put {
-        manifest: owned_text(alloc, manifest)?,
-    };
-    take_step(rt, folder, &steps.steps, action, files, options, lines)
+    let number = next_number(&steps.steps);
+    drop(steps);
+    let action = StepAction::Put { manifest: owned };
+    take_step(rt, folder, number, action, files, options, lines)
 }

@@ -26,8 +26,7 @@ pub(crate) fn push_quotas(
         if let Some(quota) = quota_of(arrays, cell) {
             let (array, index, value) = (cell.array(), cell.index(), cell.value());
             let end = if value < quota { "" } else { ": used up" };
-            write!(text, "{array}[{index}] {value} of {quota}")?;
-            writeln!(text, "{end}")?;
+            writeln!(text, "{array}[{index}] {value} of {quota}{end}")?;
         }
     }
     Ok(())

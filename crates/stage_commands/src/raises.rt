@@ -1,25 +1,24 @@
 //! `stage raise`: the number of the one threshold in the app's rule is changed.
 
 ghost use Rattle.std.specs.Prelude.{◌≡◌, IfOk, OnOk, Some, false, string_bytes, true};
+ghost use Rattle.bounded_files.specs.Files.{KnownFiles};
 ghost use Rattle.load.specs.Source.{file_of};
 ghost use Rattle.staging.specs.Raises.{IsRaised};
+ghost use Rattle.stage_commands.specs.Apps.{IsCollected};
 ghost use Rattle.stage_commands.specs.Compared.{IsJudged};
 ghost use Rattle.stage_commands.specs.Stages.{HasRaised, PlansRaise, PlansRaiseOf};
 ghost use Rattle.stage_folder.specs.Folders.{GivesFile};
 
-use crate::app_file::{app_to_change, files_of, replacement};
-use crate::collected::{CollectedManifest, collect, judged};
+use crate::app_file::{app_to_change, replacement};
+use crate::collected::{CollectedManifest, collected_at, judged, judged_at};
 use crate::comparison::compare;
-use crate::new_file::WithNewFile;
 use crate::options::StageOptions;
 use crate::outcome::{Lines, Stop};
-use crate::steps::{owned_text, read_steps, take_step};
-use crate::stop_texts::{
-    has_program, in_folder, is_halted, next_refused, no_manifest, no_text, not_judged, not_raised,
-};
+use crate::replaced_files::sources_with;
+use crate::steps::{number_in, owned_text, take_file};
+use crate::stop_texts::{has_program, in_folder, is_halted, next_refused, no_text, not_raised};
 use bounded_files::Disk;
-use cells::Directory;
-use load::{AppSources, FolderFiles, SourcesRefusal, collect_sources, file_of};
+use load::{AppSources, file_of};
 use manifest::ProgramSource;
 use manifest_diff::OpenedManifest;
 use stage_folder::StageFolder;
@@ -27,8 +26,8 @@ use staging::{ReplacedFile, StepAction, halting_file, raised_rule};
 use std::alloc::Global;
 use std::net::{Net, TcpStream};
 use std::rt::Files;
-use std::str;
 use std::time::Clock;
+use std::{slice, str};
 
 // The raised text of a rule with these bytes.
 fn raised_text(alloc: Global, app: &AppSources, bytes: &[u8], buckets: u32) -> Result<String, Stop>
@@ -44,7 +43,7 @@ fn raised_text(alloc: Global, app: &AppSources, bytes: &[u8], buckets: u32) -> R
     };
     match raised_rule(alloc, text, &app.shape, buckets) {
         Ok(raised) => Ok(raised),
-        Err(fault) => Err(not_raised(alloc, name, &fault)),
+        Err(fault) => Err(not_raised(alloc, name, fault)),
     }
 }
 
@@ -75,7 +74,13 @@ fn raised_file_of<F: StageFolder>(
     ensures { IfOk result (PlansRaiseOf (F.files folder.now) app.now buckets) }
 {
     let bytes = rule_bytes(alloc, folder, app)?;
-    let text = raised_text(alloc, app, &bytes, buckets)?;
+    let text = match raised_text(alloc, app, &bytes, buckets) {
+        Ok(text) => text,
+        Err(stop) => {
+            drop(bytes);
+            return Err(stop);
+        }
+    };
     let name = file_of(app.entry.source());
     let file = replacement(alloc, name, Some(bytes), text.as_bytes())?;
     Ok(file)
@@ -91,22 +96,18 @@ fn judged_with<D: Disk>(
 ) -> Result<OpenedManifest, Stop>
     ensures { IfOk result IsJudged }
 {
-    let folder = FolderFiles::in_folder_of(alloc, disk, manifest);
-    let name = file.name.as_str();
-    let mut files = WithNewFile::new(alloc, folder, name, file.after.as_slice());
-    let none = Directory::new(alloc);
-    let sources = match collect_sources(alloc, bytes, &mut files, &none) {
+    let replaced = slice::from_ref(file);
+    let sources = match sources_with(alloc, disk, manifest, bytes, replaced, true) {
         Ok(sources) => sources,
-        Err(SourcesRefusal { fault, .. }) => return Err(next_refused(alloc, &fault)),
+        Err(fault) => return Err(next_refused(alloc, fault)),
     };
     match judged(alloc, sources) {
         Ok(opened) => Ok(opened),
-        Err(fault) => Err(next_refused(alloc, &fault)),
+        Err(fault) => Err(next_refused(alloc, fault)),
     }
 }
 
-// Prints what changes by another file of the manifest in place. A lost row is a refusal, unless
-// `--anyway` is given.
+// Prints what changes by another file. A lost row is a refusal, unless `--anyway` is given.
 fn compare_with<R, D>(
     rt: &R,
     disk: &D,
@@ -122,18 +123,49 @@ where
 {
     let alloc = rt.alloc();
     let CollectedManifest { bytes, sources } = collected;
-    let old = match judged(alloc, sources) {
+    let old = match judged_at(alloc, manifest, sources) {
         Ok(old) => old,
-        Err(fault) => return Err(not_judged(alloc, manifest, &fault)),
+        Err(stop) => {
+            drop(bytes);
+            return Err(stop);
+        }
     };
-    match judged_with(alloc, disk, manifest, &bytes, file) {
+    let next = judged_with(alloc, disk, manifest, &bytes, file);
+    drop(bytes);
+    match next {
         Ok(new) => compare(rt, old, new, options, lines),
-        Err(stop) => Err(stop),
+        Err(stop) => {
+            drop(old);
+            Err(stop)
+        }
     }
 }
 
-// The raised rule of an app of the manifest in place, once it is compared.
-#[tactic(auto, using(crate::proofs::Plans::raise))]
+// The raised rule of an app of the manifest in place.
+fn file_by<R, F>(
+    rt: &R,
+    folder: &F,
+    manifest: &str,
+    collected: &CollectedManifest,
+    appid: &str,
+    buckets: u32,
+    options: &StageOptions<'_>,
+    lines: &mut Lines,
+) -> Result<Option<ReplacedFile>, Stop>
+where
+    R: Files + AllocGlobal,
+    F: StageFolder,
+    ensures { IfOk result (λ file. (known : KnownFiles)
+        → IsCollected known manifest.now collected.now.bytes.items collected.now.sources
+        → PlansRaise known manifest.now appid.now buckets (F.files folder.now) file) }
+{
+    let apps = &collected.sources.apps;
+    let app = app_to_change(rt, manifest, apps, appid, options, lines)?;
+    let file = raised_file_of(rt.alloc(), folder, app, buckets)?;
+    Ok(file)
+}
+
+// The same, once it is compared.
 fn planned_file<R, D, F>(
     rt: &R,
     disk: &D,
@@ -151,20 +183,27 @@ where
     ensures { IfOk result (PlansRaise (D.known disk.now) manifest.now appid.now buckets
         (F.files folder.now)) }
 {
-    let alloc = rt.alloc();
-    let collected = match collect(alloc, disk, manifest) {
+    let collected = match collected_at(rt.alloc(), disk, manifest) {
         Ok(collected) => collected,
-        Err(fault) => return Err(no_manifest(alloc, manifest, &fault)),
+        Err(stop) => return Err(stop),
     };
-    let file = match app_to_change(rt, manifest, &collected.sources.apps, appid, options, lines) {
-        Ok(app) => raised_file_of(alloc, folder, app, buckets),
-        Err(stop) => Err(stop),
+    let file = file_by(
+        rt, folder, manifest, &collected, appid, buckets, options, lines,
+    );
+    let compared = match &file {
+        Ok(Some(file)) => compare_with(rt, disk, manifest, collected, file, options, lines),
+        _ => {
+            drop(collected);
+            Ok(())
+        }
     };
-    let file = file?;
-    if let Some(file) = &file {
-        compare_with(rt, disk, manifest, collected, file, options, lines)?;
+    match compared {
+        Ok(()) => Ok(file?),
+        Err(stop) => {
+            drop(file);
+            Err(stop)
+        }
     }
-    Ok(file)
 }
 
 /// Raises the rule of an app, once the next manifest is judged and compared with the present one.
@@ -188,12 +227,24 @@ where
     ensures unchanged { options.now.dry_run ≡ true → F.files folder.new ≡ F.files folder.old }
 {
     let alloc = rt.alloc();
-    let steps = read_steps(alloc, folder)?;
-    let file = planned_file(rt, disk, folder, manifest, appid, buckets, options, lines)?;
-    let files = files_of(alloc, file)?;
-    let action = StepAction::Raise {
-        appid: owned_text(alloc, appid)?,
-        buckets,
+    let number = match number_in(alloc, folder) {
+        Ok(number) => number,
+        Err(stop) => return Err(stop),
     };
-    take_step(rt, folder, &steps.steps, action, files, options, lines)
+    let Ok(owned) = owned_text(alloc, appid) else {
+        return Err(Stop::Memory);
+    };
+    match planned_file(rt, disk, folder, manifest, appid, buckets, options, lines) {
+        Ok(file) => {
+            let action = StepAction::Raise {
+                appid: owned,
+                buckets,
+            };
+            take_file(rt, folder, number, action, file, options, lines)
+        }
+        Err(stop) => {
+            drop(owned);
+            Err(stop)
+        }
+    }
 }

@@ -22,8 +22,12 @@ where
 
 // The appid in a line `app APPID releases R slots S`, if no app has it.
 fn removed_app<'a>(line: &'a str, apps: &[AppSources]) -> Option<&'a str> {
-    let (named, _counts) = line.rsplit_once(" releases ")?;
-    let appid = named.strip_prefix("app ")?;
+    let Some((named, _counts)) = line.rsplit_once(" releases ") else {
+        return None;
+    };
+    let Some(appid) = named.strip_prefix("app ") else {
+        return None;
+    };
     match app_named(apps, appid) {
         Some(_) => None,
         None => Some(appid),

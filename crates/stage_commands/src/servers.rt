@@ -19,6 +19,7 @@ use printing::Printed;
 use stage_folder::StageFolder;
 use std::alloc::{AllocError, Global};
 use std::fmt::Write;
+use std::io::ErrorKind;
 use std::net::{Net, TcpStream};
 use std::rt::Files;
 
@@ -36,8 +37,7 @@ fn app_lines(
         };
         let (appid, releases) = (app.entry.appid(), app.entry.releases().len());
         let slots = program.len();
-        write!(text, "app {appid} releases {releases} ")?;
-        writeln!(text, "slots {slots}")?;
+        writeln!(text, "app {appid} releases {releases} slots {slots}")?;
         left = others;
     }
     Ok(text)
@@ -45,12 +45,17 @@ fn app_lines(
 
 /// The lines by which a server shows the apps of a manifest; None if a load would refuse it.
 pub(crate) fn shown_apps(alloc: Global, apps: &[AppSources]) -> Result<Option<String>, AllocError> {
-    let Ok(programs) = judge(alloc, apps) else {
-        return Ok(None);
-    };
-    let text = app_lines(alloc, apps, &programs);
-    drop(programs);
-    Ok(Some(text?))
+    match judge(alloc, apps) {
+        Ok(programs) => {
+            let text = app_lines(alloc, apps, &programs);
+            drop(programs);
+            Ok(Some(text?))
+        }
+        Err(fault) => {
+            drop(fault);
+            Ok(None)
+        }
+    }
 }
 
 // Adds the generation of a server, and what is known of what it serves.
@@ -63,9 +68,8 @@ fn push_shown(
 ) -> Result<Served, AllocError> {
     let (generation, shown) = reply.split_once('\n').unwrap_or((reply, ""));
     let served = Served::of(in_place, generation, shown, note_of(notes, port));
-    let generation = Printed(generation);
-    write!(text, "server at {port}: {generation}, ")?;
-    writeln!(text, "{}", served.words())?;
+    let (generation, words) = (Printed(generation), served.words());
+    writeln!(text, "server at {port}: {generation}, {words}")?;
     Ok(served)
 }
 
@@ -101,12 +105,17 @@ fn push_server<R>(
 where
     R: AllocGlobal + Net<Stream = TcpStream>,
 {
-    let reply = ask_server(rt, OperatorRequest::Show, port)?;
+    let reply = match ask_server(rt, OperatorRequest::Show, port) {
+        Ok(reply) => reply,
+        Err(fault) => return Err(fault),
+    };
     let Ok(served) = push_shown(text, port, reply.as_str(), notes, in_place) else {
         return Err(RequestFault::Memory);
     };
-    push_counters(rt, port, collected, text)?;
-    Ok(served)
+    match push_counters(rt, port, collected, text) {
+        Ok(()) => Ok(served),
+        Err(fault) => Err(fault),
+    }
 }
 
 // Adds what each server serves. Returns whether all serve what is in place, if that is known.
@@ -127,7 +136,9 @@ where
         match push_server(rt, *port, collected, notes, in_place, &mut lines.text) {
             Ok(served) => all = are_both(all, served.is_in_place()),
             Err(fault) => {
-                push_fault(&mut lines.stderr, *port, &fault, manifest)?;
+                let pushed = push_fault(&mut lines.stderr, *port, &fault, manifest);
+                drop(fault);
+                pushed?;
                 all = Some(false);
             }
         }
@@ -151,22 +162,21 @@ where
     if options.no_load {
         return Ok(Some(true));
     }
-    let notes = read_notes(rt.alloc(), folder)?;
-    let digest = digest_text(rt.alloc(), collected)?;
-    let shown = shown_apps(rt.alloc(), &collected.sources.apps)?;
+    let Ok(notes) = read_notes(rt.alloc(), folder) else {
+        return Err(AllocError);
+    };
+    let Ok(digest) = digest_text(rt.alloc(), collected) else {
+        return Err(AllocError);
+    };
+    let Ok(shown) = shown_apps(rt.alloc(), &collected.sources.apps) else {
+        return Err(AllocError);
+    };
     let in_place = InPlace {
         shown: shown.as_deref(),
         digest: digest.as_str(),
     };
-    push_each(
-        rt,
-        manifest,
-        collected,
-        notes.as_str(),
-        in_place,
-        options,
-        lines,
-    )
+    let notes = notes.as_str();
+    push_each(rt, manifest, collected, notes, in_place, options, lines)
 }
 
 // Whether the log's last digest is the one in place; and a line of it.
@@ -191,6 +201,28 @@ fn push_digests(
     Ok(is_same)
 }
 
+// The same for a manifest.
+fn push_last(
+    alloc: Global,
+    collected: &CollectedManifest,
+    log: &str,
+    last: Option<&str>,
+    text: &mut String,
+) -> Result<bool, AllocError> {
+    let in_place = digest_text(alloc, collected)?;
+    push_digests(text, log, in_place.as_str(), last)
+}
+
+// Adds that a log can't be read: what it has isn't what is in place.
+fn push_unread(text: &mut String, log: &str, reason: ErrorKind) -> Result<bool, AllocError> {
+    let log = Printed(log);
+    writeln!(
+        text,
+        "stage: {log} can't be read ({reason}): name a server's log"
+    )?;
+    Ok(false)
+}
+
 /// Adds whether what is in place is what the log's server loaded last, and returns it, if a log is
 /// named.
 pub(crate) fn push_log<R>(
@@ -205,20 +237,9 @@ where
     let Some(log) = options.log else {
         return Ok(None);
     };
-    let in_place = digest_text(rt.alloc(), collected)?;
-    match last_digest(rt, log) {
-        Ok(last) => {
-            let text = &mut lines.text;
-            Ok(Some(push_digests(text, log, in_place.as_str(), last.as_deref())?))
-        }
-        Err(error) => {
-            let log = Printed(log);
-            let reason = error.kind();
-            writeln!(
-                lines.stderr,
-                "stage: {log} can't be read ({reason}): name a server's log"
-            )?;
-            Ok(Some(false))
-        }
-    }
+    let is_same = match last_digest(rt, log) {
+        Ok(last) => push_last(rt.alloc(), collected, log, last.as_deref(), &mut lines.text),
+        Err(error) => push_unread(&mut lines.stderr, log, error.kind()),
+    };
+    Ok(Some(is_same?))
 }

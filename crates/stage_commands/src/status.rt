@@ -2,13 +2,13 @@
 
 // No contract says what is printed: bench/outside tests it.
 
-use crate::collected::collect;
+use crate::collected::{CollectedManifest, collected_at};
 use crate::options::StageOptions;
 use crate::outcome::{Lines, Stop};
 use crate::servers::{push_log, push_servers};
 use crate::step_lines::push_action;
 use crate::steps::RECORDS;
-use crate::stop_texts::{in_folder, no_manifest};
+use crate::stop_texts::in_folder;
 use bounded_files::Disk;
 use load::AppSources;
 use printing::Printed;
@@ -23,7 +23,9 @@ use std::rt::Files;
 fn push_steps(recorded: &RecordedSteps, lines: &mut Lines) -> Result<(), AllocError> {
     for step in &recorded.steps {
         let word = if step.is_undone { "undone" } else { "done" };
-        push_action(&mut lines.text, word, step)?;
+        let Ok(()) = push_action(&mut lines.text, word, step) else {
+            return Err(AllocError);
+        };
     }
     for number in &recorded.unread {
         writeln!(
@@ -44,9 +46,12 @@ fn state_of<F: StageFolder>(folder: &F, file: &ReplacedFile) -> FileState {
 // Adds each file that isn't as the last step left it. Returns whether there is none.
 fn push_states<F: StageFolder>(
     folder: &F,
-    step: &StagingStep,
+    step: Option<&StagingStep>,
     lines: &mut Lines,
 ) -> Result<bool, AllocError> {
+    let Some(step) = step else {
+        return Ok(true);
+    };
     let number = step.number;
     let mut whole = true;
     for file in &step.files {
@@ -56,8 +61,7 @@ fn push_states<F: StageFolder>(
             FileState::Edited => "was edited since: stage back would stop there",
         };
         let name = Printed(file.name.as_str());
-        write!(lines.stderr, "stage: {name} of step {number} ")?;
-        writeln!(lines.stderr, "{end}")?;
+        writeln!(lines.stderr, "stage: {name} of step {number} {end}")?;
         whole = false;
     }
     Ok(whole)
@@ -90,6 +94,32 @@ fn are_served(servers: Option<bool>, log: Option<bool>, ports: &[u16]) -> bool {
 }
 
 // Adds what is in place, and who serves it. Returns whether all servers do.
+fn push_collected<R, F>(
+    rt: &R,
+    folder: &F,
+    manifest: &str,
+    collected: &CollectedManifest,
+    steps: &[StagingStep],
+    options: &StageOptions<'_>,
+    lines: &mut Lines,
+) -> Result<bool, Stop>
+where
+    R: Files + AllocGlobal + Net<Stream = TcpStream>,
+    F: StageFolder,
+{
+    let Ok(()) = push_halts(steps, &collected.sources.apps, lines) else {
+        return Err(Stop::Memory);
+    };
+    let Ok(servers) = push_servers(rt, folder, manifest, collected, options, lines) else {
+        return Err(Stop::Memory);
+    };
+    let Ok(log) = push_log(rt, collected, options, lines) else {
+        return Err(Stop::Memory);
+    };
+    Ok(are_served(servers, log, options.ports()))
+}
+
+// The same by the manifest at a path.
 fn push_in_place<R, D, F>(
     rt: &R,
     disk: &D,
@@ -104,14 +134,41 @@ where
     D: Disk,
     F: StageFolder,
 {
-    let collected = match collect(rt.alloc(), disk, manifest) {
-        Ok(collected) => collected,
-        Err(fault) => return Err(no_manifest(rt.alloc(), manifest, &fault)),
+    match collected_at(rt.alloc(), disk, manifest) {
+        Ok(collected) => {
+            let pushed = push_collected(rt, folder, manifest, &collected, steps, options, lines);
+            drop(collected);
+            pushed
+        }
+        Err(stop) => Err(stop),
+    }
+}
+
+// The same after the recorded steps. Returns whether each step is also whole.
+fn push_recorded<R, D, F>(
+    rt: &R,
+    disk: &D,
+    folder: &F,
+    manifest: &str,
+    recorded: &RecordedSteps,
+    options: &StageOptions<'_>,
+    lines: &mut Lines,
+) -> Result<bool, Stop>
+where
+    R: Files + AllocGlobal + Net<Stream = TcpStream>,
+    D: Disk,
+    F: StageFolder,
+{
+    let Ok(()) = push_steps(recorded, lines) else {
+        return Err(Stop::Memory);
     };
-    push_halts(steps, &collected.sources.apps, lines)?;
-    let servers = push_servers(rt, folder, manifest, &collected, options, lines)?;
-    let log = push_log(rt, &collected, options, lines)?;
-    Ok(are_served(servers, log, options.ports()))
+    let Ok(is_whole) = push_states(folder, last_step(&recorded.steps), lines) else {
+        return Err(Stop::Memory);
+    };
+    match push_in_place(rt, disk, folder, manifest, &recorded.steps, options, lines) {
+        Ok(is_served) => Ok(is_whole && is_served && recorded.unread.is_empty()),
+        Err(stop) => Err(stop),
+    }
 }
 
 /// Prints the status of a folder. Returns whether each step is whole, and the servers are known to
@@ -129,15 +186,8 @@ where
     D: Disk,
     F: StageFolder,
 {
-    let recorded = match recorded_steps(rt.alloc(), folder) {
-        Ok(recorded) => recorded,
-        Err(fault) => return Err(in_folder(rt.alloc(), RECORDS, fault)),
-    };
-    push_steps(&recorded, lines)?;
-    let is_whole = match last_step(&recorded.steps) {
-        Some(step) => push_states(folder, step, lines)?,
-        None => true,
-    };
-    let is_served = push_in_place(rt, disk, folder, manifest, &recorded.steps, options, lines)?;
-    Ok(is_whole && is_served && recorded.unread.is_empty())
+    match recorded_steps(rt.alloc(), folder) {
+        Ok(recorded) => push_recorded(rt, disk, folder, manifest, &recorded, options, lines),
+        Err(fault) => Err(in_folder(rt.alloc(), RECORDS, fault)),
+    }
 }

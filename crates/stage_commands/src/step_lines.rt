@@ -20,15 +20,24 @@ fn time_of(alloc: Global, second: u64) -> Result<String, AllocError> {
     }
 }
 
+// Adds what a line of a step begins with: a word, its number, and its time.
+fn push_start(text: &mut String, word: &str, step: &StagingStep) -> Result<(), AllocError> {
+    let Ok(time) = time_of(*text.allocator(), step.time) else {
+        return Err(AllocError);
+    };
+    let number = step.number;
+    write!(text, "{word} step {number} of {time}: ")
+}
+
 /// Adds a line of a step: a word, its number, its time, and what it did.
 pub(crate) fn push_action(
     text: &mut String,
     word: &str,
     step: &StagingStep,
 ) -> Result<(), AllocError> {
-    let time = time_of(*text.allocator(), step.time)?;
-    let number = step.number;
-    write!(text, "{word} step {number} of {time}: ")?;
+    let Ok(()) = push_start(text, word, step) else {
+        return Err(AllocError);
+    };
     match &step.action {
         StepAction::Halt { appid } => {
             let appid = Printed(appid.as_str());
@@ -43,15 +52,4 @@ pub(crate) fn push_action(
             writeln!(text, "put {manifest}")
         }
     }
-}
-
-/// The line of a step.
-pub(crate) fn action_line(
-    alloc: Global,
-    word: &str,
-    step: &StagingStep,
-) -> Result<String, AllocError> {
-    let mut text = String::new(alloc);
-    push_action(&mut text, word, step)?;
-    Ok(text)
 }

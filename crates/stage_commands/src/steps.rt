@@ -1,9 +1,10 @@
 //! Recording a step, and performing it.
 
-ghost use Rattle.std.specs.Prelude.{◌≡◌, IfOk, OnOk, false, option_map, true};
+ghost use Rattle.std.specs.Prelude.{◌≡◌, IfOk, OnOk, false, option_map, option_to_list, true};
 ghost use Rattle.stage_folder.specs.Recorded.{AreRecorded};
 ghost use Rattle.stage_folder.specs.Steps.{done};
 
+use crate::app_file::files_of;
 use crate::comparison::now_of;
 use crate::options::StageOptions;
 use crate::outcome::{Lines, Stop};
@@ -36,17 +37,30 @@ pub(crate) fn read_steps<F: StageFolder>(alloc: Global, folder: &F) -> Result<Re
         Ok(recorded) => recorded,
         Err(fault) => return Err(in_folder(alloc, RECORDS, fault)),
     };
-    match recorded.unread.first() {
-        Some(number) => Err(in_folder(alloc, RECORDS, FolderFault::NoRecord(*number))),
-        None => Ok(recorded),
-    }
+    let Some(number) = recorded.unread.first().copied() else {
+        return Ok(recorded);
+    };
+    drop(recorded);
+    Err(in_folder(alloc, RECORDS, FolderFault::NoRecord(number)))
 }
 
-// The number of the next step; 0 if there is none left.
-fn next_number(steps: &[StagingStep]) -> u32 {
+/// The number of the next step; 0 if there is none left.
+pub(crate) fn next_number(steps: &[StagingStep]) -> u32 {
     match steps.last() {
         Some(step) => step.number.checked_add(1).unwrap_or(0),
         None => 1,
+    }
+}
+
+/// The number of the step that follows the recorded ones.
+pub(crate) fn number_in<F: StageFolder>(alloc: Global, folder: &F) -> Result<u32, Stop> {
+    match read_steps(alloc, folder) {
+        Ok(recorded) => {
+            let number = next_number(&recorded.steps);
+            drop(recorded);
+            Ok(number)
+        }
+        Err(stop) => Err(stop),
     }
 }
 
@@ -59,10 +73,12 @@ pub(crate) fn name_at(files: &[ReplacedFile], place: usize) -> &str {
 }
 
 // A line for each file that is replaced, or would be.
-fn push_files(lines: &mut Lines, files: &[ReplacedFile], verb: &str) -> Result<(), AllocError> {
+fn push_files(lines: &mut Lines, files: &[ReplacedFile], verb: &str) -> Result<(), Stop> {
     for file in files {
         let name = Printed(file.name.as_str());
-        writeln!(lines.text, "{verb} {name}")?;
+        let Ok(()) = writeln!(lines.text, "{verb} {name}") else {
+            return Err(Stop::Memory);
+        };
     }
     Ok(())
 }
@@ -114,24 +130,28 @@ fn take<F: StageFolder>(
     ensures unchanged { dry_run ≡ true → F.files folder.new ≡ F.files folder.old }
 {
     if step.files.is_empty() {
-        lines.text.push_str("the files are so already\n")?;
+        let Ok(()) = lines.text.push_str("the files are so already\n") else {
+            return Err(Stop::Memory);
+        };
     }
     if dry_run {
-        return Ok(push_files(lines, &step.files, "would replace")?);
+        return push_files(lines, &step.files, "would replace");
     }
     if step.number == 0 {
         return Err(no_number(alloc));
     }
-    perform_step(alloc, folder, step)?;
-    Ok(push_files(lines, &step.files, "replaced")?)
+    match perform_step(alloc, folder, step) {
+        Ok(()) => push_files(lines, &step.files, "replaced"),
+        Err(stop) => Err(stop),
+    }
 }
 
-/// Records and performs a step that replaces these files. It does nothing for `--dry-run`, and
-/// records none that replaces no file.
+/// Records and performs a step of this number that replaces these files. It does nothing for
+/// `--dry-run`, and records none that replaces no file.
 pub(crate) fn take_step<R, F>(
     rt: &R,
     folder: &mut F,
-    steps: &[StagingStep],
+    number: u32,
     action: StepAction,
     files: Vec<ReplacedFile>,
     options: &StageOptions<'_>,
@@ -145,7 +165,7 @@ where
     ensures unchanged { options.now.dry_run ≡ true → F.files folder.new ≡ F.files folder.old }
 {
     let step = StagingStep {
-        number: next_number(steps),
+        number,
         time: now_of(rt),
         action,
         files,
@@ -154,4 +174,30 @@ where
     let taken = take(rt.alloc(), folder, &step, options.dry_run, lines);
     drop(step);
     taken
+}
+
+/// The same for at most one file.
+pub(crate) fn take_file<R, F>(
+    rt: &R,
+    folder: &mut F,
+    number: u32,
+    action: StepAction,
+    file: Option<ReplacedFile>,
+    options: &StageOptions<'_>,
+    lines: &mut Lines,
+) -> Result<(), Stop>
+where
+    R: AllocGlobal + Clock,
+    F: StageFolder,
+    ensures done { OnOk result (options.now.dry_run ≡ false
+        → F.files folder.new ≡ option_map (done (option_to_list file)) (F.files folder.old)) }
+    ensures unchanged { options.now.dry_run ≡ true → F.files folder.new ≡ F.files folder.old }
+{
+    match files_of(rt.alloc(), file) {
+        Ok(files) => take_step(rt, folder, number, action, files, options, lines),
+        Err(_) => {
+            drop(action);
+            Err(Stop::Memory)
+        }
+    }
 }

@@ -28,28 +28,39 @@ pub(crate) fn failure(text: Result<String, AllocError>) -> Stop {
     }
 }
 
+// A refusal of something with this name: what follows the name in the sentence.
+fn refusal_of(alloc: Global, name: &str, rest: &str) -> Stop {
+    let name = Printed(name);
+    refusal(format!(in alloc; "{name}{rest}"))
+}
+
 // ---- manifests
 
 /// A manifest can't be gathered.
-pub(crate) fn no_manifest(alloc: Global, path: &str, fault: &PathFault) -> Stop {
+pub(crate) fn no_manifest(alloc: Global, path: &str, fault: PathFault) -> Stop {
     let path = Printed(path);
-    refusal(format!(in alloc; "{path} is refused ({fault}): call rollout check {path}"))
+    let text = format!(in alloc; "{path} is refused ({fault}): call rollout check {path}");
+    drop(fault);
+    refusal(text)
 }
 
 /// A manifest can't be judged.
-pub(crate) fn not_judged(alloc: Global, path: &str, fault: &LoadFault) -> Stop {
-    let path = Printed(path);
-    refusal(format!(in alloc; "{path} is refused ({fault}): call rollout check {path}"))
+pub(crate) fn not_judged(alloc: Global, path: &str, fault: LoadFault) -> Stop {
+    no_manifest(alloc, path, PathFault::Load(fault))
 }
 
 /// The manifest with the new file is refused.
-pub(crate) fn next_refused(alloc: Global, fault: &LoadFault) -> Stop {
-    refusal(format!(in alloc; "the manifest would be refused ({fault}): mend it first"))
+pub(crate) fn next_refused(alloc: Global, fault: LoadFault) -> Stop {
+    let text = format!(in alloc; "the manifest would be refused ({fault}): mend it first");
+    drop(fault);
+    refusal(text)
 }
 
 /// Two manifests can't be compared.
-pub(crate) fn not_compared(alloc: Global, fault: &DiffFault) -> Stop {
-    refusal(format!(in alloc; "what changes can't be compared ({fault})"))
+pub(crate) fn not_compared(alloc: Global, fault: DiffFault) -> Stop {
+    let text = format!(in alloc; "what changes can't be compared ({fault})");
+    drop(fault);
+    refusal(text)
 }
 
 /// Somebody may lose a release.
@@ -73,11 +84,9 @@ pub(crate) fn lifts(alloc: Global, appid: &str) -> Stop {
 fn appids(alloc: Global, apps: &[AppSources]) -> Result<String, AllocError> {
     let mut text = String::new(alloc);
     for app in apps {
-        if !text.is_empty() {
-            text.push_str(", ")?;
-        }
+        let mark = if text.is_empty() { "" } else { ", " };
         let appid = Printed(app.entry.appid());
-        write!(text, "{appid}")?;
+        write!(text, "{mark}{appid}")?;
     }
     Ok(text)
 }
@@ -99,40 +108,54 @@ pub(crate) fn one_file(alloc: Global, file: &str, other: &str) -> Stop {
 
 /// An app with a program can't be raised.
 pub(crate) fn has_program(alloc: Global, file: &str) -> Stop {
-    let file = Printed(file);
-    refusal(format!(in alloc; "{file} is a program: make another one, and put it in place"))
+    refusal_of(
+        alloc,
+        file,
+        " is a program: make another one, and put it in place",
+    )
 }
 
 /// An app has no file with a text.
 pub(crate) fn no_text(alloc: Global, file: &str) -> Stop {
-    let file = Printed(file);
-    refusal(format!(in alloc; "{file} isn't a text, or isn't there: put a rule in place"))
+    refusal_of(
+        alloc,
+        file,
+        " isn't a text, or isn't there: put a rule in place",
+    )
 }
 
 // What is wrong with the text of a rule.
-fn rule_reason(alloc: Global, file: &str, fault: &RuleFault) -> Stop {
+fn rule_reason(alloc: Global, file: &str, fault: RuleFault) -> Stop {
     let file = Printed(file);
     refusal(format!(in alloc; "{file} isn't a rule ({fault}): put another one in place"))
 }
 
 /// The rule is the one of a halt.
 pub(crate) fn is_halted(alloc: Global, file: &str) -> Stop {
-    let file = Printed(file);
-    refusal(format!(in alloc; "{file} isn't raised: it halts the app: lift that halt first"))
+    refusal_of(
+        alloc,
+        file,
+        " isn't raised: it halts the app: lift that halt first",
+    )
 }
 
 /// The number of a rule can't be changed.
-pub(crate) fn not_raised(alloc: Global, file: &str, fault: &RaiseFault) -> Stop {
-    let what = match fault {
-        RaiseFault::OutOfRange => "a rule has 0 to 10000 buckets, not more",
-        RaiseFault::NoThreshold => "it has no test bucket < N: put a rule with one in place",
-        RaiseFault::SeveralThresholds => "it has several tests bucket < N: edit a copy, and put it",
-        RaiseFault::NoDigits => "a comment is in its test bucket < N: edit a copy, and put it",
+pub(crate) fn not_raised(alloc: Global, file: &str, fault: RaiseFault) -> Stop {
+    let rest = match fault {
+        RaiseFault::OutOfRange => " isn't raised: a rule has 0 to 10000 buckets, not more",
+        RaiseFault::NoThreshold => {
+            " isn't raised: it has no test bucket < N: put a rule with one in place"
+        }
+        RaiseFault::SeveralThresholds => {
+            " isn't raised: it has several tests bucket < N: edit a copy, and put it"
+        }
+        RaiseFault::NoDigits => {
+            " isn't raised: a comment is in its test bucket < N: edit a copy, and put it"
+        }
         RaiseFault::NoRule(fault) => return rule_reason(alloc, file, fault),
         RaiseFault::Memory => return Stop::Memory,
     };
-    let file = Printed(file);
-    refusal(format!(in alloc; "{file} isn't raised: {what}"))
+    refusal_of(alloc, file, rest)
 }
 
 // ---- the folder and its steps
@@ -146,16 +169,20 @@ pub(crate) fn in_folder(alloc: Global, name: &str, fault: FolderFault) -> Stop {
     refusal(format!(in alloc; "{name}: {fault}"))
 }
 
+// A failure at a file: what happened to the step, and what to do.
+fn failure_at(alloc: Global, what: &str, name: &str, fault: FolderFault, advice: &str) -> Stop {
+    let name = Printed(name);
+    failure(format!(in alloc; "the step {what} at {name}: {fault}; call stage back {advice}"))
+}
+
 /// A step stopped at a file.
 pub(crate) fn stopped_at(alloc: Global, name: &str, fault: FolderFault) -> Stop {
-    let name = Printed(name);
-    failure(format!(in alloc; "the step stopped at {name}: {fault}; call stage back to undo it"))
+    failure_at(alloc, "stopped", name, fault, "to undo it")
 }
 
 /// Undoing a step stopped at a file.
 pub(crate) fn not_undone(alloc: Global, name: &str, fault: FolderFault) -> Stop {
-    let name = Printed(name);
-    failure(format!(in alloc; "the step isn't undone at {name}: {fault}; call stage back again"))
+    failure_at(alloc, "isn't undone", name, fault, "again")
 }
 
 /// No step is left to be undone.
