@@ -1,7 +1,7 @@
 -- The names that a line counts under, by question. A name is one or more texts, with tabs between
 -- them. Control characters in a text are escaped, so no text contains a tab.
 use Rattle.std.specs.Prelude.{ℕ, List, [], ◌∷◌, ◌++◌, codes, decimal, Bool, true, false, ◌&&◌}
-use Rattle.std.specs.Prelude.{Option, Some, None, is_some, option_map, option_and_then, unwrap_or}
+use Rattle.std.specs.Prelude.{Option, Some, None, is_some, option_and_then, unwrap_or}
 use Rattle.std.specs.Prelude.{◌==◌, if◌then◌else◌}
 use Rattle.std.specs.List.{before_first}
 use Rattle.std.specs.Str.{byte}
@@ -93,50 +93,55 @@ hour_of line = before_first is_colon (text_or_mark (text_in (codes "time") line)
 abbrev pub version_or_mark : Data → List ℕ
 version_or_mark app = text_or_mark (text_in (codes "version") app)
 
-abbrev pub offered : Data → Data → List ℕ → Option RowName
-offered line app appid =
-    if is_answered line then option_map (two appid) (text_in (codes "release") app) else None
+abbrev pub release_or_mark : Data → List ℕ
+release_or_mark app = text_or_mark (text_in (codes "release") app)
 
-abbrev pub hour_name : Data → Data → List ℕ → Option RowName
-hour_name line app appid =
-    if_holds (has_update_check line app) (three appid (hour_of line) (version_or_mark app))
+-- a known app was offered a release, and the whole reply was sent
+abbrev pub has_offer : Data → Data → Bool
+has_offer line app = is_answered line && is_some (text_in (codes "release") app)
 
-abbrev pub bucket_name : Data → Data → List ℕ → Option RowName
-bucket_name line app appid =
-    if has_update_check line app
-    then option_map (λ n. two appid (decimal n)) (number_in (codes "bucket") app) else None
+abbrev pub has_bucket : Data → Data → Bool
+has_bucket line app = has_update_check line app && is_some (number_in (codes "bucket") app)
 
-abbrev pub update_check_by : Data → Data → List ℕ → Option RowName
-update_check_by line app appid =
-    if_holds (has_update_check line app) (two appid (version_or_mark app))
+-- the app and its bucket
+abbrev pub bucket_name : Data → List ℕ → RowName
+bucket_name app appid = two appid (decimal (unwrap_or (number_in (codes "bucket") app) 0))
 
--- with this minute or hour
-abbrev pub update_check_at : ℕ → Data → Data → List ℕ → Option RowName
-update_check_at moment line app appid =
-    if_holds (has_update_check line app)
-    (course_name (codes "asks") appid (version_or_mark app) moment)
+-- whether the question is about this app of the line
+abbrev pub is_about_app : AppQuestion → Data → Data → Bool
+is_about_app UpdateCheck line app = has_update_check line app
+is_about_app Offered line app = has_offer line app
+is_about_app Unoffered line app = has_no_update line app
+is_about_app Hour line app = has_update_check line app
+is_about_app Bucket line app = has_bucket line app
+is_about_app Unknown line app = is_unknown app
+is_about_app WithoutCohort line app = is_unnamed app
+is_about_app WithoutId line app = has_no_id line app
+is_about_app CutEvent line app = has_cut_event app
+is_about_app UpdateCheckBy line app = has_update_check line app
+is_about_app (UpdateCheckAt moment) line app = has_update_check line app
+is_about_app (OfferedAt moment) line app = has_offer line app
 
-abbrev pub offer_at : ℕ → List ℕ → List ℕ → RowName
-offer_at moment appid release = course_name (codes "offers") appid release moment
-
-abbrev pub offered_at : ℕ → Data → Data → List ℕ → Option RowName
-offered_at moment line app appid =
-    if is_answered line
-    then option_map (offer_at moment appid) (text_in (codes "release") app) else None
+-- the name of such an app
+abbrev pub app_name_of : AppQuestion → Data → Data → List ℕ → RowName
+app_name_of UpdateCheck line app appid = one appid
+app_name_of Offered line app appid = two appid (release_or_mark app)
+app_name_of Unoffered line app appid = one appid
+app_name_of Hour line app appid = three appid (hour_of line) (version_or_mark app)
+app_name_of Bucket line app appid = bucket_name app appid
+app_name_of Unknown line app appid = one appid
+app_name_of WithoutCohort line app appid = one appid
+app_name_of WithoutId line app appid = one appid
+app_name_of CutEvent line app appid = one appid
+app_name_of UpdateCheckBy line app appid = two appid (version_or_mark app)
+app_name_of (UpdateCheckAt moment) line app appid =
+    course_name (codes "asks") appid (version_or_mark app) moment
+app_name_of (OfferedAt moment) line app appid =
+    course_name (codes "offers") appid (release_or_mark app) moment
 
 abbrev pub named : AppQuestion → Data → Data → List ℕ → Option RowName
-named UpdateCheck line app appid = if_holds (has_update_check line app) (one appid)
-named Offered line app appid = offered line app appid
-named Unoffered line app appid = if_holds (has_no_update line app) (one appid)
-named Hour line app appid = hour_name line app appid
-named Bucket line app appid = bucket_name line app appid
-named Unknown line app appid = if_holds (is_unknown app) (one appid)
-named WithoutCohort line app appid = if_holds (is_unnamed app) (one appid)
-named WithoutId line app appid = if_holds (has_no_id line app) (one appid)
-named CutEvent line app appid = if_holds (has_cut_event app) (one appid)
-named UpdateCheckBy line app appid = update_check_by line app appid
-named (UpdateCheckAt moment) line app appid = update_check_at moment line app appid
-named (OfferedAt moment) line app appid = offered_at moment line app appid
+named question line app appid =
+    if_holds (is_about_app question line app) (app_name_of question line app appid)
 
 -- at most one name for each app
 abbrev pub app_name : AppQuestion → Data → Data → Option RowName
@@ -162,34 +167,35 @@ abbrev pub status_text : Option ℕ → List ℕ
 status_text (Some status) = decimal status
 status_text None = codes "none"
 
-abbrev pub refused : Data → List ℕ → RowName
-refused line refusal = two (status_text (number_in (codes "status") line)) refusal
+abbrev pub refused : Data → RowName
+refused line =
+    two (status_text (number_in (codes "status") line))
+    (text_or_mark (text_in (codes "refusal") line))
 
 -- the time, the generation and the path
-abbrev pub loaded : Data → ℕ → RowName
-loaded line generation =
-    three (text_or_mark (text_in (codes "time") line)) (decimal generation)
+abbrev pub loaded : Data → RowName
+loaded line =
+    three (text_or_mark (text_in (codes "time") line))
+    (decimal (unwrap_or (number_in (codes "generation") line) 0))
     (text_or_mark (text_in (codes "path") line))
 
-abbrev pub kind_name : Data → Option RowName
-kind_name line = option_map one (text_in (codes "kind") line)
+-- whether the question is about this line: any, a connection that was refused, or a load that
+-- succeeded
+abbrev pub is_about_line : LineQuestion → Data → Bool
+is_about_line Kind line = is_some (text_in (codes "kind") line)
+is_about_line Refusal line =
+    is_kind (codes "connection") line && is_some (text_in (codes "refusal") line)
+is_about_line Load line =
+    is_kind (codes "load") line && is_some (number_in (codes "generation") line)
 
--- for a connection
-abbrev pub refusal_name : Data → Option RowName
-refusal_name line =
-    if is_kind (codes "connection") line
-    then option_map (refused line) (text_in (codes "refusal") line) else None
-
--- for a load that succeeded
-abbrev pub load_name : Data → Option RowName
-load_name line =
-    if is_kind (codes "load") line
-    then option_map (loaded line) (number_in (codes "generation") line) else None
+-- the name of such a line
+abbrev pub line_name_of : LineQuestion → Data → RowName
+line_name_of Kind line = one (text_or_mark (text_in (codes "kind") line))
+line_name_of Refusal line = refused line
+line_name_of Load line = loaded line
 
 abbrev pub line_name : LineQuestion → Data → Option RowName
-line_name Kind line = kind_name line
-line_name Refusal line = refusal_name line
-line_name Load line = load_name line
+line_name question line = if_holds (is_about_line question line) (line_name_of question line)
 
 abbrev pub line_names : LineQuestion → Data → List RowName
 line_names question line = listed (line_name question line)

@@ -6,7 +6,7 @@ ghost use Rattle.serde_json.specs.View.{view};
 ghost use Rattle.report.specs.Names as specs;
 
 use crate::log_events::{flag_in, is_number, number_in, text_in};
-use crate::name_text::{course_name, decimal, if_holds, text_or_mark, three, two};
+use crate::name_text::{course_name, decimal, one, text_or_mark, three, two};
 use crate::question::AppQuestion;
 use serde_json::Value;
 use std::alloc::{AllocError, Global};
@@ -37,19 +37,61 @@ fn named(
     ensures { IfOk result (λ name. option_map string_bytes name
         ≡ specs.named question (view line.now) (view app.now) appid.now) }
 {
+    if !is_about_app(question, line, app) {
+        return Ok(None);
+    }
+    let name = app_name_of(alloc, question, line, app, appid)?;
+    Ok(Some(name))
+}
+
+// Whether the question is about this app of the line.
+fn is_about_app(question: AppQuestion, line: &Value, app: &Value) -> bool
+    ensures { result ≡ specs.is_about_app question (view line.now) (view app.now) }
+{
     match question {
-        AppQuestion::UpdateCheck => if_holds(alloc, has_update_check(line, app), appid),
-        AppQuestion::Offered => offered(alloc, line, app, appid),
-        AppQuestion::Unoffered => if_holds(alloc, has_no_update(line, app), appid),
-        AppQuestion::Hour => hour_name(alloc, line, app, appid),
-        AppQuestion::Bucket => bucket_name(alloc, line, app, appid),
-        AppQuestion::Unknown => if_holds(alloc, is_unknown(app), appid),
-        AppQuestion::WithoutCohort => if_holds(alloc, is_unnamed(app), appid),
-        AppQuestion::WithoutId => if_holds(alloc, has_no_id(line, app), appid),
-        AppQuestion::CutEvent => if_holds(alloc, has_cut_event(app), appid),
-        AppQuestion::UpdateCheckBy => update_check_by(alloc, line, app, appid),
-        AppQuestion::UpdateCheckAt(moment) => update_check_at(alloc, line, app, appid, moment),
-        AppQuestion::OfferedAt(moment) => offered_at(alloc, line, app, appid, moment),
+        AppQuestion::UpdateCheck => has_update_check(line, app),
+        AppQuestion::Offered => has_offer(line, app),
+        AppQuestion::Unoffered => has_no_update(line, app),
+        AppQuestion::Hour => has_update_check(line, app),
+        AppQuestion::Bucket => has_bucket(line, app),
+        AppQuestion::Unknown => is_unknown(app),
+        AppQuestion::WithoutCohort => is_unnamed(app),
+        AppQuestion::WithoutId => has_no_id(line, app),
+        AppQuestion::CutEvent => has_cut_event(app),
+        AppQuestion::UpdateCheckBy => has_update_check(line, app),
+        AppQuestion::UpdateCheckAt(_) => has_update_check(line, app),
+        AppQuestion::OfferedAt(_) => has_offer(line, app),
+    }
+}
+
+// The name of an app that the question is about.
+fn app_name_of(
+    alloc: Global,
+    question: AppQuestion,
+    line: &Value,
+    app: &Value,
+    appid: &str,
+) -> Result<String, AllocError>
+    ensures { IfOk result (λ name. string_bytes name
+        ≡ specs.app_name_of question (view line.now) (view app.now) appid.now) }
+{
+    match question {
+        AppQuestion::UpdateCheck => one(alloc, appid),
+        AppQuestion::Offered => two(alloc, appid, release_or_mark(app)),
+        AppQuestion::Unoffered => one(alloc, appid),
+        AppQuestion::Hour => three(alloc, appid, hour_of(line), version_or_mark(app)),
+        AppQuestion::Bucket => bucket_name(alloc, app, appid),
+        AppQuestion::Unknown => one(alloc, appid),
+        AppQuestion::WithoutCohort => one(alloc, appid),
+        AppQuestion::WithoutId => one(alloc, appid),
+        AppQuestion::CutEvent => one(alloc, appid),
+        AppQuestion::UpdateCheckBy => two(alloc, appid, version_or_mark(app)),
+        AppQuestion::UpdateCheckAt(moment) => {
+            course_name(alloc, "asks", appid, version_or_mark(app), moment)
+        }
+        AppQuestion::OfferedAt(moment) => {
+            course_name(alloc, "offers", appid, release_or_mark(app), moment)
+        }
     }
 }
 
@@ -113,57 +155,27 @@ fn has_cut_event(app: &Value) -> bool
     number_in(app, "event_left_out").is_some()
 }
 
+// Whether a release was offered, and the whole reply was sent.
+fn has_offer(line: &Value, app: &Value) -> bool
+    ensures { result ≡ specs.has_offer (view line.now) (view app.now) }
+{
+    is_answered(line) && text_in(app, "release").is_some()
+}
+
+fn has_bucket(line: &Value, app: &Value) -> bool
+    ensures { result ≡ specs.has_bucket (view line.now) (view app.now) }
+{
+    has_update_check(line, app) && number_in(app, "bucket").is_some()
+}
+
 // ---- names of an app
 
-fn offered(
-    alloc: Global,
-    line: &Value,
-    app: &Value,
-    appid: &str,
-) -> Result<Option<String>, AllocError>
-    ensures { IfOk result (λ name. option_map string_bytes name
-        ≡ specs.offered (view line.now) (view app.now) appid.now) }
+fn bucket_name(alloc: Global, app: &Value, appid: &str) -> Result<String, AllocError>
+    ensures { IfOk result (λ name. string_bytes name
+        ≡ specs.bucket_name (view app.now) appid.now) }
 {
-    if !is_answered(line) {
-        return Ok(None);
-    }
-    match text_in(app, "release") {
-        Some(release) => Ok(Some(two(alloc, appid, release)?)),
-        None => Ok(None),
-    }
-}
-
-fn hour_name(
-    alloc: Global,
-    line: &Value,
-    app: &Value,
-    appid: &str,
-) -> Result<Option<String>, AllocError>
-    ensures { IfOk result (λ name. option_map string_bytes name
-        ≡ specs.hour_name (view line.now) (view app.now) appid.now) }
-{
-    if !has_update_check(line, app) {
-        return Ok(None);
-    }
-    Ok(Some(three(alloc, appid, hour_of(line), version_or_mark(app))?))
-}
-
-fn bucket_name(
-    alloc: Global,
-    line: &Value,
-    app: &Value,
-    appid: &str,
-) -> Result<Option<String>, AllocError>
-    ensures { IfOk result (λ name. option_map string_bytes name
-        ≡ specs.bucket_name (view line.now) (view app.now) appid.now) }
-{
-    if !has_update_check(line, app) {
-        return Ok(None);
-    }
-    match number_in(app, "bucket") {
-        Some(bucket) => Ok(Some(two(alloc, appid, decimal(alloc, bucket)?.as_str())?)),
-        None => Ok(None),
-    }
+    let bucket = decimal(alloc, number_in(app, "bucket").unwrap_or(0))?;
+    two(alloc, appid, bucket.as_str())
 }
 
 // The hour of a line's time, such as `2026-11-24T12`.
@@ -177,54 +189,10 @@ fn hour_of<'a>(line: &'a Value) -> &'a str
     }
 }
 
-fn update_check_by(
-    alloc: Global,
-    line: &Value,
-    app: &Value,
-    appid: &str,
-) -> Result<Option<String>, AllocError>
-    ensures { IfOk result (λ name. option_map string_bytes name
-        ≡ specs.update_check_by (view line.now) (view app.now) appid.now) }
+fn release_or_mark<'a>(app: &'a Value) -> &'a str
+    ensures { result.now ≡ specs.release_or_mark (view app.now) }
 {
-    if !has_update_check(line, app) {
-        return Ok(None);
-    }
-    Ok(Some(two(alloc, appid, version_or_mark(app))?))
-}
-
-fn update_check_at(
-    alloc: Global,
-    line: &Value,
-    app: &Value,
-    appid: &str,
-    moment: u64,
-) -> Result<Option<String>, AllocError>
-    ensures { IfOk result (λ name. option_map string_bytes name
-        ≡ specs.update_check_at moment (view line.now) (view app.now) appid.now) }
-{
-    if !has_update_check(line, app) {
-        return Ok(None);
-    }
-    Ok(Some(course_name(alloc, "asks", appid, version_or_mark(app), moment)?))
-}
-
-fn offered_at(
-    alloc: Global,
-    line: &Value,
-    app: &Value,
-    appid: &str,
-    moment: u64,
-) -> Result<Option<String>, AllocError>
-    ensures { IfOk result (λ name. option_map string_bytes name
-        ≡ specs.offered_at moment (view line.now) (view app.now) appid.now) }
-{
-    if !is_answered(line) {
-        return Ok(None);
-    }
-    match text_in(app, "release") {
-        Some(release) => Ok(Some(course_name(alloc, "offers", appid, release, moment)?)),
-        None => Ok(None),
-    }
+    text_or_mark(text_in(app, "release"))
 }
 
 // The version in an app's request.

@@ -117,7 +117,11 @@ impl Report {
             self.new) }
     {
         match event_in(alloc, line)? {
-            Some(event) => self.add_event(alloc, window, &event),
+            Some(event) => {
+                let counted = self.add_event(alloc, window, &event);
+                drop(event);
+                counted
+            }
             None => {
                 self.add_foreign();
                 Ok(())

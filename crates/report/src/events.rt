@@ -121,7 +121,11 @@ fn object_name(
         ≡ specs.object_name question (view app.now) appid.now object.now) }
 {
     match read_json(alloc, object)? {
-        Some(event) => event_name(alloc, question, app, appid, &event),
+        Some(event) => {
+            let name = event_name(alloc, question, app, appid, &event);
+            drop(event);
+            name
+        }
         None => Ok(None),
     }
 }
@@ -139,17 +143,29 @@ fn event_name(
     if !is_about(question, event) {
         return Ok(None);
     }
+    let name = event_name_of(alloc, question, app, appid, event)?;
+    Ok(Some(name))
+}
+
+fn event_name_of(
+    alloc: Global,
+    question: EventQuestion,
+    app: &Value,
+    appid: &str,
+    event: &Value,
+) -> Result<String, AllocError>
+    ensures { IfOk result (λ name. string_bytes name
+        ≡ specs.event_name_of question (view app.now) appid.now (view event.now)) }
+{
     match question {
-        EventQuestion::Ended => Ok(Some(install_name(alloc, app, appid, event)?)),
-        EventQuestion::Result => Ok(Some(result_name(alloc, app, appid, event)?)),
-        EventQuestion::FailedTo => Ok(Some(two(alloc, appid, to_version(event))?)),
+        EventQuestion::Ended => install_name(alloc, app, appid, event),
+        EventQuestion::Result => result_name(alloc, app, appid, event),
+        EventQuestion::FailedTo => two(alloc, appid, to_version(event)),
         EventQuestion::FailedAt(moment) => {
-            let name = course_name(alloc, "failures", appid, to_version(event), moment)?;
-            Ok(Some(name))
+            course_name(alloc, "failures", appid, to_version(event), moment)
         }
         EventQuestion::EndedAt(moment) => {
-            let name = course_name(alloc, "installs", appid, to_version(event), moment)?;
-            Ok(Some(name))
+            course_name(alloc, "installs", appid, to_version(event), moment)
         }
     }
 }

@@ -20,64 +20,51 @@ pub(crate) fn line_name(
     ensures { IfOk result (λ name. option_map string_bytes name
         ≡ specs.line_name question (view line.now)) }
 {
-    match question {
-        LineQuestion::Kind => kind_name(alloc, line),
-        LineQuestion::Refusal => refusal_name(alloc, line),
-        LineQuestion::Load => load_name(alloc, line),
-    }
-}
-
-fn kind_name(alloc: Global, line: &Value) -> Result<Option<String>, AllocError>
-    ensures { IfOk result (λ name. option_map string_bytes name
-        ≡ specs.kind_name (view line.now)) }
-{
-    match text_in(line, "kind") {
-        Some(kind) => Ok(Some(one(alloc, kind)?)),
-        None => Ok(None),
-    }
-}
-
-fn refusal_name(alloc: Global, line: &Value) -> Result<Option<String>, AllocError>
-    ensures { IfOk result (λ name. option_map string_bytes name
-        ≡ specs.refusal_name (view line.now)) }
-{
-    if !is_kind("connection", line) {
+    if !is_about_line(question, line) {
         return Ok(None);
     }
-    match text_in(line, "refusal") {
-        Some(refusal) => Ok(Some(refused(alloc, number_in(line, "status"), refusal)?)),
-        None => Ok(None),
+    let name = line_name_of(alloc, question, line)?;
+    Ok(Some(name))
+}
+
+// Whether the question is about this line.
+fn is_about_line(question: LineQuestion, line: &Value) -> bool
+    ensures { result ≡ specs.is_about_line question (view line.now) }
+{
+    match question {
+        LineQuestion::Kind => text_in(line, "kind").is_some(),
+        LineQuestion::Refusal => is_kind("connection", line) && text_in(line, "refusal").is_some(),
+        LineQuestion::Load => is_kind("load", line) && number_in(line, "generation").is_some(),
     }
 }
 
-fn refused(alloc: Global, status: Option<u64>, refusal: &str) -> Result<String, AllocError>
+// The name of a line that the question is about.
+fn line_name_of(alloc: Global, question: LineQuestion, line: &Value) -> Result<String, AllocError>
     ensures { IfOk result (λ name. string_bytes name
-        ≡ specs.two (specs.status_text status) refusal.now) }
+        ≡ specs.line_name_of question (view line.now)) }
 {
-    match status {
+    match question {
+        LineQuestion::Kind => one(alloc, text_or_mark(text_in(line, "kind"))),
+        LineQuestion::Refusal => refused(alloc, line),
+        LineQuestion::Load => loaded(alloc, line),
+    }
+}
+
+fn refused(alloc: Global, line: &Value) -> Result<String, AllocError>
+    ensures { IfOk result (λ name. string_bytes name ≡ specs.refused (view line.now)) }
+{
+    let refusal = text_or_mark(text_in(line, "refusal"));
+    match number_in(line, "status") {
         Some(status) => two(alloc, decimal(alloc, status)?.as_str(), refusal),
         None => two(alloc, "none", refusal),
     }
 }
 
-fn load_name(alloc: Global, line: &Value) -> Result<Option<String>, AllocError>
-    ensures { IfOk result (λ name. option_map string_bytes name
-        ≡ specs.load_name (view line.now)) }
-{
-    if !is_kind("load", line) {
-        return Ok(None);
-    }
-    match number_in(line, "generation") {
-        Some(generation) => Ok(Some(loaded(alloc, line, generation)?)),
-        None => Ok(None),
-    }
-}
-
-fn loaded(alloc: Global, line: &Value, generation: u64) -> Result<String, AllocError>
-    ensures { IfOk result (λ name. string_bytes name
-        ≡ specs.loaded (view line.now) generation) }
+fn loaded(alloc: Global, line: &Value) -> Result<String, AllocError>
+    ensures { IfOk result (λ name. string_bytes name ≡ specs.loaded (view line.now)) }
 {
     let time = text_or_mark(text_in(line, "time"));
     let path = text_or_mark(text_in(line, "path"));
-    three(alloc, time, decimal(alloc, generation)?.as_str(), path)
+    let generation = decimal(alloc, number_in(line, "generation").unwrap_or(0))?;
+    three(alloc, time, generation.as_str(), path)
 }

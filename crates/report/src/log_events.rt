@@ -111,7 +111,11 @@ pub(crate) fn event_in(alloc: Global, line: &[u8]) -> Result<Option<Value>, Allo
 fn if_event(value: Value) -> Option<Value>
     ensures { option_map view result ≡ specs.if_event (view value) }
 {
-    if is_event(&value) { Some(value) } else { None }
+    if is_event(&value) {
+        return Some(value);
+    }
+    drop(value);
+    None
 }
 
 // Whether it has a time and a kind.

@@ -1,7 +1,7 @@
 //! How a name is written: one or more texts, with tabs between them. Control characters in a text
 //! are escaped, so no text contains a tab.
 
-ghost use Rattle.std.specs.Prelude.{◌≡◌, IfOk, OnOk, option_map};
+ghost use Rattle.std.specs.Prelude.{◌≡◌, IfOk, OnOk};
 ghost use Rattle.std.specs.Option.{option_copied};
 ghost use Rattle.std.specs.String.{string_bytes};
 ghost use Rattle.printing.specs.Pushed.{Puts};
@@ -10,17 +10,6 @@ ghost use Rattle.report.specs.Names as specs;
 use printing::Printed;
 use std::alloc::{AllocError, Global};
 use std::fmt::Write;
-
-/// A name of one text, if `holds`.
-pub(crate) fn if_holds(alloc: Global, holds: bool, text: &str) -> Result<Option<String>, AllocError>
-    ensures { IfOk result (λ name. option_map string_bytes name
-        ≡ specs.if_holds holds (specs.one text.now)) }
-{
-    if !holds {
-        return Ok(None);
-    }
-    Ok(Some(one(alloc, text)?))
-}
 
 /// A name of one text.
 pub(crate) fn one(alloc: Global, text: &str) -> Result<String, AllocError>
