@@ -1,8 +1,8 @@
 """When each crate is proved, with how many processors, and what is printed meanwhile.
 
 A crate starts once all crates below it are done. Of those ready, the one with the longest chain
-above it is first. If its chain is nearly the longest, it waits for no processor. The shorter the
-chain, the lower the priority.
+above it is first. If its chain is nearly the longest, it waits for no processor, and gets a second
+one if its chain will outlast the other work. The shorter the chain, the lower the priority.
 """
 import sys
 import time
@@ -52,12 +52,15 @@ class Build:
             return 0
         return min(self.running[crate].seconds() / self.pace(), self.recorded[crate])
 
+    def work_left(self):
+        """All remaining work, in recorded seconds of one processor."""
+        return sum(self.recorded[it] - self.worked(it) for it in self.left)
+
     def minutes_left(self):
         """An estimate: the longest remaining chain, or all remaining work divided by the
         processors."""
         chain = max(self.chain[it] - self.worked(it) for it in self.left)
-        work = sum(self.recorded[it] - self.worked(it) for it in self.left)
-        return int(self.pace() * max(chain, work / self.jobs)) // 60 + 1
+        return int(self.pace() * max(chain, self.work_left() / self.jobs)) // 60 + 1
 
     def tell(self, text):
         """Prints the text, with how much is done and left in total."""
@@ -82,14 +85,21 @@ class Build:
         places = self.jobs - sum(it.jobs for it in works if it.level > URGENT)
         for count, crate in enumerate(ready):
             urgent = self.level(crate) <= URGENT
-            # Jobs side by side repeat work, so a crate has several only if processors are idle.
-            share = max(1, idle + count + 1 - len(ready))
+            # Jobs side by side repeat work, so a crate has several only if processors are idle, or
+            # soon will be.
+            least = 2 if urgent and self.outlasts(crate) else 1
+            share = max(least, idle + count + 1 - len(ready))
             jobs = min(share, room if urgent else min(room, places), MOST_JOBS)
             if jobs > 0:
                 self.start(crate, jobs)
                 room -= jobs
                 idle -= jobs
                 places -= 0 if urgent else jobs
+
+    def outlasts(self, crate):
+        """Whether its chain is longer than half of the processors would take for all that is
+        left: then the others become idle before its end."""
+        return self.chain[crate] > self.work_left() / (self.jobs / 2)
 
     def level(self, crate):
         """How much lower than the longest chain's its priority is."""
