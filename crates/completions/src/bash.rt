@@ -1,10 +1,9 @@
 //! The completions of bash: a function that finds the words by the command.
 
 use crate::parts::ArgumentParts;
-use command_line::CommandRow;
+use crate::text_buffer::TextBuffer;
+use command_line::{CommandArgument, CommandRow};
 use command_words::command_rows;
-use std::alloc::AllocError;
-use std::fmt::Write;
 use tool_words::tool_rows;
 
 const HEAD: &str = "\
@@ -39,49 +38,43 @@ complete -F _rollout rollout
 ";
 
 /// Appends the script.
-pub(crate) fn push_bash(text: &mut String) -> Result<(), AllocError> {
-    text.push_str(HEAD)?;
-    push_names(text, command_rows())?;
-    push_names(text, tool_rows())?;
-    text.push_str(CASES)?;
-    push_cases(text, command_rows())?;
-    push_cases(text, tool_rows())?;
-    text.push_str(END)
+pub(crate) fn push_bash(text: &mut TextBuffer) {
+    text.push(HEAD);
+    push_names(text, command_rows());
+    push_names(text, tool_rows());
+    text.push(CASES);
+    push_cases(text, command_rows());
+    push_cases(text, tool_rows());
+    text.push(END);
 }
 
-fn push_names<V>(text: &mut String, rows: &[CommandRow<V>]) -> Result<(), AllocError> {
+fn push_names<V>(text: &mut TextBuffer, rows: &[CommandRow<V>]) {
     for row in rows {
-        write!(text, " {}", row.name)?;
+        text.push_all(&[" ", row.name]);
     }
-    Ok(())
 }
 
-fn push_cases<V>(text: &mut String, rows: &[CommandRow<V>]) -> Result<(), AllocError> {
+// The options of each command, those of them that take something else than a file, and other words.
+fn push_cases<V>(text: &mut TextBuffer, rows: &[CommandRow<V>]) {
     for row in rows {
-        push_case(text, row)?;
+        text.push_all(&["    ", row.name, ") options='"]);
+        push_options(text, row.arguments, false);
+        text.push("--help' plain='");
+        push_options(text, row.arguments, true);
+        text.push("' words='");
+        for argument in row.arguments {
+            text.push(ArgumentParts::of(argument).words());
+        }
+        text.push("' ;;\n");
     }
-    Ok(())
 }
 
-// The options of a command, those of them that take something else than a file, and other words.
-fn push_case<V>(text: &mut String, row: &CommandRow<V>) -> Result<(), AllocError> {
-    write!(text, "    {}) options='", row.name)?;
-    for argument in row.arguments {
+// The options; if `plain`, those that take something else than a file.
+fn push_options(text: &mut TextBuffer, arguments: &[CommandArgument], plain: bool) {
+    for argument in arguments {
         let parts = ArgumentParts::of(argument);
-        if parts.is_option() {
-            write!(text, "--{} ", parts.name)?;
+        if parts.is_option(plain) {
+            text.push_all(&["--", parts.name, " "]);
         }
     }
-    text.push_str("--help' plain='")?;
-    for argument in row.arguments {
-        let parts = ArgumentParts::of(argument);
-        if parts.is_plain() {
-            write!(text, "--{} ", parts.name)?;
-        }
-    }
-    text.push_str("' words='")?;
-    for argument in row.arguments {
-        text.push_str(ArgumentParts::of(argument).words())?;
-    }
-    text.push_str("' ;;\n")
 }

@@ -1,7 +1,5 @@
 //! Texts as the shells and the manual quote them.
 
-use std::alloc::AllocError;
-
 /// Between apostrophes in zsh, there also between brackets, or between apostrophes in fish; or in
 /// roff.
 #[derive(Clone, Copy)]
@@ -13,8 +11,8 @@ pub(crate) enum Escaping {
 }
 
 impl Escaping {
-    // What a character becomes; `None` if it stays.
-    fn escaped(self, c: char) -> Option<&'static str> {
+    /// What a character becomes; `None` if it stays.
+    pub(crate) fn escaped(self, c: char) -> Option<&'static str> {
         match self {
             Escaping::Zsh => zsh_escaped(c),
             Escaping::ZshOption => match c {
@@ -55,19 +53,4 @@ fn roff_escaped(c: char) -> Option<&'static str> {
         '\n' => Some("\n\\&"),
         _ => None,
     }
-}
-
-/// Appends a text, escaped.
-pub(crate) fn push_escaped(
-    text: &mut String,
-    escaping: Escaping,
-    added: &str,
-) -> Result<(), AllocError> {
-    for c in added.chars() {
-        match escaping.escaped(c) {
-            Some(escaped) => text.push_str(escaped)?,
-            None => text.push(c)?,
-        }
-    }
-    Ok(())
 }

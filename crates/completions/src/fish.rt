@@ -1,11 +1,10 @@
 //! The completions of fish: a line for each command, and for each of its arguments.
 
-use crate::escaping::{Escaping, push_escaped};
+use crate::escaping::Escaping;
 use crate::parts::{ArgumentKind, ArgumentParts};
+use crate::text_buffer::TextBuffer;
 use command_line::CommandRow;
 use command_words::command_rows;
-use std::alloc::AllocError;
-use std::fmt::Write;
 use tool_words::tool_rows;
 
 const HEAD: &str = "\
@@ -14,56 +13,53 @@ complete -c rollout -f
 ";
 
 /// Appends the script.
-pub(crate) fn push_fish(text: &mut String) -> Result<(), AllocError> {
-    text.push_str(HEAD)?;
-    push_commands(text, command_rows())?;
-    push_commands(text, tool_rows())
+pub(crate) fn push_fish(text: &mut TextBuffer) {
+    text.push(HEAD);
+    push_commands(text, command_rows());
+    push_commands(text, tool_rows());
 }
 
-fn push_commands<V>(text: &mut String, rows: &[CommandRow<V>]) -> Result<(), AllocError> {
+fn push_commands<V>(text: &mut TextBuffer, rows: &[CommandRow<V>]) {
     for row in rows {
-        write!(
-            text,
-            "complete -c rollout -n __fish_use_subcommand -a {} -d '",
-            row.name,
-        )?;
-        push_escaped(text, Escaping::Fish, row.about)?;
-        text.push_str("'\n")?;
+        text.push_all(&["complete -c rollout -n __fish_use_subcommand -a ", row.name]);
+        push_help(text, row.about);
         for argument in row.arguments {
-            push_argument(text, row.name, &ArgumentParts::of(argument))?;
+            let parts = ArgumentParts::of(argument);
+            text.push_all(&[
+                "complete -c rollout -n '__fish_seen_subcommand_from ",
+                row.name,
+                "'",
+            ]);
+            push_argument(text, &parts);
+            push_help(text, parts.help);
         }
     }
-    Ok(())
 }
 
-fn push_argument(
-    text: &mut String,
-    command: &str,
-    parts: &ArgumentParts,
-) -> Result<(), AllocError> {
-    write!(
-        text,
-        "complete -c rollout -n '__fish_seen_subcommand_from {command}'",
-    )?;
+// The name of an option and what it takes, or what a word may be.
+fn push_argument(text: &mut TextBuffer, parts: &ArgumentParts) {
     match parts.kind {
-        ArgumentKind::Placed | ArgumentKind::Listed => push_words(text, parts)?,
-        ArgumentKind::Flag => write!(text, " -l {}", parts.name)?,
+        ArgumentKind::Placed | ArgumentKind::Listed => push_words(text, parts),
+        ArgumentKind::Flag => text.push_all(&[" -l ", parts.name]),
         ArgumentKind::Valued => {
-            let files = if parts.is_file() { "-r -F" } else { "-x" };
-            write!(text, " -l {} {files}", parts.name)?
+            let files = if parts.is_file() { " -r -F" } else { " -x" };
+            text.push_all(&[" -l ", parts.name, files]);
         }
     }
-    text.push_str(" -d '")?;
-    push_escaped(text, Escaping::Fish, parts.help)?;
-    text.push_str("'\n")
 }
 
-fn push_words(text: &mut String, parts: &ArgumentParts) -> Result<(), AllocError> {
+fn push_words(text: &mut TextBuffer, parts: &ArgumentParts) {
     if parts.is_file() {
-        text.push_str(" -F")?;
+        text.push(" -F");
     }
-    if parts.words().is_empty() {
-        return Ok(());
+    let words = parts.words();
+    if !words.is_empty() {
+        text.push_all(&[" -a '", words, "'"]);
     }
-    write!(text, " -a '{}'", parts.words())
+}
+
+fn push_help(text: &mut TextBuffer, help: &str) {
+    text.push(" -d '");
+    text.push_escaped(Escaping::Fish, help);
+    text.push("'\n");
 }

@@ -5,7 +5,8 @@
 #![tactic(auto)]
 
 // Each shell has a module with the fixed lines of its script, and with a line for each command or
-// option. The texts are escaped by `escaping`.
+// option. The lines are appended to a `TextBuffer`, which notes whether an allocation has failed.
+// The texts are escaped by `escaping`.
 
 mod bash;
 mod escaping;
@@ -13,6 +14,7 @@ mod fish;
 mod manual;
 mod parts;
 mod script;
+mod text_buffer;
 mod zsh;
 
 pub use script::completion_text;

@@ -1,11 +1,10 @@
 //! The page of the manual, in roff with the macros of `man`.
 
-use crate::escaping::{Escaping, push_escaped};
+use crate::escaping::Escaping;
 use crate::parts::{ArgumentKind, ArgumentParts};
+use crate::text_buffer::TextBuffer;
 use command_line::CommandRow;
 use command_words::command_rows;
-use std::alloc::AllocError;
-use std::fmt::Write;
 use tool_words::tool_rows;
 
 const HEAD: &str = "\
@@ -45,54 +44,55 @@ The folder docs of the package, which begins with PROGRAM.md and OPERATING.md.
 ";
 
 /// Appends the page.
-pub(crate) fn push_manual(text: &mut String) -> Result<(), AllocError> {
-    text.push_str(HEAD)?;
-    push_commands(text, command_rows())?;
-    push_commands(text, tool_rows())?;
-    text.push_str(END)
+pub(crate) fn push_manual(text: &mut TextBuffer) {
+    text.push(HEAD);
+    push_commands(text, command_rows());
+    push_commands(text, tool_rows());
+    text.push(END);
 }
 
-fn push_commands<V>(text: &mut String, rows: &[CommandRow<V>]) -> Result<(), AllocError> {
+// Each command with its arguments and what they are for, and the text after them.
+fn push_commands<V>(text: &mut TextBuffer, rows: &[CommandRow<V>]) {
     for row in rows {
-        writeln!(text, ".SS {}", row.name)?;
-        push_lines(text, row.about)?;
+        text.push_all(&[".SS ", row.name, "\n"]);
+        push_lines(text, row.about);
         for argument in row.arguments {
-            push_argument(text, &ArgumentParts::of(argument))?;
+            let parts = ArgumentParts::of(argument);
+            push_argument(text, &parts);
+            push_lines(text, parts.help);
         }
-        push_end(text, row.end)?;
+        push_end(text, row.end);
     }
-    Ok(())
 }
 
-// The argument, and what it is for.
-fn push_argument(text: &mut String, parts: &ArgumentParts) -> Result<(), AllocError> {
+fn push_argument(text: &mut TextBuffer, parts: &ArgumentParts) {
     match parts.kind {
-        ArgumentKind::Placed | ArgumentKind::Listed => writeln!(text, ".TP\n.I {}", parts.name)?,
+        ArgumentKind::Placed | ArgumentKind::Listed => {
+            text.push_all(&[".TP\n.I ", parts.name, "\n"]);
+        }
         ArgumentKind::Flag => {
-            text.push_str(".TP\n.B \\-\\-")?;
-            push_lines(text, parts.name)?;
+            text.push(".TP\n.B \\-\\-");
+            push_lines(text, parts.name);
         }
         ArgumentKind::Valued => {
-            text.push_str(".TP\n.BI \\-\\-")?;
-            push_escaped(text, Escaping::Roff, parts.name)?;
-            writeln!(text, " \" {}\"", parts.value)?;
+            text.push(".TP\n.BI \\-\\-");
+            text.push_escaped(Escaping::Roff, parts.name);
+            text.push_all(&[" \" ", parts.value, "\"\n"]);
         }
     }
-    push_lines(text, parts.help)
 }
 
 // The text after a command's arguments, line by line.
-fn push_end(text: &mut String, end: Option<&'static str>) -> Result<(), AllocError> {
-    let Some(end) = end else {
-        return Ok(());
-    };
-    text.push_str(".PP\n.nf\n")?;
-    push_lines(text, end)?;
-    text.push_str(".fi\n")
+fn push_end(text: &mut TextBuffer, end: Option<&'static str>) {
+    if let Some(end) = end {
+        text.push(".PP\n.nf\n");
+        push_lines(text, end);
+        text.push(".fi\n");
+    }
 }
 
 // Escaped lines. The first begins with what no macro begins with.
-fn push_lines(text: &mut String, lines: &str) -> Result<(), AllocError> {
-    push_escaped(text, Escaping::Roff, lines)?;
-    text.push_str("\n")
+fn push_lines(text: &mut TextBuffer, lines: &str) {
+    text.push_escaped(Escaping::Roff, lines);
+    text.push("\n");
 }

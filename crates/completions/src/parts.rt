@@ -47,30 +47,18 @@ impl ArgumentParts {
         }
     }
 
-    /// Whether it is an option.
-    pub(crate) fn is_option(&self) -> bool {
+    /// Whether it is an option; if `plain`, one that takes something else than a file.
+    pub(crate) fn is_option(&self, plain: bool) -> bool {
         match self.kind {
             ArgumentKind::Placed | ArgumentKind::Listed => false,
-            _ => true,
+            ArgumentKind::Flag => !plain,
+            ArgumentKind::Valued => !(plain && self.is_file()),
         }
     }
 
     /// Whether its value is a file or a folder.
     pub(crate) fn is_file(&self) -> bool {
-        for name in FILES {
-            if self.value == name {
-                return true;
-            }
-        }
-        false
-    }
-
-    /// Whether it is an option whose value isn't a file.
-    pub(crate) fn is_plain(&self) -> bool {
-        match self.kind {
-            ArgumentKind::Valued => !self.is_file(),
-            _ => false,
-        }
+        FILES.contains(&self.value)
     }
 
     /// The words that its value may be, with spaces between them; empty if there are too many.

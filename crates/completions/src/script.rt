@@ -3,6 +3,7 @@
 use crate::bash::push_bash;
 use crate::fish::push_fish;
 use crate::manual::push_manual;
+use crate::text_buffer::TextBuffer;
 use crate::zsh::push_zsh;
 use std::alloc::{AllocError, Global};
 use tool_words::Shell;
@@ -11,15 +12,12 @@ use tool_words::Shell;
 /// an allocation can fail.
 // open: the text: rows, and bench/outside, which has the shells and `man` read it.
 pub fn completion_text(alloc: Global, shell: Shell) -> Result<String, AllocError> {
-    let mut text = String::new(alloc);
-    let pushed = match shell {
+    let mut text = TextBuffer::new(alloc);
+    match shell {
         Shell::Bash => push_bash(&mut text),
         Shell::Zsh => push_zsh(&mut text),
         Shell::Fish => push_fish(&mut text),
         Shell::Man => push_manual(&mut text),
-    };
-    match pushed {
-        Ok(()) => Ok(text),
-        Err(error) => Err(error),
     }
+    text.finish()
 }

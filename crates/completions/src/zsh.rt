@@ -1,11 +1,10 @@
 //! The completions of zsh: a function with a list of commands, and the arguments of each.
 
-use crate::escaping::{Escaping, push_escaped};
+use crate::escaping::Escaping;
 use crate::parts::{ArgumentKind, ArgumentParts};
+use crate::text_buffer::TextBuffer;
 use command_line::CommandRow;
 use command_words::command_rows;
-use std::alloc::AllocError;
-use std::fmt::Write;
 use tool_words::tool_rows;
 
 const HEAD: &str = "\
@@ -36,69 +35,71 @@ fi
 ";
 
 /// Appends the script.
-pub(crate) fn push_zsh(text: &mut String) -> Result<(), AllocError> {
-    text.push_str(HEAD)?;
-    push_commands(text, command_rows())?;
-    push_commands(text, tool_rows())?;
-    text.push_str(CASES)?;
-    push_cases(text, command_rows())?;
-    push_cases(text, tool_rows())?;
-    text.push_str(END)
+pub(crate) fn push_zsh(text: &mut TextBuffer) {
+    text.push(HEAD);
+    push_commands(text, command_rows());
+    push_commands(text, tool_rows());
+    text.push(CASES);
+    push_cases(text, command_rows());
+    push_cases(text, tool_rows());
+    text.push(END);
 }
 
-fn push_commands<V>(text: &mut String, rows: &[CommandRow<V>]) -> Result<(), AllocError> {
+fn push_commands<V>(text: &mut TextBuffer, rows: &[CommandRow<V>]) {
     for row in rows {
-        write!(text, "        '{}:", row.name)?;
-        push_escaped(text, Escaping::Zsh, row.about)?;
-        text.push_str("'\n")?;
+        text.push_all(&["        '", row.name, ":"]);
+        text.push_escaped(Escaping::Zsh, row.about);
+        text.push("'\n");
     }
-    Ok(())
 }
 
-fn push_cases<V>(text: &mut String, rows: &[CommandRow<V>]) -> Result<(), AllocError> {
+fn push_cases<V>(text: &mut TextBuffer, rows: &[CommandRow<V>]) {
     for row in rows {
-        write!(text, "    {}) _arguments", row.name)?;
+        text.push_all(&["    ", row.name, ") _arguments"]);
         for argument in row.arguments {
-            text.push_str(" \\\n        ")?;
-            push_argument(text, &ArgumentParts::of(argument))?;
+            text.push(" \\\n        ");
+            push_argument(text, &ArgumentParts::of(argument));
         }
-        text.push_str(" ;;\n")?;
+        text.push(" ;;\n");
     }
-    Ok(())
 }
 
-fn push_argument(text: &mut String, parts: &ArgumentParts) -> Result<(), AllocError> {
+fn push_argument(text: &mut TextBuffer, parts: &ArgumentParts) {
     match parts.kind {
         ArgumentKind::Placed => push_values(text, "':", parts),
-        ArgumentKind::Listed => push_listed(text, parts),
+        ArgumentKind::Listed => {
+            push_first_words(text, parts);
+            push_values(text, "'*:", parts);
+        }
         ArgumentKind::Flag => {
-            write!(text, "'--{}[", parts.name)?;
-            push_escaped(text, Escaping::ZshOption, parts.help)?;
-            text.push_str("]'")
+            text.push_all(&["'--", parts.name, "["]);
+            text.push_escaped(Escaping::ZshOption, parts.help);
+            text.push("]'");
         }
         ArgumentKind::Valued => {
-            write!(text, "'*--{}=[", parts.name)?;
-            push_escaped(text, Escaping::ZshOption, parts.help)?;
-            push_values(text, "]:", parts)
+            text.push_all(&["'*--", parts.name, "=["]);
+            text.push_escaped(Escaping::ZshOption, parts.help);
+            push_values(text, "]:", parts);
         }
     }
 }
 
-// The first word is one of some, if there are any. The others are files.
-fn push_listed(text: &mut String, parts: &ArgumentParts) -> Result<(), AllocError> {
-    if !parts.words().is_empty() {
-        write!(text, "':{}:({})' ", parts.value, parts.words())?;
+// The words of which the first is one, if there are any. The others are files.
+fn push_first_words(text: &mut TextBuffer, parts: &ArgumentParts) {
+    let words = parts.words();
+    if !words.is_empty() {
+        text.push_all(&["':", parts.value, ":(", words, ")' "]);
     }
-    push_values(text, "'*:", parts)
 }
 
 // The end of an argument: the name of its value, and what completes that.
-fn push_values(text: &mut String, before: &str, parts: &ArgumentParts) -> Result<(), AllocError> {
-    write!(text, "{before}{}:", parts.value)?;
+fn push_values(text: &mut TextBuffer, before: &'static str, parts: &ArgumentParts) {
+    let words = parts.words();
     if parts.is_file() {
-        text.push_str("_files")?;
-    } else if !parts.words().is_empty() {
-        write!(text, "({})", parts.words())?;
+        text.push_all(&[before, parts.value, ":_files'"]);
+    } else if words.is_empty() {
+        text.push_all(&[before, parts.value, ":'"]);
+    } else {
+        text.push_all(&[before, parts.value, ":(", words, ")'"]);
     }
-    text.push_str("'")
 }
