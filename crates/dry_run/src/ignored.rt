@@ -30,7 +30,11 @@ pub(crate) fn notes_in(alloc: Global, body: &[u8]) -> Result<Notes, AllocError>
         map string_bytes notes.apps.items ≡ specs.app_notes_in body.now) }
 {
     match read_json(alloc, body)? {
-        Some(top) => notes_if_some(alloc, top.get("request")),
+        Some(top) => {
+            let notes = notes_if_some(alloc, top.get("request"));
+            drop(top);
+            notes
+        }
         None => notes_if_some(alloc, None),
     }
 }

@@ -1,6 +1,6 @@
 //! The files of a dry run, with the rule of each app of the manifest.
 
-ghost use Rattle.std.specs.Prelude.{[], IfOk, IfErr};
+ghost use Rattle.std.specs.Prelude.{◌≡◌, [], IfOk, IfErr};
 ghost use Rattle.load.specs.Loaded.{RefusesPath};
 ghost use Rattle.dry_run.specs.Files.{IsOpenFault};
 ghost use Rattle.dry_run.specs.Meanings as specs;
@@ -11,8 +11,8 @@ use app_rules::read_rules;
 use bounded_files::{Disk, ResourceFault};
 use cells::Directory;
 use load::{
-    FolderFiles, PathFault, SourcesRefusal, collect_sources, make_ruleset, manifest_bytes,
-    sources_are_loaded, sources_are_made,
+    FolderFiles, LoadFault, PathFault, SourcesRefusal, collect_sources, make_ruleset,
+    manifest_bytes, sources_are_loaded, sources_are_made,
 };
 use rule_lang::Rule;
 use ruleset::{LoadedRuleset, Ruleset};
@@ -95,9 +95,10 @@ fn load_why<D: Disk>(alloc: Global, disk: &D, path: &str) -> Result<LoadedWhy, P
     let none = Directory::new(alloc);
     let sources = match collect_sources(alloc, &bytes, &mut files, &none) {
         Ok(sources) => sources,
-        Err(SourcesRefusal { fault, .. }) => return Err(PathFault::Load(fault)),
+        Err(refused) => return Err(PathFault::Load(fault_of(refused))),
     };
     let Ok(optional_rules) = read_rules(alloc, &sources.apps) else {
+        drop(sources);
         return Err(PathFault::Resource(ResourceFault::Memory));
     };
     match make_ruleset(alloc, &bytes, sources) {
@@ -107,4 +108,18 @@ fn load_why<D: Disk>(alloc: Global, disk: &D, path: &str) -> Result<LoadedWhy, P
         }),
         Err(fault) => Err(PathFault::Load(fault)),
     }
+}
+
+// The fault alone; what else a refusal has is dropped.
+fn fault_of(refused: SourcesRefusal) -> LoadFault
+    ensures { result ≡ refused.fault }
+{
+    let SourcesRefusal {
+        fault,
+        arrays,
+        parsed,
+    } = refused;
+    drop(arrays);
+    drop(parsed);
+    fault
 }
