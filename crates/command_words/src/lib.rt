@@ -3,9 +3,11 @@
 //! See docs/PROGRAM.md, "Status".
 #![tactic(auto)]
 
-// How words are read. `command_rows` is the table of the eleven commands. By it `command_line` has
-// `clap` parse the words, or find their first fault. `words` makes a command of the parsed texts.
+// How words are read. `environment` adds options of the environment. `command_rows` is the table of
+// the eleven commands. By it `command_line` has `clap` parse the words, or find their first fault.
+// `words` makes a command of the parsed texts.
 
+mod environment;
 mod program_rows;
 mod program_words;
 mod request;
@@ -15,6 +17,7 @@ mod server_words;
 mod verb;
 mod words;
 
+pub use environment::words_of;
 pub use request::{Command, Plan};
 pub use rows::command_rows;
 pub use words::read_words;

@@ -3,10 +3,8 @@
 //! programs. `command` of the library `commands` does what the words request.
 #![tactic(auto)]
 
-mod environment;
-
-use crate::environment::words_of;
 use command_line::unreadable_words;
+use command_words::words_of;
 use commands::{Device, command};
 use std::process::ExitCode;
 
