@@ -1,68 +1,13 @@
--- The bins into which a log's time is divided: at most 200, of equal width, that begin at round
--- times. A number is a minute or an hour since 1970.
-use Rattle.std.specs.Prelude.{ℕ, ◌+◌, ◌-◌, ◌*◌, ◌/◌, ◌<◌, ◌≤◌, List, [], ◌∷◌, ◌==◌, ◌&&◌}
-use Rattle.std.specs.Prelude.{nat_le, nat_lt, Bool, false, max, min, option_and_then, sum_by}
-use Rattle.std.specs.Prelude.{Option, Some, None, if◌then◌else◌, String, string_bytes, slice_index}
-use Rattle.std.specs.Prelude.{slice_set, replicate}
+-- The bins into which a log's time is divided: at most 200, of equal width. A number is a minute or
+-- an hour since 1970.
+use Rattle.std.specs.Prelude.{ℕ, ◌+◌, ◌-◌, ◌/◌, ◌<◌, ◌≤◌, List, [], ◌∷◌, ◌==◌, nat_le, nat_lt}
+use Rattle.std.specs.Prelude.{Bool, false, option_and_then, sum_by, Option, Some, None}
+use Rattle.std.specs.Prelude.{if◌then◌else◌, String, string_bytes, slice_index, slice_set}
+use Rattle.std.specs.Prelude.{replicate}
 use Rattle.std.specs.declared.alloc.Global.{Global}
 use Rattle.report.specs.Screen.{Rows}
-use Rattle.timeline.specs.Marks.{Drawn, any_moment, moment_of}
+use Rattle.timeline.specs.Marks.{Drawn, moment_of}
 use Rattle.timeline.specs.declared.bins.Bins.{Bins}
-use Rattle.timeline.specs.declared.bins.Reach.{Reach}
-
--- ---- the reach of the rows
-
-abbrev pub wider : Option Reach → Option ℕ → Option Reach
-wider (Some reach) (Some n) =
-    Some (record { least = min reach.least n; greatest = max reach.greatest n })
-wider (Some reach) None = Some reach
-wider None (Some n) = Some (record { least = n; greatest = n })
-wider None None = None
-
--- from the least number of these rows to the greatest
-abbrev pub reach_from : Option Reach → Rows → Option Reach
-reach_from so_far [] = so_far
-reach_from so_far (row ∷ rows) = reach_from (wider so_far (any_moment (string_bytes row.0))) rows
-
--- ---- the width of bins
-
--- how many bins follow the first, if a bin has `width` numbers
-abbrev pub further_bins : Reach → ℕ → ℕ
-further_bins reach width = reach.greatest / width - reach.least / width
-
-abbrev pub is_wide_enough : Reach → ℕ → Bool
-is_wide_enough reach width = nat_lt 0 width && nat_lt (further_bins reach width) 200
-
--- the first width that gives at most 200 bins, or else a width that does
-abbrev pub width_among : Reach → List ℕ → ℕ
-width_among reach [] = (reach.greatest - reach.least) / 199 + 1
-width_among reach (width ∷ widths) =
-    if is_wide_enough reach width then width else width_among reach widths
-
--- widths in minutes, and in hours
-abbrev pub minute_widths : List ℕ
-minute_widths = 1 ∷ 2 ∷ 5 ∷ 10 ∷ 15 ∷ 30 ∷ 60 ∷ []
-
-abbrev pub hour_widths : List ℕ
-hour_widths = 1 ∷ 2 ∷ 3 ∷ 6 ∷ 12 ∷ 24 ∷ 48 ∷ 168 ∷ 672 ∷ []
-
--- ---- bins
-
--- bins with `width` numbers each, and `unit` minutes for each number
-abbrev pub bins_of : Reach → (unit width : ℕ) → Bins
-bins_of reach unit width = record {
-  unit = unit;
-  width = width;
-  first = reach.least / width;
-  count = further_bins reach width + 1;
-  start = reach.least / width * width * unit;
-  span = (further_bins reach width + 1) * width * unit;
-}
-
-abbrev pub bins_over : Reach → Bool → Bins
-bins_over reach by_hour =
-    if by_hour then bins_of reach 60 (width_among reach hour_widths)
-    else bins_of reach 1 (width_among reach minute_widths)
 
 -- there are at most 200 bins, and they end within 64 bits
 pub record AreBins (bins : Bins) : Type 0 where

@@ -1,5 +1,4 @@
 pub mod Bins
 pub mod Loads
 pub mod Marks
-pub mod Tables
 pub mod Versions

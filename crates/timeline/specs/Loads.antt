@@ -1,11 +1,15 @@
--- The loads within the bins. The rows of loads have the time, the generation and the path.
-use Rattle.std.specs.Prelude.{ℕ, ◌-◌, List, string_bytes, nat_lt, nat_le, ◌&&◌, Option, Some, None}
-use Rattle.std.specs.Prelude.{option_and_then, String, is_none, sum_by, if◌then◌else◌}
+-- The loads within the bins, and what a chart leaves out. The rows of loads have the time, the
+-- generation and the path.
+use Rattle.std.specs.Prelude.{ℕ, ◌+◌, ◌-◌, List, string_bytes, nat_lt, nat_le, ◌&&◌, Option, Some}
+use Rattle.std.specs.Prelude.{None, option_and_then, String, is_none, sum_by, if◌then◌else◌}
 use Rattle.std.specs.declared.alloc.Global.{Global}
 use Rattle.moments.specs.Calendar.{minute_in}
 use Rattle.report.specs.Exposition.{first}
 use Rattle.report.specs.Screen.{Rows}
+use Rattle.report.specs.declared.counting.Report.{Report}
+use Rattle.report.specs.declared.tally.Tally.{Tally}
 use Rattle.timeline.specs.declared.bins.Bins.{Bins}
+use Rattle.timeline.specs.declared.picture.Undrawn.{Undrawn}
 
 -- the minute of a load, if it is within the bins
 abbrev pub minute_within : Bins → ℕ → Option ℕ
@@ -24,3 +28,12 @@ count_outside bins row = outside bins (string_bytes row.0) row.1
 
 abbrev pub loads_outside : Bins → Rows → ℕ
 loads_outside bins rows = sum_by (count_outside bins) rows
+
+-- what a chart leaves out: counts without a row, update checks of apps after the first 256, and
+-- loads after the first 256 or outside the bins
+abbrev pub undrawn_of : Report → Tally → Bins → Undrawn
+undrawn_of r t bins = record {
+  counts = t.others;
+  asks = r.update_checks.others;
+  loads = r.loads.others + loads_outside bins r.loads.rows.entries;
+}

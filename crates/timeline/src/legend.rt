@@ -4,7 +4,7 @@ ghost use Rattle.std.specs.Prelude.{◌≡◌, IfOk};
 ghost use Rattle.timeline.specs.Versions as specs;
 
 use crate::layers::next_colour;
-use crate::marks::{Series, added, drawn_count};
+use crate::marks::{Series, drawn_count};
 use std::alloc::AllocError;
 use std::collections::BTreeMap;
 use svg::{Picture, SvgAttribute, Tag};
@@ -30,12 +30,12 @@ pub(crate) fn draw_legend<'a>(
     picture.end_label(640, 455, "offers");
     picture.end_label(740, 455, "installs");
     picture.end_label(840, 455, "failures");
-    let mut top = 462;
+    let mut top: u64 = 462;
     let mut colour = 1;
     for version in versions {
         let counts = counts_of_version(rows, app, version.as_str())?;
         draw_row(picture, top, colour, version.as_str(), counts);
-        top = added(top, 20)?;
+        top = top.saturating_add(20);
         colour = next_colour(colour);
     }
     Ok(())

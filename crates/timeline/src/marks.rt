@@ -1,6 +1,6 @@
 //! The rows for a chart, and the series that include them.
 
-ghost use Rattle.std.specs.Prelude.{◌≡◌, ◌+◌, ◌≤◌, IfOk, IfSome};
+ghost use Rattle.std.specs.Prelude.{◌≡◌, ◌+◌, IfOk};
 ghost use Rattle.std.specs.Option.{option_copied};
 ghost use Rattle.report.specs.Exposition.{first, rest};
 ghost use Rattle.timeline.specs.Marks as specs;
@@ -47,8 +47,7 @@ impl<'a> Series<'a> {
 
 /// The minute or hour of a name, if the series includes it.
 pub(crate) fn moment_of(drawn: Series<'_>, name: &str) -> Option<u64>
-    ensures moment { result ≡ specs.moment_of (specs.drawn_by drawn.entry) name.now }
-    ensures within { IfSome result (λ n. n ≤ 4223371679) }
+    ensures { result ≡ specs.moment_of (specs.drawn_by drawn.entry) name.now }
 {
     let name = rest_after(drawn.what, name)?;
     let name = rest_after(drawn.app, name)?;
@@ -57,16 +56,12 @@ pub(crate) fn moment_of(drawn: Series<'_>, name: &str) -> Option<u64>
 }
 
 /// The minute or hour of any name.
-pub(crate) fn any_moment(name: &str) -> Option<u64>
-    ensures moment { result ≡ specs.any_moment name.now }
-    ensures within { IfSome result (λ n. n ≤ 4223371679) }
-{
+pub(crate) fn any_moment(name: &str) -> Option<u64> {
     moment_in(rest(rest(rest(name))))
 }
 
 fn moment_in(text: &str) -> Option<u64>
-    ensures moment { result ≡ specs.moment_in text.now }
-    ensures within { IfSome result (λ n. n ≤ 4223371679) }
+    ensures { result ≡ specs.moment_in text.now }
 {
     decimal_within(text, 0, LAST_MINUTE)
 }

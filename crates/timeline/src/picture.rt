@@ -3,7 +3,7 @@
 ghost use Rattle.std.specs.Prelude.{◌≡◌, IfOk, string_bytes};
 ghost use Rattle.svg.specs.WellFormed.{IsDocument};
 ghost use Rattle.timeline.specs.Bins.{AreBins};
-ghost use Rattle.timeline.specs.Tables as specs;
+ghost use Rattle.timeline.specs.Loads as specs;
 
 use crate::app_panel::{PictureSource, draw_panel, panel_end};
 use crate::bins::{Bins, Reach, bins_over, reach_of};
@@ -49,24 +49,15 @@ pub fn draw_course(alloc: Global, report: &Report) -> Result<String, AllocError>
 }
 
 // Whether the table by minute is complete, and its time is short.
-fn is_fine(by_minute: &Tally) -> bool
-    ensures { result ≡ specs.is_fine by_minute.now }
-{
-    by_minute.others() == 0 && is_short(reach_of(by_minute.rows()))
-}
-
-fn is_short(reach: Option<Reach>) -> bool
-    ensures { result ≡ specs.is_short reach }
-{
-    match reach {
+fn is_fine(by_minute: &Tally) -> bool {
+    let short = match reach_of(by_minute.rows()) {
         Some(reach) => reach.greatest.saturating_sub(reach.least) < MOST_MINUTES,
         None => true,
-    }
+    };
+    short && by_minute.others() == 0
 }
 
-fn table_of<'a>(course: &'a Course, by_hour: bool) -> &'a Tally
-    ensures { result.now ≡ specs.table_of course.now by_hour }
-{
+fn table_of<'a>(course: &'a Course, by_hour: bool) -> &'a Tally {
     if by_hour {
         &course.by_hour
     } else {

@@ -45,8 +45,7 @@ pub(crate) fn draw_strips<'a>(
         versions,
         180,
     )?;
-    draw_rates(alloc, picture, source, app, versions, 300)?;
-    Ok(())
+    draw_rates(alloc, picture, source, app, versions, 300)
 }
 
 // A version's share in each bin is its part of all counts of the series.
