@@ -1,7 +1,9 @@
 -- A command with a malformed argument makes no command.
-use Rattle.std.proofs.Common.{List}
-use Rattle.clap.specs.Words.{Row}
+use Rattle.std.proofs.Common.{List, codes}
+use Rattle.clap.specs.Words.{Row, Text}
 use Rattle.command_line.specs.Runs.{LacksRun}
+use Rattle.command_line.specs.Values.{HasShape, HasText}
+use Rattle.command_line.specs.declared.declared_shape.DeclaredShape.{DeclaredShape}
 use Rattle.tool_words.specs.AskWords.{LacksAsk}
 use Rattle.tool_words.specs.CheckWords.{LacksCheck}
 use Rattle.tool_words.specs.CompletionWords.{LacksShell}
@@ -28,6 +30,20 @@ completes_none rows lacks command makes = makes
 pub diffs_none : (rows : List Row) → LacksDiff rows → VerbMakesNone verb.Diff rows
 diffs_none rows lacks (command.Diff args) makes = lacks args makes
 diffs_none rows lacks command makes = makes
+
+pub explains_none : (rows : List Row)
+    → ((path : Text) (shape : DeclaredShape) → HasText (codes "IN") rows path
+    → ¬ HasShape rows shape)
+    → VerbMakesNone verb.Explain rows
+explains_none rows lacks (command.Explain path shape) makes =
+    lacks path.now shape makes.0 makes.1
+explains_none rows lacks command makes = makes
+
+pub orders_none : (rows : List Row)
+    → ((path out : Text) → HasText (codes "IN") rows path → ¬ HasText (codes "OUT") rows out)
+    → VerbMakesNone verb.Order rows
+orders_none rows lacks (command.Order path out) makes = lacks path.now out.now makes.0 makes.1
+orders_none rows lacks command makes = makes
 
 pub reports_none : (rows : List Row) → LacksReport rows → VerbMakesNone verb.Report rows
 reports_none rows lacks (command.Report args) makes = lacks args makes

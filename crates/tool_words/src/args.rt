@@ -18,7 +18,7 @@ pub struct CheckArgs<'a> {
 
 /// The arguments of `simulate`: a manifest, which is compared with `against`, the one served at
 /// present. `app` describes the clients; the picture is written into `picture`.
-#[derive(Clone, Copy)]
+#[derive(Drop)]
 pub struct SimulateArgs<'a> {
     pub manifest: &'a str,
     pub against: Option<&'a str>,

@@ -23,28 +23,18 @@ pub(crate) fn read_ask<'a>(
     ensures made { IfOk result (VerbMakes ToolVerb.Ask (rows_of (found_of found.now))) }
     ensures none { OnWrong result (VerbMakesNone ToolVerb.Ask (rows_of (found_of found.now))) }
 {
-    match ask_args(alloc, found) {
-        Ok(args) => Ok(ToolCommand::Ask(args)),
-        Err(error) => Err(error),
-    }
-}
-
-fn ask_args<'a>(alloc: Global, found: &ArgMatches<'a>) -> Result<AskArgs<'a>, ArgsError>
-    ensures given { IfOk result (specs.HasAsk (rows_of (found_of found.now))) }
-    ensures lacking { OnWrong result (specs.LacksAsk (rows_of (found_of found.now))) }
-{
     let manifest = text_of(found, "MANIFEST")?;
     let request = text_of(found, "REQUEST")?;
     let at = second_of(found)?;
     let cells = cells_of(alloc, found)?;
-    Ok(AskArgs {
+    Ok(ToolCommand::Ask(AskArgs {
         manifest,
         request,
         at,
         cells,
         operator: optional_number(found, "operator"),
         why: flag_of(found, "why"),
-    })
+    }))
 }
 
 // ---- the counters

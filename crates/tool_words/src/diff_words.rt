@@ -3,7 +3,6 @@
 ghost use Rattle.std.specs.Prelude.{IfOk};
 ghost use Rattle.clap.specs.Words.{found_of, rows_of};
 ghost use Rattle.command_line.specs.Values.{OnWrong};
-ghost use Rattle.tool_words.specs.DiffWords as specs;
 ghost use Rattle.tool_words.specs.Words.{VerbMakes, VerbMakesNone};
 
 use crate::args::{DiffArgs, ToolCommand};
@@ -21,21 +20,11 @@ pub(crate) fn read_diff<'a>(
     ensures made { IfOk result (VerbMakes ToolVerb.Diff (rows_of (found_of found.now))) }
     ensures none { OnWrong result (VerbMakesNone ToolVerb.Diff (rows_of (found_of found.now))) }
 {
-    match diff_args(alloc, found) {
-        Ok(args) => Ok(ToolCommand::Diff(args)),
-        Err(error) => Err(error),
-    }
-}
-
-fn diff_args<'a>(alloc: Global, found: &ArgMatches<'a>) -> Result<DiffArgs<'a>, ArgsError>
-    ensures given { IfOk result (specs.HasDiff (rows_of (found_of found.now))) }
-    ensures lacking { OnWrong result (specs.LacksDiff (rows_of (found_of found.now))) }
-{
     let old = text_of(found, "OLD")?;
     let new = text_of(found, "NEW")?;
     let from = from_of(found)?;
     let cells = cells_of(alloc, found)?;
-    Ok(DiffArgs {
+    Ok(ToolCommand::Diff(DiffArgs {
         old,
         new,
         appid: optional_text(found, "app"),
@@ -44,5 +33,5 @@ fn diff_args<'a>(alloc: Global, found: &ArgMatches<'a>) -> Result<DiffArgs<'a>, 
         operator: optional_number(found, "operator"),
         fail_on_lost: flag_of(found, "fail-on-lost"),
         json: flag_of(found, "json"),
-    })
+    }))
 }

@@ -4,8 +4,7 @@ ghost use Rattle.std.specs.Prelude.{◌↔◌, IfOk, IsSome, IsTrue, OnErr};
 ghost use Rattle.std.specs.Option.{option_copied};
 ghost use Rattle.clap.specs.Words.{first_of, found_of, rows_of};
 ghost use Rattle.command_line.specs.Values.{OnWrong};
-ghost use Rattle.tool_words.specs.ReportWords.{HasReport, IsNamedTime, LacksNamedTime};
-ghost use Rattle.tool_words.specs.ReportWords.{LacksReport, MixesState};
+ghost use Rattle.tool_words.specs.ReportWords.{IsNamedTime, LacksNamedTime, MixesState};
 ghost use Rattle.tool_words.specs.Words.{VerbMakes, VerbMakesNone};
 
 use crate::args::{ReportArgs, ToolCommand};
@@ -23,16 +22,6 @@ pub(crate) fn read_report<'a>(
     ensures made { IfOk result (VerbMakes ToolVerb.Report (rows_of (found_of found.now))) }
     ensures none { OnWrong result (VerbMakesNone ToolVerb.Report (rows_of (found_of found.now))) }
 {
-    match report_args(alloc, found) {
-        Ok(args) => Ok(ToolCommand::Report(args)),
-        Err(error) => Err(error),
-    }
-}
-
-fn report_args<'a>(alloc: Global, found: &ArgMatches<'a>) -> Result<ReportArgs<'a>, ArgsError>
-    ensures given { IfOk result (HasReport (rows_of (found_of found.now))) }
-    ensures lacking { OnWrong result (LacksReport (rows_of (found_of found.now))) }
-{
     let since = moment_of(found, "since", ArgumentFault::Since)?;
     let until = moment_of(found, "until", ArgumentFault::Until)?;
     if mixes_state(found) {
@@ -41,7 +30,7 @@ fn report_args<'a>(alloc: Global, found: &ArgMatches<'a>) -> Result<ReportArgs<'
     let Ok(logs) = texts_of(alloc, found, "LOG") else {
         return Err(ArgsError::Memory);
     };
-    Ok(ReportArgs {
+    Ok(ToolCommand::Report(ReportArgs {
         logs,
         since,
         until,
@@ -50,7 +39,7 @@ fn report_args<'a>(alloc: Global, found: &ArgMatches<'a>) -> Result<ReportArgs<'
         state: optional_text(found, "state"),
         heads: flag_of(found, "heads"),
         operator: optional_number(found, "operator"),
-    })
+    }))
 }
 
 // Whether `--state` is given with a moment or a picture.

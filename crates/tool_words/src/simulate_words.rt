@@ -20,16 +20,6 @@ pub(crate) fn read_simulate<'a>(found: &ArgMatches<'a>) -> Result<ToolCommand<'a
     ensures none { OnWrong result
         (VerbMakesNone ToolVerb.Simulate (rows_of (found_of found.now))) }
 {
-    match simulate_args(found) {
-        Ok(args) => Ok(ToolCommand::Simulate(args)),
-        Err(error) => Err(error),
-    }
-}
-
-fn simulate_args<'a>(found: &ArgMatches<'a>) -> Result<SimulateArgs<'a>, ArgsError>
-    ensures given { IfOk result (specs.HasSimulate (rows_of (found_of found.now))) }
-    ensures lacking { OnErr result (specs.LacksSimulate (rows_of (found_of found.now))) }
-{
     let manifest = text_of(found, "MANIFEST")?;
     let app = read_anyone(found)?;
     if writes_over(found) {
@@ -38,7 +28,7 @@ fn simulate_args<'a>(found: &ArgMatches<'a>) -> Result<SimulateArgs<'a>, ArgsErr
     if wants_against(found) {
         return Err(ArgsError::Wrong(ArgumentFault::Against));
     }
-    Ok(SimulateArgs {
+    Ok(ToolCommand::Simulate(SimulateArgs {
         manifest,
         against: optional_text(found, "against"),
         picture: optional_text(found, "svg"),
@@ -46,7 +36,7 @@ fn simulate_args<'a>(found: &ArgMatches<'a>) -> Result<SimulateArgs<'a>, ArgsErr
         appid: optional_text(found, "app"),
         fail_on_lost: flag_of(found, "fail-on-lost"),
         json: flag_of(found, "json"),
-    })
+    }))
 }
 
 // The app that the options describe, without an appid and a cohort, since each app is simulated in

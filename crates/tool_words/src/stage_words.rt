@@ -22,19 +22,9 @@ pub(crate) fn read_stage<'a>(
     ensures made { IfOk result (VerbMakes ToolVerb.Stage (rows_of (found_of found.now))) }
     ensures none { OnWrong result (VerbMakesNone ToolVerb.Stage (rows_of (found_of found.now))) }
 {
-    match stage_args(alloc, found) {
-        Ok(args) => Ok(ToolCommand::Stage(args)),
-        Err(error) => Err(error),
-    }
-}
-
-fn stage_args<'a>(alloc: Global, found: &ArgMatches<'a>) -> Result<StageArgs<'a>, ArgsError>
-    ensures given { IfOk result (specs.HasStage (rows_of (found_of found.now))) }
-    ensures lacking { OnWrong result (specs.LacksStage (rows_of (found_of found.now))) }
-{
     let action = action_of(alloc, found)?;
     let operators = ports_of(alloc, found)?;
-    Ok(StageArgs {
+    Ok(ToolCommand::Stage(StageArgs {
         action,
         operators,
         folder: folder_of(found),
@@ -42,7 +32,7 @@ fn stage_args<'a>(alloc: Global, found: &ArgMatches<'a>) -> Result<StageArgs<'a>
         no_load: flag_of(found, "no-load"),
         dry_run: flag_of(found, "dry-run"),
         anyway: flag_of(found, "anyway"),
-    })
+    }))
 }
 
 fn folder_of<'a>(found: &ArgMatches<'a>) -> &'a str
