@@ -34,14 +34,12 @@ where
 {
     let _printed = match command {
         ToolCommand::Ask(args) => print_ask_fault(rt, disk, args, fault, err),
-        ToolCommand::Check(_) => false,
-        ToolCommand::Completion { .. } => false,
+        ToolCommand::Check(_) | ToolCommand::Completion { .. } | ToolCommand::Stage(_) => false,
         ToolCommand::Diff(args) => print_diff_fault(rt, disk, args, fault, err),
         ToolCommand::Explain { path, .. } => print_program_fault(rt, disk, path, err),
         ToolCommand::Order { path, out } => print_order_fault(rt, disk, path, out, fault, err),
         ToolCommand::Report(args) => print_report_fault(rt, args, fault, err),
         ToolCommand::Simulate(args) => print_simulate_fault(rt, disk, args, fault, err),
-        ToolCommand::Stage(_) => false,
         ToolCommand::Trace(run) => print_program_fault(rt, disk, run.path, err),
     };
 }

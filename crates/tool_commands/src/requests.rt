@@ -39,9 +39,10 @@ where
         ToolCommand::Completion { shell } => completed(rt.alloc(), *shell),
         ToolCommand::Diff(args) => diffed(rt, disk, args),
         ToolCommand::Explain { path, shape } => explained(rt.alloc(), disk, path, shape),
-        ToolCommand::Order { path, out } => Ok(ToolOutput::Ordered {
-            program: order_file(rt, disk, path, out).map_err(Fault::Program)?,
-        }),
+        ToolCommand::Order { path, out } => match order_file(rt, disk, path, out) {
+            Ok(program) => Ok(ToolOutput::Ordered { program }),
+            Err(fault) => Err(Fault::Program(fault)),
+        },
         ToolCommand::Report(args) => reported(rt, args),
         ToolCommand::Simulate(args) => simulated(rt, disk, args),
         ToolCommand::Stage(args) => staged(rt, disk, args),

@@ -40,9 +40,18 @@ where
     ensures wrong { result ≡ 2 → AreWrong (map S.text words.now) }
     ensures usage { result ≡ 2 → out.new ≡ out.old }
 {
+    // A command and a fault are dropped by one call, as outputs are below.
     match read_tool_words(rt.alloc(), words) {
-        Ok(command) => perform_whole(rt, disk, &command, out, err),
-        Err(fault) => usage(&fault, out, err),
+        Ok(command) => {
+            let status = perform_whole(rt, disk, &command, out, err);
+            drop(command);
+            status
+        }
+        Err(fault) => {
+            let status = usage(&fault, out, err);
+            drop(fault);
+            status
+        }
     }
 }
 
