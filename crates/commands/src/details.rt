@@ -24,23 +24,22 @@ where
     E: Write,
 {
     let _printed = match command {
-        Command::Assemble { text, out } => print_texts_fault(rt, text, out, fault, err),
-        Command::Compile { text, out, .. } => print_texts_fault(rt, text, out, fault, err),
-        Command::List { path } => print_program_fault(rt, disk, path, err),
+        Command::Assemble { text, out } | Command::Compile { text, out, .. } => {
+            print_texts_fault(rt, text, out, fault, err)
+        }
+        Command::List { path } | Command::Verify { path, .. } => {
+            print_program_fault(rt, disk, path, err)
+        }
         Command::Replay { manifest, script } => {
             print_read_fault(rt, script, err) || print_unread_manifest(rt, disk, manifest, err)
         }
         Command::Run(run) => print_program_fault(rt, disk, run.path, err),
-        Command::Send { request, port } => {
-            print_request_fault(rt, disk, request, *port, fault, err)
+        Command::Send { port, .. } | Command::StopAndWait { port } => {
+            print_request_fault(rt, disk, command, *port, fault, err)
         }
         Command::Serve { manifest, plan } => {
             print_start_fault(rt, disk, manifest, plan, fault, err)
         }
-        Command::StopAndWait { port } => {
-            print_request_fault(rt, disk, &OperatorRequest::Stop, *port, fault, err)
-        }
-        Command::Verify { path, .. } => print_program_fault(rt, disk, path, err),
     };
 }
 
@@ -67,7 +66,7 @@ fn print_texts_fault<R: Files, E: Write>(
 fn print_request_fault<R, D, E>(
     rt: &R,
     disk: &D,
-    request: &OperatorRequest<'_>,
+    command: &Command<'_>,
     port: u16,
     fault: &Fault,
     err: &mut E,
@@ -79,8 +78,11 @@ where
 {
     match fault {
         Fault::Ask(RequestFault::Connect) => print_connect_fault(rt, port, err),
-        Fault::Ask(RequestFault::Refused(words)) => match request {
-            OperatorRequest::Load(path) => print_load_hint(rt, disk, words.as_str(), path, err),
+        Fault::Ask(RequestFault::Refused(words)) => match command {
+            Command::Send {
+                request: OperatorRequest::Load(path),
+                ..
+            } => print_load_hint(rt, disk, words.as_str(), path, err),
             _ => false,
         },
         _ => false,

@@ -43,7 +43,10 @@ where
     let ports = server.ports();
     let (queue, end) = match start_log(rt, ports.service().port()) {
         Ok(log) => log,
-        Err(fault) => return Err(ServingFault::Resource(fault)),
+        Err(fault) => {
+            drop(server);
+            return Err(ServingFault::Resource(fault));
+        }
     };
     let starting = Starting {
         manifest,

@@ -36,11 +36,11 @@ where
         return;
     }
     let after = apps_shown(rt, command, true);
-    match removed_between(rt.alloc(), before, after.as_str()) {
-        Ok(names) if !names.is_empty() => {
-            let _printed = eprintln!(rt; "apps gone: {names}");
-        }
-        _ => {}
+    let Ok(names) = removed_between(rt.alloc(), before, after.as_str()) else {
+        return;
+    };
+    if !names.is_empty() {
+        let _printed = eprintln!(rt; "apps gone: {names}");
     }
 }
 

@@ -31,29 +31,42 @@ where
 {
     let alloc = rt.alloc();
     match command {
-        Command::Assemble { text, out } => Ok(CommandOutput::Assembled {
-            program: assemble_file(rt, disk, text, out).map_err(Fault::Program)?,
-        }),
-        Command::Compile { text, shape, out } => Ok(CommandOutput::Compiled {
-            slots: compile_file(rt, disk, text, shape, out).map_err(Fault::Program)?,
-        }),
-        Command::List { path } => Ok(CommandOutput::Listed {
-            text: list_file(alloc, disk, path).map_err(Fault::Program)?,
-        }),
-        Command::Replay { manifest, script } => Ok(CommandOutput::Replayed {
-            text: replay_script(alloc, disk, manifest, script)?,
-        }),
+        Command::Assemble { text, out } => match assemble_file(rt, disk, text, out) {
+            Ok(program) => Ok(CommandOutput::Assembled { program }),
+            Err(fault) => Err(Fault::Program(fault)),
+        },
+        Command::Compile { text, shape, out } => match compile_file(rt, disk, text, shape, out) {
+            Ok(slots) => Ok(CommandOutput::Compiled { slots }),
+            Err(fault) => Err(Fault::Program(fault)),
+        },
+        Command::List { path } => match list_file(alloc, disk, path) {
+            Ok(text) => Ok(CommandOutput::Listed { text }),
+            Err(fault) => Err(Fault::Program(fault)),
+        },
+        Command::Replay { manifest, script } => {
+            match replay_script(alloc, disk, manifest, script) {
+                Ok(text) => Ok(CommandOutput::Replayed { text }),
+                Err(fault) => Err(fault),
+            }
+        }
         Command::Run(run) => chosen(alloc, disk, run),
-        Command::Send { request, port } => Ok(CommandOutput::Replied {
-            text: ask_server(rt, *request, *port).map_err(Fault::Ask)?,
-        }),
-        Command::Serve { manifest, plan } => Ok(CommandOutput::Ready {
-            server: prepare(rt, disk, manifest, plan.port, plan.operator).map_err(Fault::Serving)?,
-            plan: *plan,
-        }),
-        Command::StopAndWait { port } => Ok(CommandOutput::Replied {
-            text: stop_and_wait(rt, *port).map_err(Fault::Ask)?,
-        }),
+        Command::Send { request, port } => match ask_server(rt, *request, *port) {
+            Ok(text) => Ok(CommandOutput::Replied { text }),
+            Err(fault) => Err(Fault::Ask(fault)),
+        },
+        Command::Serve { manifest, plan } => {
+            match prepare(rt, disk, manifest, plan.port, plan.operator) {
+                Ok(server) => Ok(CommandOutput::Ready {
+                    server,
+                    plan: *plan,
+                }),
+                Err(fault) => Err(Fault::Serving(fault)),
+            }
+        }
+        Command::StopAndWait { port } => match stop_and_wait(rt, *port) {
+            Ok(text) => Ok(CommandOutput::Replied { text }),
+            Err(fault) => Err(Fault::Ask(fault)),
+        },
         Command::Verify { path, shape } => match verify_file(alloc, disk, path, shape) {
             Ok(slots) => Ok(CommandOutput::Accepted { slots }),
             Err(fault) => Err(Fault::Program(fault)),

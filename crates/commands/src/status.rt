@@ -51,8 +51,18 @@ where
     ensures usage { result ≡ 2 → out.new ≡ out.old }
 {
     match read_words(rt.alloc(), words) {
-        Ok(command) => perform_comparing(rt, disk, &command, is_verbose(words), out, err),
-        Err(fault) => usage(&fault, out, err),
+        // A value of many parts is dropped by one call. Left to the end of the arm, each of its
+        // parts would be dropped by its own call.
+        Ok(command) => {
+            let status = perform_comparing(rt, disk, &command, is_verbose(words), out, err);
+            drop(command);
+            status
+        }
+        Err(fault) => {
+            let status = usage(&fault, out, err);
+            drop(fault);
+            status
+        }
     }
 }
 
@@ -112,8 +122,6 @@ where
         Ok(CommandOutput::Ready { server, plan }) => {
             serve(rt, disk, server, manifest_of(command), &plan, out, err)
         }
-        // An output and a fault are dropped by one call. Left to the end of the arm, each of their
-        // many parts would be dropped by its own call.
         Ok(output) => {
             let status = print_output(&output, out, err);
             drop(output);

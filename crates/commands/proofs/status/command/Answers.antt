@@ -9,16 +9,16 @@ returns-in-Err-clause-done g c zero =
     let words = map g.S.AsStr.text c.args.words.now in
     inl (
       help_is commands (AskForNothing words) words c.in-Err.fault c.in-Err.ensures.fault
-          (c.usage.ensures.help zero),
-      c.usage.ensures.silent zero,
+          (c.usage-status.ensures.help zero),
+      c.usage-status.ensures.silent zero,
     )
 
 pub returns-in-Ok-clause-done : goal.returns-in-Ok-clause-done
 returns-in-Ok-clause-done g c zero =
-    inr (c.in-Ok.command, c.in-Ok.ensures.request, c.perform_comparing.ensures.done zero)
+    inr (c.in-Ok.command, c.in-Ok.ensures.request, c.perform_comparing-status.ensures.done zero)
 
 pub returns-in-Err-clause-wrong : goal.returns-in-Err-clause-wrong
 returns-in-Err-clause-wrong g c two =
     let words = map g.S.AsStr.text c.args.words.now in
     wrong_is commands (AskForNothing words) words c.in-Err.fault c.in-Err.ensures.fault
-    (c.usage.ensures.wrong two)
+    (c.usage-status.ensures.wrong two)
