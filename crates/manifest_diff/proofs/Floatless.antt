@@ -1,7 +1,8 @@
 -- The object of a comparison has no float.
-use Rattle.std.proofs.Common.{◌≡◌, refl, ℕ, List, [], ◌∷◌, Bool, true, false, ◌||◌, map}
+use Rattle.std.proofs.Common.{◌≡◌, refl, ℕ, List, [], ◌∷◌, Bool, true, false, map}
 use Rattle.std.specs.Prelude.{Some, None, if◌then◌else◌}
 use Rattle.std.specs.List.{cons_option}
+use Rattle.std.proofs.lemmas.Bool.{or_from}
 use Rattle.std.specs.Str.{bytes_eq}
 use Rattle.serde_json.specs.Data.{Data, null}
 use Rattle.serde_json.specs.View.{items_of}
@@ -17,10 +18,6 @@ use Rattle.manifest_diff.specs.declared.app_diff.AppDiff.{AppDiff}
 
 abbrev AreFloatless : List Data → Type 0
 AreFloatless values = items_have_float (items_of values) ≡ false
-
-or_neither : (a b : Bool) → a ≡ false → b ≡ false → (a || b) ≡ false
-or_neither true b first second = first
-or_neither false b first second = second
 
 none_or : (b : Bool) (value : Data) → has_float value ≡ false
     → has_float (if b then null else value) ≡ false
@@ -41,14 +38,14 @@ rows_of (NotCompared reason) = refl
 
 app : (d : AppDiff) → has_float (app_object d) ≡ false
 app d =
-    or_neither (items_have_float (items_of (rows_in d.outcome))) _ (rows_of d.outcome)
-    (or_neither (has_float (why_object d.outcome)) false (why d.outcome) refl)
+    or_from (items_have_float (items_of (rows_in d.outcome))) _ (rows_of d.outcome)
+    (or_from (has_float (why_object d.outcome)) false (why d.outcome) refl)
 
 if_shown : (silent : Bool) (value : Data) (values : List Data) → has_float value ≡ false
     → AreFloatless values
     → AreFloatless (cons_option (if silent then None else Some value) values)
 if_shown true value values is others = others
-if_shown false value values is others = or_neither (has_float value) _ is others
+if_shown false value values is others = or_from (has_float value) _ is others
 
 apps : (diffs : List AppDiff) → AreFloatless (app_objects diffs)
 apps [] = refl
@@ -64,7 +61,7 @@ arrays (c ∷ changes) = arrays changes
 pub floatless : (old new : List ℕ) (changes : List ArrayChange) (diffs : List AppDiff)
     (lost same : Bool) → has_float (diff_object old new changes diffs lost same) ≡ false
 floatless old new changes diffs lost same =
-    or_neither (items_have_float (items_of (app_objects diffs))) _ (apps diffs)
-    (or_neither (items_have_float (items_of (map array_object changes))) _ (arrays changes)
-    (or_neither (has_float (server_object old new)) false
+    or_from (items_have_float (items_of (app_objects diffs))) _ (apps diffs)
+    (or_from (items_have_float (items_of (map array_object changes))) _ (arrays changes)
+    (or_from (has_float (server_object old new)) false
     (none_or (bytes_eq old new) _ refl) refl))

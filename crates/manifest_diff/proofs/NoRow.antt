@@ -1,10 +1,9 @@
 -- The promise of a comparison, from what is proved of rules.
-use Rattle.std.proofs.Common.{◌≡◌, ◌∙◌, refl, sym, ap, ℕ, zero, suc, ◌<◌, arith}
-use Rattle.std.proofs.Common.{List, [], ◌∷◌, length}
-use Rattle.std.proofs.Common.{inl, inr}
-use Rattle.std.specs.Prelude.{Bool, true, false, ◌||◌, Contains, Option, Some, None, slice_index_or}
+use Rattle.std.proofs.Common.{◌≡◌, ◌∙◌, refl, sym, ap, ℕ, List, inl, inr}
+use Rattle.std.specs.Prelude.{Bool, true, false, Contains, Option, Some, None}
 use Rattle.std.specs.List.{list_any}
-use Rattle.std.proofs.lemmas.Bool.{false≢true}
+use Rattle.std.proofs.lemmas.Bool.{both_ways}
+use Rattle.std.proofs.lemmas.List.Folds.{Any-from_list_any, list_any_at}
 use Rattle.attrs.specs.Attributes.{Attributes}
 use Rattle.rule_diff.specs.Replies.{RunsAreInStates}
 use Rattle.rule_diff.specs.Rows.{Row, row_agrees}
@@ -44,47 +43,11 @@ given law x side is a content run =
 
 -- ---- rows
 
--- one of the rows passes a test
-record IsAmong (p : Row → Bool) (rows : List Row) : Type 0 where
-  row : Row
-  there : Contains rows row
-  passes : p row ≡ true
-
-among_step : (p : Row → Bool) (row : Row) (rows : List Row) (first : Bool) → p row ≡ first
-    → (first || list_any p rows) ≡ true → (list_any p rows ≡ true → IsAmong p rows)
-    → IsAmong p (row ∷ rows)
-among_step p row rows true is any later =
-    record { row = row; there = (0, omega arith, refl); passes = is }
-among_step p row rows false is any later =
-    let f = later any in record {
-      row = f.row;
-      there = (suc f.there.0, (let below = f.there.1 in omega (arith, below)), f.there.2);
-      passes = f.passes;
-    }
-
-among : (p : Row → Bool) (rows : List Row) → list_any p rows ≡ true → IsAmong p rows
-among p [] any = absurd (false≢true any)
-among p (row ∷ rows) any = among_step p row rows (p row) refl any (λ later. among p rows later)
-
-none_step : (p : Row → Bool) (first : Row) (rows : List Row) (row : Row) (k : ℕ)
-    → p first ≡ false → k < length (first ∷ rows) → slice_index_or (first ∷ rows) k row ≡ row
-    → p row ≡ true → (Contains rows row → p row ≡ true → ⊥) → ⊥
-none_step p first rows row zero fails below at passes later =
-    false≢true (sym fails ∙ ap p at ∙ passes)
-none_step p first rows row (suc k) fails below at passes later =
-    later (k, omega (arith, below), at) passes
-
 none : (p : Row → Bool) (rows : List Row) → list_any p rows ≡ false → (row : Row)
     → Contains rows row → p row ≡ true → ⊥
-none p [] fails row there passes = let below = there.1 in omega (arith, below)
-none p (first ∷ rows) fails row there passes =
-    let both = or_parts (p first) (list_any p rows) fails in
-    none_step p first rows row there.0 both.0 there.1 there.2 passes
-    (λ more is. none p rows both.1 row more is)
-  where
-    or_parts : (b c : Bool) → (b || c) ≡ false → (b ≡ false) × (c ≡ false)
-    or_parts true c is = absurd (false≢true (sym is))
-    or_parts false c is = (refl, is)
+none p rows fails row there passes =
+    both_ways (list_any p rows) fails
+    (list_any_at p rows there.0 row there.1 (ap p there.2 ∙ passes))
 
 -- what a run of a side gives is said by a row, or the other side gives it in the state
 module _ (x : Scope) (space : Space) (rows : List Row) (side other : Side) (row_value : Row → ℕ)
@@ -98,8 +61,9 @@ module _ (x : Scope) (space : Space) (rows : List Row) (side other : Side) (row_
       → (any : Bool) → list_any (λ row. row_agrees row (place_of space.dimensions a g)) rows ≡ any
       → IsRowValue space rows row_value other a g content
   is_row_value a g content within gives true any =
-      let f = among (λ row. row_agrees row (place_of space.dimensions a g)) rows any in
-      inl (f.row, f.there, f.passes, sym (says a g within f.row f.there f.passes) ∙ gives)
+      let f = Any-from_list_any (λ row. row_agrees row (place_of space.dimensions a g)) rows any in
+      let there : Contains rows f.1 = (f.0, f.2, f.3) in
+      inl (f.1, there, f.4, sym (says a g within f.1 there f.4) ∙ gives)
   is_row_value a g content within gives false any =
       inr (sym (complete a g within
       (none (λ row. row_agrees row (place_of space.dimensions a g)) rows any)) ∙ gives)

@@ -1,13 +1,15 @@
 -- The comparisons of the apps of NEW and of those that are gone are those of all.
-use Rattle.std.proofs.Common.{◌≡◌, ◌∙◌, refl, sym, ap, subst, ℕ, suc, List, [], ◌∷◌, ◌++◌, All, map}
-use Rattle.std.proofs.Common.{arith}
-use Rattle.std.specs.Prelude.{Bool, true, false, ◌||◌, not, Option, None, if◌then◌else◌}
+use Rattle.std.proofs.Common.{◌≡◌, ◌∙◌, refl, sym, ap, subst, ℕ, List, [], ◌∷◌, ◌++◌, All, map}
+use Rattle.std.specs.Prelude.{Bool, true, false, ◌||◌, not, Contains, Option, None}
+use Rattle.std.specs.Prelude.{if◌then◌else◌}
 use Rattle.std.specs.List.{filter, list_any}
 use Rattle.std.specs.Str.{bytes_eq}
 use Rattle.std.specs.String.{string_bytes}
-use Rattle.std.proofs.lemmas.Bool.{false≢true}
-use Rattle.std.proofs.lemmas.List.Elements.{All-append, All-cons, All-head, All-nil, All-tail}
+use Rattle.std.proofs.lemmas.Bool.{or_left, or_right}
+use Rattle.std.proofs.lemmas.List.Elements.{All-append, All-cons, All-contains, All-nil}
 use Rattle.std.proofs.lemmas.List.{map-append}
+use Rattle.std.proofs.lemmas.List.Folds.{Any-from_list_any, list_any-append}
+use Rattle.std.proofs.lemmas.Map.Views.{any-filter_same}
 use Rattle.std.proofs.lemmas.Slice.Eq.{bytes_eq-Decides}
 use Rattle.rule_space.specs.declared.bounds.CellBound.{CellBound}
 use Rattle.manifest_diff.specs.Opened.{manifest_appids}
@@ -47,92 +49,47 @@ adds_one both from_day used only appid before after d is reported appid_is own =
 
 -- ---- each app of either manifest is reported
 
-any_front : (p : List ℕ → Bool) (xs ys : List (List ℕ)) → list_any p xs ≡ true
-    → list_any p (xs ++ ys) ≡ true
-any_front p [] ys any = absurd (false≢true any)
-any_front p (x ∷ xs) ys any = by (p x) any (any_front p xs ys)
-  where
-    by : (b : Bool) → (b || list_any p xs) ≡ true
-        → (list_any p xs ≡ true → list_any p (xs ++ ys) ≡ true)
-        → (b || list_any p (xs ++ ys)) ≡ true
-    by true is later = refl
-    by false is later = later is
-
-any_back : (p : List ℕ → Bool) (xs ys : List (List ℕ)) → list_any p ys ≡ true
-    → list_any p (xs ++ ys) ≡ true
-any_back p [] ys any = any
-any_back p (x ∷ xs) ys any = by (p x) (any_back p xs ys any)
-  where
-    by : (b : Bool) → list_any p (xs ++ ys) ≡ true → (b || list_any p (xs ++ ys)) ≡ true
-    by true later = refl
-    by false later = later
-
--- what passes p also passes q
-any_filtered : (p q : List ℕ → Bool) (xs : List (List ℕ))
-    → ((x : List ℕ) → p x ≡ true → q x ≡ true) → list_any p xs ≡ true
-    → list_any p (filter q xs) ≡ true
-any_filtered p q [] more any = absurd (false≢true any)
-any_filtered p q (x ∷ xs) more any =
-    by (p x) refl any (q x) refl (any_filtered p q xs more)
-  where
-    by : (b : Bool) → p x ≡ b → (b || list_any p xs) ≡ true → (c : Bool) → q x ≡ c
-        → (list_any p xs ≡ true → list_any p (filter q xs) ≡ true)
-        → list_any p (if c then x ∷ filter q xs else filter q xs) ≡ true
-    by true is any true kept later = ap (λ (t : Bool). t || list_any p (filter q xs)) is
-    by true is any false kept later = absurd (false≢true (sym kept ∙ more x is))
-    by false is any true kept later =
-        ap (λ (t : Bool). t || list_any p (filter q xs)) is ∙ later any
-    by false is any false kept later = later any
-
 either_has : (both : OpenedBoth) (appid : List ℕ) (new : Bool)
     → has_appid (manifest_appids both.new) appid ≡ new
     → (new || has_appid (manifest_appids both.old) appid) ≡ true
     → has_appid (reported_appids None both) appid ≡ true
 either_has both appid true is any =
     let p = λ (other : List ℕ). bytes_eq other appid in
-    any_front p (filter (is_reported None) (manifest_appids both.new))
+    list_any-append p (filter (is_reported None) (manifest_appids both.new))
     (filter (is_reported None) (gone_appids both))
-    (any_filtered p (is_reported None) (manifest_appids both.new) (λ x h. refl) is)
+    ∙ or_left _ _
+    (any-filter_same p (is_reported None) true (λ x h. refl) (manifest_appids both.new) ∙ is)
 either_has both appid false is any =
     let p = λ (other : List ℕ). bytes_eq other appid in
     let q = λ (other : List ℕ). not (has_appid (manifest_appids both.new) other) in
-    any_back p (filter (is_reported None) (manifest_appids both.new))
+    list_any-append p (filter (is_reported None) (manifest_appids both.new))
     (filter (is_reported None) (gone_appids both))
-    (any_filtered p (is_reported None) (gone_appids both) (λ x h. refl)
-    (any_filtered p q (manifest_appids both.old)
-    (λ x h. ap (λ (other : List ℕ). not (has_appid (manifest_appids both.new) other))
-    ((bytes_eq-Decides x appid).0 h) ∙ ap not is) any))
+    ∙ or_right _ _
+    (any-filter_same p (is_reported None) true (λ x h. refl) (gone_appids both)
+    ∙ any-filter_same p q true (λ x h. ap q ((bytes_eq-Decides x appid).0 h) ∙ ap not is)
+    (manifest_appids both.old)
+    ∙ any)
 
-found_step : (both : OpenedBoth) (from_day : ℕ) (used : List CellBound) (appid : List ℕ)
-    (d : AppDiff) (ds : List AppDiff) (first : Bool) → bytes_eq (string_bytes d.appid) appid ≡ first
-    → (first || has_appid (map (λ e. string_bytes e.appid) ds) appid) ≡ true
-    → IsAppDiff both from_day used d
-    → (has_appid (map (λ e. string_bytes e.appid) ds) appid ≡ true
-    → IsReported both from_day used ds appid) → IsReported both from_day used (d ∷ ds) appid
-found_step both from_day used appid d ds true is any own later = record {
-  diff = d;
-  there = (0, omega arith, refl);
-  appid_is = (bytes_eq-Decides (string_bytes d.appid) appid).0 is;
-  is_diff = own;
-}
-found_step both from_day used appid d ds false is any own later =
-    let f = later any in record {
-      diff = f.diff;
-      there = (suc f.there.0, (let below = f.there.1 in omega (arith, below)), f.there.2);
-      appid_is = f.appid_is;
-      is_diff = f.is_diff;
-    }
+among : (appid : List ℕ) (ds : List AppDiff)
+    → has_appid (map (λ d. string_bytes d.appid) ds) appid
+    ≡ list_any (λ d. bytes_eq (string_bytes d.appid) appid) ds
+among appid [] = refl
+among appid (d ∷ ds) =
+    ap (λ (b : Bool). bytes_eq (string_bytes d.appid) appid || b) (among appid ds)
 
 found_in : (both : OpenedBoth) (from_day : ℕ) (used : List CellBound) (appid : List ℕ)
     (ds : List AppDiff) → All (IsAppDiff both from_day used) ds
     → has_appid (map (λ e. string_bytes e.appid) ds) appid ≡ true
     → IsReported both from_day used ds appid
-found_in both from_day used appid [] each any = absurd (false≢true any)
-found_in both from_day used appid (d ∷ ds) each any =
-    let P = IsAppDiff both from_day used in
-    found_step both from_day used appid d ds (bytes_eq (string_bytes d.appid) appid) refl any
-    (All-head P d ds each)
-    (λ later. found_in both from_day used appid ds (All-tail P d ds each) later)
+found_in both from_day used appid ds each any =
+    let f = Any-from_list_any (λ d. bytes_eq (string_bytes d.appid) appid) ds
+    (sym (among appid ds) ∙ any) in
+    let there : Contains ds f.1 = (f.0, f.2, f.3) in record {
+      diff = f.1;
+      there = there;
+      appid_is = (bytes_eq-Decides (string_bytes f.1.appid) appid).0 f.4;
+      is_diff = All-contains (IsAppDiff both from_day used) ds f.1 each there;
+    }
 
 pub reported : (both : OpenedBoth) (from_day : ℕ) (used : List CellBound) (diffs : List AppDiff)
     → AreAppDiffs both from_day used None diffs → (appid : List ℕ) → have_app both appid ≡ true

@@ -1,5 +1,5 @@
 -- Apps whose files have the same bytes have the same rule or the same program.
-use Rattle.std.proofs.Common.{◌≡◌, ◌∙◌, refl, sym, ap, subst, ℕ, zero, suc, List, [], ◌∷◌}
+use Rattle.std.proofs.Common.{◌≡◌, ◌∙◌, refl, sym, ap, subst, ℕ, zero, suc, List, []}
 use Rattle.std.proofs.Common.{Option, Some, None, Ok, Err}
 use Rattle.std.specs.Prelude.{option_map}
 use Rattle.acceptance.specs.Rule.{IsTextOf}
@@ -123,11 +123,6 @@ agree_none ys (suc n) x y first second = absurd cc
 pub agree_past : {A : Type 0} (xs : List A) → AgreeAsFar xs []
 agree_past xs zero x y first second = absurd cc
 agree_past xs (suc n) x y first second = absurd cc
-
-pub agree_more : {A : Type 0} (x y : A) (xs ys : List A) → x ≡ y → AgreeAsFar xs ys
-    → AgreeAsFar (x ∷ xs) (y ∷ ys)
-agree_more x y xs ys same rest zero a b first second = cc
-agree_more x y xs ys same rest (suc n) a b first second = rest n a b first second
 
 -- ---- both manifests have the app
 

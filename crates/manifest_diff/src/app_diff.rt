@@ -78,11 +78,11 @@ fn diff_app(
         from_day: within.from_day,
         used: within.used,
     };
-    let outcome = compare_app(alloc, &bounds, old.as_ref(), new.as_ref())?;
-    let appid = String::from_str(alloc, appid);
+    let appid = String::from_str(alloc, appid)?;
     let change = AppChange::of(old.as_ref(), new.as_ref());
+    let outcome = compare_app(alloc, &bounds, old.as_ref(), new.as_ref())?;
     Ok(AppDiff {
-        appid: appid?,
+        appid,
         change,
         outcome,
     })

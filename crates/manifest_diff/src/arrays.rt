@@ -1,6 +1,6 @@
 //! Arrays that two manifests declare under one name in different ways.
 
-ghost use Rattle.std.specs.Prelude.{◌≡◌, ◌++◌, ◌∷◌, [], IfOk, option_copied};
+ghost use Rattle.std.specs.Prelude.{◌≡◌, ◌++◌, ◌∷◌, [], IfOk, option_copied, true};
 ghost use Rattle.cells.specs.Directory.{same_width};
 ghost use Rattle.manifest_diff.specs.Arrays as specs;
 
@@ -24,8 +24,10 @@ impl<'a> Model for ArrayChange<'a> {
     ghost view = { λ c. record { old = c.old.now; new = c.new.now } };
 }
 
-fn is_same_width(one: CellWidth, other: CellWidth) -> bool
-    ensures { result ≡ same_width one other }
+/// Whether two widths are equal.
+pub(crate) fn is_same_width(one: CellWidth, other: CellWidth) -> bool
+    ensures is { result ≡ same_width one other }
+    ensures equal { result ≡ true → one ≡ other }
 {
     match (one, other) {
         (CellWidth::Bits32, CellWidth::Bits32) => true,

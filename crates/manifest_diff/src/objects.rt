@@ -68,18 +68,13 @@ fn is_compared(outcome: &AppOutcome) -> bool
 fn app_object(alloc: Global, diff: &AppDiff) -> Result<Value, AllocError>
     ensures { IfOk result (λ value. view value ≡ specs.app_object diff.now) }
 {
-    let compared = is_compared(&diff.outcome);
-    let is = change_name(diff.change);
-    let lost = diff.loses();
-    let rows = rows_in(alloc, &diff.outcome)?;
-    let why = why_object(alloc, &diff.outcome)?;
     json!(in alloc; {
         "appid": diff.appid.as_str(),
-        "compared": compared,
-        "is": is,
-        "lost": lost,
-        "rows": rows,
-        "why": why
+        "compared": is_compared(&diff.outcome),
+        "is": change_name(diff.change),
+        "lost": diff.loses(),
+        "rows": rows_in(alloc, &diff.outcome)?,
+        "why": why_object(alloc, &diff.outcome)?
     })
 }
 
@@ -110,9 +105,11 @@ fn text_object(alloc: Global, array: &ArrayDeclaration) -> Result<Value, AllocEr
 fn array_object(alloc: Global, change: &ArrayChange<'_>) -> Result<Value, AllocError>
     ensures { IfOk result (λ value. view value ≡ specs.array_object change.now) }
 {
-    let next = text_object(alloc, change.new)?;
-    let now = text_object(alloc, change.old)?;
-    json!(in alloc; {"name": change.old.name(), "next": next, "now": now})
+    json!(in alloc; {
+        "name": change.old.name(),
+        "next": text_object(alloc, change.new)?,
+        "now": text_object(alloc, change.old)?
+    })
 }
 
 fn array_objects(alloc: Global, changes: &[ArrayChange<'_>]) -> Result<Vec<Value>, AllocError>
@@ -149,14 +146,11 @@ pub(crate) fn diff_object(
     ensures { IfOk result (λ value. view value ≡ specs.diff_object servers.entry.0.now
         servers.entry.1.now changes.now diffs.now lost same) }
 {
-    let apps = app_objects(alloc, diffs)?;
-    let arrays = array_objects(alloc, changes)?;
-    let server = server_object(alloc, servers.0, servers.1)?;
     json!(in alloc; {
-        "apps": apps,
-        "arrays": arrays,
+        "apps": app_objects(alloc, diffs)?,
+        "arrays": array_objects(alloc, changes)?,
         "lost": lost,
         "same": same,
-        "server": server
+        "server": server_object(alloc, servers.0, servers.1)?
     })
 }

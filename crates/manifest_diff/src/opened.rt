@@ -15,8 +15,8 @@ use bpf_verify::Verified;
 use cells::Directory;
 use declarations::ArrayDeclaration;
 use load::{
-    FolderFiles, PathFault, Sources, SourcesRefusal, collect_sources, judge, manifest_bytes,
-    sources_are_loaded,
+    FolderFiles, LoadFault, PathFault, Sources, SourcesRefusal, collect_sources, judge,
+    manifest_bytes, sources_are_loaded,
 };
 use rule_lang::Rule;
 use std::alloc::Global;
@@ -64,6 +64,20 @@ impl OpenedManifest {
     }
 }
 
+// The fault of a refusal, whose other parts are dropped here.
+fn fault_of(refusal: SourcesRefusal) -> LoadFault
+    ensures { result ≡ refusal.fault }
+{
+    let SourcesRefusal {
+        fault,
+        arrays,
+        parsed,
+    } = refusal;
+    drop(arrays);
+    drop(parsed);
+    fault
+}
+
 // Opens the manifest at a path, as on a server without arrays.
 #[tactic(auto, using(crate::proofs::Opening::is_opened))]
 fn open_manifest<D: Disk>(alloc: Global, disk: &D, path: &str) -> Result<OpenedManifest, PathFault>
@@ -79,9 +93,12 @@ fn open_manifest<D: Disk>(alloc: Global, disk: &D, path: &str) -> Result<OpenedM
     let none = Directory::new(alloc);
     let sources = match collect_sources(alloc, &bytes, &mut files, &none) {
         Ok(sources) => sources,
-        Err(SourcesRefusal { fault, .. }) => return Err(PathFault::Load(fault)),
+        Err(refusal) => return Err(PathFault::Load(fault_of(refusal))),
     };
+    drop(bytes);
+    drop(none);
     let Ok(rules) = read_rules(alloc, &sources.apps) else {
+        drop(sources);
         return Err(PathFault::Resource(ResourceFault::Memory));
     };
     match judge(alloc, &sources.apps) {
@@ -90,7 +107,11 @@ fn open_manifest<D: Disk>(alloc: Global, disk: &D, path: &str) -> Result<OpenedM
             programs,
             rules,
         }),
-        Err(fault) => Err(PathFault::Load(fault)),
+        Err(fault) => {
+            drop(rules);
+            drop(sources);
+            Err(PathFault::Load(fault))
+        }
     }
 }
 
@@ -113,6 +134,9 @@ pub fn open_both<D: Disk>(
     };
     match open_manifest(alloc, disk, new) {
         Ok(new) => Ok(OpenedBoth { old: opened, new }),
-        Err(fault) => Err(DiffFault::New(fault)),
+        Err(fault) => {
+            drop(opened);
+            Err(DiffFault::New(fault))
+        }
     }
 }

@@ -5,22 +5,13 @@ ghost use Rattle.manifest_diff.specs.Apps as specs;
 ghost use Rattle.manifest_diff.specs.Same as same;
 
 use crate::apps::ManifestApp;
+use crate::arrays::is_same_width;
 use bpf_verify::Verified;
-use cells::{CellArray, CellWidth};
+use cells::CellArray;
 use flow_check::one_verdict as one_verdict_of_bytes;
 use load::whole_file;
 use rule_diff::Contents;
 use rule_lang::one_verdict;
-
-fn is_same_width(one: CellWidth, other: CellWidth) -> bool
-    ensures { result ≡ true → one ≡ other }
-{
-    match (one, other) {
-        (CellWidth::Bits32, CellWidth::Bits32) => true,
-        (CellWidth::Bits64, CellWidth::Bits64) => true,
-        _ => false,
-    }
-}
 
 // Whether two arrays are equal, and have the same cells.
 fn is_same_array(one: &CellArray, other: &CellArray) -> bool

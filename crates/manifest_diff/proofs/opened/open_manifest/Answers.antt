@@ -25,8 +25,8 @@ returns-in-Ok-judge-clause-opened g c =
     (subst (λ (apps : List AppSources). AreRulesOf apps read.items) c.deref-2.ensures.value
     c.in-Ok-read_rules.ensures)
 
-pub returns-clause-fault : goal.returns-clause-fault
-returns-clause-fault g c =
+pub returns-in-Err-judge-clause-fault : goal.returns-in-Err-judge-clause-fault
+returns-in-Err-judge-clause-fault g c =
     let known = g.D.Disk.known c.args.disk.now in
     let is : AreSources (files_in_folder known c.args.path.now) [] c.in-Ok.bytes.items
     c.in-Ok-collect_sources.sources = search rules in
