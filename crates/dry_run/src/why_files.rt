@@ -110,7 +110,7 @@ fn load_why<D: Disk>(alloc: Global, disk: &D, path: &str) -> Result<LoadedWhy, P
     }
 }
 
-// The fault alone; what else a refusal has is dropped.
+// Only the fault: what else a refusal has is dropped.
 fn fault_of(refused: SourcesRefusal) -> LoadFault
     ensures { result ≡ refused.fault }
 {
