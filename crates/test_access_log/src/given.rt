@@ -48,21 +48,19 @@ pub(crate) const NOTES: LoggedApp<'static> = LoggedApp {
 };
 
 /// A connection through a proxy, whose request got a reply.
-pub(crate) fn answered<'a>(apps: &'a [LoggedApp<'a>]) -> LogEvent<'a> {
-    LogEvent::Connection(Connection {
-        peer: "127.0.0.1:41248",
-        forwarded: Some("203.0.113.7"),
-        lacks_id: false,
-        status: 200,
-        refusal: None,
-        cause: None,
-        generation: 5,
-        bytes: 566,
-        micros: 68,
-        waited: 7,
-        apps,
-    })
-}
+pub(crate) const ANSWERED: Connection<'static> = Connection {
+    peer: "127.0.0.1:41248",
+    forwarded: Some("203.0.113.7"),
+    lacks_id: false,
+    status: 200,
+    refusal: None,
+    cause: None,
+    generation: 5,
+    bytes: 566,
+    micros: 68,
+    waited: 7,
+    apps: &[],
+};
 
 /// The line of an event.
 pub(crate) fn line_with(
@@ -77,9 +75,25 @@ pub(crate) fn line_with(
     }
 }
 
-/// `count` times `a`, followed by a text.
-pub(crate) fn repeated(alloc: Global, count: usize, end: &str) -> Result<String, AllocError> {
-    let mut text = "a".repeat(alloc, count)?;
-    text.push_str(end)?;
-    Ok(text)
+/// Whether this is the line of an event, from its kind on.
+pub(crate) fn is_line(
+    alloc: Global,
+    event: &LogEvent<'_>,
+    wanted: &str,
+) -> Result<bool, AllocError> {
+    let wanted = format!(in alloc;
+        "{{\"time\":\"2026-11-24T12:19:16.042Z\",\"port\":65535,\"kind\":{wanted}\n"
+    )?;
+    is_whole_line(alloc, &HEADER, event, &wanted)
+}
+
+/// Whether this is the line of an event with this header.
+pub(crate) fn is_whole_line(
+    alloc: Global,
+    header: &LineHeader,
+    event: &LogEvent<'_>,
+    wanted: &str,
+) -> Result<bool, AllocError> {
+    let line = log_line(alloc, header, event)?;
+    Ok(line.as_slice() == wanted.as_bytes())
 }

@@ -1,10 +1,14 @@
 //! Tests of the lines of a log: each kind of event, times, texts with escapes, texts that are cut,
 //! requests of many apps, and lines that would be too long. The lines were written by hand. And
-//! what no row shows of reports.
+//! days and times of a log.
 #![tactic(auto)]
 
 #[cfg(test)]
+mod app_samples;
+#[cfg(test)]
 mod apps;
+#[cfg(test)]
+mod calendars;
 #[cfg(test)]
 mod events;
 #[cfg(test)]
@@ -14,7 +18,7 @@ mod kinds;
 #[cfg(test)]
 mod limits;
 #[cfg(test)]
-mod reports;
+mod named_times;
 #[cfg(test)]
 mod samples;
 #[cfg(test)]

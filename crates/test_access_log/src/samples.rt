@@ -1,134 +1,124 @@
-//! Samples of events, of which the tests write the lines.
+//! Parts of events, of which the tests have the lines.
 
 use crate::given::NO_MORE;
-use access_log::{Connection, Excerpt, Load, LogEvent, LoggedApp, Outcome, Start, Totals};
+use access_log::{Connection, Excerpt, Load, LoggedApp, Outcome, Start};
 
-/// An array that exists with other values.
-pub(crate) const REDEFINED: &str = "M7 Cells N2 Redefined in array 1";
-
-/// A digest: SHA-256 of no bytes.
-pub(crate) const DIGEST: &str = "e3b0c44298fc1c149afbf4c8996fb92427ae41e4649b934ca495991b7852b855";
-
-/// Each total has another number.
-pub(crate) const TOTALS: Totals = Totals {
-    success: 1,
-    bad_request: 2,
-    not_found: 3,
-    method_not_allowed: 4,
-    length_required: 5,
-    content_too_large: 6,
-    header_fields_too_large: 7,
-    internal_server_error: 8,
-    dropped: 9,
-    longest_wait: 18446744073709551615,
-    busy: 64,
+const MANIFEST: Excerpt<'static> = Excerpt {
+    text: "m.toml",
+    length: 6,
 };
 
-/// A text of which nothing is left out.
-pub(crate) fn whole(text: &str) -> Excerpt<'_> {
-    cut(text, 0)
-}
+/// A text after which 9 bytes are left out.
+pub(crate) const CUT: Excerpt<'static> = Excerpt {
+    text: "a\tb",
+    length: 12,
+};
 
-/// A text, after which `left_out` bytes are left out.
-pub(crate) fn cut(text: &str, left_out: u64) -> Excerpt<'_> {
-    let length = left_out.saturating_add(text.len() as u64);
-    Excerpt { text, length }
-}
+pub(crate) const START: Start<'static> = Start {
+    manifest: MANIFEST,
+    operator: 8081,
+    digest: None,
+    refusal: None,
+    cause: None,
+};
 
-/// A start with this manifest and digest.
-pub(crate) fn start(manifest: Excerpt<'static>, digest: Option<&'static str>) -> LogEvent<'static> {
-    LogEvent::Start(Start {
-        manifest,
-        operator: 8081,
-        digest,
-        refusal: None,
-        cause: None,
-    })
-}
+pub(crate) const LOAD: Load<'static> = Load {
+    path: MANIFEST,
+    generation: 0,
+    digest: None,
+    refusal: None,
+    cause: None,
+};
 
-/// A refused start, and its cause.
-pub(crate) fn refused_start(
-    refusal: &'static str,
-    cause: Option<Excerpt<'static>>,
-) -> LogEvent<'static> {
-    LogEvent::Start(Start {
-        manifest: whole("m.toml"),
-        operator: 8081,
-        digest: None,
-        refusal: Some(refusal),
-        cause,
-    })
-}
+/// A connection whose client got no reply.
+pub(crate) const DROPPED: Connection<'static> = Connection {
+    peer: "[fe80::1%2]:80",
+    forwarded: None,
+    lacks_id: false,
+    status: 0,
+    refusal: Some("P8 Device"),
+    cause: Some("time-out"),
+    generation: 0,
+    bytes: 0,
+    micros: 0,
+    waited: 0,
+    apps: &[],
+};
 
-/// An installed load.
-pub(crate) fn load(
-    path: &'static str,
-    generation: u64,
-    digest: Option<&'static str>,
-) -> LogEvent<'static> {
-    LogEvent::Load(Load {
-        path: whole(path),
-        generation,
-        digest,
-        refusal: None,
-        cause: None,
-    })
-}
+/// An app that requested no update, and whose cohort names no bucket.
+const EDITOR: LoggedApp<'static> = LoggedApp {
+    appid: Excerpt {
+        text: "editor",
+        length: 6,
+    },
+    version: None,
+    bucket: 7,
+    named: false,
+    outcome: Outcome::NotRequested,
+    event: None,
+    more: NO_MORE,
+};
 
-/// A refused load, and its cause.
-pub(crate) fn refused_load(
-    path: Excerpt<'static>,
-    refusal: &'static str,
-    cause: Option<Excerpt<'static>>,
-) -> LogEvent<'static> {
-    LogEvent::Load(Load {
-        path,
-        generation: 0,
-        digest: None,
-        refusal: Some(refusal),
-        cause,
-    })
-}
-
-/// A connection whose request was refused, or got no reply (then the status is 0). The request has
-/// no id if part of a reply was written.
-pub(crate) fn unanswered(
-    peer: &'static str,
-    status: u16,
-    refusal: &'static str,
-    cause: Option<&'static str>,
-    bytes: u64,
-) -> LogEvent<'static> {
-    LogEvent::Connection(Connection {
-        peer,
-        forwarded: None,
-        lacks_id: status == 0 && bytes != 0,
-        status,
-        refusal: Some(refusal),
-        cause,
-        generation: 0,
-        bytes,
-        micros: if status == 0 { 0 } else { 9 },
-        waited: 0,
-        apps: &[],
-    })
-}
-
-/// An app with this outcome, whose cohort names no bucket.
-pub(crate) fn app(
-    appid: &'static str,
-    version: Option<&'static str>,
-    bucket: u16,
-    outcome: Outcome<'static>,
-    event: Option<Excerpt<'static>>,
-) -> LoggedApp<'static> {
+/// Apps with strange texts: an unknown one with an event, one with an empty version, and one whose
+/// event is cut.
+pub(crate) const STRANGE: &[LoggedApp<'static>] = &[
     LoggedApp {
-        appid: whole(appid),
-        version: version.map(whole),
-        bucket,
-        named: false,
-        outcome,
-        event,
-        more: NO_MORE,
-    }
-}
+        appid: Excerpt {
+            text: "q\"\\é",
+            length: 5,
+        },
+        outcome: Outcome::Unknown,
+        event: Some(Excerpt {
+            text: "[{\"a\":\"\\n\"}]",
+            length: 12,
+        }),
+        ..EDITOR
+    },
+    LoggedApp {
+        version: Some(Excerpt {
+            text: "",
+            length: 0,
+        }),
+        ..EDITOR
+    },
+    LoggedApp {
+        appid: Excerpt {
+            text: "\u{1}\n/",
+            length: 3,
+        },
+        outcome: Outcome::NoUpdate,
+        event: Some(Excerpt {
+            text: "\t{}",
+            length: 15,
+        }),
+        ..EDITOR
+    },
+];
+
+/// Apps whose texts are cut, or change a terminal.
+pub(crate) const CUT_APPS: &[LoggedApp<'static>] = &[
+    LoggedApp {
+        appid: Excerpt {
+            text: "\u{9b}31m",
+            length: 3305,
+        },
+        version: Some(Excerpt {
+            text: "\u{202e}1",
+            length: 4,
+        }),
+        outcome: Outcome::Unknown,
+        ..EDITOR
+    },
+    LoggedApp {
+        appid: Excerpt {
+            text: "\u{2028}",
+            length: 3,
+        },
+        version: Some(Excerpt {
+            text: "1\u{7f}",
+            length: 3,
+        }),
+        outcome: Outcome::Offered(64, "2.0"),
+        ..EDITOR
+    },
+];

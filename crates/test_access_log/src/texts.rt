@@ -1,10 +1,8 @@
 //! Texts in a line: no character of a client that could control a terminal reaches it.
 
-use crate::given::{HEADER, line_with};
+use crate::given::is_line;
 use access_log::LogEvent;
-use printing::{has_control, is_control};
-use std::alloc::Global;
-use std::io;
+use std::alloc::{AllocError, Global};
 use std::test::Fail;
 
 /// A text, and what is between its quotes. The rows also have the last character before each range
@@ -50,37 +48,10 @@ const TEXTS: &[(&str, &str)] = &[
     ),
 ];
 
-/// The first and the last character of each range that is escaped.
-const CONTROLS: &str =
-    "\u{0}\u{1f}\u{7f}\u{9f}\u{61c}\u{200e}\u{200f}\u{2028}\u{202e}\u{2066}\u{2069}";
-
-/// The last character before each, and the first one after it.
-const OTHERS: &str =
-    " ~\u{a0}\u{61b}\u{61d}\u{200d}\u{2010}\u{2027}\u{202f}\u{2065}\u{206a}\u{10ffff}";
-
-// Whether each character of a text is a control, or none is.
-fn are_all(text: &str, controls: bool) -> bool {
-    for c in text.chars() {
-        if is_control(c) != controls {
-            return false;
-        }
-    }
-    has_control(text) == controls
-}
-
-#[test]
-fn controls_are_those_of_what_is_printed(rt: HostRuntime) {
-    assert!(rt; are_all(CONTROLS, true), "controls");
-    assert!(rt; are_all(OTHERS, false), "others");
-}
-
-// Whether a text is spelled like this.
-fn is_spelled(alloc: Global, text: &str, spelled: &str) -> io::Result<bool> {
-    let wanted = format!(in alloc;
-        "{{\"time\":\"2026-11-24T12:19:16.042Z\",\"port\":65535,\
-        \"kind\":\"unaccepted\",\"reason\":\"{spelled}\"}}\n"
-    )?;
-    Ok(line_with(alloc, &HEADER, &LogEvent::Unaccepted(text))? == wanted)
+/// Whether a text is spelled like this.
+pub(crate) fn is_spelled(alloc: Global, text: &str, spelled: &str) -> Result<bool, AllocError> {
+    let wanted = format!(in alloc; "\"unaccepted\",\"reason\":\"{spelled}\"}}")?;
+    is_line(alloc, &LogEvent::Unaccepted(text), &wanted)
 }
 
 #[test]

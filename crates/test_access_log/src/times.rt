@@ -1,7 +1,8 @@
 //! Moments by the second after 1970 began, in the form of RFC 3339.
 
-use crate::given::{HEADER, line_with};
+use crate::given::{HEADER, is_whole_line};
 use access_log::{LineHeader, LogEvent, Utc};
+use std::alloc::{AllocError, Global};
 use std::test::Fail;
 
 const ROWS: &[(u64, u16, &str)] = &[
@@ -19,16 +20,18 @@ const ROWS: &[(u64, u16, &str)] = &[
     (253402300799, 999, "9999-12-31T23:59:59.999Z"),
 ];
 
+// Whether this is the time of a line.
+fn is_stop(alloc: Global, time: Utc, text: &str) -> Result<bool, AllocError> {
+    let wanted = format!(in alloc; "{{\"time\":\"{text}\",\"port\":65535,\"kind\":\"stop\"}}\n")?;
+    let header = LineHeader { time, ..HEADER };
+    is_whole_line(alloc, &header, &LogEvent::Stop(None), &wanted)
+}
+
 #[test]
 fn times_are_those_of_the_calendar(rt: HostRuntime) -> Result<(), Fail> {
     for (seconds, millis, text) in ROWS {
         let time = Utc::of_unix(*seconds, *millis).ok_or("a year up to 9999")?;
-        let header = LineHeader { time, ..HEADER };
-        let line = line_with(rt.alloc(), &header, &LogEvent::Stop(None))?;
-        let wanted = format!(in rt.alloc();
-            "{{\"time\":\"{text}\",\"port\":65535,\"kind\":\"stop\"}}\n"
-        )?;
-        assert!(rt; line == wanted, "{seconds}: {line}");
+        assert!(rt; is_stop(rt.alloc(), time, *text)?, "{text}");
     }
     assert!(rt; Utc::of_unix(253402300800, 0).is_none());
     assert!(rt; Utc::of_unix(u64::MAX, 0).is_none());

@@ -1,6 +1,7 @@
 //! Days of the calendar, and minutes of the times in a log.
 
 use moments::{CivilDate, minute_in};
+use std::alloc::{AllocError, Global};
 use std::test::Fail;
 
 /// A date; its year, month and day; and its number of days since 1970-01-01.
@@ -18,17 +19,27 @@ const DAYS: [(&str, u64, u64, u64, u64); 11] = [
     ("9999-12-30", 9999, 12, 30, 2932895),
 ];
 
+fn is_date(date: CivilDate, year: u64, month: u64, day: u64) -> bool {
+    date.year == year && date.month == month && date.day == day
+}
+
+// Whether a time on this date is on the day of this number.
+fn is_day(alloc: Global, date: &str, number: u64) -> Result<bool, AllocError> {
+    let time = format!(in alloc; "{date}T12:34:56.789Z")?;
+    let minute = number.wrapping_mul(1440).wrapping_add(754);
+    Ok(minute_in(&time) == Some(minute))
+}
+
 #[test]
 fn days_have_dates(rt: HostRuntime) -> Result<(), Fail> {
     for (text, year, month, day, number) in &DAYS {
-        let date = CivilDate::of_day(*number);
-        assert_eq!(rt; (date.year, date.month, date.day), (*year, *month, *day));
-        let time = format!(in rt.alloc(); "{text}T12:34:56.789Z")?;
-        let minute = number.wrapping_mul(1440).wrapping_add(754);
-        assert_eq!(rt; minute_in(&time), Some(minute));
+        assert!(rt;
+            is_date(CivilDate::of_day(*number), *year, *month, *day),
+            "{text}"
+        );
+        assert!(rt; is_day(rt.alloc(), *text, *number)?, "{text}");
     }
-    let last = CivilDate::of_day(2932896);
-    assert_eq!(rt; (last.year, last.month, last.day), (9999, 12, 31));
+    assert!(rt; is_date(CivilDate::of_day(2932896), 9999, 12, 31));
     Ok(())
 }
 
@@ -47,7 +58,7 @@ const NONE: [&str; 8] = [
 #[test]
 fn other_texts_have_no_minute(rt: HostRuntime) -> Result<(), Fail> {
     for text in &NONE {
-        assert_eq!(rt; minute_in(text), None);
+        assert!(rt; minute_in(text).is_none(), "{text}");
     }
     Ok(())
 }

@@ -2,7 +2,7 @@
 
 use jiff_core::Timestamp;
 use moments::{moment_in, time_text};
-use std::alloc::Global;
+use std::alloc::{AllocError, Global};
 use std::test::Fail;
 
 /// 2026-11-25T10:00:00Z
@@ -22,18 +22,18 @@ const ROWS: [(&str, &str); 7] = [
 #[test]
 fn moments_have_times(rt: HostRuntime) -> Result<(), Fail> {
     for (text, wanted) in &ROWS {
-        let shown = report_text(rt.alloc(), text)?;
-        assert_eq!(rt; shown.as_str(), *wanted);
+        assert!(rt; has_time(rt.alloc(), text, wanted)?, "{text}");
     }
     Ok(())
 }
 
-fn report_text(alloc: Global, text: &str) -> Result<String, Fail> {
+// Whether a text names the moment of this time.
+fn has_time(alloc: Global, text: &str, wanted: &str) -> Result<bool, AllocError> {
     let Ok(now) = Timestamp::from_nanosecond(NOW) else {
-        return Ok(String::new(alloc));
+        return Ok(false);
     };
     match moment_in(text) {
-        Some(moment) => Ok(time_text(alloc, moment, now)?),
-        None => Ok(String::from_str(alloc, "none")?),
+        Some(moment) => Ok(time_text(alloc, moment, now)?.as_str() == wanted),
+        None => Ok(false),
     }
 }
