@@ -1,31 +1,25 @@
-//! Tests of calls that no command shows, but not of a server's. They are in one crate, since each crate
-//! of tests loads its libraries twice, and has their code compiled. What commands show is in rows of
-//! the program `rows`.
+//! Tests of calls that no command shows, but not of a server's. They are in one crate, since each
+//! crate of tests loads its libraries twice, and has their code compiled. What commands show is in
+//! rows of the program `rows`.
 #![tactic(auto)]
 
 #[cfg(test)]
-mod attributes;
-#[cfg(test)]
-mod counters;
-#[cfg(test)]
 mod device_files;
 #[cfg(test)]
-mod digests;
+mod failing_steps;
 #[cfg(test)]
-mod loads;
+mod files;
 #[cfg(test)]
 mod machine;
 #[cfg(test)]
-mod must;
-#[cfg(test)]
-mod omaha;
-#[cfg(test)]
 mod passes;
 #[cfg(test)]
-mod programs;
+mod posts;
 #[cfg(test)]
 mod published;
 #[cfg(test)]
-mod rules;
+mod replies;
+#[cfg(test)]
+mod requests;
 #[cfg(test)]
 mod staged;

@@ -1,13 +1,6 @@
-//! Runs of programs on the machine and on the interpreter: programs with choice and count that were
-//! worked out by hand; and damaged programs, each prefix and each change of one byte of three
-//! programs. Those that are still accepted run alike on the machine and on the interpreter, whose
-//! steps are the semantics', whatever the counters reply.
+//! Programs that no command runs: those that the verifier refuses, on the interpreter; and each
+//! prefix and each change of one byte of three programs, to count those that it accepts.
 
-mod beside;
-mod bits;
 mod damage;
 mod given;
 mod interpreted;
-mod replies;
-mod row;
-mod runs;

@@ -1,8 +1,7 @@
-//! The replies of HTTP, byte for byte, and writers that fail or have no room.
+//! The replies of HTTP, byte for byte, and writers that fail.
 
-use http_front::{Counted, FailAt, PostFault, Status, WriteFault, write_reply};
-use std::alloc::{AllocError, Global};
-use std::test::Fail;
+use http_front::{Counted, FailAt, Status, WriteFault, write_reply};
+use std::alloc::Global;
 
 /// A status, the body, and the whole reply.
 type Reply = (Status, &'static str, &'static str);
@@ -15,7 +14,7 @@ const REFUSAL: Reply = (
         Content-Length: 10\r\nConnection: close\r\n\r\nP4 Length\n",
 );
 
-const REPLIES: [Reply; 8] = [
+const REPLIES: &[Reply] = &[
     REFUSAL,
     (
         Status::Success,
@@ -77,41 +76,38 @@ fn is_written(alloc: Global, reply: Reply, piece: usize, fails: u64, count: usiz
     is_wanted && Some(out.as_slice()) == whole.as_bytes().get(..count)
 }
 
+/// Whether a reply is written whole.
+fn is_whole(alloc: Global, reply: Reply) -> bool {
+    let (_status, _body, whole) = reply;
+    is_written(alloc, reply, 1_000_000, 0, whole.len())
+}
+
 #[test]
 fn replies(rt: HostRuntime) {
     for reply in REPLIES {
-        let (_status, _body, whole) = reply;
-        assert!(rt;
-            is_written(rt.alloc(), reply, 1_000_000, 0, whole.len()),
-            "{whole}"
-        );
+        assert!(rt; is_whole(rt.alloc(), *reply));
     }
 }
 
-/// How many bytes a write of the refusal takes, which write fails, and how many bytes are written.
-const FAILING: [(usize, u64, usize); 5] = [
+/// How many bytes a write of the refusal takes, which write fails (0: none), and how many bytes are
+/// written.
+const FAILING: &[(usize, u64, usize)] = &[
     (40, 3, 80),
     (97, 2, 97),
     (97, 1, 0),
     (100, 2, 100),
     (3, 36, 105),
+    (1, 0, 107),
 ];
 
 #[test]
 fn writes_that_fail(rt: HostRuntime) {
     for (piece, fails, count) in FAILING {
-        assert!(rt;
-            is_written(rt.alloc(), REFUSAL, piece, fails, count),
-            "{piece}"
-        );
+        assert!(rt; is_written(rt.alloc(), REFUSAL, *piece, *fails, *count));
     }
     for count in 0..107 {
-        assert!(rt;
-            is_written(rt.alloc(), REFUSAL, 1, count as u64 + 1, count),
-            "{count}"
-        );
+        assert!(rt; is_written(rt.alloc(), REFUSAL, 1, count as u64 + 1, count));
     }
-    assert!(rt; is_written(rt.alloc(), REFUSAL, 1, 0, 107));
 }
 
 /// The result of a reply whose body has `size` zeros, at most 1950, over a writer whose write
@@ -129,38 +125,4 @@ fn body_that_fits_goes_with_its_head(rt: HostRuntime) {
     assert!(rt; of_zeros(rt.alloc(), 1949, 2) == Ok(()));
     assert!(rt; of_zeros(rt.alloc(), 1950, 2) == Err(WriteFault { written: 99 }));
     assert!(rt; of_zeros(rt.alloc(), 1950, 3) == Ok(()));
-}
-
-#[test]
-fn writer_with_room_for_40_bytes(rt: HostRuntime) {
-    let mut room = [0; 40];
-    let mut writer = Counted::new(room.as_mut_slice());
-    let answer = write_reply(&mut writer, Status::LengthRequired, b"P4 Length\n");
-    assert!(rt; answer == Err(WriteFault { written: 40 }) && writer.failures() == 1);
-}
-
-/// A fault, its text, and the code of its reply.
-const FAULTS: [(PostFault, &str, Option<u16>); 9] = [
-    (PostFault::Head, "P1 Head", Some(400)),
-    (PostFault::Path, "P2 Path", Some(404)),
-    (PostFault::Method, "P3 Method", Some(405)),
-    (PostFault::Length, "P4 Length", Some(411)),
-    (PostFault::TooLarge, "P5 TooLarge", Some(413)),
-    (PostFault::HeadTooLarge, "P6 HeadTooLarge", Some(431)),
-    (PostFault::Ended, "P7 Ended", None),
-    (PostFault::Device, "P8 Device", None),
-    (PostFault::Memory, "P9 Memory", Some(500)),
-];
-
-fn is_printed(alloc: Global, fault: PostFault, text: &str) -> Result<bool, AllocError> {
-    Ok(format!(in alloc; "{fault}")?.as_str() == text)
-}
-
-#[test]
-fn faults(rt: HostRuntime) -> Result<(), Fail> {
-    for (fault, text, code) in FAULTS {
-        assert!(rt; is_printed(rt.alloc(), fault, text)?, "{text}");
-        assert!(rt; fault.status().map(Status::code) == code, "{text}");
-    }
-    Ok(())
 }
