@@ -1,6 +1,6 @@
-//! The patterns of program, by the words that name them.
+//! The patterns of programs, by the words that name them, and their sizes.
 
-use std::fmt;
+ghost use Rattle.std.specs.Prelude.{◌<◌};
 
 /// The instructions of a program of the benchmark.
 #[derive(Clone, Copy)]
@@ -21,32 +21,44 @@ pub enum Pattern {
     Stores,
 }
 
+const PATTERNS: &[(&str, Pattern)] = &[
+    ("straight", Pattern::Straight),
+    ("straight32", Pattern::Straight32),
+    ("one-target", Pattern::OneTarget),
+    ("diamonds", Pattern::Diamonds),
+    ("full-stack", Pattern::FullStack),
+    ("loads", Pattern::Loads),
+    ("stores", Pattern::Stores),
+];
+
 impl Pattern {
     /// The pattern of a word, if it names one.
     pub fn named(word: &str) -> Option<Pattern> {
-        match word {
-            "straight" => Some(Pattern::Straight),
-            "straight32" => Some(Pattern::Straight32),
-            "one-target" => Some(Pattern::OneTarget),
-            "diamonds" => Some(Pattern::Diamonds),
-            "full-stack" => Some(Pattern::FullStack),
-            "loads" => Some(Pattern::Loads),
-            "stores" => Some(Pattern::Stores),
-            _ => None,
+        for (name, pattern) in PATTERNS {
+            if *name == word {
+                return Some(*pattern);
+            }
         }
+        None
     }
 }
 
-impl fmt::Display for Pattern {
-    fn fmt<W: fmt::Write>(&self, f: &mut fmt::Formatter<W>) -> fmt::Result {
-        f.write_str(match self {
-            Pattern::Straight => "straight",
-            Pattern::Straight32 => "straight32",
-            Pattern::OneTarget => "one-target",
-            Pattern::Diamonds => "diamonds",
-            Pattern::FullStack => "full-stack",
-            Pattern::Loads => "loads",
-            Pattern::Stores => "stores",
+/// The length of a program: `blocks` blocks of four slots each, and four slots more.
+#[derive(Clone, Copy)]
+pub struct ProgramSize {
+    pub blocks: u16,
+    pub ghost in_range: { blocks < 1024 },
+}
+
+impl ProgramSize {
+    /// The size of a word: a number of slots, 4 to 4096, that four divides.
+    pub fn of(word: &str) -> Option<ProgramSize> {
+        let slots: u16 = word.parse().ok()?;
+        if slots < 4 || slots > 4096 || slots % 4 != 0 {
+            return None;
+        }
+        Some(ProgramSize {
+            blocks: slots / 4 - 1,
         })
     }
 }
