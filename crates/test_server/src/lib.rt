@@ -1,48 +1,26 @@
-//! Both ends of a server over loopback: clients, an operator and the log; and requests over memory.
-//! They are in a crate of their own, since a crate with tests is proved twice.
+//! Servers over loopback, with their clients and their operator: what needs threads, clocks, or a
+//! device that fails. What one client gets after the other is in rows of the program `rows`.
 #![tactic(auto)]
 
 #[cfg(test)]
-mod both_ends;
+mod ending;
 #[cfg(test)]
-mod clients;
-#[cfg(test)]
-mod crew;
-#[cfg(test)]
-mod ends;
-#[cfg(test)]
-mod exchange;
-#[cfg(test)]
-mod log_rows;
+mod impaired;
 #[cfg(test)]
 mod logged;
 #[cfg(test)]
 mod loopback;
 #[cfg(test)]
-mod meeting;
+mod manifests;
 #[cfg(test)]
-mod quota;
+mod servers;
 #[cfg(test)]
-mod replies;
+mod stopped;
 #[cfg(test)]
-mod session;
-#[cfg(test)]
-mod shelf;
-#[cfg(test)]
-mod staffed;
-#[cfg(test)]
-mod still;
-#[cfg(test)]
-mod stops;
-#[cfg(test)]
-mod swaps_under_load;
+mod swaps;
 #[cfg(test)]
 mod totals;
 #[cfg(test)]
-mod unconnected;
-#[cfg(test)]
-mod unread;
+mod turns;
 #[cfg(test)]
 mod whole_log;
-#[cfg(test)]
-mod whole_server;

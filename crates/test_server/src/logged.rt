@@ -1,164 +1,276 @@
-//! The log of a server over loopback, with a runtime whose clock doesn't advance, or can't be read:
-//! the pieces in the log's queue once the server has ended.
+//! The log of the clients' side of a server: the line of each connection, and of those that can't
+//! be accepted. The server's clock doesn't advance, or can't be read.
 
-use crate::both_ends::serves;
-use crate::clients::halt;
-use crate::crew::{Crew, crew_of};
-use crate::log_rows::{Lines, ask_rows, take};
-use crate::loopback::listening;
-use crate::shelf::publisher_of;
-use crate::still::{AT_MOMENT, WITHOUT_CLOCK, still_at};
-use crossbeam_channel::Receiver;
-use server_log::{LogPiece, LogQueue};
-use std::alloc::{AllocError, Global};
-use std::net::{Net, SocketAddr, TcpListener, TcpStream};
+use crate::impaired::{Impaired, Running};
+use crate::loopback::{listening, reply, sent, text_of};
+use crate::manifests::write_none;
+use crate::stopped::publisher_of;
+use crate::whole_log::{lines_in, logging_to};
+use bounded_files::{Device, Disk};
+use cells::PlainCells;
+use hot_swap::Watcher;
+use server_log::LogQueue;
+use std::alloc::AllocError;
+use std::io;
+use std::net::{Net, Shutdown, SocketAddr, TcpListener, TcpStream};
 use std::sync::Wait;
-use std::sync::atomic::AtomicBool;
+use std::sync::atomic::{AtomicBool, Ordering};
 use std::test::Fail;
 use std::thread::{self, Threads};
-use std::time::{Clock, Duration};
-use workers::{NoGate, ServeOptions};
+use std::time::Clock;
+use workers::{NoGate, serve};
 
-/// Rows: a client's headers, with `;` for the end of a line, and the body; and what is logged of it
-/// before `bytes` and after `waited`. `-` means nothing.
-const ROWS: &str = r#"
-Content-Length: 69
-{"request":{"protocol":"3.1","app":[{"appid":"x","updatecheck":{}}]}}
-"id":false,"status":200,"generation":1,
-,"apps":[{"appid":"x","bucket":6037,"named":false,"choice":0}]
+/// A clock, and the time of the log's lines.
+#[derive(Clone, Copy)]
+struct Timed {
+    clock: Running,
+    time: &'static str,
+}
 
-Content-Length: 69;X-Forwarded-For: ::1
-{"request":{"protocol":"3.1","app":[{"appid":"y","event":[{ }]   }]}}
-"forwarded":"::1","id":false,"status":200,"generation":1,
-,"apps":[{"appid":"y","bucket":6037,"named":false,"unknown":true,"event":"[{}]"}]
+/// 2026-03-02 01:00:00 UTC, which is day 7000 and second 3600 of Omaha's count.
+const STOPPED: Timed = Timed {
+    clock: Running::StoppedAt(1772413200),
+    time: "2026-03-02T01:00:00.000Z",
+};
 
-Content-Length: 92
-{"request":{"protocol":"3.1","os":{"platform":"w"},"app":[{"appid":"x","ap":"a","lang":5}]}}
-"id":false,"status":200,"generation":1,
-,"apps":[{"appid":"x","bucket":6037,"named":false,"ap":"a","platform":"w","ignored":"lang"}]
+const UNREADABLE: Timed = Timed {
+    clock: Running::Unreadable,
+    time: "1970-01-01T00:00:00.000Z",
+};
 
-Content-Length: 97
-{"request":{"protocol":"3.1","requestid":"","app":[{"appid":"x","cohort":[],"installdate":"7"}]}}
-"id":false,"status":200,"generation":1,
-,"apps":[{"appid":"x","bucket":6037,"named":false,"ignored":"cohort installdate"}]
+/// The moment of the stopped clock in Omaha's reply.
+const DAYSTART: &str = "\"daystart\":{\"elapsed_days\":7000,\"elapsed_seconds\":3600}";
 
-Content-Length: 86
-{"request":{"protocol":"3.1","requestid":"r","app":[{"appid":"x","cohort":"b:0007"}]}}
-"status":200,"generation":1,
-,"apps":[{"appid":"x","bucket":7,"named":true}]
+/// A client's headers and body, and what its line has before `bytes` and after `waited`.
+#[derive(Clone, Copy)]
+struct Line {
+    headers: &'static str,
+    body: &'static str,
+    outcome: &'static str,
+    apps: &'static str,
+}
 
-Content-Length: 86
-{"request":{"protocol":"3.1","sessionid":"s","app":[{"appid":"x","cohort":"b:0008"}]}}
-"status":200,"generation":1,
-,"apps":[{"appid":"x","bucket":8,"named":true}]
-
-Content-Length: 2;X-Forwarded-For: ::1, ::2
-[]
-"status":400,"refusal":"O2 Shape",
--
-
-Host: h;X-Forwarded-For: unknown
--
-"status":411,"refusal":"P4 Length",
--
-
-Content-Length: 2
-{
-"refusal":"P7 Ended",
--
-"#;
+const LINES: [Line; 9] = [
+    Line {
+        headers: "Content-Length: 69",
+        body: r#"{"request":{"protocol":"3.1","app":[{"appid":"x","updatecheck":{}}]}}"#,
+        outcome: r#""id":false,"status":200,"generation":1,"#,
+        apps: r#","apps":[{"appid":"x","bucket":6037,"named":false,"choice":0}]"#,
+    },
+    Line {
+        headers: "Content-Length: 69\r\nX-Forwarded-For: ::1",
+        body: r#"{"request":{"protocol":"3.1","app":[{"appid":"y","event":[{ }]   }]}}"#,
+        outcome: r#""forwarded":"::1","id":false,"status":200,"generation":1,"#,
+        apps: ",\"apps\":[{\"appid\":\"y\",\"bucket\":6037,\"named\":false,\
+            \"unknown\":true,\"event\":\"[{}]\"}]",
+    },
+    Line {
+        headers: "Content-Length: 92",
+        body: "{\"request\":{\"protocol\":\"3.1\",\"os\":{\"platform\":\"w\"},\
+            \"app\":[{\"appid\":\"x\",\"ap\":\"a\",\"lang\":5}]}}",
+        outcome: r#""id":false,"status":200,"generation":1,"#,
+        apps: ",\"apps\":[{\"appid\":\"x\",\"bucket\":6037,\"named\":false,\
+            \"ap\":\"a\",\"platform\":\"w\",\"ignored\":\"lang\"}]",
+    },
+    Line {
+        headers: "Content-Length: 97",
+        body: "{\"request\":{\"protocol\":\"3.1\",\"requestid\":\"\",\
+            \"app\":[{\"appid\":\"x\",\"cohort\":[],\"installdate\":\"7\"}]}}",
+        outcome: r#""id":false,"status":200,"generation":1,"#,
+        apps: ",\"apps\":[{\"appid\":\"x\",\"bucket\":6037,\"named\":false,\
+            \"ignored\":\"cohort installdate\"}]",
+    },
+    Line {
+        headers: "Content-Length: 86",
+        body: "{\"request\":{\"protocol\":\"3.1\",\"requestid\":\"r\",\
+            \"app\":[{\"appid\":\"x\",\"cohort\":\"b:0007\"}]}}",
+        outcome: r#""status":200,"generation":1,"#,
+        apps: r#","apps":[{"appid":"x","bucket":7,"named":true}]"#,
+    },
+    Line {
+        headers: "Content-Length: 86",
+        body: "{\"request\":{\"protocol\":\"3.1\",\"sessionid\":\"s\",\
+            \"app\":[{\"appid\":\"x\",\"cohort\":\"b:0008\"}]}}",
+        outcome: r#""status":200,"generation":1,"#,
+        apps: r#","apps":[{"appid":"x","bucket":8,"named":true}]"#,
+    },
+    Line {
+        headers: "Content-Length: 2\r\nX-Forwarded-For: ::1, ::2",
+        body: "[]",
+        outcome: r#""status":400,"refusal":"O2 Shape","#,
+        apps: "",
+    },
+    Line {
+        headers: "Host: h\r\nX-Forwarded-For: unknown",
+        body: "",
+        outcome: r#""status":411,"refusal":"P4 Length","#,
+        apps: "",
+    },
+    Line {
+        headers: "Content-Length: 2",
+        body: "{",
+        outcome: r#""refusal":"P7 Ended","#,
+        apps: "",
+    },
+];
 
 /// A request that gets no reply if the clock can't be read.
-const UNTIMED: &str = r#"
-Content-Length: 69
-{"request":{"protocol":"3.1","app":[{"appid":"x","updatecheck":{}}]}}
-"refusal":"P8 Device","cause":"clock",
--
-"#;
+const UNTIMED: Line = Line {
+    headers: "Content-Length: 69",
+    body: r#"{"request":{"protocol":"3.1","app":[{"appid":"x","updatecheck":{}}]}}"#,
+    outcome: r#""refusal":"P8 Device","cause":"clock","#,
+    apps: "",
+};
 
 /// The line of a connection that couldn't be accepted, after its header. A nonblocking port without
 /// waiting connections causes it.
 const UNACCEPTED: &str = "\"kind\":\"unaccepted\",\
     \"reason\":\"Resource temporarily unavailable (os error 11)\"}\n";
 
-/// Sends what the rows have, stops the server, and returns both logs.
-fn received<H>(
+/// Serves clients by one worker until the flag is set.
+fn serves<H>(
+    rt: &H,
+    listener: TcpListener,
+    watcher: Watcher,
+    stop: &AtomicBool,
+    queue: &LogQueue,
+) -> Result<(), Fail>
+where
+    H: Threads + Wait + AllocGlobal + Clock + Sync,
+{
+    let (cells, pass) = PlainCells::new(rt.alloc())?;
+    let workers = vec![in rt.alloc(); (pass, watcher)]?;
+    Ok(serve(
+        rt,
+        &NoGate,
+        listener,
+        &cells,
+        workers,
+        stop,
+        logging_to(queue),
+    )?)
+}
+
+/// A client's address, how many bytes its reply has, and whether the reply has the clock's moment.
+#[derive(Clone, Copy)]
+struct ClientReply {
+    client: SocketAddr,
+    size: usize,
+    is_timed: bool,
+}
+
+/// Sends the request of a line, and ends it.
+fn asked<H>(rt: &H, place: SocketAddr, line: Line) -> io::Result<ClientReply>
+where
+    H: Net<Stream = TcpStream> + AllocGlobal,
+{
+    let Line { headers, body, .. } = line;
+    let request = format!(in rt.alloc();
+        "POST /service/update2/json HTTP/1.1\r\n{headers}\r\n\r\n{body}"
+    )?;
+    let stream = sent(rt, place, request.as_str());
+    drop(request);
+    let stream = stream?;
+    let _ended = stream.shutdown(Shutdown::Write);
+    let client = stream.local_addr()?;
+    let bytes = reply(rt.alloc(), &stream).unwrap_or(Vec::new(rt.alloc()));
+    Ok(ClientReply {
+        client,
+        size: bytes.len(),
+        is_timed: text_of(&bytes).contains(DAYSTART),
+    })
+}
+
+/// As above. Then the server is stopped.
+fn asked_then_stopped<H>(
     rt: &H,
     place: SocketAddr,
-    rows: &str,
+    line: Line,
     stop: &AtomicBool,
-    pieces: &Receiver<LogPiece>,
-) -> Result<Lines, Fail>
+) -> io::Result<ClientReply>
 where
-    H: Wait + Net<Stream = TcpStream> + AllocGlobal,
+    H: Net<Stream = TcpStream> + AllocGlobal,
 {
-    let mut lines = Lines {
-        wanted: String::new(rt.alloc()),
-        kept: String::new(rt.alloc()),
-    };
-    let requested = ask_rows(rt, place, rows, pieces, &mut lines);
-    halt(rt, place, stop);
-    requested?;
-    Ok(lines)
+    let asked = asked(rt, place, line);
+    stop.store(true, Ordering::SeqCst);
+    let _last = TcpStream::connect(rt, place);
+    asked
 }
 
-/// Whether these lines have this time and the port, and are the expected ones and lines of
-/// connections that couldn't be accepted.
-fn is_log(alloc: Global, kept: &str, time: &str, wanted: &str) -> Result<bool, AllocError> {
-    let header = format!(in alloc; "{{\"time\":\"{time}\",\"port\":8080,")?;
-    let have_header = kept.lines().all(|line| line.starts_with(header.as_str()));
-    let rest = kept.replace(alloc, header.as_str(), "")?;
-    drop(header);
-    let others = rest.replace(alloc, UNACCEPTED, "")?;
-    Ok(have_header && others.as_str() == wanted && rest.contains(UNACCEPTED))
-}
-
-/// Whether the log of a server with these workers is as these rows say, after the server has ended.
-fn is_logged_by<H>(
+/// Sends the request of a line to a server with this clock and this watcher.
+fn asked_of_server<H>(
     rt: &H,
-    crew: Crew,
+    clock: Running,
+    watcher: Watcher,
     queue: &LogQueue,
-    pieces: &Receiver<LogPiece>,
-    time: &str,
-    rows: &str,
-) -> Result<bool, Fail>
+    line: Line,
+) -> Result<ClientReply, Fail>
 where
     H: Threads + Wait + AllocGlobal + Clock + Sync,
     H: Net<Listener = TcpListener, Stream = TcpStream>,
 {
     let (listener, place) = listening(rt)?;
     listener.set_nonblocking(true)?;
-    let stop = AtomicBool::new(false);
-    let still = still_at(rt, time);
-    let (ended, received) = thread::join(
+    let own = Impaired {
         rt,
-        || serves(&still, &NoGate, listener, crew, &stop, logging_to(queue)),
-        || received(rt, place, rows, &stop, pieces),
+        clock,
+        may_connect: true,
+    };
+    let stop = AtomicBool::new(false);
+    let (asked, served) = thread::join(
+        rt,
+        || asked_then_stopped(rt, place, line, &stop),
+        || serves(&own, listener, watcher, &stop, queue),
     );
-    let mut lines = received?;
-    take(rt, pieces, &mut lines.kept)?;
-    Ok(ended && is_log(rt.alloc(), lines.kept.as_str(), time, lines.wanted.as_str())?)
+    served?;
+    Ok(asked?)
 }
 
-/// Each connection may last half a minute, and the log goes to a queue.
-pub(crate) fn logging_to<'a>(queue: &'a LogQueue) -> ServeOptions<'a> {
-    ServeOptions {
-        timeout: Duration::from_secs(30),
-        log: Some(queue),
-    }
+/// Whether a log has this time and the port, this line of a client, and lines of connections that
+/// couldn't be accepted.
+fn is_log<H: AllocGlobal>(
+    rt: &H,
+    log: &str,
+    time: &str,
+    line: Line,
+    asked: ClientReply,
+) -> Result<bool, AllocError> {
+    let Line { outcome, apps, .. } = line;
+    let ClientReply { client, size, .. } = asked;
+    let header = format!(in rt.alloc(); "{{\"time\":\"{time}\",\"port\":8080,")?;
+    let unaccepted = format!(in rt.alloc(); "{header}{UNACCEPTED}")?;
+    let others = log.replace(rt.alloc(), unaccepted.as_str(), "")?;
+    let wanted = format!(in rt.alloc();
+        "{header}\"kind\":\"connection\",\"peer\":\"{client}\",{outcome}\
+        \"bytes\":{size},\"micros\":0,\"waited\":0{apps}}}\n"
+    )?;
+    Ok(others.as_str() == wanted.as_str() && log.contains(unaccepted.as_str()))
 }
 
-/// As above, for a server that offers nothing, with one worker.
-fn is_logged<H>(rt: &H, time: &str, rows: &str) -> Result<bool, Fail>
+/// Whether a server with this clock and this watcher logs this line, and replies at its moment.
+fn is_logged_by<H>(rt: &H, watcher: Watcher, timed: Timed, line: Line) -> Result<bool, Fail>
 where
     H: Threads + Wait + AllocGlobal + Clock + Sync,
     H: Net<Listener = TcpListener, Stream = TcpStream>,
 {
     let (queue, pieces) = LogQueue::new(rt.alloc(), 8080)?;
-    let mut publisher = publisher_of(rt, rt.alloc(), "nothing", 1)?;
-    let is_logged = match crew_of(rt.alloc(), &mut publisher, 1) {
-        Ok(crew) => is_logged_by(rt, crew, &queue, &pieces, time, rows),
-        Err(fault) => Err(fault),
+    let asked = asked_of_server(rt, timed.clock, watcher, &queue, line)?;
+    let log = lines_in(rt, &pieces)?;
+    let is_timed = asked.is_timed == line.outcome.contains("200");
+    Ok(is_timed && is_log(rt, log.as_str(), timed.time, line, asked)?)
+}
+
+/// As above, for a server of a manifest.
+fn is_logged<H, D>(rt: &H, disk: &D, path: &str, timed: Timed, line: Line) -> Result<bool, Fail>
+where
+    H: Threads + Wait + AllocGlobal + Clock + Sync,
+    H: Net<Listener = TcpListener, Stream = TcpStream>,
+    D: Disk,
+{
+    let mut publisher = publisher_of(rt, disk, path)?;
+    let is_logged = match publisher.watcher() {
+        Ok(watcher) => is_logged_by(rt, watcher, timed, line),
+        Err(fault) => Err(Fail::from(fault)),
     };
     publisher.close(rt);
     is_logged
@@ -166,13 +278,23 @@ where
 
 #[test]
 fn log_has_a_line_a_connection(rt: HostRuntime) -> Result<(), Fail> {
-    assert!(rt; is_logged(&rt, AT_MOMENT, ROWS)?);
+    write_none(&rt, "logged.toml")?;
+    let disk = Device::new(&rt);
+    for line in LINES {
+        assert!(rt;
+            is_logged(&rt, &disk, "logged.toml", STOPPED, line)?,
+            "{}",
+            line.outcome
+        );
+    }
     Ok(())
 }
 
 /// If the clock can't be read, a client gets nothing, and its connection has a line.
 #[test]
 fn a_clock_that_fails_is_reported(rt: HostRuntime) -> Result<(), Fail> {
-    assert!(rt; is_logged(&rt, WITHOUT_CLOCK, UNTIMED)?);
+    write_none(&rt, "untimed.toml")?;
+    let disk = Device::new(&rt);
+    assert!(rt; is_logged(&rt, &disk, "untimed.toml", UNREADABLE, UNTIMED)?);
     Ok(())
 }
