@@ -9,15 +9,13 @@ mod publishing;
 mod quotas;
 mod requests;
 mod rules;
-mod work;
 
 use crate::answers::{ReplyTally, answer_under};
-use crate::publishing::watched;
-use crate::quotas::run_task;
+use crate::publishing::{Watching, watched};
+use crate::quotas::{Work, run_task};
 use crate::requests::{WORKED, of_apps, post};
-use crate::work::{watching_of, work_of};
-use anyhow::{Context, Result};
-use std::alloc::Global;
+use anyhow::{Context, Error, Result};
+use std::alloc::{AllocError, Global};
 use std::env;
 use std::sync::Wait;
 use std::thread::Threads;
@@ -25,18 +23,89 @@ use std::thread::Threads;
 /// The most apps that a request may have.
 const MAX_APPS: u16 = 256;
 
-/// Serves the request that a word names: `worked`, or a number of apps.
-fn tally_of<H: Wait>(rt: &H, alloc: Global, word: &str, times: u32) -> Result<ReplyTally> {
+/// What a word can be.
+const WORDS: &str = "worked, a number of apps, take|quota|quotas:locked|shared:WORKERS, \
+    looks|installs:LOOKING:STILL";
+
+/// What is done, as a word names it.
+#[derive(Clone, Copy)]
+enum Wanted {
+    /// Serves a request of this number of apps, or the worked one.
+    Answers(Option<u16>),
+    Takes(Work),
+    Watches(Watching),
+}
+
+/// `worked`, or a number of apps.
+fn answers_of(word: &str) -> Option<Wanted> {
     if word == "worked" {
-        let input = post(alloc, WORKED)?;
-        return answer_under(rt, alloc, rules::worked(alloc)?, &input, times);
+        return Some(Wanted::Answers(None));
     }
-    let count: u16 = word.parse().ok().context(
-        "worked, a number of apps, or the work of several or of watchers",
-    )?;
-    let body = of_apps(alloc, count.min(MAX_APPS))?;
-    let input = post(alloc, body.as_str())?;
-    answer_under(rt, alloc, rules::many(alloc, MAX_APPS)?, &input, times)
+    let count: u16 = word.parse().ok()?;
+    Some(Wanted::Answers(Some(count.min(MAX_APPS))))
+}
+
+/// Only takes (`take`), or requests of 1 or of 256 apps that take (`quota`, `quotas`), by counters
+/// that are `locked` or `shared`.
+fn takes_of(task: &str, sharing: &str, workers: usize) -> Option<Wanted> {
+    let apps = match task {
+        "take" => 0,
+        "quota" => 1,
+        "quotas" => MAX_APPS,
+        _ => return None,
+    };
+    let is_locked = sharing == "locked";
+    if !is_locked && sharing != "shared" {
+        return None;
+    }
+    Some(Wanted::Takes(Work {
+        apps,
+        is_locked,
+        workers,
+    }))
+}
+
+/// What a word names, such as `worked`, `quotas:shared:4` or `installs:3:61`.
+fn wanted_of(word: &str) -> Option<Wanted> {
+    let Some((first, rest)) = word.split_once(':') else {
+        return answers_of(word);
+    };
+    let (second, third) = rest.split_once(':')?;
+    let third: usize = third.parse().ok()?;
+    let is_installing = first == "installs";
+    if !is_installing && first != "looks" {
+        return takes_of(first, second, third);
+    }
+    let looking: usize = second.parse().ok()?;
+    Some(Wanted::Watches(Watching {
+        is_installing,
+        looking,
+        still: third,
+    }))
+}
+
+/// The request of this number of apps, or the worked one.
+fn request_of(alloc: Global, count: Option<u16>) -> Result<Vec<u8>, AllocError> {
+    match count {
+        Some(count) => of_apps(alloc, count),
+        None => post(alloc, WORKED),
+    }
+}
+
+/// Serves a request `times` times.
+fn tally_of<H: Wait>(rt: &H, alloc: Global, count: Option<u16>, times: u32) -> Result<ReplyTally> {
+    let input = request_of(alloc, count)?;
+    let rules = match count {
+        Some(_) => rules::many(alloc, MAX_APPS)?,
+        None => rules::worked(alloc)?,
+    };
+    answer_under(rt, alloc, rules, &input, times)
+}
+
+/// As above. Returns the line to print.
+fn answer_line<H: Wait>(rt: &H, alloc: Global, count: Option<u16>, times: u32) -> Result<String> {
+    let ReplyTally { bytes, reply } = tally_of(rt, alloc, count, times)?;
+    Ok(format!(in alloc; "answers={times} bytes={bytes} reply={reply}")?)
 }
 
 /// Does what a word names `times` times, and returns the line to print.
@@ -46,14 +115,12 @@ fn line_of<H: Threads + Wait + Sync>(
     word: &str,
     times: u32,
 ) -> Result<String> {
-    if let Some(work) = work_of(word) {
-        return run_task(rt, alloc, work, times);
+    match wanted_of(word) {
+        Some(Wanted::Answers(count)) => answer_line(rt, alloc, count, times),
+        Some(Wanted::Takes(work)) => run_task(rt, alloc, work, times),
+        Some(Wanted::Watches(watching)) => watched(rt, alloc, watching, times),
+        None => Err(Error::msg(WORDS)),
     }
-    if let Some(watching) = watching_of(word) {
-        return watched(rt, alloc, watching, times);
-    }
-    let ReplyTally { bytes, reply } = tally_of(rt, alloc, word, times)?;
-    Ok(format!(in alloc; "answers={times} bytes={bytes} reply={reply}")?)
 }
 
 fn main(rt: HostRuntime) -> Result<()> {

@@ -1,7 +1,6 @@
 //! A publisher and its watchers at work: reads of the published ruleset, and installs.
 
-use crate::rules::without_apps;
-use crate::work::{WatchKind, Watching};
+use crate::rules::takers;
 use anyhow::Result;
 use hot_swap::{Publisher, Watcher};
 use ruleset::Ruleset;
@@ -16,6 +15,15 @@ const PATIENCE: u32 = 1_000_000_000;
 /// The most watchers that a publisher has.
 const MOST: usize = 65;
 
+/// What is done with `looking` watchers that read, each in a thread of its own, and `still`
+/// watchers that don't: the first read, and meanwhile rulesets may be installed.
+#[derive(Clone, Copy)]
+pub(crate) struct Watching {
+    pub(crate) is_installing: bool,
+    pub(crate) looking: usize,
+    pub(crate) still: usize,
+}
+
 /// Does this work `times` times. Returns how many reads got a ruleset, and the last generation.
 pub(crate) fn watched<H: Threads + Wait + Sync>(
     rt: &H,
@@ -23,23 +31,15 @@ pub(crate) fn watched<H: Threads + Wait + Sync>(
     watching: Watching,
     times: u32,
 ) -> Result<String> {
-    let mut publisher = Publisher::new(rt, alloc, without_apps(alloc)?, MOST)?;
+    let mut publisher = Publisher::new(rt, alloc, takers(alloc, 0)?, MOST)?;
     let received = done(rt, alloc, &mut publisher, watching, times);
     let generation = publisher.generation();
     publisher.close(rt);
     Ok(format!(in alloc; "seen={} generation={generation}", received?)?)
 }
 
-fn sum(counts: &[u64]) -> u64 {
-    let mut sum = 0u64;
-    for count in counts {
-        sum = sum.saturating_add(*count);
-    }
-    sum
-}
-
 // Reads `times` times, or until `stop` is set, and returns the number of reads that got a ruleset.
-fn look(watcher: &mut Watcher, times: u32, stop: &AtomicBool) -> u64 {
+fn look(mut watcher: Watcher, times: u32, stop: &AtomicBool) -> u64 {
     let mut received = 0u64;
     for _ in 0..times {
         if watcher.current().is_ok() {
@@ -62,32 +62,25 @@ fn look_all<H: Threads + Sync>(
     let received = map_vec(
         rt,
         watchers,
-        &|mut watcher: Watcher| { look(&mut watcher, times, stop) },
+        &|watcher: Watcher| { look(watcher, times, stop) },
     )?;
-    Ok(sum(&received))
+    let mut sum = 0u64;
+    for count in &received {
+        sum = sum.saturating_add(*count);
+    }
+    Ok(sum)
 }
 
-// Installs a ruleset `times` times, and then stops the readers.
+// Installs a ruleset `times` times.
 fn install_all<H: Wait>(
     rt: &H,
     publisher: &mut Publisher,
     rules: &Arc<Ruleset>,
     times: u32,
-    stop: &AtomicBool,
 ) -> Result<()> {
-    let mut done = Ok(());
     for _ in 0..times {
-        if done.is_ok() {
-            done = install(rt, publisher, rules);
-        }
+        publisher.install(rt, Arc::try_clone(rules)?)?;
     }
-    stop.store(true, Ordering::Relaxed);
-    done
-}
-
-fn install<H: Wait>(rt: &H, publisher: &mut Publisher, rules: &Arc<Ruleset>) -> Result<()> {
-    let next = Arc::try_clone(rules).ok().ok_or(AllocError)?;
-    publisher.install(rt, next)?;
     Ok(())
 }
 
@@ -109,20 +102,22 @@ fn done<H: Threads + Wait + Sync>(
     watching: Watching,
     times: u32,
 ) -> Result<u64> {
+    let rules = takers(alloc, 0)?;
     let looking = watchers(alloc, publisher, watching.looking)?;
     let _still = watchers(alloc, publisher, watching.still)?;
-    let rules = without_apps(alloc)?;
     let stop = AtomicBool::new(false);
-    match watching.kind {
-        WatchKind::Looks => Ok(look_all(rt, looking, times, &stop)?),
-        WatchKind::Installs => {
-            let (received, installed) = join(
-                rt,
-                || look_all(rt, looking, PATIENCE, &stop),
-                || install_all(rt, publisher, &rules, times, &stop),
-            );
-            installed?;
-            Ok(received?)
-        }
+    if !watching.is_installing {
+        return Ok(look_all(rt, looking, times, &stop)?);
     }
+    let (received, installed) = join(
+        rt,
+        || look_all(rt, looking, PATIENCE, &stop),
+        || {
+            let installed = install_all(rt, publisher, &rules, times);
+            stop.store(true, Ordering::Relaxed);
+            installed
+        },
+    );
+    installed?;
+    Ok(received?)
 }

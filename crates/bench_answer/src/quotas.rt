@@ -5,9 +5,8 @@
 ghost use Rattle.std.specs.Prelude.{All, IfOk};
 
 use crate::answers::answer_times;
-use crate::requests::{of_apps, post};
+use crate::requests::of_apps;
 use crate::rules::{QUOTA, takers};
-use crate::work::{Sharing, Task, Work};
 use anyhow::{Context, Error, Result};
 use cells::{CellNo, CellOp, CellSteps};
 use hot_swap::{Publisher, Watcher};
@@ -25,6 +24,15 @@ struct Total {
     counter: u64,
 }
 
+/// What `workers` workers do at once: each replies to requests of `apps` apps that take, or only
+/// takes, if there are none. The counters are under a lock or shared without one.
+#[derive(Clone, Copy)]
+pub(crate) struct Work {
+    pub(crate) apps: u16,
+    pub(crate) is_locked: bool,
+    pub(crate) workers: usize,
+}
+
 /// Has each of 1 to 64 workers do its task `times` times, and returns the line to print.
 pub(crate) fn run_task<H: Threads + Wait + Sync>(
     rt: &H,
@@ -32,35 +40,29 @@ pub(crate) fn run_task<H: Threads + Wait + Sync>(
     work: Work,
     times: u32,
 ) -> Result<String> {
-    match work.task {
-        Task::Take => {
-            let Total { sum, counter } = published(rt, alloc, work, 1, None, times)?;
-            Ok(format!(in alloc; "times={times} places={sum} counter={counter}")?)
-        }
-        Task::Answer(apps) => {
-            let body = of_apps(alloc, apps)?;
-            let request = post(alloc, body.as_str())?;
-            let Total { sum, counter } = published(rt, alloc, work, apps, Some(&request), times)?;
-            Ok(format!(in alloc; "times={times} bytes={sum} counter={counter}")?)
-        }
-    }
+    let request = of_apps(alloc, work.apps)?;
+    let total = published(rt, alloc, work, &request, times);
+    drop(request);
+    let Total { sum, counter } = total?;
+    let name = if work.apps == 0 { "places" } else { "bytes" };
+    Ok(format!(in alloc; "times={times} {name}={sum} counter={counter}")?)
 }
 
-/// Publishes a ruleset of `apps` apps that take. Each worker replies to the request `times` times
-/// under it, or, without a request, only takes.
+/// Publishes a ruleset of apps that take, under which the workers do their task.
 fn published<H: Threads + Wait + Sync>(
     rt: &H,
     alloc: Global,
     work: Work,
-    apps: u16,
-    request: Option<&[u8]>,
+    request: &[u8],
     times: u32,
 ) -> Result<Total> {
     let workers = work.workers.clamp(1, 64);
-    let mut publisher = Publisher::new(rt, alloc, takers(alloc, apps)?, workers)?;
-    let total = match work.sharing {
-        Sharing::Locked => over_locked(rt, alloc, &mut publisher, workers, request, times),
-        Sharing::Shared => over_shared(rt, alloc, &mut publisher, workers, request, times),
+    let request = if work.apps == 0 { None } else { Some(request) };
+    let mut publisher = Publisher::new(rt, alloc, takers(alloc, work.apps)?, workers)?;
+    let total = if work.is_locked {
+        over_locked(rt, alloc, &mut publisher, workers, request, times)
+    } else {
+        over_shared(rt, alloc, &mut publisher, workers, request, times)
     };
     publisher.close(rt);
     total

@@ -1,26 +1,34 @@
 //! The requests that are served.
 
 use std::alloc::{AllocError, Global};
+use std::fmt::Write;
 
 /// One app, which requests an update and pings.
 pub(crate) const WORKED: &str = "{\"request\":{\"protocol\":\"3.1\",\"requestid\":\"a\",\
     \"sessionid\":\"\",\"app\":[{\"appid\":\"x\",\"version\":\"1.0\",\"updatecheck\":{},\
     \"ping\":{\"r\":1}}]}}";
 
-/// A request of the first `count` apps of the large ruleset, each of which requests an update.
-pub(crate) fn of_apps(alloc: Global, count: u16) -> Result<String, AllocError> {
-    let mut body = String::from_str(alloc, r#"{"request":{"protocol":"3.1","app":["#)?;
+/// Appends `count` apps, each of which requests an update.
+fn push_apps(body: &mut String, count: u16) -> Result<(), AllocError> {
     for number in 0..count {
         if number > 0 {
-            body.push_str(",")?;
+            body.push(',')?;
         }
-        let app = format!(in alloc;
+        write!(
+            body,
             r#"{{"appid":"app{number}","version":"1.0","updatecheck":{{}}}}"#
         )?;
-        body.push_str(app.as_str())?;
     }
-    body.push_str("]}}")?;
-    Ok(body)
+    Ok(())
+}
+
+/// A POST for the first `count` apps of the large ruleset.
+pub(crate) fn of_apps(alloc: Global, count: u16) -> Result<Vec<u8>, AllocError> {
+    let mut apps = String::new(alloc);
+    push_apps(&mut apps, count)?;
+    let body = format!(in alloc; r#"{{"request":{{"protocol":"3.1","app":[{apps}]}}}}"#);
+    drop(apps);
+    post(alloc, body?.as_str())
 }
 
 /// A POST of a body, with its head.

@@ -1,11 +1,10 @@
-//! The rulesets under which requests are served, and one that is only published.
+//! The rulesets under which requests are served. The apps of each are alike.
 
 ghost use Rattle.std.specs.Prelude.{◌≡◌, ◌≤◌, IfOk, length};
 
-use acceptance::accept;
+use acceptance::rule_program;
 use anyhow::{Context, Result, ensure};
 use attrs::Text;
-use bpf_text::assemble;
 use bpf_verify::Verified;
 use cells::{CellWidth, Directory, Shape};
 use releases::{Package, Release, is_appid};
@@ -13,51 +12,29 @@ use ruleset::{App, Ruleset};
 use std::alloc::{AllocError, Global};
 use std::sync::Arc;
 
-/// Offers the first release to the buckets below 2000.
-const BELOW_2000: &str = "ldxh r2, [r1+16]\nmov r0, 0\njge r2, 2000, end\nmov r0, 1\nend:\nexit";
-
-/// Offers the last of 64 releases.
-const THE_LAST: &str = "mov r0, 64\nexit";
-
 /// How many takes the quota allows: more than are made.
 pub(crate) const QUOTA: u64 = 2_000_000_000;
-
-/// Takes from the quota, and offers the first release.
-const TAKES: &str = "ldcell r6, 0, 0\nmov r2, 1\nfadddw [r6+0], r2\nmov r0, 0\n\
-    jge r2, 2000000000, end\nmov r0, 1\nend:\nexit";
 
 /// The SHA-256 of `abc`.
 const HASH: &str = "ba7816bf8f01cfea414140de5dae2223b00361a396177a9cb410ff61f20015ad";
 
-/// The ruleset of a server `prod` with the app `x`, which has one release of one package.
+/// The app `x`, with one release of one package, which the buckets below 2000 are offered.
 pub(crate) fn worked(alloc: Global) -> Result<Arc<Ruleset>> {
-    let program = program(alloc, BELOW_2000, &Shape::plain(alloc, 1))?;
-    let apps = vec![in alloc; app(alloc, "x", &program, 1)?]?;
-    ruleset(alloc, apps)
+    let rule = "when bucket < 2000 offer 1; otherwise none;";
+    ruleset(alloc, "x", 1, &Shape::plain(alloc, 1), rule, 1)
 }
 
-/// The ruleset of a server `prod` with `count` apps, each of 64 releases of 16 packages.
+/// `count` apps, each of 64 releases of 16 packages. All are offered the last release.
 pub(crate) fn many(alloc: Global, count: u16) -> Result<Arc<Ruleset>> {
-    let program = program(alloc, THE_LAST, &Shape::plain(alloc, 64))?;
-    ruleset(alloc, apps(alloc, count, &program, 16)?)
+    let shape = Shape::plain(alloc, 64);
+    ruleset(alloc, "app0", count, &shape, "otherwise offer 64;", 16)
 }
 
-/// The ruleset of a server `prod` with `count` apps, each of one release of one package. The runs
-/// of all apps take from one quota: each adds 1 to cell 0.
+/// `count` apps, each of one release of one package. The runs of all apps take from one quota: each
+/// adds 1 to cell 0.
 pub(crate) fn takers(alloc: Global, count: u16) -> Result<Arc<Ruleset>> {
-    let program = program(alloc, TAKES, &quota_shape(alloc)?)?;
-    ruleset(alloc, apps(alloc, count, &program, 1)?)
-}
-
-/// The ruleset of a server `prod` without apps.
-pub(crate) fn without_apps(alloc: Global) -> Result<Arc<Ruleset>> {
-    ruleset(alloc, Vec::new(alloc))
-}
-
-fn ruleset(alloc: Global, apps: Vec<App>) -> Result<Arc<Ruleset>> {
-    let server = String::from_str(alloc, "prod")?;
-    let rules = Ruleset::new(server, apps).context("an appid stands twice")?;
-    Ok(Arc::new(alloc, rules)?)
+    let rule = "when take(q, 0) offer 1; otherwise none;";
+    ruleset(alloc, "app0", count, &quota_shape(alloc)?, rule, 1)
 }
 
 /// The shape of an app with one release that takes from a quota.
@@ -68,37 +45,80 @@ fn quota_shape(alloc: Global) -> Result<Shape> {
     Ok(Shape::of(alloc, 1, &directory, &[array])?)
 }
 
-/// The program of a text, for apps of a shape.
-fn program(alloc: Global, text: &str, shape: &Shape) -> Result<Arc<Verified>> {
-    let bytes = assemble(alloc, text)?;
-    let program = accept(alloc, &bytes, shape)?;
+/// The ruleset of a server `prod` with `count` apps of a shape and a rule, each release of
+/// `packages` packages.
+fn ruleset(
+    alloc: Global,
+    first: &str,
+    count: u16,
+    shape: &Shape,
+    rule: &str,
+    packages: u8,
+) -> Result<Arc<Ruleset>>
+    requires some { 1 ≤ packages }
+    requires few { packages ≤ 16 }
+{
+    let program = program(alloc, shape, rule)?;
+    let apps = apps(alloc, first, count, &program, packages);
+    drop(program);
+    shared(alloc, apps?)
+}
+
+/// The ruleset of these apps.
+fn shared(alloc: Global, apps: Vec<App>) -> Result<Arc<Ruleset>> {
+    let server = String::from_str(alloc, "prod")?;
+    let rules = Ruleset::new(server, apps).context("two apps have one appid")?;
+    Ok(Arc::new(alloc, rules)?)
+}
+
+/// The program of a rule, for apps of a shape.
+fn program(alloc: Global, shape: &Shape, rule: &str) -> Result<Arc<Verified>> {
+    let program = rule_program(alloc, rule.as_bytes(), shape)?;
     Ok(Arc::new(alloc, program)?)
 }
 
-/// `count` apps `app0`, `app1` and so on, each with as many releases as the program has, each of
-/// `packages` packages.
-fn apps(alloc: Global, count: u16, program: &Arc<Verified>, packages: u8) -> Result<Vec<App>>
+/// The app `first`, and `app1` and so on, `count` in all.
+fn apps(
+    alloc: Global,
+    first: &str,
+    count: u16,
+    program: &Arc<Verified>,
+    packages: u8,
+) -> Result<Vec<App>>
     requires some { 1 ≤ packages }
     requires few { packages ≤ 16 }
 {
     let mut apps = Vec::new(alloc);
     for number in 0..count {
-        let appid = format!(in alloc; "app{number}")?;
-        apps.push(app(alloc, appid.as_str(), program, packages)?)?;
+        apps.push(app(alloc, first, number, program, packages)?)?;
     }
     Ok(apps)
 }
 
+fn appid_of(alloc: Global, first: &str, number: u16) -> Result<String, AllocError> {
+    if number == 0 {
+        return String::from_str(alloc, first);
+    }
+    format!(in alloc; "app{number}")
+}
+
 /// An app with as many releases as its program has, each of `packages` packages.
-fn app(alloc: Global, appid: &str, program: &Arc<Verified>, packages: u8) -> Result<App>
+fn app(
+    alloc: Global,
+    first: &str,
+    number: u16,
+    program: &Arc<Verified>,
+    packages: u8,
+) -> Result<App>
     requires some { 1 ≤ packages }
     requires few { packages ≤ 16 }
 {
-    ensure!(is_appid(appid), "{appid} is no appid");
+    let appid = appid_of(alloc, first, number)?;
+    ensure!(is_appid(appid.as_str()), "no appid");
     let accepted: &Verified = program;
+    let program = Arc::try_clone(program)?;
     let releases = releases(alloc, accepted.shape().releases(), packages)?;
-    let program = Arc::try_clone(program).ok().ok_or(AllocError)?;
-    Ok(App::new(String::from_str(alloc, appid)?, program, releases))
+    Ok(App::new(appid, program, releases))
 }
 
 fn releases(alloc: Global, count: u8, packages: u8) -> Result<Vec<Release>, AllocError>
