@@ -27,7 +27,14 @@ pub(crate) fn worked(alloc: Global) -> Result<Arc<Ruleset>> {
 /// `count` apps, each of 64 releases of 16 packages. All are offered the last release.
 pub(crate) fn many(alloc: Global, count: u16) -> Result<Arc<Ruleset>> {
     let shape = Shape::plain(alloc, 64);
-    ruleset(alloc, "app0", count, &shape, "otherwise offer 64;", 16)
+    ruleset(
+        alloc,
+        "app0",
+        count,
+        &shape,
+        "when bucket >= 0 offer 64; otherwise none;",
+        16,
+    )
 }
 
 /// `count` apps, each of one release of one package. The runs of all apps take from one quota: each

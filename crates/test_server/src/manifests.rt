@@ -8,7 +8,7 @@ use std::test::Fail;
 /// A path, an array, and a rule.
 const MANIFESTS: [(&str, &str, &str); 5] = [
     ("no.toml", "", "otherwise none;"),
-    ("yes.toml", "", "otherwise offer 1;"),
+    ("yes.toml", "", "when bucket >= 0 offer 1;\notherwise none;"),
     ("forty.toml", FORTY, TAKES),
     ("other.toml", FORTY, TAKES),
     ("thousand.toml", THOUSAND, TAKES),
