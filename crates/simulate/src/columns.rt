@@ -1,11 +1,12 @@
-//! Columns of a table: blanks, counts in percent and bars.
+//! Columns of a table: texts, filled up with blanks.
 
 ghost use Rattle.std.specs.Prelude.{◌≡◌, OnOk};
 ghost use Rattle.printing.specs.Pushed.{Puts};
 ghost use Rattle.simulate.specs.Columns as specs;
 
 use std::alloc::AllocError;
-use std::fmt::Write;
+use std::fmt;
+use std::fmt::{Display, Formatter, Write};
 
 /// The width of a text, in characters.
 pub fn width_of(text: &str) -> usize
@@ -35,33 +36,19 @@ pub fn push_left(text: &mut String, width: usize, more: &str) -> Result<(), Allo
     push_blanks(text, width.saturating_sub(width_of(more)))
 }
 
-/// Appends a text, preceded by the blanks that fill it up to a width.
-pub(crate) fn push_right(text: &mut String, width: usize, more: &str) -> Result<(), AllocError> {
-    push_blanks(text, width.saturating_sub(width_of(more)))?;
-    text.push_str(more)
+/// A text that is printed with the blanks that fill it up to a width.
+#[derive(Drop)]
+pub(crate) struct Padded<'a> {
+    pub text: &'a str,
+    pub width: usize,
 }
 
-/// Appends a number at the right of a column.
-pub(crate) fn push_number_right(
-    text: &mut String,
-    width: usize,
-    number: u32,
-) -> Result<(), AllocError> {
-    let digits = number.to_string(*text.allocator())?;
-    push_right(text, width, digits.as_str())
-}
-
-/// Appends a count out of 10000, in percent with two decimals.
-pub(crate) fn push_percent(text: &mut String, count: u32) -> Result<(), AllocError> {
-    let whole = count / 100;
-    let hundredths = count % 100;
-    write!(text, "{whole}.{hundredths:02}")
-}
-
-/// Appends the bar of a count out of 10000: a mark for each 250, rounded, but at least one.
-pub(crate) fn push_bar(text: &mut String, count: u32) -> Result<(), AllocError> {
-    for _mark in 0..(count.saturating_add(125) / 250).max(1) {
-        text.push_str("#")?;
+impl<'a> Display for Padded<'a> {
+    fn fmt<W: Write>(&self, f: &mut Formatter<W>) -> fmt::Result {
+        f.write_str(self.text)?;
+        for _blank in width_of(self.text)..self.width {
+            f.write_str(" ")?;
+        }
+        Ok(())
     }
-    Ok(())
 }

@@ -1,7 +1,6 @@
 //! The legend of an app: a row for each choice that some bucket makes.
 
 use crate::choices::Choices;
-use crate::columns::push_percent;
 use crate::counts::count_buckets;
 use crate::labels::{push_choice_label, release_count};
 use ruleset::App;
@@ -37,13 +36,13 @@ fn draw_row(
 ) -> Result<(), AllocError> {
     let mut label = String::new(alloc);
     push_choice_label(&mut label, app, choice)?;
-    let mut percent = String::new(alloc);
-    push_percent(&mut percent, count)?;
     draw_patch(picture, top, choice);
     let y = top.saturating_add(11);
     picture.label(450, y, label.as_str());
     picture.end_label(740, y, count);
-    picture.end_label(840, y, format_args!("{percent} %"));
+    let whole = count / 100;
+    let hundredths = count % 100;
+    picture.end_label(840, y, format_args!("{whole}.{hundredths:02} %"));
     picture.line();
     Ok(())
 }

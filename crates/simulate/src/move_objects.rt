@@ -187,6 +187,9 @@ fn move_object(
     let (from, to) = choices;
     let lost = loses(now, next, from, to);
     let before = release_object(alloc, now, from)?;
-    let after = release_object(alloc, next, to)?;
+    let Ok(after) = release_object(alloc, next, to) else {
+        drop(before);
+        return Err(AllocError);
+    };
     json!(in alloc; {"buckets": count, "lost": lost, "next": after, "now": before})
 }

@@ -1,12 +1,12 @@
 //! How many buckets move from which release to which: a table for each app. Rows compare the tables;
 //! the counts in them are those of `count_moves`, and `loses` marks a row.
 
-ghost use Rattle.std.specs.Prelude.{◌≡◌, ℕ, List, OnOk, None};
+ghost use Rattle.std.specs.Prelude.{◌≡◌, ℕ, List, OnOk, None, length};
 ghost use Rattle.printing.specs.Pushed.{Puts};
 ghost use Rattle.simulate.specs.Counts.{choices_or_none};
 
 use crate::choices::Choices;
-use crate::columns::{push_left, push_number_right, width_of};
+use crate::columns::{Padded, width_of};
 use crate::counts::count_moves;
 use crate::labels::{release_count, version_at, widest_version};
 use crate::lost::loses;
@@ -14,6 +14,7 @@ use crate::shares::push_title;
 use crate::simulated::Simulated;
 use ruleset::App;
 use std::alloc::{AllocError, Global};
+use std::fmt::Write;
 
 /// The widths of the columns of a table of moves.
 #[derive(Clone, Copy)]
@@ -65,7 +66,6 @@ fn push_table(
 {
     let (app, choices) = now.offer(none, appid);
     let (next_app, next_choices) = next.offer(none, appid);
-    let table = count_moves(alloc, choices, next_choices)?;
     let mut title = String::new(alloc);
     push_title(&mut title, appid)?;
     let widths = MoveWidths {
@@ -73,13 +73,27 @@ fn push_table(
         now: widest_version(9, app),
         next: widest_version(9, next_app),
     };
-    push_columns(text, widths, title.as_str(), "now", "next")?;
+    let pushed = push_columns(text, widths, title.as_str(), "now", "next");
+    drop(title);
+    pushed?;
     text.push_str("buckets\n")?;
-    for from in 0..release_count(app) + 1 {
-        for to in 0..release_count(next_app) + 1 {
+    let table = count_moves(alloc, choices, next_choices)?;
+    push_rows(text, widths, (app, next_app), table.as_slice())
+}
+
+fn push_rows(
+    text: &mut String,
+    widths: MoveWidths,
+    apps: (Option<&App>, Option<&App>),
+    table: &[u32],
+) -> Result<(), AllocError>
+    requires { length table.now ≡ 4225 }
+{
+    for from in 0..release_count(apps.0) + 1 {
+        for to in 0..release_count(apps.1) + 1 {
             let count = table[65 * from + to];
             if count > 0 {
-                push_row(text, widths, (app, next_app), (from, to), count)?;
+                push_row(text, widths, apps, (from, to), count)?;
             }
         }
     }
@@ -102,12 +116,12 @@ fn push_row(
         choice_name(now, from),
         choice_name(next, to),
     )?;
-    push_number_right(text, 7, count)?;
-    text.push_str(if loses(now, next, from, to) {
-        "  lost\n"
+    let mark = if loses(now, next, from, to) {
+        "  lost"
     } else {
-        "\n"
-    })
+        ""
+    };
+    writeln!(text, "{count:>7}{mark}")
 }
 
 fn choice_name<'a>(app: Option<&'a App>, choice: usize) -> &'a str {
@@ -125,10 +139,17 @@ fn push_columns(
     now: &str,
     next: &str,
 ) -> Result<(), AllocError> {
-    push_left(text, widths.app, app)?;
-    text.push_str("  ")?;
-    push_left(text, widths.now, now)?;
-    text.push_str("  ")?;
-    push_left(text, widths.next, next)?;
-    text.push_str("  ")
+    let app = Padded {
+        text: app,
+        width: widths.app,
+    };
+    let now = Padded {
+        text: now,
+        width: widths.now,
+    };
+    let next = Padded {
+        text: next,
+        width: widths.next,
+    };
+    write!(text, "{app}  {now}  {next}  ")
 }

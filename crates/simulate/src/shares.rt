@@ -5,7 +5,7 @@ ghost use Rattle.std.specs.Prelude.{ℕ, List, OnOk};
 ghost use Rattle.printing.specs.Pushed.{Puts};
 
 use crate::choices::Choices;
-use crate::columns::{push_bar, push_left, push_number_right, push_percent, push_right};
+use crate::columns::Padded;
 use crate::counts::count_buckets;
 use crate::labels::{push_choice_label, release_count, widest_version};
 use crate::simulated::Simulated;
@@ -55,15 +55,23 @@ fn push_row(
 ) -> Result<(), AllocError> {
     let mut label = String::new(*text.allocator());
     push_choice_label(&mut label, app, choice)?;
-    let mut percent = String::new(*text.allocator());
-    push_percent(&mut percent, count)?;
-    text.push_str("  ")?;
-    push_left(text, width, label.as_str())?;
-    text.push_str("  ")?;
-    push_number_right(text, 5, count)?;
-    text.push_str("  ")?;
-    push_right(text, 6, percent.as_str())?;
-    text.push_str(" %  ")?;
-    push_bar(text, count)?;
+    let pushed = push_count(text, width, label.as_str(), count);
+    drop(label);
+    pushed
+}
+
+// A count out of 10000: its number, its percentage, and a bar with a mark for each 250, rounded,
+// but at least one.
+fn push_count(text: &mut String, width: usize, label: &str, count: u32) -> Result<(), AllocError> {
+    let label = Padded { text: label, width };
+    let whole = count / 100;
+    let hundredths = count % 100;
+    write!(
+        text,
+        "  {label}  {count:>5}  {whole:>3}.{hundredths:02} %  "
+    )?;
+    for _mark in 0..(count.saturating_add(125) / 250).max(1) {
+        text.push_str("#")?;
+    }
     text.push_str("\n")
 }
