@@ -1,6 +1,7 @@
 -- Values without a float: the report on a check has none.
-use Rattle.std.proofs.Common.{◌≡◌, refl, ℕ, List, [], ◌∷◌, ◌++◌, Bool, true, false, ◌||◌, map}
+use Rattle.std.proofs.Common.{◌≡◌, refl, ℕ, List, [], ◌∷◌, ◌++◌, Bool, false, map}
 use Rattle.std.proofs.Common.{Option, None, Some}
+use Rattle.std.proofs.lemmas.Bool.{or_from, or_parts}
 use Rattle.std.specs.Borrow.{Bor}
 use Rattle.bounded_files.specs.Files.{KnownFiles}
 use Rattle.cells.specs.Directory.{Declaration}
@@ -21,31 +22,18 @@ use Rattle.serde_json.specs.Written.{has_float, items_have_float}
 abbrev pub AreFloatless : List Data → Type 0
 AreFloatless values = items_have_float (items_of values) ≡ false
 
-or_neither : (a b : Bool) → a ≡ false → b ≡ false → (a || b) ≡ false
-or_neither true b first second = first
-or_neither false b first second = second
-
-or_first : (a b : Bool) → (a || b) ≡ false → a ≡ false
-or_first true b neither = neither
-or_first false b neither = refl
-
-or_second : (a b : Bool) → (a || b) ≡ false → b ≡ false
-or_second true true neither = neither
-or_second true false neither = refl
-or_second false b neither = neither
-
 mapped : {X : Type 0} (f : X → Data) (xs : List X) → ((x : X) → has_float (f x) ≡ false)
     → AreFloatless (map f xs)
 mapped f [] each = refl
-mapped f (x ∷ xs) each = or_neither (has_float (f x)) _ (each x) (mapped f xs each)
+mapped f (x ∷ xs) each = or_from (has_float (f x)) _ (each x) (mapped f xs each)
 
-behind : (xs : List Data) (x : Data) → AreFloatless xs → has_float x ≡ false
+one_more : (xs : List Data) (x : Data) → AreFloatless xs → has_float x ≡ false
     → AreFloatless (xs ++ x ∷ [])
-behind [] x so_far last = or_neither (has_float x) false last refl
-behind (y ∷ xs) x so_far last =
-    or_neither (has_float y) (items_have_float (items_of (xs ++ x ∷ [])))
-    (or_first (has_float y) (items_have_float (items_of xs)) so_far)
-    (behind xs x (or_second (has_float y) (items_have_float (items_of xs)) so_far) last)
+one_more [] x so_far last = or_from (has_float x) false last refl
+one_more (y ∷ xs) x so_far last =
+    or_from (has_float y) (items_have_float (items_of (xs ++ x ∷ [])))
+    (or_parts (has_float y) (items_have_float (items_of xs)) so_far).0
+    (one_more xs x (or_parts (has_float y) (items_have_float (items_of xs)) so_far).1 last)
 
 -- ---- objects
 
@@ -54,14 +42,14 @@ quota None = refl
 quota (Some q) = refl
 
 of_array : (d : Declaration) → has_float (array_object d) ≡ false
-of_array d = or_neither (has_float (quota_object d.quota)) false (quota d.quota) refl
+of_array d = or_from (has_float (quota_object d.quota)) false (quota d.quota) refl
 
 of_accepted : (allowed : List (Bor (List ℕ))) (path : List ℕ) (checked : CheckedManifest)
     → has_float (accepted_object allowed path checked) ≡ false
 of_accepted allowed path checked =
-    or_neither _ _ (mapped checked_app_object checked.apps.items (λ a. refl))
-    (or_neither _ _ (mapped array_object checked.arrays.items of_array)
-    (or_neither _ false (mapped (warning_object allowed) checked.warnings.items (λ w. refl)) refl))
+    or_from _ _ (mapped checked_app_object checked.apps.items (λ a. refl))
+    (or_from _ _ (mapped array_object checked.arrays.items of_array)
+    (or_from _ false (mapped (warning_object allowed) checked.warnings.items (λ w. refl)) refl))
 
 of_faults : (reason : List ℕ) (why : ManifestToolFault) → AreFloatless (fault_objects reason why)
 of_faults reason (fault.Diagnosed found) = mapped further_object found.further.items (λ f. refl)
@@ -69,7 +57,7 @@ of_faults reason why = refl
 
 of_refused : (path reason : List ℕ) (why : ManifestToolFault)
     → has_float (refused_object path reason why) ≡ false
-of_refused path reason why = or_neither _ false (of_faults reason why) refl
+of_refused path reason why = or_from _ false (of_faults reason why) refl
 
 -- ---- all of them
 
@@ -87,7 +75,7 @@ of_each : (known : KnownFiles) (strict : Bool) (allowed : List (Bor (List ℕ)))
 of_each known strict allowed paths values all none = refl
 of_each known strict allowed paths values all
     (next before path so_far value passed one objects last) =
-    behind so_far value (of_each known strict allowed before so_far passed objects)
+    one_more so_far value (of_each known strict allowed before so_far passed objects)
     (of_object known strict allowed path.now value one last)
 
 pub of_checks : (known : KnownFiles) (strict : Bool) (allowed : List (Bor (List ℕ)))
@@ -95,4 +83,4 @@ pub of_checks : (known : KnownFiles) (strict : Bool) (allowed : List (Bor (List 
     → AreCheckObjects known strict allowed paths values all
     → has_float (checks_object values all) ≡ false
 of_checks known strict allowed paths values all objects =
-    or_neither _ false (of_each known strict allowed paths values all objects) refl
+    or_from _ false (of_each known strict allowed paths values all objects) refl

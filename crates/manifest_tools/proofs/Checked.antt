@@ -1,7 +1,8 @@
 -- Manifests that are checked, in order.
 use Rattle.std.proofs.Common.{◌≡◌, ◌∙◌, ap, sym, ℕ, ◌+◌, ◌<◌, List, [], ◌∷◌, ◌++◌, length}
-use Rattle.std.proofs.Common.{Bool, true, false, ◌&&◌, add-one, append-nil, get_or, refl, take}
+use Rattle.std.proofs.Common.{Bool, true, false, add-one, append-nil, get_or, refl, take}
 use Rattle.std.proofs.Math.Seq.{take-suc}
+use Rattle.std.proofs.lemmas.Bool.{and_right}
 use Rattle.std.specs.Borrow.{Bor}
 use Rattle.std.specs.String.{string_bytes}
 use Rattle.bounded_files.specs.Files.{KnownFiles}
@@ -28,10 +29,6 @@ accepted_more known strict allowed path one old new checked added = record {
   passes_is = added.passes_is;
 }
 
-and_no : (b : Bool) → (b && false) ≡ false
-and_no true = refl
-and_no false = refl
-
 pub refused_more : (known : KnownFiles) (strict : Bool) (allowed : List (Bor (List ℕ)))
     (path : List ℕ) (fault : ManifestToolFault) (old new : CheckOutput)
     → IsCheckRefusal known path fault → AddsRefused path fault old new
@@ -44,7 +41,7 @@ refused_more known strict allowed path fault old new checked added = record {
   text_is =
       ap (λ t. string_bytes t) added.text_is ∙ sym (append-nil (string_bytes old.text));
   stderr_is = added.stderr_is;
-  passes_is = added.passes_is ∙ sym (and_no old.passes);
+  passes_is = added.passes_is ∙ sym (and_right old.passes false refl);
 }
 
 -- ---- in order

@@ -41,9 +41,10 @@ where
     let objects = objects_of(rt, disk, paths, strict, allowed)?;
     let passes = objects.passes;
     let value = checks_object(alloc, objects.values, passes)?;
-    let text = json_line(alloc, &value)?;
+    let line = json_line(alloc, &value);
+    drop(value);
     Ok(CheckOutput {
-        text,
+        text: line?,
         stderr: String::new(alloc),
         passes,
     })
@@ -111,8 +112,9 @@ where
     match check_file(alloc, disk, path) {
         Ok(checked) => {
             let one = passes(strict, allowed, checked.warnings.as_slice());
-            let value = accepted_object(alloc, allowed, path, &checked)?;
-            Ok((value, one))
+            let value = accepted_object(alloc, allowed, path, &checked);
+            drop(checked);
+            Ok((value?, one))
         }
         Err(fault) => {
             let value = refused_as(rt, path, &fault);

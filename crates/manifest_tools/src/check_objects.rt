@@ -27,17 +27,13 @@ pub(crate) fn accepted_object(
     ensures { IfOk result (λ value. view value
         ≡ specs.accepted_object allowed.now path.now checked.now) }
 {
-    let apps = app_objects(alloc, checked.apps.as_slice())?;
-    let arrays = array_objects(alloc, checked.arrays.as_slice())?;
-    let warnings = warning_objects(alloc, allowed, checked.warnings.as_slice())?;
-    let digest = hex::encode(alloc, checked.digest)?;
     json!(in alloc; {
         "accepted": true,
-        "apps": apps,
-        "arrays": arrays,
-        "digest": digest,
+        "apps": app_objects(alloc, checked.apps.as_slice())?,
+        "arrays": array_objects(alloc, checked.arrays.as_slice())?,
+        "digest": hex::encode(alloc, checked.digest)?,
         "manifest": path,
-        "warnings": warnings
+        "warnings": warning_objects(alloc, allowed, checked.warnings.as_slice())?
     })
 }
 
@@ -75,13 +71,11 @@ fn array_objects(alloc: Global, arrays: &[ArrayDeclaration]) -> Result<Vec<Value
 fn array_object(alloc: Global, array: &ArrayDeclaration) -> Result<Value, AllocError>
     ensures { IfOk result (λ value. view value ≡ specs.array_object array.now) }
 {
-    let quota = quota_object(array.quota());
-    let width = bits_of(array.width());
     json!(in alloc; {
         "length": array.length(),
         "name": array.name(),
-        "quota": quota,
-        "width": width
+        "quota": quota_object(array.quota()),
+        "width": bits_of(array.width())
     })
 }
 
@@ -153,10 +147,9 @@ pub(crate) fn refused_object(
     ensures { IfOk result (λ value. view value
         ≡ specs.refused_object path.now reason.now fault.now) }
 {
-    let faults = fault_objects(alloc, reason, fault)?;
     json!(in alloc; {
         "accepted": false,
-        "faults": faults,
+        "faults": fault_objects(alloc, reason, fault)?,
         "left_out": left_out_of(fault),
         "manifest": path,
         "unread_apps": unread_of(fault)

@@ -109,12 +109,20 @@ fn format_checked(
 ) -> Result<CheckOutput, AllocError>
     ensures { IfOk result (specs.FormatsChecked strict allowed.now checked) }
 {
-    let passes = passes(strict, allowed, checked.warnings.as_slice());
+    let CheckedManifest {
+        arrays,
+        apps,
+        mut text,
+        warnings,
+        digest,
+    } = checked;
+    drop(arrays);
+    drop(apps);
+    let passes = passes(strict, allowed, warnings.as_slice());
     let mut stderr = String::new(alloc);
-    push_warnings(&mut stderr, checked.warnings.as_slice())?;
-    let mut text = checked.text;
-    push_ok(&mut text, allowed, checked.warnings.as_slice())?;
-    push_digest(&mut text, checked.digest)?;
+    push_warnings(&mut stderr, warnings.as_slice())?;
+    push_ok(&mut text, allowed, warnings.as_slice())?;
+    push_digest(&mut text, digest)?;
     Ok(CheckOutput {
         text,
         stderr,
