@@ -6,7 +6,7 @@ ghost use Rattle.report_state.specs.States.{SpellsCounts};
 ghost use Rattle.log_tools.specs.Continued.{Continues, HasContinued};
 ghost use Rattle.log_tools.specs.Reports.{CountsLogs};
 
-use crate::log_part::part_of;
+use crate::log_part::{keep_others, part_of};
 use crate::progress_lines::ProgressLines;
 use crate::report_fault::ReportFault;
 use crate::report_form::{ReportForm, text_by};
@@ -25,9 +25,9 @@ use std::time::Clock;
 /// file `state` says what was counted. It is replaced before the report is returned. If it is empty
 /// or doesn't exist, the logs are read from their first line.
 ///
-/// A log is known by its first 256 bytes, whatever its path is. The new state has only the logs that
-/// this call names, so one that it leaves out is counted again by a later call. A last line without
-/// its line feed is left for the next call.
+/// A log is known by its first 256 bytes, whatever its path is. The state also keeps the logs that
+/// this call leaves out, up to 1000 in all, so a later call continues them. A last line without its
+/// line feed is left for the next call.
 ///
 /// Returns B3 if a log can't be read or isn't a regular file, or if the state can't be read or
 /// written; B4 if an allocation fails; B9 if the file isn't a state; B10 if another call has it.
@@ -81,6 +81,9 @@ where
     };
     let mut new = Vec::new(rt.alloc());
     count_parts(rt, logs, &window, places, &mut new, report)?;
+    let Ok(()) = keep_others(rt.alloc(), places, &mut new) else {
+        return Err(ReportFault::Resource(ResourceFault::Memory));
+    };
     let kept = kept_text(rt.alloc(), report, new.as_slice())?;
     let Ok(text) = text_by(rt.alloc(), form, MetricKind::Counter, report) else {
         return Err(ReportFault::Resource(ResourceFault::Memory));

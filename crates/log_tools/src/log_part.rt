@@ -5,7 +5,7 @@ ghost use Rattle.std.specs.Prelude.{◌≤◌, length};
 
 use memchr::memrchr;
 use report_state::LogPlace;
-use std::alloc::Global;
+use std::alloc::{AllocError, Global};
 use std::fs::OpenFile;
 use std::io::{self, Read, Seek, SeekFrom};
 
@@ -14,6 +14,10 @@ const BEGINNING: u64 = 256;
 
 /// How many bytes are searched at a time for a line feed.
 const PIECE: u64 = 0x1_0000;
+
+/// How many places a state has, unless a call names more logs. A log that was left out for the
+/// longest time goes first.
+const MOST_PLACES: usize = 1000;
 
 /// A part of a log, by the numbers of bytes before its first byte and up to its last one.
 #[derive(Drop)]
@@ -54,6 +58,25 @@ fn part_at(alloc: Global, place: &LogPlace) -> io::Result<LogPart> {
         start: place.counted,
         end: place.counted,
     })
+}
+
+/// Appends the old places in logs that aren't among these. So a log that a call leaves out isn't
+/// counted again by a later one.
+pub(crate) fn keep_others(
+    alloc: Global,
+    old: &[LogPlace],
+    places: &mut Vec<LogPlace>,
+) -> Result<(), AllocError> {
+    for place in old {
+        let beginning = place.beginning.as_slice();
+        if places.len() < MOST_PLACES && place_of(&[places.as_slice()], beginning).is_none() {
+            places.push(LogPlace {
+                beginning: Vec::from_slice(alloc, beginning)?,
+                counted: place.counted,
+            })?;
+        }
+    }
+    Ok(())
 }
 
 // Of the places in a log with these first bytes the one with the most counted bytes.
