@@ -80,7 +80,7 @@ fn print<O: Write>(
 }
 
 /// Does the work with the program of a pattern, which a word names.
-fn done<O: Write>(
+fn do_work<O: Write>(
     alloc: Global,
     work: Work,
     size: ProgramSize,
@@ -98,12 +98,15 @@ fn main(rt: HostRuntime) -> Result<()> {
     let [_, work, slots, times, patterns @ ..] = words.as_slice() else {
         bail!("{USAGE}")
     };
+    if patterns.is_empty() {
+        bail!("{USAGE}")
+    }
     let work = work_of(work.as_str()).context(USAGE)?;
     let size = ProgramSize::of(slots.as_str()).context(USAGE)?;
     let times: u32 = times.as_str().parse().ok().context(USAGE)?;
     let mut out = rt.stdout();
     for word in patterns {
-        done(rt.alloc(), work, size, times, word.as_str(), &mut out)?;
+        do_work(rt.alloc(), work, size, times, word.as_str(), &mut out)?;
     }
     Ok(())
 }

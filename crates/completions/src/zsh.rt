@@ -84,7 +84,7 @@ fn push_argument(text: &mut TextBuffer, parts: &ArgumentParts) {
     }
 }
 
-// The words of which the first is one, if there are any. The others are files.
+// What the first word may be, if only some are allowed. The others are files.
 fn push_first_words(text: &mut TextBuffer, parts: &ArgumentParts) {
     let words = parts.words();
     if !words.is_empty() {

@@ -42,7 +42,8 @@ impl Model for Publisher {
       places = p.places;
     } };
 
-    ghost invariant = { λ p. IsPublisher p.known (arc_value p.latest) (sides_view p.writer.desk.place)
+    ghost invariant = { λ p. IsPublisher p.known (arc_value p.latest)
+        (sides_view p.writer.desk.place)
         p.writer.desk.shown.value.known.publisher (arc_value p.end).word.book };
 }
 

@@ -93,6 +93,7 @@ hour_of line = before_first is_colon (text_or_mark (text_in (codes "time") line)
 abbrev pub version_or_mark : Data → List ℕ
 version_or_mark app = text_or_mark (text_in (codes "version") app)
 
+-- the release that the app was offered, or a mark
 abbrev pub release_or_mark : Data → List ℕ
 release_or_mark app = text_or_mark (text_in (codes "release") app)
 
@@ -100,6 +101,7 @@ release_or_mark app = text_or_mark (text_in (codes "release") app)
 abbrev pub has_offer : Data → Data → Bool
 has_offer line app = is_answered line && is_some (text_in (codes "release") app)
 
+-- an update check whose line has a bucket
 abbrev pub has_bucket : Data → Data → Bool
 has_bucket line app = has_update_check line app && is_some (number_in (codes "bucket") app)
 
@@ -179,8 +181,8 @@ loaded line =
     (decimal (unwrap_or (number_in (codes "generation") line) 0))
     (text_or_mark (text_in (codes "path") line))
 
--- whether the question is about this line: any, a connection that was refused, or a load that
--- succeeded
+-- whether the question is about this line: any with a kind, a connection that was refused, or a
+-- load that succeeded
 abbrev pub is_about_line : LineQuestion → Data → Bool
 is_about_line Kind line = is_some (text_in (codes "kind") line)
 is_about_line Refusal line =

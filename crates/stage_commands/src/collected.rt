@@ -75,7 +75,7 @@ pub(crate) fn collect<D: Disk>(
     }
 }
 
-/// The same. That it can't be gathered is a refusal.
+/// The same, but if it can't be gathered, the command stops with a refusal.
 pub(crate) fn collected_at<D: Disk>(
     alloc: Global,
     disk: &D,
@@ -125,7 +125,7 @@ pub(crate) fn judged(alloc: Global, sources: Sources) -> Result<OpenedManifest, 
     }
 }
 
-/// The same for the manifest at a path. That it can't be judged is a refusal.
+/// The same for the manifest at a path. If it can't be judged, the command stops with a refusal.
 pub(crate) fn judged_at(alloc: Global, path: &str, sources: Sources) -> Result<OpenedManifest, Stop>
     ensures judged { IfOk result IsJudged }
     ensures sources { IfOk result (λ opened. opened.sources ≡ sources) }

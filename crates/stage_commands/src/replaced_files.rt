@@ -6,7 +6,7 @@ use load::{Files, FolderFiles, LoadFault, Sources};
 use staging::ReplacedFile;
 use std::alloc::{AllocError, Global};
 
-/// Files, of which a step's are as after it, or else as before it.
+/// Files next to a manifest. Those of a step have their bytes after it, or those before it.
 #[derive(Drop)]
 struct WithReplaced<'a, L> {
     alloc: Global,

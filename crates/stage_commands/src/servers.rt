@@ -201,7 +201,7 @@ fn push_digests(
     Ok(is_same)
 }
 
-// The same for a manifest.
+// Adds that line for a manifest's digest.
 fn push_last(
     alloc: Global,
     collected: &CollectedManifest,

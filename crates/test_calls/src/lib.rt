@@ -1,6 +1,6 @@
-//! Tests of calls that no command shows, but not of a server's. They are in one crate, since each
-//! crate of tests loads its libraries twice, and has their code compiled. What commands show is in
-//! rows of the program `rows`.
+//! Tests of calls that no command shows; those of servers are in `test_server`. They are in one
+//! crate, since each crate of tests loads its libraries twice, and has their code compiled. What
+//! commands show is in rows of the program `rows`.
 #![tactic(auto)]
 
 #[cfg(test)]

@@ -60,7 +60,8 @@ fn wider(reach: Option<Reach>, number: u64) -> Reach {
     }
 }
 
-/// The bins for this reach, by minutes or by hours. `None` if they end beyond 64 bits.
+/// The bins for this reach, by minutes or by hours. `None` if there would be over 200.
+// open: which bins they are, and when it is `None`: rows compare pictures.
 pub(crate) fn bins_over(reach: Reach, by_hour: bool) -> Option<Bins>
     ensures { IfSome result specs.AreBins }
 {

@@ -24,7 +24,7 @@ use std::time::Clock;
 /// accepted, which isn't answered. The port is then closed, and the connections in the queue are
 /// still answered. Each pair of a pass (a ghost token) and a watcher is a worker thread, and there
 /// are 1 to 64. B4 is returned before any connection is accepted.
-// open: what `run` leaves open; that the gate is called around each answer: tests.
+// open: what `run` leaves open; that the gate is called around each answer.
 pub fn serve<H, G, C>(
     rt: &H,
     gate: &G,
@@ -52,7 +52,7 @@ where
 /// As `serve`, but returns the workers, in their order. The memory for them is allocated before the
 /// first thread is started. Once all threads exist, and before the first connection is accepted,
 /// `started` gets a message; if a thread fails it gets none.
-// open: what `run` leaves open; that the gate is called around each answer: tests.
+// open: what `run` leaves open; that the gate is called around each answer.
 pub fn serve_returning<H, G, C>(
     rt: &H,
     gate: &G,
