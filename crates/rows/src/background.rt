@@ -3,17 +3,14 @@
 
 use crate::calling::printed_of;
 use crate::escapes::words_of;
+use crate::logging::Logging;
 use crate::loopback::{replied, sent};
 use crate::printed::Printed;
 use anyhow::{Result, bail};
-use commands::LogOutput;
-use std::alloc::AllocError;
-use std::fs::{self, File};
+use std::fs;
 use std::io::{Read, Write};
-use std::net::{Ipv4Addr, Net, TcpListener, TcpStream};
-use std::rt::Files;
-use std::sync::atomic::{AtomicBool, Ordering};
-use std::sync::{Arc, Wait};
+use std::net::{Ipv4Addr, TcpListener, TcpStream};
+use std::sync::Wait;
 use std::thread::{self, JoinHandle, Threads};
 use std::time::{Clock, Duration};
 
@@ -24,8 +21,36 @@ pub(crate) struct Background {
     place: usize,
     port: u16,
     thread: JoinHandle<Option<Printed>>,
-    /// Whether the steps that it runs with are over, for a request whose end is sent late.
-    is_over: Option<Arc<AtomicBool>>,
+    /// If it sends the end of a request late, the time when it started; otherwise 0.
+    began: Duration,
+}
+
+/// What a thread does.
+#[derive(Drop)]
+enum Task {
+    /// Runs a command.
+    Command(Vec<String>),
+    /// Sends the bytes after the first ones half a second later, and takes the reply.
+    Late(TcpStream, Vec<u8>, usize),
+    /// Sends the bytes to the next client.
+    Give(TcpListener, Vec<u8>),
+}
+
+/// How late the end of a request is sent.
+const LATE: u64 = 500;
+
+/// A time that only grows.
+fn now(rt: &HostRuntime) -> Duration {
+    rt.monotonic().unwrap_or(Duration::ZERO)
+}
+
+/// The time of now for a request whose end is sent late, otherwise 0.
+fn began_of(rt: &HostRuntime, mark: u8) -> Duration {
+    if mark == b'(' {
+        now(rt)
+    } else {
+        Duration::ZERO
+    }
 }
 
 impl Background {
@@ -34,29 +59,27 @@ impl Background {
         self.place
     }
 
-    /// What it gave, once it has ended. If a row is wrong, a server is stopped before.
-    pub(crate) fn end<R>(self, rt: &R, is_wrong: bool) -> Option<Printed>
-    where
-        R: Threads + Net<Stream = TcpStream>,
-    {
+    /// What it gave, once it has ended; none if the end of a request isn't sent yet. If a row is
+    /// wrong, a server is stopped before.
+    pub(crate) fn end<T: Threads>(self, rt: &Logging<T>, is_wrong: bool) -> Option<Printed> {
         let Background {
             place: _place,
             port,
             thread,
-            is_over,
+            began,
         } = self;
-        if let Some(is_over) = is_over {
-            is_over.store(true, Ordering::SeqCst);
+        if now(&rt.rt).saturating_sub(began) < Duration::from_millis(LATE) {
+            return None;
         }
         if is_wrong {
-            let _stopped = sent(rt, port, b"stop\n");
+            let _stopped = sent(&rt.rt, port, b"stop\n");
         }
-        thread.join(rt)
+        thread.join(&rt.threads)
     }
 }
 
 /// Waits until a port accepts connections, for at most five seconds.
-fn await_port<R: Clock + Net<Stream = TcpStream>>(rt: &R, port: u16) {
+fn await_port(rt: &HostRuntime, port: u16) {
     for _ in 0..500 {
         if TcpStream::connect(rt, (Ipv4Addr::LOCALHOST, port)).is_ok() {
             break;
@@ -65,117 +88,15 @@ fn await_port<R: Clock + Net<Stream = TcpStream>>(rt: &R, port: u16) {
     }
 }
 
-/// The output of a command.
-fn printed<R>(rt: R, words: Vec<String>) -> Option<Printed>
-where
-    R: Files<File = File> + Threads + Wait + AllocGlobal + Clock + LogOutput,
-    R: Copy + Drop + Send + Sync + 'static,
-    R: Net<Listener = TcpListener, Stream = TcpStream>,
-    R::File: Send,
-    R::Dir: Send,
-{
-    Some(printed_of(&rt, words.as_slice()))
-}
-
-/// Starts a command, by a port and its words, and waits until something listens at the port.
-pub(crate) fn start<R>(rt: &R, place: usize, text: &str) -> Result<Background>
-where
-    R: Files<File = File> + Threads + Wait + AllocGlobal + Clock + LogOutput,
-    R: Copy + Drop + Send + Sync + 'static,
-    R: Net<Listener = TcpListener, Stream = TcpStream>,
-    R::File: Send,
-    R::Dir: Send,
-{
-    let (port, words) = text.split_once(' ').unwrap_or((text, ""));
-    let port: u16 = port.parse()?;
-    let words = words_of(rt.alloc(), words)?;
-    let own = *rt;
-    let Ok(thread) = thread::spawn(rt, move || printed(own, words)) else {
-        bail!("no thread")
-    };
-    await_port(rt, port);
-    Ok(Background {
-        place,
-        port,
-        thread,
-        is_over: None,
-    })
-}
-
-/// The reply to a request whose end is sent half a second later; none if the steps that it runs
-/// with are over by then.
-fn late_reply<R>(
-    rt: R,
-    stream: TcpStream,
-    bytes: Vec<u8>,
-    first: usize,
-    is_over: Arc<AtomicBool>,
-) -> Option<Printed>
-where
-    R: AllocGlobal + Clock + Drop,
-{
-    thread::sleep(&rt, Duration::from_millis(500));
+/// The reply to a request whose end is sent half a second later.
+fn late_reply(rt: &HostRuntime, stream: &TcpStream, bytes: &[u8], first: usize) -> Option<Printed> {
+    thread::sleep(rt, Duration::from_millis(LATE));
     let (_before, rest) = bytes.split_at(first.min(bytes.len()));
-    let mut to = &stream;
-    if is_over.load(Ordering::SeqCst) || to.write_all(rest).is_err() {
+    let mut to = stream;
+    if to.write_all(rest).is_err() {
         return None;
     }
-    match replied(rt.alloc(), &stream) {
-        Ok(reply) => Some(reply),
-        Err(_) => None,
-    }
-}
-
-/// A connection that has sent the first bytes of a request.
-fn begun<R: Net<Stream = TcpStream>>(
-    rt: &R,
-    port: u16,
-    bytes: &[u8],
-    first: usize,
-) -> Result<TcpStream> {
-    let (before, _rest) = bytes.split_at(first.min(bytes.len()));
-    Ok(sent(rt, port, before)?)
-}
-
-/// Sends the first bytes, and the others later, in the background.
-fn hold_bytes<R>(
-    rt: &R,
-    place: usize,
-    port: u16,
-    first: usize,
-    bytes: Vec<u8>,
-) -> Result<Background>
-where
-    R: Threads + AllocGlobal + Clock + Copy + Drop + Send + 'static,
-    R: Net<Stream = TcpStream>,
-{
-    let stream = begun(rt, port, &bytes, first)?;
-    let is_over = Arc::new(rt.alloc(), AtomicBool::new(false))?;
-    let theirs = Arc::try_clone(&is_over).ok().ok_or(AllocError)?;
-    let own = *rt;
-    let Ok(thread) = thread::spawn(rt, move || late_reply(own, stream, bytes, first, theirs)) else {
-        bail!("no thread")
-    };
-    Ok(Background {
-        place,
-        port,
-        thread,
-        is_over: Some(is_over),
-    })
-}
-
-/// Sends the first bytes of a file, by a port, their number and the file's name. The others are
-/// sent later.
-pub(crate) fn hold<R>(rt: &R, place: usize, text: &str) -> Result<Background>
-where
-    R: Files + Threads + AllocGlobal + Clock + Copy + Drop + Send + 'static,
-    R: Net<Stream = TcpStream>,
-{
-    let (port, rest) = text.split_once(' ').unwrap_or((text, ""));
-    let (first, name) = rest.split_once(' ').unwrap_or((rest, ""));
-    let port: u16 = port.parse()?;
-    let first: usize = first.parse()?;
-    hold_bytes(rt, place, port, first, fs::read(rt, name)?)
+    replied(rt.alloc(), stream).ok()
 }
 
 /// Reads the bytes up to a line feed.
@@ -191,37 +112,83 @@ fn read_line(stream: &TcpStream) {
 }
 
 /// Sends these bytes to the next client, or as many as it reads, once it has sent a line.
-fn given<R>(rt: R, listener: TcpListener, bytes: Vec<u8>) -> Option<Printed>
-where
-    R: AllocGlobal + Drop,
-{
+fn given(rt: &HostRuntime, listener: &TcpListener, bytes: &[u8]) -> Option<Printed> {
     let Ok((stream, _client)) = listener.accept() else {
         return None;
     };
     read_line(&stream);
     let mut to = &stream;
-    let _whole = to.write_all(&bytes);
+    let _whole = to.write_all(bytes);
     Some(Printed::of(rt.alloc(), Vec::new(rt.alloc())))
 }
 
-/// Sends the bytes of a file to the next client of a port, by the port and the file's name.
-pub(crate) fn give<R>(rt: &R, place: usize, text: &str) -> Result<Background>
+/// What a thread gives.
+fn performed<T>(rt: &Logging<T>, task: &Task) -> Option<Printed>
 where
-    R: Files + Threads + AllocGlobal + Copy + Drop + Send + 'static,
-    R: Net<Listener = TcpListener, Stream = TcpStream>,
+    T: Threads + Wait + Copy + Drop + Send + Sync + 'static,
 {
-    let (port, name) = text.split_once(' ').unwrap_or((text, ""));
-    let port: u16 = port.parse()?;
+    match task {
+        Task::Command(words) => Some(printed_of(rt, words.as_slice())),
+        Task::Late(stream, bytes, first) => late_reply(&rt.rt, stream, bytes.as_slice(), *first),
+        Task::Give(listener, bytes) => given(&rt.rt, listener, bytes.as_slice()),
+    }
+}
+
+/// Sends the first bytes of a file, by their number and the file's name.
+fn begun(rt: &HostRuntime, port: u16, text: &str) -> Result<Task> {
+    let (first, name) = text.split_once(' ').unwrap_or((text, ""));
+    let first: usize = first.parse()?;
     let bytes = fs::read(rt, name)?;
+    let (before, _rest) = bytes.split_at(first.min(bytes.len()));
+    let stream = sent(rt, port, before)?;
+    Ok(Task::Late(stream, bytes, first))
+}
+
+/// A port, and the bytes of a file for its next client.
+fn offered(rt: &HostRuntime, port: u16, name: &str) -> Result<Task> {
     let listener = TcpListener::bind(rt, (Ipv4Addr::LOCALHOST, port))?;
+    Ok(Task::Give(listener, fs::read(rt, name)?))
+}
+
+/// What the mark says, by a port and the text after it.
+fn task_of(rt: &HostRuntime, mark: u8, port: u16, text: &str) -> Result<Task> {
+    match mark {
+        b'(' => begun(rt, port, text),
+        b':' => offered(rt, port, text),
+        _ => Ok(Task::Command(words_of(rt.alloc(), text)?)),
+    }
+}
+
+/// Starts a thread for a task.
+fn spawned<T>(rt: &Logging<T>, task: Task) -> Result<JoinHandle<Option<Printed>>>
+where
+    T: Threads + Wait + Copy + Drop + Send + Sync + 'static,
+{
     let own = *rt;
-    let Ok(thread) = thread::spawn(rt, move || given(own, listener, bytes)) else {
-        bail!("no thread")
-    };
+    match thread::spawn(&rt.threads, move || performed(&own, &task)) {
+        Ok(thread) => Ok(thread),
+        Err(_) => bail!("no thread"),
+    }
+}
+
+/// Starts what the mark says, by a port and what follows it. After a command it waits until
+/// something listens at the port.
+pub(crate) fn start<T>(rt: &Logging<T>, place: usize, mark: u8, text: &str) -> Result<Background>
+where
+    T: Threads + Wait + Copy + Drop + Send + Sync + 'static,
+{
+    let (port, rest) = text.split_once(' ').unwrap_or((text, ""));
+    let port: u16 = port.parse()?;
+    let task = task_of(&rt.rt, mark, port, rest)?;
+    let began = began_of(&rt.rt, mark);
+    let thread = spawned(rt, task)?;
+    if mark == b'&' {
+        await_port(&rt.rt, port);
+    }
     Ok(Background {
         place,
         port,
         thread,
-        is_over: None,
+        began,
     })
 }

@@ -1,21 +1,19 @@
 //! What a step calls: a command, a file that is shown, or a request that is sent to a port.
 
 use crate::escapes::words_of;
+use crate::logging::Logging;
 use crate::loopback::reply_of;
 use crate::marks::marked;
 use crate::printed::Printed;
 use anyhow::Result;
 use command_line::{WordsFault, unreadable_words, usage};
-use commands::{Device, LogOutput};
+use commands::Device;
 use std::alloc::Global;
-use std::fs::{self, File};
+use std::fs;
 use std::io::{self, ErrorKind, Write};
-use std::net::{Net, TcpListener, TcpStream};
 use std::os::unix::fs::symlink;
-use std::rt::Files;
 use std::sync::Wait;
 use std::thread::Threads;
-use std::time::Clock;
 
 /// The commands of `rollout-tools`; `rollout` has any other word.
 const TOOLS: [&str; 10] = [
@@ -62,13 +60,9 @@ fn program_of(words: &[String]) -> (&[String], bool) {
 }
 
 /// Calls a command, and returns its status.
-fn status_of<R, O>(rt: &R, words: &[String], out: &mut O, err: &mut Vec<u8>) -> u8
+fn status_of<T, O>(rt: &Logging<T>, words: &[String], out: &mut O, err: &mut Vec<u8>) -> u8
 where
-    R: Files<File = File> + Threads + Wait + AllocGlobal + Clock + LogOutput,
-    R: Copy + Drop + Send + Sync + 'static,
-    R: Net<Listener = TcpListener, Stream = TcpStream>,
-    R::File: Send,
-    R::Dir: Send,
+    T: Threads + Wait + Copy + Drop + Send + Sync + 'static,
     O: Write,
 {
     let disk = Device::new(rt);
@@ -81,13 +75,9 @@ where
 }
 
 /// The output of a command.
-pub(crate) fn printed_of<R>(rt: &R, words: &[String]) -> Printed
+pub(crate) fn printed_of<T>(rt: &Logging<T>, words: &[String]) -> Printed
 where
-    R: Files<File = File> + Threads + Wait + AllocGlobal + Clock + LogOutput,
-    R: Copy + Drop + Send + Sync + 'static,
-    R: Net<Listener = TcpListener, Stream = TcpStream>,
-    R::File: Send,
-    R::Dir: Send,
+    T: Threads + Wait + Copy + Drop + Send + Sync + 'static,
 {
     let mut out = Vec::new(rt.alloc());
     let mut err = Vec::new(rt.alloc());
@@ -96,13 +86,9 @@ where
 }
 
 /// The output of a command whose standard output takes only ten bytes, without these.
-fn narrow_of<R>(rt: &R, words: &[String]) -> Printed
+fn narrow_of<T>(rt: &Logging<T>, words: &[String]) -> Printed
 where
-    R: Files<File = File> + Threads + Wait + AllocGlobal + Clock + LogOutput,
-    R: Copy + Drop + Send + Sync + 'static,
-    R: Net<Listener = TcpListener, Stream = TcpStream>,
-    R::File: Send,
-    R::Dir: Send,
+    T: Threads + Wait + Copy + Drop + Send + Sync + 'static,
 {
     let mut bytes = [0; 10];
     let mut out: &mut [u8] = &mut bytes;
@@ -125,31 +111,34 @@ fn without_memory(alloc: Global) -> Printed {
 }
 
 /// The text of a file, as if a command printed it.
-fn file_of<R: Files + AllocGlobal>(rt: &R, name: &str) -> Result<Printed> {
+fn file_of(rt: &HostRuntime, name: &str) -> Result<Printed> {
     Ok(Printed::of(rt.alloc(), fs::read(rt, name)?))
 }
 
 /// Makes a symbolic link, by its name and its target.
-fn link<R: Files + AllocGlobal>(rt: &R, text: &str) -> Result<Printed> {
+fn link(rt: &HostRuntime, text: &str) -> Result<Printed> {
     let (name, target) = text.split_once(' ').unwrap_or((text, ""));
     symlink(rt, target, name)?;
     Ok(Printed::of(rt.alloc(), Vec::new(rt.alloc())))
 }
 
+/// What a file, a port or a link gives, by the mark before its name.
+fn taken(rt: &HostRuntime, mark: u8, text: &str) -> Result<Printed> {
+    match mark {
+        b'<' => file_of(rt, text),
+        b'>' => reply_of(rt, text),
+        _ => link(rt, text),
+    }
+}
+
 /// What the call of a step gives.
-pub(crate) fn called<R>(rt: &R, words: &str) -> Result<Printed>
+pub(crate) fn called<T>(rt: &Logging<T>, words: &str) -> Result<Printed>
 where
-    R: Files<File = File> + Threads + Wait + AllocGlobal + Clock + LogOutput,
-    R: Copy + Drop + Send + Sync + 'static,
-    R: Net<Listener = TcpListener, Stream = TcpStream>,
-    R::File: Send,
-    R::Dir: Send,
+    T: Threads + Wait + Copy + Drop + Send + Sync + 'static,
 {
     let (mark, rest) = marked(words);
     match mark {
-        b'<' => file_of(rt, rest),
-        b'>' => reply_of(rt, rest),
-        b'@' => link(rt, rest),
+        b'<' | b'>' | b'@' => taken(&rt.rt, mark, rest),
         b'^' if rest.is_empty() => Ok(without_memory(rt.alloc())),
         b'^' => Ok(narrow_of(rt, words_of(rt.alloc(), rest)?.as_slice())),
         _ => Ok(printed_of(rt, words_of(rt.alloc(), words)?.as_slice())),

@@ -5,7 +5,7 @@ use crate::steps::Step;
 use anyhow::Result;
 
 /// Prints the wanted output of a command.
-fn show_wanted<R: Print>(rt: &R, wanted: &Wanted) -> Result<()> {
+fn show_wanted(rt: &HostRuntime, wanted: &Wanted) -> Result<()> {
     show(rt, "wanted", &wanted.printed)?;
     for part in wanted.parts.iter() {
         println!(rt; "with {part}")?;
@@ -14,7 +14,7 @@ fn show_wanted<R: Print>(rt: &R, wanted: &Wanted) -> Result<()> {
 }
 
 /// Prints a status and the output.
-fn show<R: Print>(rt: &R, what: &str, printed: &Printed) -> Result<()> {
+fn show(rt: &HostRuntime, what: &str, printed: &Printed) -> Result<()> {
     let (out, err) = (text_of(&printed.out), text_of(&printed.err));
     Ok(print!(rt; "{what} status {}\n{out}{err}", printed.status)?)
 }
@@ -27,24 +27,26 @@ pub(crate) struct Row<'a> {
     wanted: &'a Option<Wanted>,
 }
 
-/// The command of a step, if it has one.
-pub(crate) fn row_of<'a>(step: &'a Step) -> Option<Row<'a>> {
-    match step {
-        Step::Write { .. } => None,
-        Step::Run {
-            line,
-            words,
-            wanted,
-        } => Some(Row {
+/// The command of the step at a place, if it has one.
+pub(crate) fn row_at<'a>(steps: &'a [Step], place: usize) -> Option<Row<'a>> {
+    match steps.get(place) {
+        Some(
+            Step::Run {
+                line,
+                words,
+                wanted,
+            },
+        ) => Some(Row {
             line: *line,
             words: words.as_str(),
             wanted,
         }),
+        _ => None,
     }
 }
 
 /// Prints a command, its wanted output, and its output.
-fn show_difference<R: Print>(rt: &R, row: Row<'_>, came: &Printed) -> Result<()> {
+fn show_difference(rt: &HostRuntime, row: Row<'_>, came: &Printed) -> Result<()> {
     println!(rt; "line {}: {}", row.line, row.words)?;
     if let Some(wanted) = row.wanted {
         show_wanted(rt, wanted)?;
@@ -69,7 +71,7 @@ pub(crate) struct Count {
 
 impl Count {
     /// Prints the counts of a file of rows.
-    pub(crate) fn show<R: Print>(&self, rt: &R, name: &str) -> Result<()> {
+    pub(crate) fn show(&self, rt: &HostRuntime, name: &str) -> Result<()> {
         match self.wrong {
             0 => println!(rt; "{name}: {} rows", self.rows)?,
             wrong => println!(rt; "{name}: {wrong} of {} rows are wrong", self.rows)?,
@@ -78,7 +80,7 @@ impl Count {
     }
 
     /// Counts a command's result, and prints it if its output or its status isn't the wanted one.
-    pub(crate) fn judge<R: Print>(&mut self, rt: &R, row: Row<'_>, came: &Printed) -> Result<()> {
+    pub(crate) fn judge(&mut self, rt: &HostRuntime, row: Row<'_>, came: &Printed) -> Result<()> {
         if row.wanted.is_some() {
             self.rows = self.rows.saturating_add(1);
         }

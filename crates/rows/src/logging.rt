@@ -4,9 +4,9 @@
 use commands::LogOutput;
 use std::alloc::{Allocator, Global};
 use std::fmt::Display;
-use std::fs::{Metadata, OpenOptions};
+use std::fs::{File, Metadata, OpenOptions};
 use std::io::{self, ErrorKind, Write};
-use std::net::{Net, SocketAddr};
+use std::net::{Net, SocketAddr, TcpListener, TcpStream};
 use std::path::PathBuf;
 use std::rt::Files;
 use std::str;
@@ -16,18 +16,20 @@ use std::time::{Clock, Duration};
 
 /// The runtime, and the one to which it passes on.
 #[derive(Clone, Copy)]
-pub(crate) struct Logging<R> {
-    pub(crate) rt: R,
+pub(crate) struct Logging<T> {
+    pub(crate) rt: HostRuntime,
+    /// What may start threads and wait.
+    pub(crate) threads: T,
 }
 
 /// Appends a line to a file.
-fn append<R: Files>(rt: &R, name: &str, line: &str) -> io::Result<()> {
+fn append(rt: &HostRuntime, name: &str, line: &str) -> io::Result<()> {
     let mut file = OpenOptions::new().append(true).create(true).open(rt, name)?;
     file.write_all(line.as_bytes())?;
     file.write_all(b"\n")
 }
 
-impl<R: Files + Eprint> LogOutput for Logging<R> {
+impl<T> LogOutput for Logging<T> {
     fn write_lines(&self, bytes: &[u8]) -> io::Result<()> {
         let Ok(text) = str::from_utf8(bytes) else {
             return Err(io::Error::from(ErrorKind::InvalidData));
@@ -45,11 +47,11 @@ impl<R: Files + Eprint> LogOutput for Logging<R> {
     }
 }
 
-impl<R: Threads> Threads for Logging<R> {}
+impl<T: Threads> Threads for Logging<T> {}
 
-impl<R: Wait> Wait for Logging<R> {}
+impl<T: Wait> Wait for Logging<T> {}
 
-impl<R: AllocGlobal> Alloc for Logging<R> {
+impl<T> Alloc for Logging<T> {
     type A = Global;
 
     fn alloc(&self) -> Global {
@@ -57,7 +59,7 @@ impl<R: AllocGlobal> Alloc for Logging<R> {
     }
 }
 
-impl<R: Clock> Clock for Logging<R> {
+impl<T> Clock for Logging<T> {
     fn monotonic(&self) -> io::Result<Duration> {
         self.rt.monotonic()
     }
@@ -71,25 +73,7 @@ impl<R: Clock> Clock for Logging<R> {
     }
 }
 
-impl<R: Print> Print for Logging<R> {
-    fn print<D: Display + Drop>(&self, value: D) -> io::Result<()> {
-        self.rt.print(value)
-    }
-
-    fn println<D: Display + Drop>(&self, value: D) -> io::Result<()> {
-        self.rt.println(value)
-    }
-
-    fn write_all(&self, bytes: &[u8]) -> io::Result<()> {
-        Print::write_all(&self.rt, bytes)
-    }
-
-    fn write_some(&self, bytes: &[u8]) -> io::Result<usize> {
-        self.rt.write_some(bytes)
-    }
-}
-
-impl<R: Eprint> Eprint for Logging<R> {
+impl<T> Eprint for Logging<T> {
     fn eprint<D: Display + Drop>(&self, value: D) -> io::Result<()> {
         self.rt.eprint(value)
     }
@@ -99,34 +83,34 @@ impl<R: Eprint> Eprint for Logging<R> {
     }
 }
 
-impl<R: Net> Net for Logging<R> {
-    type Stream = R::Stream;
+impl<T> Net for Logging<T> {
+    type Stream = TcpStream;
 
-    type Listener = R::Listener;
+    type Listener = TcpListener;
 
-    fn bind(&self, addr: SocketAddr) -> io::Result<R::Listener> {
+    fn bind(&self, addr: SocketAddr) -> io::Result<TcpListener> {
         self.rt.bind(addr)
     }
 
-    fn connect(&self, addr: SocketAddr) -> io::Result<R::Stream> {
+    fn connect(&self, addr: SocketAddr) -> io::Result<TcpStream> {
         self.rt.connect(addr)
     }
 
-    fn connect_timeout(&self, addr: SocketAddr, timeout: Duration) -> io::Result<R::Stream> {
+    fn connect_timeout(&self, addr: SocketAddr, timeout: Duration) -> io::Result<TcpStream> {
         self.rt.connect_timeout(addr, timeout)
     }
 }
 
-impl<R: Files> Files for Logging<R> {
-    type File = R::File;
+impl<T> Files for Logging<T> {
+    type File = File;
 
-    type Dir = R::Dir;
+    type Dir = <HostRuntime as Files>::Dir;
 
-    fn open_file(&self, how: &OpenOptions, path: &str) -> io::Result<R::File> {
+    fn open_file(&self, how: &OpenOptions, path: &str) -> io::Result<File> {
         self.rt.open_file(how, path)
     }
 
-    fn open_dir(&self, path: &str) -> io::Result<R::Dir> {
+    fn open_dir(&self, path: &str) -> io::Result<<HostRuntime as Files>::Dir> {
         self.rt.open_dir(path)
     }
 
@@ -168,9 +152,5 @@ impl<R: Files> Files for Logging<R> {
 
     fn canonicalize<B: Allocator>(&self, alloc: B, path: &str) -> io::Result<PathBuf<B>> {
         self.rt.canonicalize(alloc, path)
-    }
-
-    fn symlink(&self, original: &str, link: &str) -> io::Result<()> {
-        self.rt.symlink(original, link)
     }
 }

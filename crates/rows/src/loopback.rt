@@ -5,15 +5,11 @@ use anyhow::Result;
 use std::alloc::{AllocError, Global};
 use std::fs;
 use std::io::{self, Read, Write};
-use std::net::{Ipv4Addr, Net, TcpListener, TcpStream};
-use std::rt::Files;
-use std::time::{Clock, SystemTime, UNIX_EPOCH};
+use std::net::{Ipv4Addr, TcpListener, TcpStream};
+use std::time::{SystemTime, UNIX_EPOCH};
 
 /// A free port, which the listener that is added takes.
-fn free_port<R>(rt: &R, taken: &mut Vec<TcpListener>) -> io::Result<u16>
-where
-    R: Net<Listener = TcpListener, Stream = TcpStream>,
-{
+fn free_port(rt: &HostRuntime, taken: &mut Vec<TcpListener>) -> io::Result<u16> {
     let listener = TcpListener::bind(rt, (Ipv4Addr::LOCALHOST, 0))?;
     let port = listener.local_addr()?.port();
     taken.push(listener)?;
@@ -27,7 +23,7 @@ fn with_number(alloc: Global, text: &str, name: &str, number: u64) -> Result<Str
 }
 
 /// The whole days from 2007-01-01 to now.
-fn days_now<R: Clock>(rt: &R) -> u64 {
+fn days_now(rt: &HostRuntime) -> u64 {
     let seconds = match SystemTime::now(rt) {
         Ok(now) => match now.duration_since(UNIX_EPOCH) {
             Ok(since) => since.as_secs(),
@@ -43,43 +39,39 @@ const PORTS: [&str; 12] = [
     "<port9>", "<port10>", "<port11>", "<port12>",
 ];
 
-/// Free ports, all different.
-fn free_ports<R>(rt: &R) -> io::Result<[u16; 12]>
-where
-    R: AllocGlobal + Net<Listener = TcpListener, Stream = TcpStream>,
-{
-    let mut ports = [0; 12];
+/// A text in which the names of ports are replaced by free ports, all different.
+fn with_ports(rt: &HostRuntime, text: &mut String) -> io::Result<()> {
     let mut taken = Vec::new(rt.alloc());
-    for place in 0..ports.len() {
-        ports[place] = free_port(rt, &mut taken)?;
+    for name in PORTS.iter() {
+        let port = free_port(rt, &mut taken)?;
+        *text = with_number(rt.alloc(), text.as_str(), name, port as u64)?;
     }
-    Ok(ports)
+    Ok(())
 }
 
 /// A text in which the names of ports and of the day are replaced by numbers.
-fn with_ports(alloc: Global, text: &str, ports: [u16; 12], day: u64) -> Result<String, AllocError> {
-    let mut text = with_number(alloc, text, "<day>", day)?;
-    for (name, port) in PORTS.iter().zip(ports) {
-        text = with_number(alloc, text.as_str(), name, port as u64)?;
-    }
+fn with_numbers(rt: &HostRuntime, text: &str) -> io::Result<String> {
+    let mut text = with_number(rt.alloc(), text, "<day>", days_now(rt))?;
+    with_ports(rt, &mut text)?;
     Ok(text)
+}
+
+/// A text in which the name of the folder is replaced by its path.
+fn with_folder(rt: &HostRuntime, text: &str) -> io::Result<String> {
+    let folder = fs::canonicalize(rt, ".")?.into_string();
+    Ok(text.replace(rt.alloc(), "<folder>", folder.as_str())?)
 }
 
 /// The text of a file of rows, in which the names of free ports and of the day are replaced by
 /// numbers, and that of the folder by its path.
-pub(crate) fn filled_text<R>(rt: &R, text: String) -> Result<String>
-where
-    R: Files + AllocGlobal + Clock + Net<Listener = TcpListener, Stream = TcpStream>,
-{
+pub(crate) fn filled_text(rt: &HostRuntime, text: &str) -> io::Result<String> {
     if text.contains("<port1>") {
-        let ports = free_ports(rt)?;
-        return Ok(with_ports(rt.alloc(), text.as_str(), ports, days_now(rt))?);
+        with_numbers(rt, text)
+    } else if text.contains("<folder>") {
+        with_folder(rt, text)
+    } else {
+        Ok(String::from_str(rt.alloc(), text)?)
     }
-    if text.contains("<folder>") {
-        let folder = fs::canonicalize(rt, ".")?.into_string();
-        return Ok(text.replace(rt.alloc(), "<folder>", folder.as_str())?);
-    }
-    Ok(text)
 }
 
 /// What comes back over a connection until the other side ends it, with `\r` for a carriage return.
@@ -93,10 +85,7 @@ pub(crate) fn replied(alloc: Global, stream: &TcpStream) -> Result<Printed> {
 }
 
 /// A connection that has sent these bytes.
-pub(crate) fn sent<R>(rt: &R, port: u16, bytes: &[u8]) -> io::Result<TcpStream>
-where
-    R: Net<Stream = TcpStream>,
-{
+pub(crate) fn sent(rt: &HostRuntime, port: u16, bytes: &[u8]) -> io::Result<TcpStream> {
     let stream = TcpStream::connect(rt, (Ipv4Addr::LOCALHOST, port))?;
     let mut to = &stream;
     to.write_all(bytes)?;
@@ -104,10 +93,7 @@ where
 }
 
 /// What comes back for the bytes of a file, by a port and the file's name.
-pub(crate) fn reply_of<R>(rt: &R, text: &str) -> Result<Printed>
-where
-    R: Files + AllocGlobal + Net<Stream = TcpStream>,
-{
+pub(crate) fn reply_of(rt: &HostRuntime, text: &str) -> Result<Printed> {
     let (port, name) = text.split_once(' ').unwrap_or((text, ""));
     let port: u16 = port.parse()?;
     let bytes = fs::read(rt, name)?;

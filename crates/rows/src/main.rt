@@ -23,7 +23,7 @@ use std::process::ExitCode;
 
 fn main(rt: HostRuntime) -> Result<ExitCode> {
     let names: Vec<String> = env::args(&rt)?.collect(rt.alloc())?;
-    Ok(if run_files(&Logging { rt }, names.as_slice())? {
+    Ok(if run_files(&Logging { rt, threads: rt }, names.as_slice())? {
         ExitCode::SUCCESS
     } else {
         ExitCode::FAILURE

@@ -57,6 +57,13 @@ impl Wanted {
         }
     }
 
+    /// Wants this text somewhere in the output.
+    pub(crate) fn want_part(&mut self, alloc: Global, text: &str) -> Result<(), AllocError> {
+        let part = String::from_str(alloc, text)?;
+        self.parts.push(part)?;
+        Ok(())
+    }
+
     /// Whether a command that printed this did what is wanted.
     pub(crate) fn is_met(&self, printed: &Printed) -> bool {
         printed.status == self.printed.status

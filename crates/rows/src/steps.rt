@@ -141,19 +141,28 @@ fn extend(bytes: &mut Vec<u8>, times: u32, more: &[u8]) -> Result<(), AllocError
     Ok(())
 }
 
-/// Adds a line's text to what a row wants.
+/// Adds a text to what a row wants, by its line's mark.
+fn want_text(alloc: Global, wanted: &mut Wanted, mark: u8, text: &str) -> Result<(), AllocError> {
+    match mark {
+        b'|' => push_line(&mut wanted.printed.out, text),
+        b'!' => push_line(&mut wanted.printed.err, text),
+        b'?' => wanted.want_line(text),
+        b'~' => wanted.want_part(alloc, text),
+        _ => wanted.printed.out.extend_from_slice(text.as_bytes()),
+    }
+}
+
+/// Adds a line to what a row wants.
 fn want(alloc: Global, wanted: &mut Wanted, number: usize, line: &str) -> Result<()> {
     let (mark, text) = marked(line);
     match mark {
-        b'|' => push_line(&mut wanted.printed.out, text)?,
-        b'!' => push_line(&mut wanted.printed.err, text)?,
-        b'=' => wanted.printed.status = text.parse()?,
-        b'?' => wanted.want_line(text)?,
-        b'~' => wanted.parts.push(String::from_str(alloc, text)?)?,
-        b'.' => wanted.printed.out.extend_from_slice(text.as_bytes())?,
-        _ => pass_over(number, line)?,
+        b'|' | b'!' | b'?' | b'~' | b'.' => Ok(want_text(alloc, wanted, mark, text)?),
+        b'=' => {
+            wanted.printed.status = text.parse()?;
+            Ok(())
+        }
+        _ => pass_over(number, line),
     }
-    Ok(())
 }
 
 /// Skips a comment or an empty line, and refuses any other line.
