@@ -82,7 +82,6 @@ fn app_files<F: StageFolder>(
 }
 
 /// The files of a manifest that differ from those in place, and then the manifest, if it does.
-#[tactic(auto, using(crate::proofs::Put::are_files))]
 pub(crate) fn files_to_put<F: StageFolder>(
     alloc: Global,
     folder: &F,

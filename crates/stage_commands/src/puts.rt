@@ -42,7 +42,6 @@ fn stop_if_lifted(
 
 // The manifest in place, judged, if the next one lifts no halt. A manifest that can't be judged is
 // a refusal, unless `--anyway` is given; there is none then.
-#[tactic(auto, using(crate::proofs::Put::lifts_none))]
 fn present_manifest<D: Disk>(
     alloc: Global,
     disk: &D,
@@ -135,7 +134,6 @@ fn next_manifest<D: Disk>(
 }
 
 // What is put in place, once it is compared with what is there.
-#[tactic(auto, using(crate::proofs::Put::plans))]
 fn planned_files<R, D, F>(
     rt: &R,
     disk: &D,

@@ -1,0 +1,17 @@
+use Rattle.std.proofs.Common.{refl}
+use Rattle.stage_commands.proofs.actions.change_files.Goals as goal
+
+pub returns-in-Halt-clause-done : goal.returns-in-Halt-clause-done
+returns-in-Halt-clause-done g c = rw c.in-Halt.is c.halt.ensures.done
+
+pub returns-in-Raise-clause-done : goal.returns-in-Raise-clause-done
+returns-in-Raise-clause-done g c = rw c.in-Raise.is c.raise.ensures.done
+
+pub returns-in-Back-clause-done : goal.returns-in-Back-clause-done
+returns-in-Back-clause-done g c = rw c.in-Back.is c.go_back.ensures.done
+
+pub returns-in-Put-clause-done : goal.returns-in-Put-clause-done
+returns-in-Put-clause-done g c = rw c.in-Put.is c.put.ensures.done
+
+pub returns-in-Status-clause-done : goal.returns-in-Status-clause-done
+returns-in-Status-clause-done g c = rw c.in-Status.is (λ dry. refl)
