@@ -1,7 +1,7 @@
 //! A runtime whose connections may fail, for example by a filter of system calls or a firewall, and
 //! whose clock may not advance, or may be unreadable.
 
-use crate::manifests::write_none;
+use crate::manifests::write_files;
 use crate::servers::{PortTask, is_served, service_of};
 use bounded_files::Device;
 use std::alloc::Global;
@@ -87,19 +87,9 @@ impl<R: Net<Listener = TcpListener, Stream = TcpStream>> Net for Impaired<'_, R>
 
 #[test]
 fn a_server_that_may_not_connect_ends(rt: HostRuntime) -> Result<(), Fail> {
-    write_none(&rt, "unconnected.toml")?;
+    write_files(&rt)?;
     let disk = Device::new(&rt);
     let service = service_of(30);
-    assert!(rt;
-        is_served(
-            &rt,
-            &disk,
-            false,
-            "unconnected.toml",
-            2,
-            service,
-            PortTask::AtOnce
-        )?
-    );
+    assert!(rt; is_served(&rt, &disk, false, "no.toml", 2, service, PortTask::AtOnce)?);
     Ok(())
 }

@@ -2,8 +2,8 @@
 //! be accepted. The server's clock doesn't advance, or can't be read.
 
 use crate::impaired::{Impaired, Running};
-use crate::loopback::{listening, reply, sent, text_of};
-use crate::manifests::write_none;
+use crate::loopback::{listening, reply, send, sent, text_of};
+use crate::manifests::write_files;
 use crate::stopped::publisher_of;
 use crate::whole_log::{lines_in, logging_to};
 use bounded_files::{Device, Disk};
@@ -11,7 +11,7 @@ use cells::PlainCells;
 use hot_swap::Watcher;
 use server_log::LogQueue;
 use std::alloc::AllocError;
-use std::io;
+use std::io::{self, ErrorKind};
 use std::net::{Net, Shutdown, SocketAddr, TcpListener, TcpStream};
 use std::sync::Wait;
 use std::sync::atomic::{AtomicBool, Ordering};
@@ -41,106 +41,117 @@ const UNREADABLE: Timed = Timed {
 /// The moment of the stopped clock in Omaha's reply.
 const DAYSTART: &str = "\"daystart\":{\"elapsed_days\":7000,\"elapsed_seconds\":3600}";
 
-/// A client's headers and body, and what its line has before `bytes` and after `waited`.
+/// A clock, a client's request after its first line, and what its line in the log has before
+/// `bytes` and after `waited`.
 #[derive(Clone, Copy)]
 struct Line {
-    headers: &'static str,
-    body: &'static str,
+    timed: Timed,
+    request: &'static str,
     outcome: &'static str,
     apps: &'static str,
 }
 
-const LINES: [Line; 9] = [
+/// The last client gets no reply, since the clock can't be read.
+const LINES: &[Line] = &[
     Line {
-        headers: "Content-Length: 69",
-        body: r#"{"request":{"protocol":"3.1","app":[{"appid":"x","updatecheck":{}}]}}"#,
+        timed: STOPPED,
+        request: "Content-Length: 69\r\n\r\n\
+            {\"request\":{\"protocol\":\"3.1\",\"app\":[{\"appid\":\"x\",\"updatecheck\":{}}]}}",
         outcome: r#""id":false,"status":200,"generation":1,"#,
         apps: r#","apps":[{"appid":"x","bucket":6037,"named":false,"choice":0}]"#,
     },
     Line {
-        headers: "Content-Length: 69\r\nX-Forwarded-For: ::1",
-        body: r#"{"request":{"protocol":"3.1","app":[{"appid":"y","event":[{ }]   }]}}"#,
+        timed: STOPPED,
+        request: "Content-Length: 69\r\nX-Forwarded-For: ::1\r\n\r\n\
+            {\"request\":{\"protocol\":\"3.1\",\"app\":[{\"appid\":\"y\",\"event\":[{ }]   }]}}",
         outcome: r#""forwarded":"::1","id":false,"status":200,"generation":1,"#,
         apps: ",\"apps\":[{\"appid\":\"y\",\"bucket\":6037,\"named\":false,\
             \"unknown\":true,\"event\":\"[{}]\"}]",
     },
     Line {
-        headers: "Content-Length: 92",
-        body: "{\"request\":{\"protocol\":\"3.1\",\"os\":{\"platform\":\"w\"},\
+        timed: STOPPED,
+        request: "Content-Length: 92\r\n\r\n\
+            {\"request\":{\"protocol\":\"3.1\",\"os\":{\"platform\":\"w\"},\
             \"app\":[{\"appid\":\"x\",\"ap\":\"a\",\"lang\":5}]}}",
         outcome: r#""id":false,"status":200,"generation":1,"#,
         apps: ",\"apps\":[{\"appid\":\"x\",\"bucket\":6037,\"named\":false,\
             \"ap\":\"a\",\"platform\":\"w\",\"ignored\":\"lang\"}]",
     },
     Line {
-        headers: "Content-Length: 97",
-        body: "{\"request\":{\"protocol\":\"3.1\",\"requestid\":\"\",\
+        timed: STOPPED,
+        request: "Content-Length: 97\r\n\r\n\
+            {\"request\":{\"protocol\":\"3.1\",\"requestid\":\"\",\
             \"app\":[{\"appid\":\"x\",\"cohort\":[],\"installdate\":\"7\"}]}}",
         outcome: r#""id":false,"status":200,"generation":1,"#,
         apps: ",\"apps\":[{\"appid\":\"x\",\"bucket\":6037,\"named\":false,\
             \"ignored\":\"cohort installdate\"}]",
     },
     Line {
-        headers: "Content-Length: 86",
-        body: "{\"request\":{\"protocol\":\"3.1\",\"requestid\":\"r\",\
+        timed: STOPPED,
+        request: "Content-Length: 86\r\n\r\n\
+            {\"request\":{\"protocol\":\"3.1\",\"requestid\":\"r\",\
             \"app\":[{\"appid\":\"x\",\"cohort\":\"b:0007\"}]}}",
         outcome: r#""status":200,"generation":1,"#,
         apps: r#","apps":[{"appid":"x","bucket":7,"named":true}]"#,
     },
     Line {
-        headers: "Content-Length: 86",
-        body: "{\"request\":{\"protocol\":\"3.1\",\"sessionid\":\"s\",\
+        timed: STOPPED,
+        request: "Content-Length: 86\r\n\r\n\
+            {\"request\":{\"protocol\":\"3.1\",\"sessionid\":\"s\",\
             \"app\":[{\"appid\":\"x\",\"cohort\":\"b:0008\"}]}}",
         outcome: r#""status":200,"generation":1,"#,
         apps: r#","apps":[{"appid":"x","bucket":8,"named":true}]"#,
     },
     Line {
-        headers: "Content-Length: 2\r\nX-Forwarded-For: ::1, ::2",
-        body: "[]",
+        timed: STOPPED,
+        request: "Content-Length: 2\r\nX-Forwarded-For: ::1, ::2\r\n\r\n[]",
         outcome: r#""status":400,"refusal":"O2 Shape","#,
         apps: "",
     },
     Line {
-        headers: "Host: h\r\nX-Forwarded-For: unknown",
-        body: "",
+        timed: STOPPED,
+        request: "Host: h\r\nX-Forwarded-For: unknown\r\n\r\n",
         outcome: r#""status":411,"refusal":"P4 Length","#,
         apps: "",
     },
     Line {
-        headers: "Content-Length: 2",
-        body: "{",
+        timed: STOPPED,
+        request: "Content-Length: 2\r\n\r\n{",
         outcome: r#""refusal":"P7 Ended","#,
         apps: "",
     },
+    Line {
+        timed: UNREADABLE,
+        request: "Content-Length: 69\r\n\r\n\
+            {\"request\":{\"protocol\":\"3.1\",\"app\":[{\"appid\":\"x\",\"updatecheck\":{}}]}}",
+        outcome: r#""refusal":"P8 Device","cause":"clock","#,
+        apps: "",
+    },
 ];
-
-/// A request that gets no reply if the clock can't be read.
-const UNTIMED: Line = Line {
-    headers: "Content-Length: 69",
-    body: r#"{"request":{"protocol":"3.1","app":[{"appid":"x","updatecheck":{}}]}}"#,
-    outcome: r#""refusal":"P8 Device","cause":"clock","#,
-    apps: "",
-};
 
 /// The line of a connection that couldn't be accepted, after its header. A nonblocking port without
 /// waiting connections causes it.
 const UNACCEPTED: &str = "\"kind\":\"unaccepted\",\
     \"reason\":\"Resource temporarily unavailable (os error 11)\"}\n";
 
-/// Serves clients by one worker until the flag is set.
+/// Serves clients by one worker until the flag is set. Returns whether it could.
 fn serves<H>(
     rt: &H,
     listener: TcpListener,
     watcher: Watcher,
     stop: &AtomicBool,
     queue: &LogQueue,
-) -> Result<(), Fail>
+) -> bool
 where
     H: Threads + Wait + AllocGlobal + Clock + Sync,
 {
-    let (cells, pass) = PlainCells::new(rt.alloc())?;
-    let workers = vec![in rt.alloc(); (pass, watcher)]?;
-    Ok(serve(
+    let Ok((cells, pass)) = PlainCells::new(rt.alloc()) else {
+        return false;
+    };
+    let Ok(workers) = vec![in rt.alloc(); (pass, watcher)] else {
+        return false;
+    };
+    serve(
         rt,
         &NoGate,
         listener,
@@ -148,7 +159,8 @@ where
         workers,
         stop,
         logging_to(queue),
-    )?)
+    )
+    .is_ok()
 }
 
 /// A client's address, how many bytes its reply has, and whether the reply has the clock's moment.
@@ -159,18 +171,16 @@ struct ClientReply {
     is_timed: bool,
 }
 
-/// Sends the request of a line, and ends it.
-fn asked<H>(rt: &H, place: SocketAddr, line: Line) -> io::Result<ClientReply>
+/// The first line of each request.
+const POST: &str = "POST /service/update2/json HTTP/1.1\r\n";
+
+/// Sends a request, and ends it.
+fn asked<H>(rt: &H, place: SocketAddr, request: &str) -> io::Result<ClientReply>
 where
     H: Net<Stream = TcpStream> + AllocGlobal,
 {
-    let Line { headers, body, .. } = line;
-    let request = format!(in rt.alloc();
-        "POST /service/update2/json HTTP/1.1\r\n{headers}\r\n\r\n{body}"
-    )?;
-    let stream = sent(rt, place, request.as_str());
-    drop(request);
-    let stream = stream?;
+    let stream = sent(rt, place, POST)?;
+    let _sent = send(&stream, request);
     let _ended = stream.shutdown(Shutdown::Write);
     let client = stream.local_addr()?;
     let bytes = reply(rt.alloc(), &stream).unwrap_or(Vec::new(rt.alloc()));
@@ -185,45 +195,55 @@ where
 fn asked_then_stopped<H>(
     rt: &H,
     place: SocketAddr,
-    line: Line,
+    request: &str,
     stop: &AtomicBool,
 ) -> io::Result<ClientReply>
 where
     H: Net<Stream = TcpStream> + AllocGlobal,
 {
-    let asked = asked(rt, place, line);
+    let asked = asked(rt, place, request);
     stop.store(true, Ordering::SeqCst);
     let _last = TcpStream::connect(rt, place);
     asked
 }
 
-/// Sends the request of a line to a server with this clock and this watcher.
-fn asked_of_server<H>(
-    rt: &H,
-    clock: Running,
-    watcher: Watcher,
-    queue: &LogQueue,
-    line: Line,
-) -> Result<ClientReply, Fail>
+/// A listener whose `accept` doesn't wait, and its address.
+fn listening_without_wait<H>(rt: &H) -> io::Result<(TcpListener, SocketAddr)>
 where
-    H: Threads + Wait + AllocGlobal + Clock + Sync,
     H: Net<Listener = TcpListener, Stream = TcpStream>,
 {
     let (listener, place) = listening(rt)?;
     listener.set_nonblocking(true)?;
+    Ok((listener, place))
+}
+
+/// Sends the request of a line to a server with its clock and this watcher.
+fn asked_of_server<H>(
+    rt: &H,
+    watcher: Watcher,
+    queue: &LogQueue,
+    line: Line,
+) -> io::Result<ClientReply>
+where
+    H: Threads + Wait + AllocGlobal + Clock + Sync,
+    H: Net<Listener = TcpListener, Stream = TcpStream>,
+{
+    let (listener, place) = listening_without_wait(rt)?;
     let own = Impaired {
         rt,
-        clock,
+        clock: line.timed.clock,
         may_connect: true,
     };
     let stop = AtomicBool::new(false);
     let (asked, served) = thread::join(
         rt,
-        || asked_then_stopped(rt, place, line, &stop),
+        || asked_then_stopped(rt, place, line.request, &stop),
         || serves(&own, listener, watcher, &stop, queue),
     );
-    served?;
-    Ok(asked?)
+    if !served {
+        return Err(io::Error::from(ErrorKind::OutOfMemory));
+    }
+    asked
 }
 
 /// Whether a log has this time and the port, this line of a client, and lines of connections that
@@ -231,11 +251,11 @@ where
 fn is_log<H: AllocGlobal>(
     rt: &H,
     log: &str,
-    time: &str,
     line: Line,
     asked: ClientReply,
 ) -> Result<bool, AllocError> {
     let Line { outcome, apps, .. } = line;
+    let time = line.timed.time;
     let ClientReply { client, size, .. } = asked;
     let header = format!(in rt.alloc(); "{{\"time\":\"{time}\",\"port\":8080,")?;
     let unaccepted = format!(in rt.alloc(); "{header}{UNACCEPTED}")?;
@@ -247,54 +267,54 @@ fn is_log<H: AllocGlobal>(
     Ok(others.as_str() == wanted.as_str() && log.contains(unaccepted.as_str()))
 }
 
-/// Whether a server with this clock and this watcher logs this line, and replies at its moment.
-fn is_logged_by<H>(rt: &H, watcher: Watcher, timed: Timed, line: Line) -> Result<bool, Fail>
+/// Whether a server with this watcher logs this line, and replies at its clock's moment.
+fn is_logged_by<H>(rt: &H, watcher: Watcher, line: Line) -> Result<bool, Fail>
 where
     H: Threads + Wait + AllocGlobal + Clock + Sync,
     H: Net<Listener = TcpListener, Stream = TcpStream>,
 {
     let (queue, pieces) = LogQueue::new(rt.alloc(), 8080)?;
-    let asked = asked_of_server(rt, timed.clock, watcher, &queue, line)?;
+    let asked = asked_of_server(rt, watcher, &queue, line)?;
+    drop(queue);
     let log = lines_in(rt, &pieces)?;
     let is_timed = asked.is_timed == line.outcome.contains("200");
-    Ok(is_timed && is_log(rt, log.as_str(), timed.time, line, asked)?)
+    Ok(is_timed && is_log(rt, log.as_str(), line, asked)?)
 }
 
-/// As above, for a server of a manifest.
-fn is_logged<H, D>(rt: &H, disk: &D, path: &str, timed: Timed, line: Line) -> Result<bool, Fail>
+/// As above, for a server of `no.toml`.
+fn is_logged<H, D>(rt: &H, disk: &D, line: Line) -> Result<bool, Fail>
 where
     H: Threads + Wait + AllocGlobal + Clock + Sync,
     H: Net<Listener = TcpListener, Stream = TcpStream>,
     D: Disk,
 {
-    let mut publisher = publisher_of(rt, disk, path)?;
+    let mut publisher = publisher_of(rt, disk)?;
     let is_logged = match publisher.watcher() {
-        Ok(watcher) => is_logged_by(rt, watcher, timed, line),
+        Ok(watcher) => is_logged_by(rt, watcher, line),
         Err(fault) => Err(Fail::from(fault)),
     };
     publisher.close(rt);
     is_logged
 }
 
-#[test]
-fn log_has_a_line_a_connection(rt: HostRuntime) -> Result<(), Fail> {
-    write_none(&rt, "logged.toml")?;
-    let disk = Device::new(&rt);
+/// The first line that is wrong, if one is.
+fn first_wrong<H, D>(rt: &H, disk: &D) -> Result<Option<&'static str>, Fail>
+where
+    H: Threads + Wait + AllocGlobal + Clock + Sync,
+    H: Net<Listener = TcpListener, Stream = TcpStream>,
+    D: Disk,
+{
     for line in LINES {
-        assert!(rt;
-            is_logged(&rt, &disk, "logged.toml", STOPPED, line)?,
-            "{}",
-            line.outcome
-        );
+        if !is_logged(rt, disk, *line)? {
+            return Ok(Some(line.outcome));
+        }
     }
-    Ok(())
+    Ok(None)
 }
 
-/// If the clock can't be read, a client gets nothing, and its connection has a line.
 #[test]
-fn a_clock_that_fails_is_reported(rt: HostRuntime) -> Result<(), Fail> {
-    write_none(&rt, "untimed.toml")?;
-    let disk = Device::new(&rt);
-    assert!(rt; is_logged(&rt, &disk, "untimed.toml", UNREADABLE, UNTIMED)?);
+fn log_has_a_line_a_connection(rt: HostRuntime) -> Result<(), Fail> {
+    write_files(&rt)?;
+    assert_eq!(rt; first_wrong(&rt, &Device::new(&rt))?, None);
     Ok(())
 }

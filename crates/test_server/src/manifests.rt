@@ -1,28 +1,29 @@
-//! The manifests of the tests, as files of the folder in which a test runs.
+//! The manifests of the tests and their rules, as files of the folder in which a test runs.
 
-use std::alloc::{AllocError, Global};
-use std::fs;
 use std::rt::Files;
-use std::test::Fail;
+use std::{fs, io};
 
-/// A path, an array, and a rule.
-const MANIFESTS: [(&str, &str, &str); 5] = [
-    ("no.toml", "", "otherwise none;"),
-    ("yes.toml", "", "when bucket >= 0 offer 1;\notherwise none;"),
-    ("forty.toml", FORTY, TAKES),
-    ("other.toml", FORTY, TAKES),
-    ("thousand.toml", THOUSAND, TAKES),
-];
-
-const FORTY: &str = r#"array = [{ name = "q", width = 64, length = 1, quota = 40 }]"#;
-
-const THOUSAND: &str = r#"array = [{ name = "q", width = 64, length = 1, quota = 1000 }]"#;
-
-/// A rule that offers the release as often as the quota allows.
-const TAKES: &str = "when take(q, 0) offer 1;\notherwise none;";
-
-/// The app's release.
-const RELEASE: &str = r#"
+/// Paths and texts. Each manifest has its path as the server's text, and one app, `x`.
+const FILES: &[(&str, &str)] = &[
+    ("no.rule", "otherwise none;"),
+    ("yes.rule", "when bucket >= 0 offer 1;\notherwise none;"),
+    ("takes.rule", "when take(q, 0) offer 1;\notherwise none;"),
+    (
+        "no.toml",
+        r#"
+server = "no.toml"
+[[app]]
+appid = "x"
+rule = "no.rule"
+"#,
+    ),
+    (
+        "yes.toml",
+        r#"
+server = "yes.toml"
+[[app]]
+appid = "x"
+rule = "yes.rule"
 [[app.release]]
 version = "2.0.0.0"
 codebase = "http://dl.example/"
@@ -31,39 +32,68 @@ name = "x.bin"
 hash_sha256 = "ba7816bf8f01cfea414140de5dae2223b00361a396177a9cb410ff61f20015ad"
 size = 3
 required = true
-"#;
+"#,
+    ),
+    (
+        "forty.toml",
+        r#"
+server = "forty.toml"
+array = [{ name = "q", width = 64, length = 1, quota = 40 }]
+[[app]]
+appid = "x"
+rule = "takes.rule"
+[[app.release]]
+version = "2.0.0.0"
+codebase = "http://dl.example/"
+[[app.release.package]]
+name = "x.bin"
+hash_sha256 = "ba7816bf8f01cfea414140de5dae2223b00361a396177a9cb410ff61f20015ad"
+size = 3
+required = true
+"#,
+    ),
+    (
+        "other.toml",
+        r#"
+server = "other.toml"
+array = [{ name = "q", width = 64, length = 1, quota = 40 }]
+[[app]]
+appid = "x"
+rule = "takes.rule"
+[[app.release]]
+version = "2.0.0.1"
+codebase = "http://dl.example/"
+[[app.release.package]]
+name = "x.bin"
+hash_sha256 = "ba7816bf8f01cfea414140de5dae2223b00361a396177a9cb410ff61f20015ad"
+size = 3
+required = true
+"#,
+    ),
+    (
+        "thousand.toml",
+        r#"
+server = "thousand.toml"
+array = [{ name = "q", width = 64, length = 1, quota = 1000 }]
+[[app]]
+appid = "x"
+rule = "takes.rule"
+[[app.release]]
+version = "2.0.0.0"
+codebase = "http://dl.example/"
+[[app.release.package]]
+name = "x.bin"
+hash_sha256 = "ba7816bf8f01cfea414140de5dae2223b00361a396177a9cb410ff61f20015ad"
+size = 3
+required = true
+"#,
+    ),
+];
 
-fn manifest_of(alloc: Global, path: &str, array: &str) -> Result<String, AllocError> {
-    format!(in alloc;
-        "server = \"{path}\"\n{array}\n[[app]]\nappid = \"x\"\nrule = \"{path}.rule\"\n{RELEASE}"
-    )
-}
-
-/// Writes a manifest at this path, which is also the server's text, and the rule of its app `x`.
-fn write_manifest<R: Files + AllocGlobal>(
-    rt: &R,
-    path: &str,
-    array: &str,
-    rule: &str,
-) -> Result<(), Fail> {
-    fs::write(rt, path, manifest_of(rt.alloc(), path, array)?.as_bytes())?;
-    fs::write(
-        rt,
-        format!(in rt.alloc(); "{path}.rule")?.as_str(),
-        rule.as_bytes(),
-    )?;
-    Ok(())
-}
-
-/// Writes a manifest that offers nothing.
-pub(crate) fn write_none<R: Files + AllocGlobal>(rt: &R, path: &str) -> Result<(), Fail> {
-    write_manifest(rt, path, "", "otherwise none;")
-}
-
-/// Writes the manifests of servers that serve in turn.
-pub(crate) fn write_manifests<R: Files + AllocGlobal>(rt: &R) -> Result<(), Fail> {
-    for (path, array, rule) in MANIFESTS {
-        write_manifest(rt, path, array, rule)?;
+/// Writes all files.
+pub(crate) fn write_files<R: Files>(rt: &R) -> io::Result<()> {
+    for (path, text) in FILES {
+        fs::write(rt, *path, text.as_bytes())?;
     }
     Ok(())
 }

@@ -4,8 +4,8 @@
 use crate::ending::ending;
 use crate::impaired::{Impaired, Running};
 use crate::loopback::has_answer;
-use crate::manifests::write_manifests;
-use crate::swaps::{FORTY, THOUSAND, WHOLE, are_swapped};
+use crate::manifests::write_files;
+use crate::swaps::{FORTY, Swaps, THOUSAND, WHOLE, are_swapped};
 use crate::turns::{at_once, silent, slow};
 use bounded_files::{Device, Disk};
 use operator_request::OperatorRequest;
@@ -89,20 +89,30 @@ where
     Ok(out.count == 1)
 }
 
+/// The loads and requests of a task, if it has any.
+fn swaps_of(task: PortTask) -> Option<Swaps> {
+    match task {
+        PortTask::Whole => Some(WHOLE),
+        PortTask::Forty => Some(FORTY),
+        PortTask::Thousand => Some(THOUSAND),
+        _ => None,
+    }
+}
+
 /// Whether clients and operators get what they should.
 fn is_right<H>(rt: &H, place: Place, task: PortTask) -> io::Result<bool>
 where
     H: Threads + AllocGlobal + Clock + Sync,
     H: Net<Listener = TcpListener, Stream = TcpStream>,
 {
+    if let Some(swaps) = swaps_of(task) {
+        return are_swapped(rt, place, swaps);
+    }
     match task {
         PortTask::AtOnce => at_once(rt, place.clients),
         PortTask::Silent => silent(rt, place),
         PortTask::Slow => slow(rt, place.clients),
-        PortTask::Ending => ending(rt, place),
-        PortTask::Whole => are_swapped(rt, place, WHOLE),
-        PortTask::Forty => are_swapped(rt, place, FORTY),
-        PortTask::Thousand => are_swapped(rt, place, THOUSAND),
+        _ => ending(rt, place),
     }
 }
 
@@ -156,7 +166,7 @@ where
 
 /// What is done at a server's ports, its manifest, how many workers there are, how many seconds a
 /// connection may last, and what is shown.
-const SERVED: [(PortTask, &str, usize, u64, &str); 7] = [
+const SERVED: &[(PortTask, &str, usize, u64, &str)] = &[
     (
         PortTask::AtOnce,
         "no.toml",
@@ -196,16 +206,25 @@ const SERVED: [(PortTask, &str, usize, u64, &str); 7] = [
     ),
 ];
 
+/// What isn't shown, if anything isn't.
+fn first_wrong<H, D>(rt: &H, disk: &D) -> Result<Option<&'static str>, Fail>
+where
+    H: Threads + Wait + AllocGlobal + Clock + Sync,
+    H: Net<Listener = TcpListener, Stream = TcpStream>,
+    D: Disk,
+{
+    for (task, path, workers, seconds, what) in SERVED {
+        let service = service_of(*seconds);
+        if !is_served(rt, disk, true, path, *workers, service, *task)? {
+            return Ok(Some(*what));
+        }
+    }
+    Ok(None)
+}
+
 #[test]
 fn clients_are_served(rt: HostRuntime) -> Result<(), Fail> {
-    write_manifests(&rt)?;
-    let disk = Device::new(&rt);
-    for (task, path, workers, seconds, what) in SERVED {
-        let service = service_of(seconds);
-        assert!(rt;
-            is_served(&rt, &disk, true, path, workers, service, task)?,
-            "{what}"
-        );
-    }
+    write_files(&rt)?;
+    assert_eq!(rt; first_wrong(&rt, &Device::new(&rt))?, None);
     Ok(())
 }

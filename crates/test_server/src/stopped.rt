@@ -1,7 +1,7 @@
 //! An operator's port that is stopped: it ends at the next connection, which gets no reply.
 
 use crate::loopback::{listening, reply, sent};
-use crate::manifests::write_none;
+use crate::manifests::write_files;
 use crate::servers::service_of;
 use bounded_files::{Device, Disk};
 use cells::{Directory, PlainCells};
@@ -16,10 +16,8 @@ use std::test::Fail;
 use std::time::Clock;
 use workers::{OperatorSeat, operate};
 
-const PATH: &str = "stopped.toml";
-
-/// A publisher of the ruleset of a manifest, with a place for a watcher. It is ended by `close`.
-pub(crate) fn publisher_of<H, D>(rt: &H, disk: &D, path: &str) -> Result<Publisher, Fail>
+/// A publisher of the ruleset of `no.toml`, with a place for a watcher. It is ended by `close`.
+pub(crate) fn publisher_of<H, D>(rt: &H, disk: &D) -> Result<Publisher, Fail>
 where
     H: Wait + AllocGlobal,
     D: Disk,
@@ -29,7 +27,7 @@ where
         rules,
         directory,
         digest: _digest,
-    } = Manifests::of(disk).load(alloc, path, &Directory::new(alloc))?;
+    } = Manifests::of(disk).load(alloc, "no.toml", &Directory::new(alloc))?;
     drop(directory);
     Ok(Publisher::new(rt, alloc, Arc::new(alloc, rules)?, 1)?)
 }
@@ -41,7 +39,7 @@ where
     D: Disk,
 {
     let (cells, pass) = PlainCells::new(rt.alloc())?;
-    let mut control = Control::new(publisher_of(rt, disk, PATH)?, Directory::new(rt.alloc()));
+    let mut control = Control::new(publisher_of(rt, disk)?, Directory::new(rt.alloc()));
     let mut seat = OperatorSeat {
         loader: &Manifests::of(disk),
         cells: &cells,
@@ -72,7 +70,7 @@ where
 
 #[test]
 fn a_stopped_port_ends(rt: HostRuntime) -> Result<(), Fail> {
-    write_none(&rt, PATH)?;
+    write_files(&rt)?;
     assert!(rt; is_stopped(&rt, &Device::new(&rt))?);
     Ok(())
 }

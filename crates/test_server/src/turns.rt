@@ -8,7 +8,7 @@ use std::time::{Clock, Duration, Instant};
 use std::{io, thread};
 
 /// The operator's reply to `show`.
-const SHOWN: &str = "generation 1\napp x releases 1 slots 5\n";
+const SHOWN: &str = "generation 1\napp x releases 0 slots 5\n";
 
 /// A client that sends nothing until a second one got its reply, and gets its own then.
 pub(crate) fn at_once<H>(rt: &H, place: SocketAddr) -> io::Result<bool>

@@ -1,6 +1,6 @@
 //! The log of a server that nobody reads.
 
-use crate::manifests::write_none;
+use crate::manifests::write_files;
 use crate::servers::{PortTask, is_served};
 use access_log::LogEvent;
 use bounded_files::{Device, Disk};
@@ -57,7 +57,7 @@ where
         queue.note(rt, &LogEvent::Stop(None));
     }
     let service = logging_to(queue);
-    let is_served = is_served(rt, disk, true, "full.toml", 2, service, PortTask::AtOnce)?;
+    let is_served = is_served(rt, disk, true, "no.toml", 2, service, PortTask::AtOnce)?;
     let is_full = lines_in(rt, pieces)?.lines().count() == 256;
     queue.note(rt, &LogEvent::Unaccepted("read"));
     let rest = lines_in(rt, pieces)?;
@@ -67,7 +67,7 @@ where
 /// A server whose log nobody reads replies as usual, and ends.
 #[test]
 fn lines_that_nobody_reads_are_lost(rt: HostRuntime) -> Result<(), Fail> {
-    write_none(&rt, "full.toml")?;
+    write_files(&rt)?;
     let (queue, pieces) = LogQueue::new(rt.alloc(), 8080)?;
     assert!(rt; are_lost(&rt, &Device::new(&rt), &queue, &pieces)?);
     Ok(())
