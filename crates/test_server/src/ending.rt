@@ -1,7 +1,7 @@
 //! A server that ends while clients' requests are read and others wait: all are answered, and its
 //! operator's port says that it stops.
 
-use crate::loopback::{ONE_APP, has_answer, is_replied, send, sent};
+use crate::loopback::{BODY, HEAD, ONE_APP, has_answer, is_replied, send, sent};
 use crate::servers::Place;
 use operator_request::OperatorRequest;
 use std::net::{Net, SocketAddr, TcpStream};
@@ -11,18 +11,27 @@ use std::{io, thread};
 /// What the operator gets for a reply that isn't one to the request.
 const UNREAD: &str = "B5 Connect";
 
-/// Whether the operator's port replies as it should from the first stop on. A server that stops
-/// sends everybody `stopping`, which is a reply only to a stop.
+/// What the operator gets from the first stop on. A server that stops sends everybody `stopping`,
+/// which is a reply only to a stop.
+const STOPPING: &[(OperatorRequest<'static>, &str)] = &[
+    (OperatorRequest::Stop, "stopping\n"),
+    (OperatorRequest::Show, UNREAD),
+    (OperatorRequest::Cells, UNREAD),
+    (OperatorRequest::Load("no.toml"), UNREAD),
+    (OperatorRequest::Stop, "stopping\n"),
+];
+
+/// Whether the operator's port replies as it should from the first stop on.
 fn is_stopping<H>(rt: &H, port: u16) -> io::Result<bool>
 where
     H: Net<Stream = TcpStream> + AllocGlobal,
 {
-    let stop = OperatorRequest::Stop;
-    let is_stopped = has_answer(rt, port, stop, "stopping\n")?;
-    let is_hidden = has_answer(rt, port, OperatorRequest::Show, UNREAD)?
-        && has_answer(rt, port, OperatorRequest::Cells, UNREAD)?
-        && has_answer(rt, port, OperatorRequest::Load("no.toml"), UNREAD)?;
-    Ok(is_stopped && is_hidden && has_answer(rt, port, stop, "stopping\n")?)
+    for (request, want) in STOPPING {
+        if !has_answer(rt, port, *request, want)? {
+            return Ok(false);
+        }
+    }
+    Ok(true)
 }
 
 /// Two connections that have sent this text each.
@@ -54,16 +63,16 @@ where
     H: Net<Stream = TcpStream> + AllocGlobal,
 {
     let is_stopping = is_stopping(rt, port)?;
-    Ok(is_stopping && are_replied(rt, held, ONE_APP)? && are_replied(rt, waiting, "")?)
+    Ok(is_stopping && are_replied(rt, held, BODY)? && are_replied(rt, waiting, "")?)
 }
 
-/// Two clients that send their requests only after the stop, one to each worker, and two whose
+/// Two clients that send their bodies only after the stop, one to each worker, and two whose
 /// requests wait for a worker. The server has half a second to accept them.
 pub(crate) fn ending<H>(rt: &H, place: Place) -> io::Result<bool>
 where
     H: Net<Stream = TcpStream> + AllocGlobal + Clock,
 {
-    let held = opened(rt, place.clients, "")?;
+    let held = opened(rt, place.clients, HEAD)?;
     let waiting = opened(rt, place.clients, ONE_APP)?;
     thread::sleep(rt, Duration::from_millis(500));
     are_ended(rt, place.operator.port(), &held, &waiting)

@@ -7,6 +7,8 @@ mod ending;
 #[cfg(test)]
 mod impaired;
 #[cfg(test)]
+mod log_lines;
+#[cfg(test)]
 mod logged;
 #[cfg(test)]
 mod loopback;

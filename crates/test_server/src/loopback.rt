@@ -11,6 +11,12 @@ use std::str;
 pub(crate) const ONE_APP: &str = "POST /service/update2/json HTTP/1.1\r\nContent-Length: 69\r\n\r\n\
     {\"request\":{\"protocol\":\"3.1\",\"app\":[{\"appid\":\"x\",\"updatecheck\":{}}]}}";
 
+/// The head of its request, and the body.
+pub(crate) const HEAD: &str = "POST /service/update2/json HTTP/1.1\r\nContent-Length: 69\r\n\r\n";
+
+pub(crate) const BODY: &str =
+    r#"{"request":{"protocol":"3.1","app":[{"appid":"x","updatecheck":{}}]}}"#;
+
 /// Four apps that request an update.
 pub(crate) const FOUR_APPS: &str =
     "POST /service/update2/json HTTP/1.1\r\nContent-Length: 162\r\n\r\n\

@@ -61,7 +61,25 @@ array = [{ name = "q", width = 64, length = 1, quota = 40 }]
 appid = "x"
 rule = "takes.rule"
 [[app.release]]
-version = "2.0.0.1"
+version = "2.0.0.0"
+codebase = "http://dl.example/"
+[[app.release.package]]
+name = "x.bin"
+hash_sha256 = "ba7816bf8f01cfea414140de5dae2223b00361a396177a9cb410ff61f20015ad"
+size = 3
+required = true
+"#,
+    ),
+    (
+        "two.toml",
+        r#"
+server = "two.toml"
+array = [{ name = "q", width = 64, length = 1, quota = 2 }]
+[[app]]
+appid = "x"
+rule = "takes.rule"
+[[app.release]]
+version = "2.0.0.0"
 codebase = "http://dl.example/"
 [[app.release.package]]
 name = "x.bin"

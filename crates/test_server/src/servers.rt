@@ -5,7 +5,7 @@ use crate::ending::ending;
 use crate::impaired::{Impaired, Running};
 use crate::loopback::has_answer;
 use crate::manifests::write_files;
-use crate::swaps::{FORTY, Swaps, THOUSAND, WHOLE, are_swapped};
+use crate::swaps::{FORTY, Swaps, THOUSAND, TWO, WHOLE, are_swapped};
 use crate::turns::{at_once, silent, slow};
 use bounded_files::{Device, Disk};
 use operator_request::OperatorRequest;
@@ -28,7 +28,7 @@ pub(crate) struct Place {
 /// What is done at a server's ports.
 #[derive(Clone, Copy)]
 pub(crate) enum PortTask {
-    /// A client sends nothing until another one got its reply.
+    /// A client sends no body until another one got its reply.
     AtOnce,
     /// A client and an operator send nothing, and others follow them.
     Silent,
@@ -40,7 +40,9 @@ pub(crate) enum PortTask {
     Whole,
     /// The same for rulesets that share a quota of 40.
     Forty,
-    /// Clients take from a quota of 1000 at once.
+    /// Clients take from a quota of 2 at once.
+    Two,
+    /// The same for a quota of 1000.
     Thousand,
 }
 
@@ -94,6 +96,7 @@ fn swaps_of(task: PortTask) -> Option<Swaps> {
     match task {
         PortTask::Whole => Some(WHOLE),
         PortTask::Forty => Some(FORTY),
+        PortTask::Two => Some(TWO),
         PortTask::Thousand => Some(THOUSAND),
         _ => None,
     }
@@ -197,6 +200,7 @@ const SERVED: &[(PortTask, &str, usize, u64, &str)] = &[
         10,
         "a quota of forty holds over loads",
     ),
+    (PortTask::Two, "two.toml", 4, 10, "a quota of two holds"),
     (
         PortTask::Thousand,
         "thousand.toml",
@@ -206,8 +210,8 @@ const SERVED: &[(PortTask, &str, usize, u64, &str)] = &[
     ),
 ];
 
-/// What isn't shown, if anything isn't.
-fn first_wrong<H, D>(rt: &H, disk: &D) -> Result<Option<&'static str>, Fail>
+/// Fails with the first that isn't shown.
+fn are_all_served<H, D>(rt: &H, disk: &D) -> Result<(), Fail>
 where
     H: Threads + Wait + AllocGlobal + Clock + Sync,
     H: Net<Listener = TcpListener, Stream = TcpStream>,
@@ -216,15 +220,14 @@ where
     for (task, path, workers, seconds, what) in SERVED {
         let service = service_of(*seconds);
         if !is_served(rt, disk, true, path, *workers, service, *task)? {
-            return Ok(Some(*what));
+            return Err(Fail::new(*what));
         }
     }
-    Ok(None)
+    Ok(())
 }
 
 #[test]
 fn clients_are_served(rt: HostRuntime) -> Result<(), Fail> {
     write_files(&rt)?;
-    assert_eq!(rt; first_wrong(&rt, &Device::new(&rt))?, None);
-    Ok(())
+    are_all_served(&rt, &Device::new(&rt))
 }

@@ -53,6 +53,18 @@ pub(crate) const FORTY: Swaps = Swaps {
 };
 
 /// Clients that take from a quota at once, without loads.
+pub(crate) const TWO: Swaps = Swaps {
+    served: "two.toml",
+    other: "",
+    loads: 0,
+    request_count: 5,
+    before: 5,
+    request: ONE_APP,
+    apps: 1,
+    quota: Some(2),
+};
+
+/// The same with more requests and a larger quota.
 pub(crate) const THOUSAND: Swaps = Swaps {
     served: "thousand.toml",
     other: "",

@@ -1,6 +1,8 @@
 //! Clients that take turns: some send nothing, or slowly, while others need a worker.
 
-use crate::loopback::{ONE_APP, has_answer, is_answered, is_replied, reply, send, sent};
+use crate::loopback::{
+    BODY, HEAD, ONE_APP, has_answer, is_answered, is_replied, reply, send, sent,
+};
 use crate::servers::Place;
 use operator_request::OperatorRequest;
 use std::net::{Net, SocketAddr, TcpStream};
@@ -10,14 +12,15 @@ use std::{io, thread};
 /// The operator's reply to `show`.
 const SHOWN: &str = "generation 1\napp x releases 0 slots 5\n";
 
-/// A client that sends nothing until a second one got its reply, and gets its own then.
+/// A client that has sent its head sends its body once a second one got its reply, and gets its
+/// own then.
 pub(crate) fn at_once<H>(rt: &H, place: SocketAddr) -> io::Result<bool>
 where
     H: Net<Stream = TcpStream> + AllocGlobal,
 {
-    let first = sent(rt, place, "")?;
+    let first = sent(rt, place, HEAD)?;
     let is_second = is_answered(rt, place)?;
-    send(&first, ONE_APP)?;
+    send(&first, BODY)?;
     Ok(is_replied(rt, &first)? && is_second)
 }
 

@@ -1,0 +1,115 @@
+//! A log's lines of clients: for each the clock of the server, and what the client sends.
+
+use crate::impaired::Running;
+
+/// A clock, the start of the log's lines, and the line of a connection that couldn't be accepted. A
+/// nonblocking port without waiting connections causes it.
+#[derive(Clone, Copy)]
+pub(crate) struct Timed {
+    pub(crate) clock: Running,
+    pub(crate) start: &'static str,
+    pub(crate) unaccepted: &'static str,
+}
+
+/// 2026-03-02 01:00:00 UTC, which is day 7000 and second 3600 of Omaha's count.
+const STOPPED: Timed = Timed {
+    clock: Running::StoppedAt(1772413200),
+    start: "{\"time\":\"2026-03-02T01:00:00.000Z\",\"port\":8080,\"kind\":",
+    unaccepted: "{\"time\":\"2026-03-02T01:00:00.000Z\",\"port\":8080,\"kind\":\"unaccepted\",\
+        \"reason\":\"Resource temporarily unavailable (os error 11)\"}\n",
+};
+
+const UNREADABLE: Timed = Timed {
+    clock: Running::Unreadable,
+    start: "{\"time\":\"1970-01-01T00:00:00.000Z\",\"port\":8080,\"kind\":",
+    unaccepted: "{\"time\":\"1970-01-01T00:00:00.000Z\",\"port\":8080,\"kind\":\"unaccepted\",\
+        \"reason\":\"Resource temporarily unavailable (os error 11)\"}\n",
+};
+
+/// A clock, a client's request after its first line, and what its line in the log has before
+/// `bytes` and after `waited`.
+#[derive(Clone, Copy)]
+pub(crate) struct Line {
+    pub(crate) timed: Timed,
+    pub(crate) request: &'static str,
+    pub(crate) outcome: &'static str,
+    pub(crate) apps: &'static str,
+}
+
+/// The last client gets no reply, since the clock can't be read.
+pub(crate) const LINES: &[Line] = &[
+    Line {
+        timed: STOPPED,
+        request: "Content-Length: 69\r\n\r\n\
+            {\"request\":{\"protocol\":\"3.1\",\"app\":[{\"appid\":\"x\",\"updatecheck\":{}}]}}",
+        outcome: r#""id":false,"status":200,"generation":1,"#,
+        apps: r#","apps":[{"appid":"x","bucket":6037,"named":false,"choice":0}]"#,
+    },
+    Line {
+        timed: STOPPED,
+        request: "Content-Length: 69\r\nX-Forwarded-For: ::1\r\n\r\n\
+            {\"request\":{\"protocol\":\"3.1\",\"app\":[{\"appid\":\"y\",\"event\":[{ }]   }]}}",
+        outcome: r#""forwarded":"::1","id":false,"status":200,"generation":1,"#,
+        apps: ",\"apps\":[{\"appid\":\"y\",\"bucket\":6037,\"named\":false,\
+            \"unknown\":true,\"event\":\"[{}]\"}]",
+    },
+    Line {
+        timed: STOPPED,
+        request: "Content-Length: 92\r\n\r\n\
+            {\"request\":{\"protocol\":\"3.1\",\"os\":{\"platform\":\"w\"},\
+            \"app\":[{\"appid\":\"x\",\"ap\":\"a\",\"lang\":5}]}}",
+        outcome: r#""id":false,"status":200,"generation":1,"#,
+        apps: ",\"apps\":[{\"appid\":\"x\",\"bucket\":6037,\"named\":false,\
+            \"ap\":\"a\",\"platform\":\"w\",\"ignored\":\"lang\"}]",
+    },
+    Line {
+        timed: STOPPED,
+        request: "Content-Length: 97\r\n\r\n\
+            {\"request\":{\"protocol\":\"3.1\",\"requestid\":\"\",\
+            \"app\":[{\"appid\":\"x\",\"cohort\":[],\"installdate\":\"7\"}]}}",
+        outcome: r#""id":false,"status":200,"generation":1,"#,
+        apps: ",\"apps\":[{\"appid\":\"x\",\"bucket\":6037,\"named\":false,\
+            \"ignored\":\"cohort installdate\"}]",
+    },
+    Line {
+        timed: STOPPED,
+        request: "Content-Length: 86\r\n\r\n\
+            {\"request\":{\"protocol\":\"3.1\",\"requestid\":\"r\",\
+            \"app\":[{\"appid\":\"x\",\"cohort\":\"b:0007\"}]}}",
+        outcome: r#""status":200,"generation":1,"#,
+        apps: r#","apps":[{"appid":"x","bucket":7,"named":true}]"#,
+    },
+    Line {
+        timed: STOPPED,
+        request: "Content-Length: 86\r\n\r\n\
+            {\"request\":{\"protocol\":\"3.1\",\"sessionid\":\"s\",\
+            \"app\":[{\"appid\":\"x\",\"cohort\":\"b:0008\"}]}}",
+        outcome: r#""status":200,"generation":1,"#,
+        apps: r#","apps":[{"appid":"x","bucket":8,"named":true}]"#,
+    },
+    Line {
+        timed: STOPPED,
+        request: "Content-Length: 2\r\nX-Forwarded-For: ::1, ::2\r\n\r\n[]",
+        outcome: r#""status":400,"refusal":"O2 Shape","#,
+        apps: "",
+    },
+    Line {
+        timed: STOPPED,
+        request: "Host: h\r\nX-Forwarded-For: unknown\r\n\r\n",
+        outcome: r#""status":411,"refusal":"P4 Length","#,
+        apps: "",
+    },
+    Line {
+        timed: STOPPED,
+        request: "Content-Length: 2\r\n\r\n{",
+        outcome: r#""refusal":"P7 Ended","#,
+        apps: "",
+    },
+    Line {
+        timed: UNREADABLE,
+        request: "Content-Length: 69\r\n\r\n\
+            {\"request\":{\"protocol\":\"3.1\",\"app\":[{\"appid\":\"x\",\"updatecheck\":{}}]}}",
+        outcome: r#""refusal":"P8 Device","cause":"clock","#,
+        apps: "",
+    },
+];
