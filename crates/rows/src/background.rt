@@ -36,7 +36,7 @@ enum Task {
     Give(TcpListener, Vec<u8>),
 }
 
-/// How late the end of a request is sent.
+/// After how many milliseconds the end of a request is sent.
 const LATE: u64 = 500;
 
 /// A time that only grows.

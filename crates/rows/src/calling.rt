@@ -123,7 +123,7 @@ fn link(rt: &HostRuntime, text: &str) -> Result<Printed> {
 }
 
 /// What a file, a port or a link gives, by the mark before its name.
-fn taken(rt: &HostRuntime, mark: u8, text: &str) -> Result<Printed> {
+fn marked_output(rt: &HostRuntime, mark: u8, text: &str) -> Result<Printed> {
     match mark {
         b'<' => file_of(rt, text),
         b'>' => reply_of(rt, text),
@@ -138,7 +138,7 @@ where
 {
     let (mark, rest) = marked(words);
     match mark {
-        b'<' | b'>' | b'@' => taken(&rt.rt, mark, rest),
+        b'<' | b'>' | b'@' => marked_output(&rt.rt, mark, rest),
         b'^' if rest.is_empty() => Ok(without_memory(rt.alloc())),
         b'^' => Ok(narrow_of(rt, words_of(rt.alloc(), rest)?.as_slice())),
         _ => Ok(printed_of(rt, words_of(rt.alloc(), words)?.as_slice())),

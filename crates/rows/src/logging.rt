@@ -14,7 +14,7 @@ use std::sync::Wait;
 use std::thread::Threads;
 use std::time::{Clock, Duration};
 
-/// The runtime, and the one to which it passes on.
+/// The runtime to which it passes on.
 #[derive(Clone, Copy)]
 pub(crate) struct Logging<T> {
     pub(crate) rt: HostRuntime,

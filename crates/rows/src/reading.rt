@@ -48,10 +48,9 @@
 //! The log of a server is appended to the file `log`, but its lines of connections to the file
 //! `connections`; each line begins after its `"kind":`.
 
-use crate::printed::{push_line, text_of};
 use crate::steps::{Step, Steps};
 use anyhow::{Result, bail};
-use std::alloc::{AllocError, Global};
+use std::alloc::Global;
 
 /// How lines are read: plain, as the lines of a block, or as those of its table.
 #[derive(Clone, Copy)]
@@ -61,94 +60,77 @@ enum Part {
     Table,
 }
 
-/// Whether a block names a column with this number.
-fn is_named(alloc: Global, block: &str, column: usize) -> Result<bool, AllocError> {
-    let name = format!(in alloc; "<{column}>")?;
-    Ok(block.contains(name.as_str()))
-}
-
-/// A text in which the column with this number is filled in.
-fn with_column(alloc: Global, text: &str, column: usize, by: &str) -> Result<String, AllocError> {
-    let name = format!(in alloc; "<{column}>")?;
-    text.replace(alloc, name.as_str(), by)
-}
-
-/// A block's lines, in which the columns of a line of its table are filled in.
-fn filled(alloc: Global, block: &str, row: &str) -> Result<String, AllocError> {
-    let mut text = String::from_str(alloc, block)?;
-    for (place, column) in row.split(" | ").enumerate() {
-        text = with_column(alloc, text.as_str(), place.saturating_add(1), column)?;
+/// A line of a block, with the columns that it names filled in. It may name no further one.
+fn filled(alloc: Global, number: usize, line: &str, columns: &[&str]) -> Result<String> {
+    let mut line = String::from_str(alloc, line)?;
+    let further = format!(in alloc; "<{}>", columns.len().saturating_add(1))?;
+    if line.contains(further.as_str()) {
+        bail!("line {number}: it has fewer columns than its block names")
     }
-    Ok(text)
-}
-
-/// Reads the lines of a block, for a line of its table with this number.
-fn read_filled(steps: &mut Steps, number: usize, text: &str) -> Result<()> {
-    for line in text.lines() {
-        steps.read(number, line)?;
+    for (place, column) in columns.iter().enumerate() {
+        let name = format!(in alloc; "<{}>", place.saturating_add(1))?;
+        line = line.replace(alloc, name.as_str(), column)?;
     }
-    Ok(())
+    Ok(line)
 }
 
-/// Reads a block for a line of its table. It may name no column that the line doesn't have.
+/// Reads a line of a block with these columns.
+fn read_filled(
+    alloc: Global,
+    steps: &mut Steps,
+    number: usize,
+    line: &str,
+    columns: &[&str],
+) -> Result<()> {
+    let line = filled(alloc, number, line, columns)?;
+    steps.read(number, line.as_str())
+}
+
+/// Reads a block for a line of its table.
 fn read_block(
     alloc: Global,
     steps: &mut Steps,
-    block: &str,
+    block: &[&str],
     number: usize,
     row: &str,
 ) -> Result<()> {
     if row.starts_with("# ") {
         return Ok(());
     }
-    if is_named(alloc, block, row.split(" | ").count().saturating_add(1))? {
-        bail!("line {number}: it has fewer columns than its block names")
+    let columns: Vec<&str> = row.split(" | ").collect(alloc)?;
+    for line in block {
+        read_filled(alloc, steps, number, line, columns.as_slice())?;
     }
-    let text = filled(alloc, block, row)?;
-    let read = read_filled(steps, number, text.as_str());
-    drop(text);
-    read
+    Ok(())
 }
 
-/// Reads a line, and returns how the next one is read.
-fn read_line(
-    alloc: Global,
-    steps: &mut Steps,
-    block: &mut Vec<u8>,
-    part: Part,
-    number: usize,
-    line: &str,
-) -> Result<Part> {
-    match part {
-        Part::Plain if line == "each" => {
-            block.clear();
-            return Ok(Part::Block);
-        }
-        Part::Plain => steps.read(number, line)?,
-        Part::Block if line == "rows" => return Ok(Part::Table),
-        Part::Block => push_line(block, line)?,
-        Part::Table if line.is_empty() => return Ok(Part::Plain),
-        Part::Table => read_block(alloc, steps, text_of(block), number, line)?,
-    }
-    Ok(part)
-}
-
-/// Reads the lines of a file of rows, and returns how a further one would be read.
-fn read_lines(alloc: Global, steps: &mut Steps, text: &str) -> Result<Part> {
-    let mut block = Vec::new(alloc);
+/// Reads the lines of a file of rows.
+fn read_lines(alloc: Global, steps: &mut Steps, text: &str) -> Result<()> {
+    let mut block: Vec<&str> = Vec::new(alloc);
     let mut part = Part::Plain;
-    for (place, line) in text.lines().enumerate() {
-        let number = place.saturating_add(1);
-        part = read_line(alloc, steps, &mut block, part, number, line)?;
+    for (number, line) in text.lines().enumerate() {
+        let number = number.saturating_add(1);
+        match (part, line) {
+            (Part::Plain, "each") => {
+                block.clear();
+                part = Part::Block;
+            }
+            (Part::Plain, _) => steps.read(number, line)?,
+            (Part::Block, "rows") => part = Part::Table,
+            (Part::Block, _) => block.push(line)?,
+            (Part::Table, "") => part = Part::Plain,
+            (Part::Table, row) => read_block(alloc, steps, block.as_slice(), number, row)?,
+        }
     }
-    Ok(part)
+    if matches!(part, Part::Block) {
+        bail!("the last block has no line `rows`")
+    }
+    Ok(())
 }
 
 /// The steps of a file of rows.
 pub(crate) fn read_steps(alloc: Global, text: &str) -> Result<Vec<Step>> {
     let mut steps = Steps::new(alloc);
-    if matches!(read_lines(alloc, &mut steps, text)?, Part::Block) {
-        bail!("the last block has no line `rows`")
-    }
+    read_lines(alloc, &mut steps, text)?;
     steps.finish()
 }
