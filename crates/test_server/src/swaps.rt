@@ -106,7 +106,8 @@ impl Progress {
         let refused = reply.matches("\"noupdate\"").count();
         let named = reply.strip_suffix("\"}}").unwrap_or("");
         let is_served = named.ends_with(swaps.served);
-        if !is_served && !named.ends_with(swaps.other) {
+        let is_other = !swaps.other.is_empty() && named.ends_with(swaps.other);
+        if !is_served && !is_other {
             return;
         }
         let count = match (is_served, offered == swaps.apps, refused == swaps.apps) {
