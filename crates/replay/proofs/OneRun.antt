@@ -8,7 +8,7 @@ use Rattle.world.specs.Represents.{Parts}
 use Rattle.world.specs.World.{WorldState}
 use Rattle.world.specs.declared.event.Event.{Event}
 use Rattle.replay.specs.Played.{repeated, IsLineReplied, AreRepliesFrom}
-use Rattle.replay.specs.declared.script_line.EventLine.{EventLine}
+use Rattle.event_script.specs.declared.script_line.EventLine.{EventLine}
 use Rattle.replay.specs.declared.reply.Reply.{Reply}
 
 -- ---- one line before others

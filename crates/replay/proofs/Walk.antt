@@ -7,7 +7,7 @@ use Rattle.bounded_files.specs.Files.{KnownFiles}
 use Rattle.world.specs.declared.event.Event.{Event}
 use Rattle.replay.specs.LineEvents.{IsEventOf, AreEventsOf, RefusesLine, RefusesLines, this, later}
 use Rattle.replay.specs.declared.replay_fault.ReplayFault.{ReplayFault}
-use Rattle.replay.specs.declared.script_line.EventLine.{EventLine}
+use Rattle.event_script.specs.declared.script_line.EventLine.{EventLine}
 
 module _ (known : KnownFiles) where
   -- the events of the lines that are left, after those so far, are the events of all lines

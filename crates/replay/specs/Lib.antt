@@ -1,4 +1,3 @@
-pub mod Script
 pub mod Loaded
 pub mod LineEvents
 pub mod Replies

@@ -12,8 +12,8 @@ use Rattle.world.specs.declared.event.Event.TheVariants as event
 use Rattle.replay.specs.Loaded.{GivesNoRuleset}
 use Rattle.replay.specs.declared.replay_fault.ReplayFault.{ReplayFault}
 use Rattle.replay.specs.declared.replay_fault.ReplayFault.TheVariants.{Resource}
-use Rattle.replay.specs.declared.script_line.EventLine.{EventLine}
-use Rattle.replay.specs.declared.script_line.EventLine.TheVariants as line
+use Rattle.event_script.specs.declared.script_line.EventLine.{EventLine}
+use Rattle.event_script.specs.declared.script_line.EventLine.TheVariants as line
 
 module _ (known : KnownFiles) where
   -- the event that a line requests in a world, a swap with the ruleset of its manifest

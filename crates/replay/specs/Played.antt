@@ -8,8 +8,8 @@ use Rattle.world.specs.World.{WorldState}
 use Rattle.world.specs.declared.event.Event.{Event}
 use Rattle.world.specs.declared.event.Event.TheVariants as event
 use Rattle.replay.specs.Replies.{reply_to}
-use Rattle.replay.specs.declared.script_line.EventLine.{EventLine}
-use Rattle.replay.specs.declared.script_line.EventLine.TheVariants as line
+use Rattle.event_script.specs.declared.script_line.EventLine.{EventLine}
+use Rattle.event_script.specs.declared.script_line.EventLine.TheVariants as line
 use Rattle.replay.specs.declared.reply.Reply.{Reply}
 
 -- ---- one line

@@ -10,11 +10,11 @@ use Rattle.world.specs.declared.event.Event.{Event}
 use Rattle.replay.specs.LineEvents.{AreEventsOf, RefusesLines}
 use Rattle.replay.specs.Loaded.{GivesNoRuleset}
 use Rattle.replay.specs.Played.{AreRepliesTo}
-use Rattle.replay.specs.Script.{IsScript, IsScriptFault}
+use Rattle.event_script.specs.Script.{IsScript, IsScriptFault}
 use Rattle.replay.specs.declared.replay_fault.ReplayFault.{ReplayFault}
 use Rattle.replay.specs.declared.replay_fault.ReplayFault.TheVariants.{Resource, Script}
-use Rattle.replay.specs.declared.replay_fault.ScriptFault.TheVariants.{Malformed}
-use Rattle.replay.specs.declared.script_line.EventLine.{EventLine}
+use Rattle.event_script.specs.declared.script_fault.ScriptFault.TheVariants.{Malformed}
+use Rattle.event_script.specs.declared.script_line.EventLine.{EventLine}
 use Rattle.replay.specs.declared.reply.Reply.{Reply}
 
 -- the lines of the script at a path

@@ -1,15 +1,10 @@
 -- The texts of why a script isn't played, as they are printed.
-use Rattle.std.specs.Prelude.{ℕ, List, ◌++◌, codes, decimal}
+use Rattle.std.specs.Prelude.{ℕ, List}
 use Rattle.bounded_files.specs.Texts.{resource_text}
+use Rattle.event_script.specs.Texts.{script_fault_text}
 use Rattle.load.specs.Texts.{path_fault_text}
 use Rattle.replay.specs.declared.replay_fault.ReplayFault.{ReplayFault}
 use Rattle.replay.specs.declared.replay_fault.ReplayFault.TheVariants.{Resource, Script, Manifest}
-use Rattle.replay.specs.declared.replay_fault.ScriptFault.{ScriptFault}
-use Rattle.replay.specs.declared.replay_fault.ScriptFault.TheVariants.{Malformed, Memory}
-
-abbrev pub script_fault_text : ScriptFault → List ℕ
-script_fault_text (Malformed number) = codes "B2 Script at line " ++ decimal number
-script_fault_text Memory = codes "Memory"
 
 abbrev pub replay_fault_text : ReplayFault → List ℕ
 replay_fault_text (Resource fault) = resource_text fault

@@ -9,12 +9,11 @@ ghost use Rattle.replay.specs.Replays.{AreLinesOf, RefusesScript, IsReplay, IsRe
 use crate::line_events::events_of;
 use crate::loaded::load_rules;
 use crate::played::play_lines;
-use crate::replay_fault::{ReplayFault, ScriptFault};
+use crate::replay_fault::ReplayFault;
 use crate::reply::Reply;
-use crate::script::read_script;
-use crate::script_line::EventLine;
 use bounded_files::{Disk, MOST_BYTES, ResourceFault, read_within};
 use cells::Directory;
+use event_script::{EventLine, ScriptFault, read_script};
 use ruleset::Ruleset;
 use std::alloc::{AllocError, Global};
 use std::sync::Arc;

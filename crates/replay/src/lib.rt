@@ -1,21 +1,5 @@
 //! Replays: scripts of events, played in a world from the files of a script and its manifests.
 //!
-//! A script has a line for each event, in the order in which they are played:
-//!
-//! ```text
-//! # A worker starts a run for the app x, in bucket 4999, with no version.
-//! start 0 x 4999 -
-//! # It does one instruction, then three (1 to 4097 at once), and gives its choice.
-//! step 0
-//! step 0 3
-//! finish 0
-//! # The rest of the line is the path of a manifest.
-//! swap next.toml
-//! ```
-//!
-//! The fields of a line are separated by one blank, and none is empty. Numbers are decimal digits;
-//! a worker's is at most 4294967295, a bucket's 9999. Lines end with LF, or with CR LF.
-//!
 //! See docs/PROGRAM.md, "replay".
 #![tactic(auto)]
 
@@ -38,16 +22,11 @@
 mod files;
 mod line_events;
 mod loaded;
-mod number;
 mod played;
 mod replay_fault;
 mod reply;
-mod script;
-mod script_line;
 mod shared;
 
 pub use files::replay_files;
-pub use replay_fault::{ReplayFault, ScriptFault};
+pub use replay_fault::ReplayFault;
 pub use reply::Reply;
-pub use script::read_script;
-pub use script_line::EventLine;

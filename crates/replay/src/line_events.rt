@@ -8,11 +8,11 @@ ghost use Rattle.replay.specs.LineEvents.{AreEventsOf, IsEventOf, RefusesLine, R
 ghost use Rattle.replay.specs.Loaded.{AreShared};
 
 use crate::replay_fault::ReplayFault;
-use crate::script_line::EventLine;
 use crate::shared::SharedLoads;
 use attrs::{Attrs, Bucket, Text};
 use bounded_files::ResourceFault;
 use cells::Directory;
+use event_script::EventLine;
 use load::Disk;
 use std::alloc::{AllocError, Global};
 use std::sync::Arc;

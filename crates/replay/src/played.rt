@@ -4,7 +4,7 @@ ghost use Rattle.std.specs.Prelude.{◌≡◌, IfOk, replicate};
 ghost use Rattle.replay.specs.Played.{AreRepliesFrom, IsLineReplied, IsReplied};
 
 use crate::reply::Reply;
-use crate::script_line::EventLine;
+use event_script::EventLine;
 use std::alloc::{AllocError, Global};
 use std::slice;
 use world::{Event, World, batches_compose, play};

@@ -1,34 +1,13 @@
-//! Why a text isn't a script, and why a script isn't played.
+//! Why a script isn't played.
 
 ghost use Rattle.std.specs.Prelude.{Some};
-ghost use Rattle.replay.specs.Texts.{script_fault_text, replay_fault_text};
+ghost use Rattle.replay.specs.Texts.{replay_fault_text};
 
 use bounded_files::ResourceFault;
+use event_script::ScriptFault;
 use load::PathFault;
 use std::error::Error;
 use std::fmt;
-
-/// Why a text isn't a script.
-#[derive(Clone, Copy, Debug)]
-pub enum ScriptFault {
-    /// The first line without an event, from 1; line 1 if the text isn't UTF-8.
-    Malformed { line: usize },
-    /// Out of memory.
-    Memory,
-}
-
-impl fmt::Display for ScriptFault {
-    ghost output = { λ fault. Some (script_fault_text fault) };
-
-    fn fmt<W: fmt::Write>(&self, f: &mut fmt::Formatter<W>) -> fmt::Result {
-        match self {
-            ScriptFault::Malformed { line } => write!(f, "B2 Script at line {line}"),
-            ScriptFault::Memory => f.write_str("Memory"),
-        }
-    }
-}
-
-impl Error for ScriptFault {}
 
 /// Why a script isn't played; it is displayed as it is printed.
 #[derive(Debug, Drop)]

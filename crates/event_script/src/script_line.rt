@@ -2,7 +2,7 @@
 
 ghost use Rattle.std.specs.Prelude.{◌≡◌, ◌==◌, Err, IfOk, Some, None, map};
 ghost use Rattle.std.specs.List.{slice_split, before_first, after_first};
-ghost use Rattle.replay.specs.Script as specs;
+ghost use Rattle.event_script.specs.Script as specs;
 
 use crate::number::{bucket_number, step_count, worker_number};
 use attrs::{Bucket, Text};

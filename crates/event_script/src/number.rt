@@ -1,7 +1,7 @@
 //! The numbers of a script.
 
 ghost use Rattle.std.specs.Prelude.{◌≡◌};
-ghost use Rattle.replay.specs.Script as specs;
+ghost use Rattle.event_script.specs.Script as specs;
 
 use attrs::Bucket;
 use lexing::decimal_within;

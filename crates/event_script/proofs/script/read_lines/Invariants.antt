@@ -1,7 +1,7 @@
 use Rattle.std.proofs.Common.{◌≡◌, ◌+◌, ◌++◌, map, length}
 use Rattle.std.specs.List.{filter_map, position_from}
-use Rattle.replay.specs.Script as specs
-use Rattle.replay.proofs.script.read_lines.Given as goal
+use Rattle.event_script.specs.Script as specs
+use Rattle.event_script.proofs.script.read_lines.Given as goal
 
 -- the first malformed line of all is that of the lines that are left; the events so far, followed
 -- by those of the lines that are left, are all

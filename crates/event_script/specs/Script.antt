@@ -12,10 +12,10 @@ use Rattle.std.specs.List.{slice_split, before_first, after_first, filter_map, p
 use Rattle.std.specs.Str.{IsUtf8, byte, bytes_eq}
 use Rattle.std.specs.Str.Lines.{lines}
 use Rattle.lexing.specs.Decimal.{decimal_within}
-use Rattle.replay.specs.declared.replay_fault.ScriptFault.{ScriptFault}
-use Rattle.replay.specs.declared.replay_fault.ScriptFault.TheVariants.{Malformed, Memory}
-use Rattle.replay.specs.declared.script_line.EventLine.{EventLine}
-use Rattle.replay.specs.declared.script_line.EventLine.TheVariants.{Start, Step, Finish, Swap}
+use Rattle.event_script.specs.declared.script_fault.ScriptFault.{ScriptFault}
+use Rattle.event_script.specs.declared.script_fault.ScriptFault.TheVariants.{Malformed, Memory}
+use Rattle.event_script.specs.declared.script_line.EventLine.{EventLine}
+use Rattle.event_script.specs.declared.script_line.EventLine.TheVariants.{Start, Step, Finish, Swap}
 
 -- ---- fields
 

@@ -2,9 +2,9 @@
 
 ghost use Rattle.std.specs.Prelude.{◌≡◌, Err, IfOk, IfErr, map, true};
 ghost use Rattle.std.specs.Str.Lines.{lines};
-ghost use Rattle.replay.specs.Script as specs;
+ghost use Rattle.event_script.specs.Script as specs;
 
-use crate::replay_fault::ScriptFault;
+use crate::script_fault::ScriptFault;
 use crate::script_line::{EventLine, LineFault, read_event};
 use std::alloc::{AllocError, Global};
 use std::str;

@@ -1,7 +1,7 @@
 use Rattle.std.proofs.Common.{lit<}
 use Rattle.std.proofs.lemmas.Iterator.Consumers.{map_from_collect}
 use Rattle.std.proofs.lemmas.Iterator.Splits.{YieldsList-from_str_split}
-use Rattle.replay.proofs.script_line.fields.Goals as goal
+use Rattle.event_script.proofs.script_line.fields.Goals as goal
 
 pub returns : goal.returns
 returns c =

@@ -1,6 +1,6 @@
 use Rattle.std.proofs.lemmas.Iterator.Consumers.{map_from_collect}
 use Rattle.std.proofs.lemmas.Iterator.Splits.{YieldsList-from_lines}
-use Rattle.replay.proofs.script.lines.Goals as goal
+use Rattle.event_script.proofs.script.lines.Goals as goal
 
 pub returns : goal.returns
 returns c =
