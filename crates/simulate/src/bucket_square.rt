@@ -4,18 +4,13 @@ use crate::choices::Choices;
 use crate::counts::count_buckets;
 use crate::labels::release_count;
 use ruleset::App;
-use std::alloc::{AllocError, Global};
-use std::fmt::Write;
+use std::fmt;
+use std::fmt::{Display, Formatter, Write};
 use svg::{Picture, SvgAttribute, Tag};
 
 /// Draws the square of an app, with a path for each release that some bucket gets. A bucket is 4 by
 /// 4 pixels.
-pub(crate) fn draw_square(
-    alloc: Global,
-    picture: &mut Picture,
-    app: &App,
-    choices: &Choices,
-) -> Result<(), AllocError> {
+pub(crate) fn draw_square(picture: &mut Picture, app: &App, choices: &Choices) {
     draw_background(picture);
     picture.open(Tag::Group);
     picture.attribute(SvgAttribute::Transform, "translate(0,32) scale(4)");
@@ -24,12 +19,11 @@ pub(crate) fn draw_square(
     let counts = count_buckets(choices);
     for choice in 1..release_count(Some(app)) + 1 {
         if counts[choice] > 0 {
-            draw_buckets(alloc, picture, choices.as_slice(), choice)?;
+            draw_buckets(picture, choices.as_slice(), choice);
         }
     }
     picture.close();
     picture.line();
-    Ok(())
 }
 
 fn draw_background(picture: &mut Picture) {
@@ -43,29 +37,31 @@ fn draw_background(picture: &mut Picture) {
 }
 
 // The buckets that get a release.
-fn draw_buckets(
-    alloc: Global,
-    picture: &mut Picture,
-    choices: &[u8],
-    choice: usize,
-) -> Result<(), AllocError> {
-    let mut path = String::new(alloc);
-    for (bucket, own) in choices.iter().enumerate() {
-        if *own as usize == choice {
-            push_bucket(&mut path, bucket)?;
-        }
-    }
+fn draw_buckets(picture: &mut Picture, choices: &[u8], choice: usize) {
     picture.open(Tag::Path);
     picture.colour(SvgAttribute::Stroke, choice);
-    picture.attribute(SvgAttribute::D, path.as_str());
+    picture.attribute(SvgAttribute::D, BucketPath { choices, choice });
     picture.close();
     picture.line();
-    Ok(())
 }
 
-// A line of one unit from the bucket's left to its right.
-fn push_bucket(path: &mut String, bucket: usize) -> Result<(), AllocError> {
-    let column = bucket % 100;
-    let row = bucket / 100;
-    write!(path, "M{column} {row}h1")
+// The path of the buckets that get a release: for each a line of one unit from its left to its
+// right.
+#[derive(Drop)]
+struct BucketPath<'a> {
+    choices: &'a [u8],
+    choice: usize,
+}
+
+impl<'a> Display for BucketPath<'a> {
+    fn fmt<W: Write>(&self, f: &mut Formatter<W>) -> fmt::Result {
+        for (bucket, own) in self.choices.iter().enumerate() {
+            if *own as usize == self.choice {
+                let column = bucket % 100;
+                let row = bucket / 100;
+                write!(f, "M{column} {row}h1")?;
+            }
+        }
+        Ok(())
+    }
 }

@@ -6,8 +6,8 @@ ghost use Rattle.simulate.specs.Shown as specs;
 use crate::columns::width_of;
 use bpf_verify::Verified;
 use ruleset::App;
-use std::alloc::AllocError;
-use std::fmt::Write;
+use std::fmt;
+use std::fmt::{Display, Formatter, Write};
 
 /// The number of an app's releases, at most 64.
 pub fn release_count(app: Option<&App>) -> usize
@@ -63,16 +63,32 @@ pub(crate) fn widest_version(least: usize, app: Option<&App>) -> usize {
     most
 }
 
-/// Appends none, or a release's number in two places and its version.
-pub(crate) fn push_choice_label(
-    text: &mut String,
-    app: &App,
-    choice: usize,
-) -> Result<(), AllocError> {
-    if choice == 0 {
-        return text.push_str("none");
+/// A choice as it is printed: none, or a release's number in two places and its version.
+#[derive(Drop)]
+pub(crate) struct ChoiceLabel<'a> {
+    pub app: &'a App,
+    pub choice: usize,
+}
+
+impl<'a> ChoiceLabel<'a> {
+    /// Its width, in characters.
+    pub(crate) fn width(&self) -> usize {
+        if self.choice == 0 {
+            4
+        } else {
+            width_of(version_at(Some(self.app), self.choice)).saturating_add(3)
+        }
     }
-    let version = version_at(Some(app), choice);
-    let blank = if choice < 10 { " " } else { "" };
-    write!(text, "{choice}{blank} {version}")
+}
+
+impl<'a> Display for ChoiceLabel<'a> {
+    fn fmt<W: Write>(&self, f: &mut Formatter<W>) -> fmt::Result {
+        let choice = self.choice;
+        if choice == 0 {
+            return f.write_str("none");
+        }
+        let version = version_at(Some(self.app), choice);
+        let blank = if choice < 10 { " " } else { "" };
+        write!(f, "{choice}{blank} {version}")
+    }
 }

@@ -2,49 +2,32 @@
 
 use crate::choices::Choices;
 use crate::counts::count_buckets;
-use crate::labels::{push_choice_label, release_count};
+use crate::labels::{ChoiceLabel, release_count};
 use ruleset::App;
-use std::alloc::{AllocError, Global};
 use svg::{Picture, SvgAttribute, Tag};
 
 /// Draws the legend of an app.
-pub(crate) fn draw_legend(
-    alloc: Global,
-    picture: &mut Picture,
-    app: &App,
-    choices: &Choices,
-) -> Result<(), AllocError> {
+pub(crate) fn draw_legend(picture: &mut Picture, app: &App, choices: &Choices) {
     let counts = count_buckets(choices);
     let mut top: u64 = 32;
     for choice in 0..release_count(Some(app)) + 1 {
         if counts[choice] > 0 {
-            draw_row(alloc, picture, app, top, choice, counts[choice])?;
+            draw_row(picture, app, top, choice, counts[choice]);
             top = top.saturating_add(20);
         }
     }
-    Ok(())
 }
 
 // The row of a choice: its colour, its name, and how many buckets make it.
-fn draw_row(
-    alloc: Global,
-    picture: &mut Picture,
-    app: &App,
-    top: u64,
-    choice: usize,
-    count: u32,
-) -> Result<(), AllocError> {
-    let mut label = String::new(alloc);
-    push_choice_label(&mut label, app, choice)?;
+fn draw_row(picture: &mut Picture, app: &App, top: u64, choice: usize, count: u32) {
     draw_patch(picture, top, choice);
     let y = top.saturating_add(11);
-    picture.label(450, y, label.as_str());
+    picture.label(450, y, ChoiceLabel { app, choice });
     picture.end_label(740, y, count);
     let whole = count / 100;
     let hundredths = count % 100;
     picture.end_label(840, y, format_args!("{whole}.{hundredths:02} %"));
     picture.line();
-    Ok(())
 }
 
 fn draw_patch(picture: &mut Picture, top: u64, choice: usize) {

@@ -13,8 +13,9 @@ use crate::labels::release_count;
 use crate::lost::loses;
 use crate::share_objects::{push_value, release_object};
 use crate::simulated::{Offered, Simulated};
+use json_object::ObjectBuilder;
 use ruleset::App;
-use serde_json::{Value, json};
+use serde_json::Value;
 use std::alloc::{AllocError, Global};
 
 /// An object for each app that one of two rulesets has.
@@ -102,8 +103,10 @@ fn moving_object(
     let now = now.offer(none, appid);
     let next = next.offer(none, appid);
     let table = count_moves(alloc, now.1, next.1)?;
-    let moves = move_objects(alloc, now, next, table.as_slice())?;
-    json!(in alloc; {"appid": appid, "moves": moves})
+    let mut object = ObjectBuilder::new(alloc);
+    object.put_text("appid", appid);
+    object.put_list("moves", move_objects(alloc, now, next, table.as_slice()));
+    object.finish()
 }
 
 // ---- moves
@@ -185,11 +188,10 @@ fn move_object(
 {
     let (now, next) = apps;
     let (from, to) = choices;
-    let lost = loses(now, next, from, to);
-    let before = release_object(alloc, now, from)?;
-    let Ok(after) = release_object(alloc, next, to) else {
-        drop(before);
-        return Err(AllocError);
-    };
-    json!(in alloc; {"buckets": count, "lost": lost, "next": after, "now": before})
+    let mut object = ObjectBuilder::new(alloc);
+    object.put_number("buckets", count as u64);
+    object.put_bool("lost", loses(now, next, from, to));
+    object.put("next", release_object(alloc, next, to));
+    object.put("now", release_object(alloc, now, from));
+    object.finish()
 }

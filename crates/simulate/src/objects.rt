@@ -9,7 +9,8 @@ use crate::lost::is_lossy;
 use crate::move_objects::moving_objects;
 use crate::share_objects::app_objects;
 use crate::simulated::Simulated;
-use serde_json::{Value, json};
+use json_object::ObjectBuilder;
+use serde_json::Value;
 use std::alloc::{AllocError, Global};
 
 /// A simulation as a line of JSON, ended by a line feed: `{"apps":[{"appid":"x","shares":[..]}]}`
@@ -28,8 +29,9 @@ pub fn shares_json(alloc: Global, simulated: &Simulated) -> Result<String, Alloc
 fn simulation_object(alloc: Global, simulated: &Simulated) -> Result<Value, AllocError>
     ensures { IfOk result (λ value. view value ≡ specs.simulation_object simulated.now) }
 {
-    let apps = app_objects(alloc, simulated)?;
-    json!(in alloc; {"apps": apps})
+    let mut object = ObjectBuilder::new(alloc);
+    object.put_list("apps", app_objects(alloc, simulated));
+    object.finish()
 }
 
 /// The next simulation in the same form, followed by `lost` (whether some bucket loses its release)
@@ -48,10 +50,12 @@ pub fn moves_json(alloc: Global, now: &Simulated, next: &Simulated) -> Result<St
 fn comparison_object(alloc: Global, now: &Simulated, next: &Simulated) -> Result<Value, AllocError>
     ensures { IfOk result (λ value. view value ≡ specs.comparison_object now.now next.now) }
 {
-    let apps = app_objects(alloc, next)?;
     let lost = is_lossy(alloc, now, next)?;
-    let moves = moving_objects(alloc, now, next)?;
-    json!(in alloc; {"apps": apps, "lost": lost, "moves": moves})
+    let mut object = ObjectBuilder::new(alloc);
+    object.put_list("apps", app_objects(alloc, next));
+    object.put_bool("lost", lost);
+    object.put_list("moves", moving_objects(alloc, now, next));
+    object.finish()
 }
 
 /// A value without blanks, ended by a line feed; it has no float, whose text no contract specifies.

@@ -23,7 +23,7 @@ pub fn draw(alloc: Global, simulated: &Simulated) -> Result<String, AllocError>
     let mut picture = Picture::new(alloc, height_of(simulated.apps()))?;
     let mut top = HEAD;
     for (app, choices) in simulated.apps().iter().zip(simulated.chosen().iter()) {
-        draw_panel(alloc, &mut picture, top, app, choices)?;
+        draw_panel(&mut picture, top, app, choices);
         top = top.saturating_add(panel_height(app));
     }
     picture.finish()
@@ -43,13 +43,7 @@ fn panel_height(app: &App) -> u64 {
     (20 * rows + 20).max(400) + 60
 }
 
-fn draw_panel(
-    alloc: Global,
-    picture: &mut Picture,
-    top: u64,
-    app: &App,
-    choices: &Choices,
-) -> Result<(), AllocError> {
+fn draw_panel(picture: &mut Picture, top: u64, app: &App, choices: &Choices) {
     let appid = app.appid();
     picture.open(Tag::Group);
     picture.attribute(SvgAttribute::Transform, format_args!("translate(20,{top})"));
@@ -59,9 +53,8 @@ fn draw_panel(
     picture.text(format_args!("app {appid}"));
     picture.close();
     picture.line();
-    draw_square(alloc, picture, app, choices)?;
-    draw_legend(alloc, picture, app, choices)?;
+    draw_square(picture, app, choices);
+    draw_legend(picture, app, choices);
     picture.close();
     picture.line();
-    Ok(())
 }

@@ -9,8 +9,9 @@ use crate::choices::Choices;
 use crate::counts::count_buckets;
 use crate::labels::{release_count, version_at};
 use crate::simulated::Simulated;
+use json_object::ObjectBuilder;
 use ruleset::App;
-use serde_json::{Value, json};
+use serde_json::Value;
 use std::alloc::{AllocError, Global};
 
 /// Appends a value to a list of JSON.
@@ -30,7 +31,10 @@ pub fn release_object(alloc: Global, app: Option<&App>, choice: usize) -> Result
     if choice == 0 {
         return Ok(Value::Null);
     }
-    json!(in alloc; {"release": choice, "version": version_at(app, choice)})
+    let mut object = ObjectBuilder::new(alloc);
+    object.put_number("release", choice as u64);
+    object.put_text("version", version_at(app, choice));
+    object.finish()
 }
 
 /// An object for each app, in the ruleset's order.
@@ -56,8 +60,10 @@ pub fn app_objects(alloc: Global, simulated: &Simulated) -> Result<Vec<Value>, A
 fn app_object(alloc: Global, app: &App, choices: &Choices) -> Result<Value, AllocError>
     ensures { IfOk result (λ value. view value ≡ specs.app_object app.now choices.now) }
 {
-    let shares = share_objects(alloc, app, choices)?;
-    json!(in alloc; {"appid": app.appid(), "shares": shares})
+    let mut object = ObjectBuilder::new(alloc);
+    object.put_text("appid", app.appid());
+    object.put_list("shares", share_objects(alloc, app, choices));
+    object.finish()
 }
 
 fn share_objects(alloc: Global, app: &App, choices: &Choices) -> Result<Vec<Value>, AllocError>
@@ -96,6 +102,8 @@ fn share_object(alloc: Global, app: &App, choice: usize, count: u32) -> Result<V
     ensures { IfOk result (λ value. view value
         ≡ specs.share_object (versions_of app.now) choice count) }
 {
-    let offer = release_object(alloc, Some(app), choice)?;
-    json!(in alloc; {"buckets": count, "offer": offer})
+    let mut object = ObjectBuilder::new(alloc);
+    object.put_number("buckets", count as u64);
+    object.put("offer", release_object(alloc, Some(app), choice));
+    object.finish()
 }

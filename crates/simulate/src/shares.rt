@@ -7,7 +7,7 @@ ghost use Rattle.printing.specs.Pushed.{Puts};
 use crate::choices::Choices;
 use crate::columns::Padded;
 use crate::counts::count_buckets;
-use crate::labels::{push_choice_label, release_count, widest_version};
+use crate::labels::{ChoiceLabel, release_count, widest_version};
 use crate::simulated::Simulated;
 use printing::Printed;
 use ruleset::App;
@@ -45,7 +45,8 @@ pub(crate) fn push_title(text: &mut String, appid: &str) -> Result<(), AllocErro
     write!(text, "app {appid}")
 }
 
-// The row of a choice that `count` buckets make.
+// The row of a choice that `count` buckets make out of 10000: the number, the percentage, and a bar
+// with a mark for each 250, rounded, but at least one.
 fn push_row(
     text: &mut String,
     app: &App,
@@ -53,22 +54,16 @@ fn push_row(
     choice: usize,
     count: u32,
 ) -> Result<(), AllocError> {
-    let mut label = String::new(*text.allocator());
-    push_choice_label(&mut label, app, choice)?;
-    let pushed = push_count(text, width, label.as_str(), count);
-    drop(label);
-    pushed
-}
-
-// A count out of 10000: its number, its percentage, and a bar with a mark for each 250, rounded,
-// but at least one.
-fn push_count(text: &mut String, width: usize, label: &str, count: u32) -> Result<(), AllocError> {
-    let label = Padded { text: label, width };
+    let label = ChoiceLabel { app, choice };
+    let blanks = Padded {
+        text: "",
+        width: width.saturating_sub(label.width()),
+    };
     let whole = count / 100;
     let hundredths = count % 100;
     write!(
         text,
-        "  {label}  {count:>5}  {whole:>3}.{hundredths:02} %  "
+        "  {label}{blanks}  {count:>5}  {whole:>3}.{hundredths:02} %  "
     )?;
     for _mark in 0..(count.saturating_add(125) / 250).max(1) {
         text.push_str("#")?;

@@ -6,7 +6,8 @@ ghost use Rattle.staging.specs.Records.{step_in};
 use crate::record_reader::read_step;
 use crate::same_step::is_same_step;
 use crate::step::{ReplacedFile, StagingStep, StepAction};
-use serde_json::{Value, json};
+use json_object::ObjectBuilder;
+use serde_json::Value;
 use std::alloc::{AllocError, Global};
 
 fn bytes_value(alloc: Global, bytes: Option<&[u8]>) -> Result<Value, AllocError> {
@@ -17,9 +18,11 @@ fn bytes_value(alloc: Global, bytes: Option<&[u8]>) -> Result<Value, AllocError>
 }
 
 fn file_value(alloc: Global, file: &ReplacedFile) -> Result<Value, AllocError> {
-    let after = bytes_value(alloc, Some(file.after.as_slice()))?;
-    let before = bytes_value(alloc, file.before.as_deref())?;
-    json!(in alloc; {"after": after, "before": before, "name": file.name.as_str()})
+    let mut object = ObjectBuilder::new(alloc);
+    object.put("after", bytes_value(alloc, Some(file.after.as_slice())));
+    object.put("before", bytes_value(alloc, file.before.as_deref()));
+    object.put_text("name", file.name.as_str());
+    object.finish()
 }
 
 fn file_values(alloc: Global, files: &[ReplacedFile]) -> Result<Vec<Value>, AllocError> {
@@ -30,31 +33,40 @@ fn file_values(alloc: Global, files: &[ReplacedFile]) -> Result<Vec<Value>, Allo
     Ok(values)
 }
 
+fn raise_value(alloc: Global, appid: &str, buckets: u32) -> Result<Value, AllocError> {
+    let mut object = ObjectBuilder::new(alloc);
+    object.put_text("appid", appid);
+    object.put_number("buckets", buckets as u64);
+    object.finish()
+}
+
 fn action_value(alloc: Global, action: &StepAction) -> Result<Value, AllocError> {
+    let mut object = ObjectBuilder::new(alloc);
     match action {
-        StepAction::Halt { appid } => json!(in alloc; {"halt": appid.as_str()}),
-        StepAction::Raise { appid, buckets } => json!(in alloc; {
-            "raise": {"appid": appid.as_str(), "buckets": *buckets}
-        }),
-        StepAction::Put { manifest } => json!(in alloc; {"put": manifest.as_str()}),
+        StepAction::Halt { appid } => object.put_text("halt", appid.as_str()),
+        StepAction::Raise { appid, buckets } => {
+            object.put("raise", raise_value(alloc, appid.as_str(), *buckets))
+        }
+        StepAction::Put { manifest } => object.put_text("put", manifest.as_str()),
     }
+    object.finish()
 }
 
 fn step_value(alloc: Global, step: &StagingStep) -> Result<Value, AllocError> {
-    let action = action_value(alloc, &step.action)?;
-    let files = file_values(alloc, &step.files)?;
-    json!(in alloc; {
-        "action": action,
-        "files": files,
-        "number": step.number,
-        "time": step.time,
-        "undone": step.is_undone
-    })
+    let mut object = ObjectBuilder::new(alloc);
+    object.put("action", action_value(alloc, &step.action));
+    object.put_list("files", file_values(alloc, &step.files));
+    object.put_number("number", step.number as u64);
+    object.put_number("time", step.time);
+    object.put_bool("undone", step.is_undone);
+    object.finish()
 }
 
 fn text_of(alloc: Global, step: &StagingStep) -> Result<String, AllocError> {
     let value = step_value(alloc, step)?;
-    let mut text = value.to_string(alloc)?;
+    let printed = value.to_string(alloc);
+    drop(value);
+    let mut text = printed?;
     text.push_str("\n")?;
     Ok(text)
 }
