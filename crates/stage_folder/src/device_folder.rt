@@ -1,6 +1,6 @@
 //! A folder of a device.
 
-use crate::device_path::path_in;
+use crate::device_path::{path_in, path_of};
 use crate::file_reader::read_file;
 use crate::folder::StageFolder;
 use crate::folder_fault::FolderFault;
@@ -16,8 +16,8 @@ const MOST_BYTES: u32 = 0x100_0000;
 /// The most bytes of a record: 256 MiB.
 const MOST_RECORD: u32 = 0x1000_0000;
 
-/// The name of the notes on loads, in the folder of the records, and their most bytes: 1 MiB.
-const LOADS: &str = "loads";
+/// The notes on loads, in the folder of the records, and their most bytes: 1 MiB.
+const LOADS: &str = ".stage/loads";
 
 const MOST_LOADS: u32 = 0x10_0000;
 
@@ -50,7 +50,7 @@ impl<'a, R: Files<File = File> + AllocGlobal> DeviceFolder<'a, R> {
     }
 
     fn path_of_records(&self) -> Result<String, FolderFault> {
-        Ok(format!(in self.rt.alloc(); "{}/{RECORDS}", self.path.as_str())?)
+        Ok(path_of(self.rt.alloc(), self.path.as_str(), RECORDS)?)
     }
 
     fn path_of_record(&self, number: u32) -> Result<String, FolderFault> {
@@ -58,7 +58,7 @@ impl<'a, R: Files<File = File> + AllocGlobal> DeviceFolder<'a, R> {
     }
 
     fn path_of_loads(&self) -> Result<String, FolderFault> {
-        Ok(format!(in self.rt.alloc(); "{}/{RECORDS}/{LOADS}", self.path.as_str())?)
+        Ok(path_of(self.rt.alloc(), self.path.as_str(), LOADS)?)
     }
 
     // Replaces a file in the folder of the records, or makes it.

@@ -3,6 +3,7 @@
 
 use crate::folder_fault::FolderFault;
 use crate::record_folder::RECORDS;
+use std::alloc::{AllocError, Global};
 use std::fs;
 use std::io::ErrorKind;
 use std::path::Path;
@@ -22,6 +23,11 @@ fn is_inside(name: &str) -> bool {
     }
 }
 
+/// A path in a folder.
+pub(crate) fn path_of(alloc: Global, folder: &str, name: &str) -> Result<String, AllocError> {
+    format!(in alloc; "{folder}/{name}")
+}
+
 /// The path of a file. Returns `Outside`, or `Link` if the name or a folder before it is a symbolic
 /// link.
 pub(crate) fn path_in<R: Files + AllocGlobal>(
@@ -33,16 +39,20 @@ pub(crate) fn path_in<R: Files + AllocGlobal>(
         return Err(FolderFault::Outside);
     }
     for part in Path::new(name).ancestors() {
-        let path = format!(in rt.alloc(); "{folder}/{}", part.as_os_str())?;
-        if !part.as_os_str().is_empty() && is_link(rt, path.as_str())? {
+        if is_link(rt, folder, part.as_os_str())? {
             return Err(FolderFault::Link);
         }
     }
-    Ok(format!(in rt.alloc(); "{folder}/{name}")?)
+    Ok(path_of(rt.alloc(), folder, name)?)
 }
 
-fn is_link<R: Files>(rt: &R, path: &str) -> Result<bool, FolderFault> {
-    match fs::symlink_metadata(rt, path) {
+// Whether a name, or a prefix of one, is a symbolic link. The folder itself isn't tested.
+fn is_link<R: Files + AllocGlobal>(rt: &R, folder: &str, part: &str) -> Result<bool, FolderFault> {
+    if part.is_empty() {
+        return Ok(false);
+    }
+    let path = path_of(rt.alloc(), folder, part)?;
+    match fs::symlink_metadata(rt, path.as_str()) {
         Ok(found) => Ok(found.is_symlink()),
         Err(error) if error.kind() == ErrorKind::NotFound => Ok(false),
         Err(error) => Err(FolderFault::from(error)),

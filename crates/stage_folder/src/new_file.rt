@@ -40,8 +40,10 @@ fn write_and_rename<R: Files<File = File> + AllocGlobal>(
     mode: u32,
 ) -> io::Result<()> {
     let first_mode = if old.is_some() { 0o600 } else { mode };
-    let (temporary, file) = open_temporary(rt, path, first_mode)?;
-    let moved = match fill(file, old, bytes) {
+    let (temporary, mut file) = open_temporary(rt, path, first_mode)?;
+    let filled = fill(&mut file, old, bytes);
+    drop(file);
+    let moved = match filled {
         Ok(()) => fs::rename(rt, temporary.as_str(), path),
         Err(error) => Err(error),
     };
@@ -73,10 +75,10 @@ fn open_temporary<R: Files<File = File> + AllocGlobal>(
 
 // Only users who could read the old file can read the new one: it gets its owner and mode before
 // its name.
-fn fill(mut file: File, old: Option<Metadata>, bytes: &[u8]) -> io::Result<()> {
+fn fill(file: &mut File, old: Option<Metadata>, bytes: &[u8]) -> io::Result<()> {
     file.write_all(bytes)?;
     if let Some(old) = old {
-        give_to_owner(&file, &old)?;
+        give_to_owner(&*file, &old)?;
         file.set_permissions(old.permissions())?;
     }
     file.sync_all()

@@ -13,7 +13,7 @@ pub(crate) const RECORDS: &str = ".stage";
 
 /// Its path, and whether it is there. Returns `RecordsNotOwn` if it is a link, another user's, or
 /// open to others.
-pub(crate) fn has_records<R: Files + AllocGlobal>(rt: &R, path: &str) -> Result<bool, FolderFault> {
+pub(crate) fn has_records<R: Files>(rt: &R, path: &str) -> Result<bool, FolderFault> {
     match fs::symlink_metadata(rt, path) {
         Ok(found) if is_own(&found) => Ok(true),
         Ok(_) => Err(FolderFault::RecordsNotOwn),
@@ -27,7 +27,7 @@ fn is_own(found: &Metadata) -> bool {
 }
 
 /// Makes the folder, if it isn't there.
-pub(crate) fn make_records<R: Files + AllocGlobal>(rt: &R, path: &str) -> Result<(), FolderFault> {
+pub(crate) fn make_records<R: Files>(rt: &R, path: &str) -> Result<(), FolderFault> {
     if has_records(rt, path)? {
         return Ok(());
     }
@@ -41,11 +41,11 @@ pub(crate) fn numbers_in<R: Files + AllocGlobal>(
     rt: &R,
     path: &str,
 ) -> Result<Vec<u32>, FolderFault> {
-    let mut numbers = Vec::new(rt.alloc());
     let entries = fs::read_dir(&rt, path)?;
+    let mut numbers = Vec::new(rt.alloc());
     for entry in entries {
-        let entry = entry?;
-        if let Some(number) = record_number(entry.file_name()) {
+        let number = record_number(entry?.file_name());
+        if let Some(number) = number {
             numbers.push(number)?;
         }
     }
