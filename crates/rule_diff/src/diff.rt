@@ -26,6 +26,11 @@ pub struct Diff {
     pub rows: Vec<Row>,
 }
 
+impl Diff {
+    /// Drops it. A crate that calls this proves no drop of a plan, a group or a dimension itself.
+    pub fn discard(self) {}
+}
+
 fn checked_rows(alloc: Global, space: &Space) -> Result<Option<Vec<Row>>, AllocError>
     ensures { (x : Scope) (old new : Side) → IsSpaceOf x old new space.now
         → IfOk result (λ o. IfSome o (λ rows. IsDiff x old new space.now rows.items)) }
