@@ -3,13 +3,11 @@
 //! does what the words request.
 #![tactic(auto)]
 
-mod environment;
-
-use crate::environment::words_of;
 use bounded_files::Device;
 use command_line::unreadable_words;
 use std::process::ExitCode;
 use tool_commands::command;
+use tool_words::words_of;
 
 fn main(rt: HostRuntime) -> ExitCode {
     let mut out = rt.stdout();

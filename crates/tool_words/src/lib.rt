@@ -3,17 +3,19 @@
 //! See docs/PROGRAM.md, "Status".
 #![tactic(auto)]
 
-// How words are read. `tool_rows` is the table of the ten commands, by which `command_line` has
-// `clap` parse the words, or find their first fault. Of the texts that it finds, `words` makes a
-// command. It reads the texts of `--allow`, `--cells`, `--since` and `--until`, those of `stage`, and
-// a shell's name, which the grammar doesn't check. It has `command_line` read those of moments and
-// days, and those that `rollout` also has.
+// How words are read. `environment` adds the operator's port of the environment. `tool_rows` is the
+// table of the ten commands, by which `command_line` has `clap` parse the words, or find their
+// first fault. Of the texts that it finds, `words` makes a command. It reads the texts of
+// `--allow`, `--cells`, `--since` and `--until`, those of `stage`, and a shell's name, which the
+// grammar doesn't check. It has `command_line` read those of moments and days, and those that
+// `rollout` also has.
 
 mod args;
 mod ask_words;
 mod check_words;
 mod completion_words;
 mod diff_words;
+mod environment;
 mod manifest_rows;
 mod program_words;
 mod report_words;
@@ -27,5 +29,6 @@ pub use args::{
     AskArgs, CheckArgs, DiffArgs, ReportArgs, Shell, SimulateArgs, StageAction, StageArgs,
     ToolCommand,
 };
+pub use environment::words_of;
 pub use rows::tool_rows;
 pub use words::read_tool_words;

@@ -67,6 +67,7 @@ fn action_in<'a>(words: &[&'a str]) -> Option<StageAction<'a>>
     ensures lacking { IfNone result (specs.SpellNone (map (λ word. word.now) words.now)) }
 {
     match words {
+        [] => None,
         [word] => bare_action(word),
         [word, object] => action_on(word, object),
         [word, appid, number] => raise(word, appid, number),
