@@ -1,38 +1,62 @@
 //! A runtime whose connections may fail, for example by a filter of system calls or a firewall, and
-//! whose clock may not advance, or may be unreadable.
+//! whose clock may be stopped, and then may be unreadable.
 
 use crate::manifests::write_files;
 use crate::servers::{PortTask, is_served, service_of};
-use bounded_files::Device;
 use std::alloc::Global;
 use std::io::{self, ErrorKind};
 use std::net::{Net, SocketAddr, TcpListener, TcpStream};
 use std::sync::Wait;
-use std::test::Fail;
+use std::sync::atomic::{AtomicBool, AtomicU64, Ordering};
 use std::thread::Threads;
 use std::time::{Clock, Duration};
 
-/// How a clock runs.
-#[derive(Clone, Copy)]
-pub(crate) enum Running {
-    AsUsual,
-    /// It is this number of seconds after 1970 began.
-    StoppedAt(u64),
-    Unreadable,
-}
-
+/// The host's runtime, with what fails. Files, ports and the clock are the host's own, so only
+/// threads, waiting and the end of a test are a type parameter.
 #[derive(Drop)]
-pub(crate) struct Impaired<'a, R> {
-    pub(crate) rt: &'a R,
-    pub(crate) clock: Running,
+pub(crate) struct Impaired<'a, T> {
+    pub(crate) rt: &'a HostRuntime,
+    /// What may start threads, wait, and end the test.
+    pub(crate) handles: &'a T,
     pub(crate) may_connect: bool,
+    /// The number of seconds after 1970 began at which the clock is stopped, if it is. Then ports
+    /// don't wait for connections.
+    stopped_at: Option<u64>,
+    is_readable: AtomicBool,
+    /// The port of the client of a line in the log, and how many bytes its reply has.
+    pub(crate) client_port: AtomicU64,
+    pub(crate) reply_size: AtomicU64,
 }
 
-impl<R: Threads> Threads for Impaired<'_, R> {}
+impl<'a, T> Impaired<'a, T> {
+    /// A runtime whose clock is stopped, or runs as usual. Nothing else fails.
+    pub(crate) fn new(
+        rt: &'a HostRuntime,
+        handles: &'a T,
+        stopped_at: Option<u64>,
+    ) -> Impaired<'a, T> {
+        Impaired {
+            rt,
+            handles,
+            may_connect: true,
+            stopped_at,
+            is_readable: AtomicBool::new(true),
+            client_port: AtomicU64::new(0),
+            reply_size: AtomicU64::new(0),
+        }
+    }
 
-impl<R: Wait> Wait for Impaired<'_, R> {}
+    /// Whether a stopped clock can be read from now on.
+    pub(crate) fn set_readable(&self, is_readable: bool) {
+        self.is_readable.store(is_readable, Ordering::SeqCst);
+    }
+}
 
-impl<R: AllocGlobal> Alloc for Impaired<'_, R> {
+impl<T: Threads> Threads for Impaired<'_, T> {}
+
+impl<T: Wait> Wait for Impaired<'_, T> {}
+
+impl<T> Alloc for Impaired<'_, T> {
     type A = Global;
 
     fn alloc(&self) -> Global {
@@ -40,19 +64,21 @@ impl<R: AllocGlobal> Alloc for Impaired<'_, R> {
     }
 }
 
-impl<R: Clock> Clock for Impaired<'_, R> {
+impl<T> Clock for Impaired<'_, T> {
     fn monotonic(&self) -> io::Result<Duration> {
-        match self.clock {
-            Running::AsUsual => self.rt.monotonic(),
-            _ => self.since_1970(),
+        match self.stopped_at {
+            Some(_) => self.since_1970(),
+            None => self.rt.monotonic(),
         }
     }
 
     fn since_1970(&self) -> io::Result<Duration> {
-        match self.clock {
-            Running::AsUsual => self.rt.since_1970(),
-            Running::StoppedAt(seconds) => Ok(Duration::from_secs(seconds)),
-            Running::Unreadable => Err(io::Error::from(ErrorKind::Unsupported)),
+        match self.stopped_at {
+            Some(seconds) if self.is_readable.load(Ordering::SeqCst) => {
+                Ok(Duration::from_secs(seconds))
+            }
+            Some(_) => Err(io::Error::from(ErrorKind::Unsupported)),
+            None => self.rt.since_1970(),
         }
     }
 
@@ -61,13 +87,15 @@ impl<R: Clock> Clock for Impaired<'_, R> {
     }
 }
 
-impl<R: Net<Listener = TcpListener, Stream = TcpStream>> Net for Impaired<'_, R> {
+impl<T> Net for Impaired<'_, T> {
     type Stream = TcpStream;
 
     type Listener = TcpListener;
 
     fn bind(&self, addr: SocketAddr) -> io::Result<TcpListener> {
-        self.rt.bind(addr)
+        let listener = self.rt.bind(addr)?;
+        listener.set_nonblocking(self.stopped_at.is_some())?;
+        Ok(listener)
     }
 
     fn connect(&self, addr: SocketAddr) -> io::Result<TcpStream> {
@@ -86,10 +114,9 @@ impl<R: Net<Listener = TcpListener, Stream = TcpStream>> Net for Impaired<'_, R>
 }
 
 #[test]
-fn a_server_that_may_not_connect_ends(rt: HostRuntime) -> Result<(), Fail> {
-    write_files(&rt)?;
-    let disk = Device::new(&rt);
-    let service = service_of(30);
-    assert!(rt; is_served(&rt, &disk, false, "no.toml", 2, service, PortTask::AtOnce)?);
-    Ok(())
+fn a_server_that_may_not_connect_ends(rt: HostRuntime) {
+    write_files(&rt).expect(&rt, "files");
+    let mut own = Impaired::new(&rt, &rt, None);
+    own.may_connect = false;
+    assert!(rt; is_served(&own, "no.toml", 2, service_of(30), PortTask::AtOnce));
 }

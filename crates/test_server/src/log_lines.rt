@@ -1,34 +1,40 @@
 //! A log's lines of clients: for each the clock of the server, and what the client sends.
 
-use crate::impaired::Running;
-
-/// A clock, the start of the log's lines, and the line of a connection that couldn't be accepted. A
-/// nonblocking port without waiting connections causes it.
-#[derive(Clone, Copy)]
+/// A stopped clock, and what the log has by it: the start of its lines, the line of the ready
+/// server, and the line of a connection that couldn't be accepted. A nonblocking port without
+/// waiting connections causes the last one.
 pub(crate) struct Timed {
-    pub(crate) clock: Running,
+    /// The number of seconds after 1970 began.
+    pub(crate) seconds: u64,
+    pub(crate) is_readable: bool,
     pub(crate) start: &'static str,
+    pub(crate) serving: &'static str,
     pub(crate) unaccepted: &'static str,
 }
 
 /// 2026-03-02 01:00:00 UTC, which is day 7000 and second 3600 of Omaha's count.
 const STOPPED: Timed = Timed {
-    clock: Running::StoppedAt(1772413200),
+    seconds: 1772413200,
+    is_readable: true,
     start: "{\"time\":\"2026-03-02T01:00:00.000Z\",\"port\":8080,\"kind\":",
+    serving: "{\"time\":\"2026-03-02T01:00:00.000Z\",\"port\":8080,\"kind\":\"serving\",\
+        \"generation\":1}\n",
     unaccepted: "{\"time\":\"2026-03-02T01:00:00.000Z\",\"port\":8080,\"kind\":\"unaccepted\",\
         \"reason\":\"Resource temporarily unavailable (os error 11)\"}\n",
 };
 
 const UNREADABLE: Timed = Timed {
-    clock: Running::Unreadable,
+    seconds: 0,
+    is_readable: false,
     start: "{\"time\":\"1970-01-01T00:00:00.000Z\",\"port\":8080,\"kind\":",
+    serving: "{\"time\":\"1970-01-01T00:00:00.000Z\",\"port\":8080,\"kind\":\"serving\",\
+        \"generation\":1}\n",
     unaccepted: "{\"time\":\"1970-01-01T00:00:00.000Z\",\"port\":8080,\"kind\":\"unaccepted\",\
         \"reason\":\"Resource temporarily unavailable (os error 11)\"}\n",
 };
 
 /// A clock, a client's request after its first line, and what its line in the log has before
 /// `bytes` and after `waited`.
-#[derive(Clone, Copy)]
 pub(crate) struct Line {
     pub(crate) timed: Timed,
     pub(crate) request: &'static str,

@@ -1,213 +1,87 @@
 //! The log of the clients' side of a server: the line of each connection, and of those that can't
-//! be accepted. The server's clock doesn't advance, or can't be read.
+//! be accepted. The server's clock is stopped, or can't be read until its client has been served.
 
 use crate::impaired::Impaired;
-use crate::log_lines::{LINES, Line, Timed};
-use crate::loopback::{listening, reply, send, sent, text_of};
+use crate::log_lines::{LINES, Line};
+use crate::loopback::{reply, send, sent, text_of};
 use crate::manifests::write_files;
-use crate::stopped::publisher_of;
+use crate::servers::{PortTask, is_served};
 use crate::whole_log::{lines_in, logging_to};
-use bounded_files::{Device, Disk};
-use cells::PlainCells;
-use hot_swap::Watcher;
 use server_log::LogQueue;
-use std::alloc::AllocError;
-use std::io::{self, ErrorKind};
-use std::net::{Net, Shutdown, SocketAddr, TcpListener, TcpStream};
+use std::net::{Shutdown, SocketAddr};
+use std::process::Abort;
 use std::sync::Wait;
-use std::sync::atomic::{AtomicBool, Ordering};
-use std::test::Fail;
-use std::thread::{self, Threads};
-use std::time::Clock;
-use workers::{NoGate, serve};
+use std::sync::atomic::Ordering;
+use std::thread::Threads;
 
 /// The moment of the stopped clock in Omaha's reply.
 const DAYSTART: &str = "\"daystart\":{\"elapsed_days\":7000,\"elapsed_seconds\":3600}";
 
-/// Serves clients by one worker until the flag is set. Returns whether it could.
-fn serves<H>(
-    rt: &H,
-    listener: TcpListener,
-    watcher: Watcher,
-    stop: &AtomicBool,
-    queue: &LogQueue,
-) -> bool
-where
-    H: Threads + Wait + AllocGlobal + Clock + Sync,
-{
-    let Ok((cells, pass)) = PlainCells::new(rt.alloc()) else {
-        return false;
-    };
-    let Ok(workers) = vec![in rt.alloc(); (pass, watcher)] else {
-        return false;
-    };
-    serve(
-        rt,
-        &NoGate,
-        listener,
-        &cells,
-        workers,
-        stop,
-        logging_to(queue),
-    )
-    .is_ok()
-}
-
-/// A client's address, how many bytes its reply has, and whether the reply has the clock's moment.
-#[derive(Clone, Copy)]
-struct ClientReply {
-    client: SocketAddr,
-    size: usize,
-    is_timed: bool,
-}
-
 /// The first line of each request.
 const POST: &str = "POST /service/update2/json HTTP/1.1\r\n";
 
-/// Sends a request, and ends it.
-fn requested<H>(rt: &H, place: SocketAddr, request: &str) -> io::Result<ClientReply>
-where
-    H: Net<Stream = TcpStream> + AllocGlobal,
-{
-    let stream = sent(rt, place, POST)?;
-    let _sent = send(&stream, request);
-    let _ended = stream.shutdown(Shutdown::Write);
-    let client = stream.local_addr()?;
-    let bytes = reply(rt.alloc(), &stream).unwrap_or(Vec::new(rt.alloc()));
-    Ok(ClientReply {
-        client,
-        size: bytes.len(),
-        is_timed: text_of(&bytes).contains(DAYSTART),
-    })
+/// Whether these bytes are a reply at the clock's moment, if the line has one.
+fn is_reply(line: &Line, bytes: &[u8]) -> bool {
+    text_of(bytes).contains(DAYSTART) == line.outcome.contains("200")
 }
 
-/// As above. Then the server is stopped.
-fn request_then_stop<H>(
-    rt: &H,
+/// Sends the request of a line, and ends it. Returns whether it gets the right reply.
+pub(crate) fn is_requested<T: Abort>(
+    own: &Impaired<'_, T>,
     place: SocketAddr,
-    request: &str,
-    stop: &AtomicBool,
-) -> io::Result<ClientReply>
-where
-    H: Net<Stream = TcpStream> + AllocGlobal,
-{
-    let requested = requested(rt, place, request);
-    stop.store(true, Ordering::SeqCst);
-    let _last = TcpStream::connect(rt, place);
-    requested
+    line: &Line,
+) -> bool {
+    let stream = sent(own, place, POST);
+    let address = stream.local_addr().expect(own.handles, "an address");
+    own.client_port
+        .store(address.port() as u64, Ordering::SeqCst);
+    let _sent = send(&stream, line.request);
+    let _ended = stream.shutdown(Shutdown::Write);
+    let bytes = reply(own.rt.alloc(), &stream).unwrap_or(Vec::new(own.rt.alloc()));
+    own.reply_size.store(bytes.len() as u64, Ordering::SeqCst);
+    is_reply(line, &bytes)
 }
 
-/// A listener whose `accept` doesn't wait, and its address.
-fn listening_without_wait<H>(rt: &H) -> io::Result<(TcpListener, SocketAddr)>
-where
-    H: Net<Listener = TcpListener, Stream = TcpStream>,
-{
-    let (listener, place) = listening(rt)?;
-    listener.set_nonblocking(true)?;
-    Ok((listener, place))
-}
-
-/// Sends the request of a line to a server with its clock and this watcher.
-fn request_of_server<H>(
-    rt: &H,
-    watcher: Watcher,
-    queue: &LogQueue,
-    line: Line,
-) -> io::Result<ClientReply>
-where
-    H: Threads + Wait + AllocGlobal + Clock + Sync,
-    H: Net<Listener = TcpListener, Stream = TcpStream>,
-{
-    let (listener, place) = listening_without_wait(rt)?;
-    let own = Impaired {
-        rt,
-        clock: line.timed.clock,
-        may_connect: true,
-    };
-    let stop = AtomicBool::new(false);
-    let (requested, is_served) = thread::join(
-        rt,
-        || request_then_stop(rt, place, line.request, &stop),
-        || serves(&own, listener, watcher, &stop, queue),
+/// Whether a log has the line of the client, that of the server's stop, lines of connections that
+/// couldn't be accepted, that of the ready server, and no others.
+fn is_log<T: Abort>(own: &Impaired<'_, T>, log: &str, line: &Line) -> bool {
+    let (start, outcome, apps) = (line.timed.start, line.outcome, line.apps);
+    let port = own.client_port.load(Ordering::SeqCst);
+    let size = own.reply_size.load(Ordering::SeqCst);
+    let alloc = own.rt.alloc();
+    let wanted = format!(in alloc;
+        "{start}\"connection\",\"peer\":\"127.0.0.1:{port}\",{outcome}\
+        \"bytes\":{size},\"micros\":0,\"waited\":0{apps}}}\n{start}\"stop\"}}\n"
     );
-    if !is_served {
-        return Err(io::Error::from(ErrorKind::Other));
-    }
-    requested
+    let wanted = wanted.expect(own.handles, "memory");
+    let lines = log
+        .replace(alloc, line.timed.unaccepted, "")
+        .expect(own.handles, "memory");
+    let lines = lines
+        .replace(alloc, line.timed.serving, "")
+        .expect(own.handles, "memory");
+    let has_others = log.contains(line.timed.unaccepted) && log.contains(line.timed.serving);
+    has_others && lines.as_str() == wanted.as_str()
 }
 
-/// Whether a log has this line of a client, and lines of connections that couldn't be accepted.
-fn is_log<H: AllocGlobal>(
-    rt: &H,
-    log: &str,
-    line: Line,
-    reply: ClientReply,
-) -> Result<bool, AllocError> {
-    let Line { outcome, apps, .. } = line;
-    let Timed {
-        start,
-        unaccepted,
-        ..
-    } = line.timed;
-    let ClientReply { client, size, .. } = reply;
-    let others = log.replace(rt.alloc(), unaccepted, "")?;
-    let wanted = format!(in rt.alloc();
-        "{start}\"connection\",\"peer\":\"{client}\",{outcome}\
-        \"bytes\":{size},\"micros\":0,\"waited\":0{apps}}}\n"
-    )?;
-    Ok(others.as_str() == wanted.as_str() && log.contains(unaccepted))
-}
-
-/// Whether a server with this watcher logs this line, and replies at its clock's moment.
-fn is_logged_by<H>(rt: &H, watcher: Watcher, line: Line) -> Result<bool, Fail>
+/// Whether a server of `no.toml` with the line's clock logs it.
+fn is_logged<T>(rt: &HostRuntime, handles: &T, line: &'static Line) -> bool
 where
-    H: Threads + Wait + AllocGlobal + Clock + Sync,
-    H: Net<Listener = TcpListener, Stream = TcpStream>,
+    T: Abort + Threads + Wait + Sync,
 {
-    let (queue, pieces) = LogQueue::new(rt.alloc(), 8080)?;
-    let requested = request_of_server(rt, watcher, &queue, line);
-    drop(queue);
-    let log = lines_in(rt, &pieces);
-    drop(pieces);
-    let log = log?;
-    let reply = requested?;
-    let is_timed = reply.is_timed == line.outcome.contains("200");
-    Ok(is_timed && is_log(rt, log.as_str(), line, reply)?)
-}
-
-/// As above, for a server of `no.toml`.
-fn is_logged<H, D>(rt: &H, disk: &D, line: Line) -> Result<bool, Fail>
-where
-    H: Threads + Wait + AllocGlobal + Clock + Sync,
-    H: Net<Listener = TcpListener, Stream = TcpStream>,
-    D: Disk,
-{
-    let mut publisher = publisher_of(rt, disk)?;
-    let is_logged = match publisher.watcher() {
-        Ok(watcher) => is_logged_by(rt, watcher, line),
-        Err(fault) => Err(Fail::from(fault)),
-    };
-    publisher.close(rt);
-    is_logged
-}
-
-/// Fails with the first line that is wrong.
-fn are_logged<H, D>(rt: &H, disk: &D) -> Result<(), Fail>
-where
-    H: Threads + Wait + AllocGlobal + Clock + Sync,
-    H: Net<Listener = TcpListener, Stream = TcpStream>,
-    D: Disk,
-{
-    for line in LINES {
-        if !is_logged(rt, disk, *line)? {
-            return Err(Fail::new(line.outcome));
-        }
-    }
-    Ok(())
+    let own = Impaired::new(rt, handles, Some(line.timed.seconds));
+    own.set_readable(line.timed.is_readable);
+    let (queue, pieces) = LogQueue::new(rt.alloc(), 8080).expect(handles, "a queue");
+    let service = logging_to(&queue);
+    let is_served = is_served(&own, "no.toml", 1, service, PortTask::Logged(line));
+    let log = lines_in(&own, &pieces);
+    is_served && is_log(&own, log.as_str(), line)
 }
 
 #[test]
-fn log_has_a_line_a_connection(rt: HostRuntime) -> Result<(), Fail> {
-    write_files(&rt)?;
-    are_logged(&rt, &Device::new(&rt))
+fn log_has_a_line_a_connection(rt: HostRuntime) {
+    write_files(&rt).expect(&rt, "files");
+    for line in LINES {
+        assert!(rt; is_logged(&rt, &rt, line), "{}", line.outcome);
+    }
 }

@@ -1,10 +1,12 @@
 //! What clients and an operator send over loopback, and what they get.
 
-use operator::ask_server;
+use crate::impaired::Impaired;
+use operator::{RequestFault, ask_server};
 use operator_request::OperatorRequest;
 use std::alloc::Global;
 use std::io::{self, Read, Write};
-use std::net::{Net, SocketAddr, TcpListener, TcpStream};
+use std::net::{SocketAddr, TcpStream};
+use std::process::Abort;
 use std::str;
 
 /// An app that requests an update.
@@ -24,24 +26,11 @@ pub(crate) const FOUR_APPS: &str =
     {\"appid\":\"x\",\"updatecheck\":{}},{\"appid\":\"x\",\"updatecheck\":{}},\
     {\"appid\":\"x\",\"updatecheck\":{}},{\"appid\":\"x\",\"updatecheck\":{}}]}}";
 
-/// A listener at a free port, and its address.
-pub(crate) fn listening<H>(rt: &H) -> io::Result<(TcpListener, SocketAddr)>
-where
-    H: Net<Listener = TcpListener, Stream = TcpStream>,
-{
-    let listener = TcpListener::bind(rt, "127.0.0.1:0")?;
-    let place = listener.local_addr()?;
-    Ok((listener, place))
-}
-
 /// A connection that has sent this text.
-pub(crate) fn sent<H>(rt: &H, place: SocketAddr, text: &str) -> io::Result<TcpStream>
-where
-    H: Net<Stream = TcpStream>,
-{
-    let stream = TcpStream::connect(rt, place)?;
-    send(&stream, text)?;
-    Ok(stream)
+pub(crate) fn sent<T: Abort>(own: &Impaired<'_, T>, place: SocketAddr, text: &str) -> TcpStream {
+    let stream = TcpStream::connect(own.rt, place).expect(own.handles, "a connection");
+    send(&stream, text).expect(own.handles, "bytes are sent");
+    stream
 }
 
 /// Sends this text over an open connection.
@@ -64,32 +53,36 @@ pub(crate) fn text_of(bytes: &[u8]) -> &str {
 }
 
 /// Whether what the server sends until it ends is a reply to a request.
-pub(crate) fn is_replied<H: AllocGlobal>(rt: &H, stream: &TcpStream) -> io::Result<bool> {
-    let bytes = reply(rt.alloc(), stream)?;
-    Ok(bytes.starts_with(b"HTTP/1.1 200 OK\r\n") && bytes.ends_with(b"\"}}"))
+pub(crate) fn is_replied(alloc: Global, stream: &TcpStream) -> bool {
+    match reply(alloc, stream) {
+        Ok(bytes) => bytes.starts_with(b"HTTP/1.1 200 OK\r\n") && bytes.ends_with(b"\"}}"),
+        Err(_) => false,
+    }
+}
+
+/// Whether the server ends the connection without a reply.
+pub(crate) fn is_dropped(alloc: Global, stream: &TcpStream) -> bool {
+    match reply(alloc, stream) {
+        Ok(bytes) => bytes.is_empty(),
+        Err(_) => true,
+    }
 }
 
 /// Whether a request gets its reply.
-pub(crate) fn is_answered<H>(rt: &H, place: SocketAddr) -> io::Result<bool>
-where
-    H: Net<Stream = TcpStream> + AllocGlobal,
-{
-    is_replied(rt, &sent(rt, place, ONE_APP)?)
+pub(crate) fn is_answered<T: Abort>(own: &Impaired<'_, T>, place: SocketAddr) -> bool {
+    is_replied(own.rt.alloc(), &sent(own, place, ONE_APP))
 }
 
-/// Whether the operator gets this reply, or this refusal.
-pub(crate) fn has_answer<H>(
-    rt: &H,
+/// Whether the operator gets this reply, or `None`: what isn't a reply to the request (B5).
+pub(crate) fn has_answer(
+    rt: &HostRuntime,
     port: u16,
     request: OperatorRequest<'_>,
-    want: &str,
-) -> io::Result<bool>
-where
-    H: Net<Stream = TcpStream> + AllocGlobal,
-{
-    let reply = match ask_server(rt, request, port) {
-        Ok(reply) => reply,
-        Err(fault) => format!(in rt.alloc(); "{fault}")?,
-    };
-    Ok(reply.as_str() == want)
+    want: Option<&str>,
+) -> bool {
+    match ask_server(rt, request, port) {
+        Ok(reply) => want == Some(reply.as_str()),
+        Err(RequestFault::Connect) => want.is_none(),
+        Err(_) => false,
+    }
 }

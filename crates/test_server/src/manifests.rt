@@ -1,6 +1,5 @@
 //! The manifests of the tests and their rules, as files of the folder in which a test runs.
 
-use std::rt::Files;
 use std::{fs, io};
 
 /// Paths and texts. Each manifest has its path as the server's text, and one app, `x`.
@@ -109,7 +108,7 @@ required = true
 ];
 
 /// Writes all files.
-pub(crate) fn write_files<R: Files>(rt: &R) -> io::Result<()> {
+pub(crate) fn write_files(rt: &HostRuntime) -> io::Result<()> {
     for (path, text) in FILES {
         fs::write(rt, *path, text.as_bytes())?;
     }

@@ -2,20 +2,22 @@
 //! stops them.
 
 use crate::ending::ending;
-use crate::impaired::{Impaired, Running};
+use crate::impaired::Impaired;
+use crate::log_lines::Line;
+use crate::logged::is_requested;
 use crate::loopback::has_answer;
 use crate::manifests::write_files;
 use crate::swaps::{FORTY, Swaps, THOUSAND, TWO, WHOLE, are_swapped};
 use crate::turns::{at_once, silent, slow};
-use bounded_files::{Device, Disk};
+use bounded_files::Device;
 use operator_request::OperatorRequest;
-use serving::{Manifests, Server, ServingFault, prepare};
+use serving::{Manifests, Server, prepare};
 use std::io::{self, Write};
-use std::net::{Net, SocketAddr, TcpListener, TcpStream};
+use std::net::SocketAddr;
+use std::process::Abort;
 use std::sync::Wait;
-use std::test::Fail;
 use std::thread::{self, Threads};
-use std::time::{Clock, Duration};
+use std::time::Duration;
 use workers::ServeOptions;
 
 /// The addresses of a server's ports.
@@ -36,14 +38,10 @@ pub(crate) enum PortTask {
     Slow,
     /// The server is stopped while requests are read and others wait.
     Ending,
-    /// Rulesets are swapped while clients send requests.
-    Whole,
-    /// The same for rulesets that share a quota of 40.
-    Forty,
-    /// Clients take from a quota of 2 at once.
-    Two,
-    /// The same for a quota of 1000.
-    Thousand,
+    /// Clients send requests at once, while rulesets are swapped or a quota is taken from.
+    Swapped(&'static Swaps),
+    /// A client sends the request of a line in the log.
+    Logged(&'static Line),
 }
 
 /// A connection may last this number of seconds, and nothing is logged.
@@ -73,98 +71,76 @@ impl Write for Writes {
 
 /// Serves with 1 to 64 workers until the server is stopped. Returns whether it printed by one
 /// write.
-fn served<H, D>(
-    rt: &H,
-    disk: &D,
+fn served<T>(
+    own: &Impaired<'_, T>,
     server: Server,
     workers: usize,
     service: ServeOptions<'_>,
-) -> Result<bool, ServingFault>
+) -> bool
 where
-    H: Threads + Wait + AllocGlobal + Clock + Sync,
-    H: Net<Listener = TcpListener, Stream = TcpStream>,
-    D: Disk,
+    T: Abort + Threads + Wait + Sync,
 {
     let mut out = Writes { count: 0 };
-    let server = server.staffed(rt, workers.clamp(1, 64))?;
-    drop(server.serve(rt, &Manifests::of(disk), service, &mut out)?);
-    Ok(out.count == 1)
-}
-
-/// The loads and requests of a task, if it has any.
-fn swaps_of(task: PortTask) -> Option<Swaps> {
-    match task {
-        PortTask::Whole => Some(WHOLE),
-        PortTask::Forty => Some(FORTY),
-        PortTask::Two => Some(TWO),
-        PortTask::Thousand => Some(THOUSAND),
-        _ => None,
-    }
+    let disk = Device::new(own.rt);
+    let staffed = server.staffed(own, workers.clamp(1, 64));
+    let server = staffed.expect(own.handles, "a server's staff");
+    let end = server.serve(own, &Manifests::of(&disk), service, &mut out);
+    drop(end.expect(own.handles, "a server's end"));
+    out.count == 1
 }
 
 /// Whether clients and operators get what they should.
-fn is_right<H>(rt: &H, place: Place, task: PortTask) -> io::Result<bool>
+fn is_right<T>(own: &Impaired<'_, T>, place: Place, task: PortTask) -> bool
 where
-    H: Threads + AllocGlobal + Clock + Sync,
-    H: Net<Listener = TcpListener, Stream = TcpStream>,
+    T: Abort + Threads + Sync,
 {
-    if let Some(swaps) = swaps_of(task) {
-        return are_swapped(rt, place, swaps);
-    }
     match task {
-        PortTask::AtOnce => at_once(rt, place.clients),
-        PortTask::Silent => silent(rt, place),
-        PortTask::Slow => slow(rt, place.clients),
-        _ => ending(rt, place),
+        PortTask::AtOnce => at_once(own, place.clients),
+        PortTask::Silent => silent(own, place),
+        PortTask::Slow => slow(own, place.clients),
+        PortTask::Ending => ending(own, place),
+        PortTask::Swapped(swaps) => are_swapped(own, place, swaps),
+        PortTask::Logged(line) => is_requested(own, place.clients, line),
     }
 }
 
-/// As above, with ports on loopback. Then the server is stopped, if it hasn't been.
-fn is_right_to_its_end<H>(rt: &H, place: Place, task: PortTask) -> io::Result<bool>
+/// As above, with ports on loopback. Then the server, whose clock can be read again, is stopped, if
+/// it hasn't been.
+fn is_right_to_its_end<T>(own: &Impaired<'_, T>, place: Place, task: PortTask) -> bool
 where
-    H: Threads + AllocGlobal + Clock + Sync,
-    H: Net<Listener = TcpListener, Stream = TcpStream>,
+    T: Abort + Threads + Sync,
 {
-    let is_right = is_right(rt, place, task);
-    let stop = OperatorRequest::Stop;
-    let is_stopping = has_answer(rt, place.operator.port(), stop, "stopping\n")?;
+    let is_right = is_right(own, place, task);
+    own.set_readable(true);
+    let port = place.operator.port();
+    let is_stopping = has_answer(own.rt, port, OperatorRequest::Stop, Some("stopping\n"));
     let are_local = place.clients.ip().is_loopback() && place.operator.ip().is_loopback();
     let is_stopped = is_stopping || matches!(task, PortTask::Ending);
-    Ok(is_right? && are_local && is_stopped)
+    is_right && are_local && is_stopped
 }
 
-/// Whether a server of the manifest at this path serves as it should, and ends. Unless it may
-/// connect, its own connections fail.
-pub(crate) fn is_served<H, D>(
-    rt: &H,
-    disk: &D,
-    may_connect: bool,
+/// Whether a server of the manifest at this path serves as it should, and ends.
+pub(crate) fn is_served<T>(
+    own: &Impaired<'_, T>,
     path: &str,
     workers: usize,
     service: ServeOptions<'_>,
     task: PortTask,
-) -> Result<bool, Fail>
+) -> bool
 where
-    H: Threads + Wait + AllocGlobal + Clock + Sync,
-    H: Net<Listener = TcpListener, Stream = TcpStream>,
-    D: Disk,
+    T: Abort + Threads + Wait + Sync,
 {
-    let own = Impaired {
-        rt,
-        clock: Running::AsUsual,
-        may_connect,
-    };
-    let server = prepare(rt, disk, path, 0, 0)?;
+    let server = prepare(own, &Device::new(own.rt), path, 0, 0).expect(own.handles, "a server");
     let place = Place {
         clients: server.ports().service(),
         operator: server.ports().operator(),
     };
     let (is_right, is_printed) = thread::join(
-        rt,
-        || is_right_to_its_end(rt, place, task),
-        || served(&own, disk, server, workers, service),
+        own.handles,
+        || is_right_to_its_end(own, place, task),
+        || served(own, server, workers, service),
     );
-    Ok(is_printed? && is_right?)
+    is_printed && is_right
 }
 
 /// What is done at a server's ports, its manifest, how many workers there are, how many seconds a
@@ -187,22 +163,28 @@ const SERVED: &[(PortTask, &str, usize, u64, &str)] = &[
         "those accepted before a stop are answered",
     ),
     (
-        PortTask::Whole,
+        PortTask::Swapped(&WHOLE),
         "yes.toml",
         4,
         10,
         "each reply is of one generation",
     ),
     (
-        PortTask::Forty,
+        PortTask::Swapped(&FORTY),
         "forty.toml",
         4,
         10,
         "a quota of forty holds over loads",
     ),
-    (PortTask::Two, "two.toml", 4, 10, "a quota of two holds"),
     (
-        PortTask::Thousand,
+        PortTask::Swapped(&TWO),
+        "two.toml",
+        4,
+        10,
+        "a quota of two holds",
+    ),
+    (
+        PortTask::Swapped(&THOUSAND),
         "thousand.toml",
         4,
         10,
@@ -210,24 +192,12 @@ const SERVED: &[(PortTask, &str, usize, u64, &str)] = &[
     ),
 ];
 
-/// Fails with the first that isn't shown.
-fn are_all_served<H, D>(rt: &H, disk: &D) -> Result<(), Fail>
-where
-    H: Threads + Wait + AllocGlobal + Clock + Sync,
-    H: Net<Listener = TcpListener, Stream = TcpStream>,
-    D: Disk,
-{
+#[test]
+fn clients_are_served(rt: HostRuntime) {
+    write_files(&rt).expect(&rt, "files");
+    let own = Impaired::new(&rt, &rt, None);
     for (task, path, workers, seconds, what) in SERVED {
         let service = service_of(*seconds);
-        if !is_served(rt, disk, true, path, *workers, service, *task)? {
-            return Err(Fail::new(*what));
-        }
+        assert!(rt; is_served(&own, path, *workers, service, *task), "{what}");
     }
-    Ok(())
-}
-
-#[test]
-fn clients_are_served(rt: HostRuntime) -> Result<(), Fail> {
-    write_files(&rt)?;
-    are_all_served(&rt, &Device::new(&rt))
 }

@@ -1,76 +1,58 @@
 //! An operator's port that is stopped: it ends at the next connection, which gets no reply.
 
-use crate::loopback::{listening, reply, sent};
-use crate::manifests::write_files;
+use crate::impaired::Impaired;
+use crate::loopback::{is_dropped, sent};
 use crate::servers::service_of;
-use bounded_files::{Device, Disk};
+use bounded_files::Device;
 use cells::{Directory, PlainCells};
 use hot_swap::Publisher;
-use operator::{Control, Loader};
-use ruleset::LoadedRuleset;
+use operator::Control;
+use ruleset::Ruleset;
 use serving::Manifests;
-use std::net::{Net, TcpListener, TcpStream};
+use std::net::TcpListener;
+use std::process::Abort;
 use std::sync::atomic::AtomicBool;
 use std::sync::{Arc, Wait};
-use std::test::Fail;
-use std::time::Clock;
 use workers::{OperatorSeat, operate};
 
-/// A publisher of the ruleset of `no.toml`, with a place for a watcher. It is ended by `close`.
-pub(crate) fn publisher_of<H, D>(rt: &H, disk: &D) -> Result<Publisher, Fail>
-where
-    H: Wait + AllocGlobal,
-    D: Disk,
-{
-    let alloc = rt.alloc();
-    let LoadedRuleset {
-        rules,
-        directory,
-        digest: _digest,
-    } = Manifests::of(disk).load(alloc, "no.toml", &Directory::new(alloc))?;
-    drop(directory);
-    Ok(Publisher::new(rt, alloc, Arc::new(alloc, rules)?, 1)?)
+/// A publisher of a ruleset without apps. It is ended by `close`.
+fn publisher_of<T: Abort + Wait>(own: &Impaired<'_, T>) -> Publisher {
+    let alloc = own.rt.alloc();
+    let rules = Ruleset::new(String::new(alloc), Vec::new(alloc));
+    let rules = Arc::new(alloc, rules.expect(own.handles, "a ruleset"));
+    let publisher = Publisher::new(own, alloc, rules.expect(own.handles, "memory"), 1);
+    publisher.expect(own.handles, "a publisher")
 }
 
 /// Serves the operator's port of a stopped server. Returns whether a line ended it.
-fn is_ended_by_line<H, D>(rt: &H, disk: &D, listener: &TcpListener) -> Result<bool, Fail>
-where
-    H: Wait + AllocGlobal + Clock,
-    D: Disk,
-{
-    let (cells, pass) = PlainCells::new(rt.alloc())?;
-    let mut control = Control::new(publisher_of(rt, disk)?, Directory::new(rt.alloc()));
+fn is_ended_by_line<T: Abort + Wait>(own: &Impaired<'_, T>, listener: &TcpListener) -> bool {
+    let alloc = own.rt.alloc();
+    let (cells, pass) = PlainCells::new(alloc).expect(own.handles, "cells");
+    let mut control = Control::new(publisher_of(own), Directory::new(alloc));
+    let disk = Device::new(own.rt);
     let mut seat = OperatorSeat {
-        loader: &Manifests::of(disk),
+        loader: &Manifests::of(&disk),
         cells: &cells,
         pass,
     };
     let stop = AtomicBool::new(true);
-    let end = operate(rt, listener, &mut seat, &mut control, &stop, service_of(30));
-    control.close(rt);
-    Ok(end.is_requested())
+    let service = service_of(30);
+    let end = operate(own, listener, &mut seat, &mut control, &stop, service);
+    control.close(own);
+    end.is_requested()
 }
 
 /// Whether the port ends at the next connection, by no line of it, and without a reply.
-fn is_stopped<H, D>(rt: &H, disk: &D) -> Result<bool, Fail>
-where
-    H: Wait + AllocGlobal + Clock,
-    H: Net<Listener = TcpListener, Stream = TcpStream>,
-    D: Disk,
-{
-    let (listener, place) = listening(rt)?;
-    let stream = sent(rt, place, "stop\n")?;
-    let is_by_line = is_ended_by_line(rt, disk, &listener)?;
+fn is_stopped<T: Abort + Wait>(own: &Impaired<'_, T>) -> bool {
+    let listener = TcpListener::bind(own.rt, "127.0.0.1:0").expect(own.handles, "a port");
+    let place = listener.local_addr().expect(own.handles, "an address");
+    let stream = sent(own, place, "stop\n");
+    let is_by_line = is_ended_by_line(own, &listener);
     drop(listener);
-    let is_empty = reply(rt.alloc(), &stream)
-        .unwrap_or(Vec::new(rt.alloc()))
-        .is_empty();
-    Ok(is_empty && !is_by_line)
+    is_dropped(own.rt.alloc(), &stream) && !is_by_line
 }
 
 #[test]
-fn a_stopped_port_ends(rt: HostRuntime) -> Result<(), Fail> {
-    write_files(&rt)?;
-    assert!(rt; is_stopped(&rt, &Device::new(&rt))?);
-    Ok(())
+fn a_stopped_port_ends(rt: HostRuntime) {
+    assert!(rt; is_stopped(&Impaired::new(&rt, &rt, None)));
 }

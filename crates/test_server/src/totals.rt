@@ -2,7 +2,6 @@
 
 use access_log::Totals;
 use server_log::{LogQueue, count_begun, count_ended};
-use std::test::Fail;
 use workers::{AnswerFault, Sent};
 
 const STATUSES: [u16; 8] = [200, 400, 404, 405, 411, 413, 431, 500];
@@ -44,11 +43,15 @@ fn numbers_of(totals: &Totals) -> [u64; 11] {
     ]
 }
 
+/// Whether connections are counted by status, and only once.
+fn are_counted(queue: &LogQueue) -> bool {
+    count_each(queue);
+    numbers_of(&queue.take_totals()) == [1, 2, 3, 4, 5, 6, 7, 8, 9, 500, 1]
+        && numbers_of(&queue.take_totals()) == [0; 11]
+}
+
 #[test]
-fn connections_are_counted_by_status(rt: HostRuntime) -> Result<(), Fail> {
-    let (queue, _pieces) = LogQueue::new(rt.alloc(), 8080)?;
-    count_each(&queue);
-    assert!(rt; numbers_of(&queue.take_totals()) == [1, 2, 3, 4, 5, 6, 7, 8, 9, 500, 1]);
-    assert!(rt; numbers_of(&queue.take_totals()) == [0; 11]);
-    Ok(())
+fn connections_are_counted_by_status(rt: HostRuntime) {
+    let (queue, _pieces) = LogQueue::new(rt.alloc(), 8080).expect(&rt, "a queue");
+    assert!(rt; are_counted(&queue));
 }
