@@ -1,7 +1,7 @@
 -- Ranges that match the segments of a set have the numbers of the machines in states in it.
-use Rattle.std.proofs.Common.{◌≡◌, ◌∙◌, ℕ, ◌+◌, ◌<◌, List, [], ◌∷◌, length, map, inl, inr}
+use Rattle.std.proofs.Common.{◌≡◌, ◌∙◌, ℕ, ◌+◌, ◌<◌, List, [], ◌∷◌, map, inl, inr}
 use Rattle.std.proofs.Common.{refl, sym, ap, ap₂, subst, arith, Less, Equal, Greater}
-use Rattle.std.specs.Prelude.{Bool, true, false, ◌&&◌, ◌||◌, nat_le, slice_index_or}
+use Rattle.std.specs.Prelude.{Bool, true, false, ◌&&◌, ◌||◌, nat_le}
 use Rattle.std.specs.Cmp.{nat_cmp_is}
 use Rattle.std.specs.List.{list_all}
 use Rattle.std.specs.Ordering.{nat_cmp}
@@ -18,7 +18,7 @@ use Rattle.rule_space.specs.Scopes.{IsWithin, Scope}
 use Rattle.rule_space.proofs.Cells.{begins_alike}
 use Rattle.rule_space.proofs.Ranges.{from_first, to_last}
 use Rattle.rule_diff.specs.Rows.{SegmentSet, has_segment}
-use Rattle.diff_text.specs.declared.left_ranges.LeftRange.{LeftRange}
+use Rattle.diff_text.specs.declared.intervals.Interval.{Interval}
 use Rattle.diff_text.specs.Grants.{AreRangesOf, have_number, is_range}
 use Rattle.diff_text.specs.Tables.{agrees, is_cut}
 use Rattle.diff_text.proofs.Matched.{agrees_all}
@@ -65,35 +65,43 @@ module _ (x : Scope) (d : Dimension) (line : IsLine x d) (a : Attributes) (g : S
       ∙ to_high begin n
 
   -- the ranges have a number exactly if they have that at which its segment begins
-  begins_in : (ranges : List LeftRange) → list_all (is_cut d) ranges ≡ true
+  begins_in : (ranges : List Interval) → list_all (is_cut d) ranges ≡ true
       → have_number ranges number ≡ have_number ranges begin
   begins_in [] cut = refl
   begins_in (r ∷ rs) cut =
       let both = and_parts (is_cut d r) (list_all (is_cut d) rs) cut in
-      let both_ends =
-      and_parts (decides d.starts d.last Ge r.low) (decides d.starts d.last Le r.high)
-      both.0 in
+      let ends =
+      and_parts (is_range d r && decides d.starts d.last Ge r.low)
+      (decides d.starts d.last Le r.high) both.0 in
+      let low = and_parts (is_range d r) (decides d.starts d.last Ge r.low) ends.0 in
       ap₂ (λ (b c : Bool). b || c)
-      (ap₂ (λ (b c : Bool). b && c) (low_is r.low both_ends.0) (high_is r.high both_ends.1))
+      (ap₂ (λ (b c : Bool). b && c) (low_is r.low low.1) (high_is r.high ends.1))
       (begins_in rs both.1)
 
-pub are_ranges : (x : Scope) (d : Dimension) (set : SegmentSet) (ranges : List LeftRange)
-    (holds : List Bool) → IsLine x d → list_all (is_range d) ranges ≡ true
-    → list_all (is_cut d) ranges ≡ true
-    → holds ≡ map (have_number ranges) d.starts → agrees set.segments 0 holds ≡ true
-    → AreRangesOf x d set ranges
-are_ranges x d set ranges holds line each cut is same = record {
-  each = each;
+all_ranges : (d : Dimension) (ranges : List Interval) → list_all (is_cut d) ranges ≡ true
+    → list_all (is_range d) ranges ≡ true
+all_ranges d [] cut = refl
+all_ranges d (r ∷ rs) cut =
+    let both = and_parts (is_cut d r) (list_all (is_cut d) rs) cut in
+    let ends =
+    and_parts (is_range d r && decides d.starts d.last Ge r.low)
+    (decides d.starts d.last Le r.high) both.0 in
+    let low = and_parts (is_range d r) (decides d.starts d.last Ge r.low) ends.0 in
+    ap₂ (λ (b c : Bool). b && c) low.0 (all_ranges d rs both.1)
+
+pub are_ranges : (x : Scope) (d : Dimension) (set : SegmentSet) (ranges : List Interval)
+    → IsLine x d → list_all (is_cut d) ranges ≡ true
+    → agrees set.segments 0 (map (have_number ranges) d.starts) ≡ true → AreRangesOf x d set ranges
+are_ranges x d set ranges line cut same = record {
+  each = all_ranges d ranges cut;
   are = λ a g within.
       let segment = cell_in d a g in
+      let holds = map (have_number ranges) d.starts in
       let there = segment_there x d a g line within in
       let zero_on : 0 + cell_in d a g ≡ cell_in d a g = omega arith in
-      let long : length holds ≡ length d.starts =
-      ap length is ∙ length-map d.starts (have_number ranges) in
       begins_in x d line a g within ranges cut
       ∙ sym (get_or-map (have_number ranges) d.starts segment 0 false there)
-      ∙ sym (ap (λ (hs : List Bool). slice_index_or hs segment false) is)
       ∙ agrees_all set.segments 0 holds segment same
-      (subst (λ (n : ℕ). segment < n) (sym long) there)
+      (subst (λ (n : ℕ). segment < n) (sym (length-map d.starts (have_number ranges))) there)
       ∙ ap (has_segment set.segments) zero_on;
 }

@@ -63,11 +63,3 @@ name_of kind.Older = codes "older"
 name_of kind.Changed = codes "changed"
 name_of kind.Newer = codes "newer"
 name_of kind.Gain = codes "gain"
-
--- the order of kinds in a table
-abbrev pub rank_of : RowKind → ℕ
-rank_of kind.Lost = 0
-rank_of kind.Older = 1
-rank_of kind.Changed = 2
-rank_of kind.Newer = 3
-rank_of kind.Gain = 4

@@ -20,8 +20,9 @@ use Rattle.rule_space.specs.Scopes.{IsWithin, Scope}
 use Rattle.rule_space.specs.Tests.{ComparesNumberAt}
 use Rattle.rule_space.specs.declared.test_line.NumberComparison.{NumberComparison}
 use Rattle.rule_diff.specs.Rows.{SegmentSet, has_segment}
-use Rattle.diff_text.specs.declared.left_ranges.LeftRange.{LeftRange}
+use Rattle.diff_text.specs.declared.intervals.Interval.{Interval}
 use Rattle.diff_text.specs.Conditions.{is_grant}
+use Rattle.diff_text.specs.Grants.{is_range}
 
 -- ---- tables
 
@@ -116,9 +117,10 @@ join_step false = step.Or
 
 -- ---- comparing ranges and tables with sets
 
--- no segment has numbers in the range and others
-abbrev pub is_cut : Dimension → LeftRange → Bool
-is_cut d r = decides d.starts d.last Ge r.low && decides d.starts d.last Le r.high
+-- some numbers of the dimension, and no segment has numbers in the range and others
+abbrev pub is_cut : Dimension → Interval → Bool
+is_cut d r =
+    is_range d r && decides d.starts d.last Ge r.low && decides d.starts d.last Le r.high
 
 abbrev pub agrees_at : (segments : List ℕ) → (segment : ℕ) → (holds : Bool) → Bool
 agrees_at segments segment true = has_segment segments segment

@@ -1,6 +1,7 @@
 //! The condition of a row in the words of rules, which reads back.
 
-ghost use Rattle.std.specs.Prelude.{◌≡◌, All, IfOk, IfSome, map, string_bytes};
+ghost use Rattle.std.specs.Prelude.{◌≡◌, All, IfOk, IfSome, OnOk, map, string_bytes};
+ghost use Rattle.printing.specs.Pushed.{Puts};
 ghost use Rattle.rule_space.specs.Lines.{IsLine};
 ghost use Rattle.rule_space.specs.Scopes.{Scope};
 ghost use Rattle.diff_text.specs.Conditions as conditions;
@@ -26,8 +27,22 @@ fn are_grants(dimensions: &[Dimension], sets: &[SegmentSet]) -> bool
     true
 }
 
-/// Texts joined by `and`.
-pub(crate) fn joined(alloc: Global, texts: &[String]) -> Result<String, AllocError>
+/// Appends texts, each after `and`.
+pub(crate) fn push_and_texts(text: &mut String, texts: &[String]) -> Result<(), AllocError>
+    ensures { OnOk result
+        (Puts text.old text.new (conditions.and_texts (map string_bytes texts.now))) }
+{
+    let mut left = texts;
+    while let [one, others @ ..] = left {
+        text.push_str(" and ")?;
+        text.push_str(one.as_str())?;
+        left = others;
+    }
+    Ok(())
+}
+
+// Texts joined by `and`.
+fn joined(alloc: Global, texts: &[String]) -> Result<String, AllocError>
     ensures { IfOk result (λ text.
         string_bytes text ≡ conditions.joined (map string_bytes texts.now)) }
 {
@@ -36,18 +51,15 @@ pub(crate) fn joined(alloc: Global, texts: &[String]) -> Result<String, AllocErr
         return Ok(all);
     };
     all.push_str(first.as_str())?;
-    let mut left = others;
-    while let [text, more @ ..] = left {
-        all.push_str(" and ")?;
-        all.push_str(text.as_str())?;
-        left = more;
-    }
+    push_and_texts(&mut all, others)?;
     Ok(all)
 }
 
-/// The texts of the sets that rules can test; none if they don't read back.
+/// The texts of the sets that rules can test; none if they don't read back. The days that they name
+/// are added to `days`.
 pub(crate) fn tests_of(
     alloc: Global,
+    days: &mut Vec<u32>,
     dimensions: &[Dimension],
     sets: &[SegmentSet],
 ) -> Result<Option<Vec<String>>, AllocError>
@@ -59,7 +71,7 @@ pub(crate) fn tests_of(
         let none = Vec::new(alloc);
         return Ok(Some(none));
     }
-    let texts = conjuncts_of(alloc, dimensions, sets)?;
+    let texts = conjuncts_of(alloc, days, dimensions, sets)?;
     let condition = joined(alloc, &texts)?;
     if reads_back(alloc, dimensions, sets, condition.as_str())? {
         return Ok(Some(texts));

@@ -8,7 +8,8 @@ ghost use Rattle.rule_space.specs.Scopes.{Scope};
 ghost use Rattle.diff_text.specs.Conditions.{grant_sets};
 ghost use Rattle.diff_text.specs.Grants as specs;
 
-use crate::left_ranges::{LeftRange, ranges_of};
+use crate::intervals::Interval;
+use crate::left_ranges::ranges_of;
 use crate::matching::is_grant;
 use cells::CellArray;
 use rule_diff::SegmentSet;
@@ -19,7 +20,7 @@ use std::fmt::Write;
 
 // ---- words
 
-fn push_left(text: &mut String, most: u128, range: LeftRange) -> Result<(), AllocError>
+fn push_left(text: &mut String, most: u128, range: Interval) -> Result<(), AllocError>
     ensures { OnOk result (Puts text.old text.new (specs.left_text most range)) }
 {
     let low = range.low;
@@ -78,7 +79,7 @@ struct Cell<'a> {
     most: u128,
 }
 
-fn push_grant(text: &mut String, cell: Cell<'_>, range: LeftRange) -> Result<(), AllocError>
+fn push_grant(text: &mut String, cell: Cell<'_>, range: Interval) -> Result<(), AllocError>
     ensures { OnOk result (Puts text.old text.new (specs.grant_text cell.entry.old.now
         cell.entry.new.now cell.entry.array.now cell.entry.index cell.entry.most range)) }
 {
@@ -89,7 +90,7 @@ fn push_grant(text: &mut String, cell: Cell<'_>, range: LeftRange) -> Result<(),
     push_left(text, cell.most, range)
 }
 
-fn push_others(text: &mut String, cell: Cell<'_>, ranges: &[LeftRange]) -> Result<(), AllocError>
+fn push_others(text: &mut String, cell: Cell<'_>, ranges: &[Interval]) -> Result<(), AllocError>
     ensures { OnOk result (Puts text.old text.new (specs.or_texts cell.entry.old.now
         cell.entry.new.now cell.entry.array.now cell.entry.index cell.entry.most ranges.now)) }
 {
@@ -102,7 +103,7 @@ fn push_others(text: &mut String, cell: Cell<'_>, ranges: &[LeftRange]) -> Resul
     Ok(())
 }
 
-fn push_grants(text: &mut String, cell: Cell<'_>, ranges: &[LeftRange]) -> Result<(), AllocError>
+fn push_grants(text: &mut String, cell: Cell<'_>, ranges: &[Interval]) -> Result<(), AllocError>
     ensures { OnOk result (Puts text.old text.new (specs.grants_text cell.entry.old.now
         cell.entry.new.now cell.entry.array.now cell.entry.index cell.entry.most ranges.now)) }
 {
@@ -125,7 +126,7 @@ fn grants_text<'x>(
     old: &'x [CellArray],
     new: &'x [CellArray],
     dimension: &'x Dimension,
-    ranges: &[LeftRange],
+    ranges: &[Interval],
 ) -> Result<Option<String>, AllocError>
     ensures { IfOk result (λ o. IfSome o (λ text.
         specs.IsTextOf old.now new.now dimension.now ranges.now (string_bytes text))) }

@@ -1,6 +1,6 @@
 //! What kind of change a row is.
 
-ghost use Rattle.std.specs.Prelude.{◌≡◌, ◌<◌, option_copied};
+ghost use Rattle.std.specs.Prelude.{◌≡◌, option_copied};
 ghost use Rattle.attrs.specs.Version.{version_of};
 ghost use Rattle.diff_text.specs.Kinds as specs;
 
@@ -10,7 +10,7 @@ use rule_eval::compare_versions;
 use std::cmp::Ordering;
 
 /// No release any more, or another one: of a lower version, of other content with the same numbers,
-/// or of a higher version. Or a release for machines that got none.
+/// or of a higher version. Or a release for machines that got none. Rows are in this order.
 #[derive(Clone, Copy, Drop)]
 pub enum RowKind {
     Lost,
@@ -76,20 +76,6 @@ impl RowKind {
             RowKind::Changed => "changed",
             RowKind::Newer => "newer",
             RowKind::Gain => "gain",
-        }
-    }
-
-    /// The order in a table, 0 to 4.
-    pub(crate) fn rank(self) -> u64
-        ensures rank { result ≡ specs.rank_of self }
-        ensures small { result < 5 }
-    {
-        match self {
-            RowKind::Lost => 0,
-            RowKind::Older => 1,
-            RowKind::Changed => 2,
-            RowKind::Newer => 3,
-            RowKind::Gain => 4,
         }
     }
 }

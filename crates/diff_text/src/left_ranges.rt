@@ -8,27 +8,20 @@ ghost use Rattle.rule_space.specs.Scopes.{Scope};
 ghost use Rattle.diff_text.specs.Grants as specs;
 ghost use Rattle.diff_text.specs.Tables as tables;
 
-use crate::intervals::intervals_of;
-use crate::matching::agrees;
+use crate::intervals::{Interval, intervals_of};
+use crate::matching::agrees_at;
 use rule_diff::SegmentSet;
 use rule_lang::Comparison;
 use rule_space::{Dimension, decides};
 use std::alloc::{AllocError, Global};
 
-/// The numbers from `low` to `high`, both included.
-#[derive(Clone, Copy)]
-pub(crate) struct LeftRange {
-    pub low: u128,
-    pub high: u128,
-}
-
-fn has_number(range: LeftRange, number: u128) -> bool
+fn has_number(range: Interval, number: u128) -> bool
     ensures { result ≡ specs.has_number range number }
 {
     range.low <= number && number <= range.high
 }
 
-fn have_number(ranges: &[LeftRange], number: u128) -> bool
+fn have_number(ranges: &[Interval], number: u128) -> bool
     ensures { result ≡ specs.have_number ranges.now number }
 {
     let mut left = ranges;
@@ -41,30 +34,13 @@ fn have_number(ranges: &[LeftRange], number: u128) -> bool
     false
 }
 
-fn is_range(dimension: &Dimension, range: LeftRange) -> bool
-    ensures { result ≡ specs.is_range dimension.now range }
-{
-    range.low <= range.high && range.high <= dimension.last
-}
-
-fn are_all_ranges(dimension: &Dimension, ranges: &[LeftRange]) -> bool
-    ensures { result ≡ list_all (specs.is_range dimension.now) ranges.now }
-{
-    let mut left = ranges;
-    while let [range, others @ ..] = left {
-        if !is_range(dimension, *range) {
-            return false;
-        }
-        left = others;
-    }
-    true
-}
-
-// Whether no segment has numbers in the range and others.
-fn is_cut(dimension: &Dimension, range: LeftRange) -> bool
+// Whether it has numbers of the dimension, and no segment has numbers in it and others.
+fn is_cut(dimension: &Dimension, range: Interval) -> bool
     ensures { result ≡ tables.is_cut dimension.now range }
 {
-    decides(&dimension.starts, dimension.last, Comparison::Ge, range.low)
+    range.low <= range.high
+        && range.high <= dimension.last
+        && decides(&dimension.starts, dimension.last, Comparison::Ge, range.low)
         && decides(
             &dimension.starts,
             dimension.last,
@@ -73,7 +49,7 @@ fn is_cut(dimension: &Dimension, range: LeftRange) -> bool
         )
 }
 
-fn are_cut(dimension: &Dimension, ranges: &[LeftRange]) -> bool
+fn are_cut(dimension: &Dimension, ranges: &[Interval]) -> bool
     ensures { result ≡ list_all (tables.is_cut dimension.now) ranges.now }
 {
     let mut left = ranges;
@@ -86,57 +62,32 @@ fn are_cut(dimension: &Dimension, ranges: &[LeftRange]) -> bool
     true
 }
 
-// For each segment whether one of the ranges has the number at which it begins.
-fn segments_in(
-    alloc: Global,
-    ranges: &[LeftRange],
-    starts: &[u128],
-) -> Result<Vec<bool>, AllocError>
-    ensures { IfOk result (λ v. v.items ≡ map (specs.have_number ranges.now) starts.now) }
+// Whether the ranges have the numbers at which exactly these segments begin.
+fn ranges_agree(segments: &[u16], ranges: &[Interval], starts: &[u128]) -> bool
+    ensures { result ≡ tables.agrees segments.now 0
+        (map (specs.have_number ranges.now) starts.now) }
 {
-    let mut holds = Vec::with_capacity(alloc, starts.len())?;
+    let mut segment: usize = 0;
     let mut left = starts;
-    while let [end, others @ ..] = left {
-        holds.push(have_number(ranges, *end))?;
+    while let [start, others @ ..] = left {
+        if !agrees_at(segments, segment, have_number(ranges, *start)) {
+            return false;
+        }
+        segment += 1;
         left = others;
     }
-    Ok(holds)
+    true
 }
 
 // Whether the ranges have exactly the numbers of these segments.
-fn are_ranges(
-    alloc: Global,
-    dimension: &Dimension,
-    set: &SegmentSet,
-    ranges: &[LeftRange],
-) -> Result<bool, AllocError>
-    ensures { (x : Scope) → IsLine x dimension.now → IfOk result (λ ok. ok ≡ true
-        → specs.AreRangesOf x dimension.now set.now ranges.now) }
+fn are_ranges(dimension: &Dimension, set: &SegmentSet, ranges: &[Interval]) -> bool
+    ensures { (x : Scope) → IsLine x dimension.now → result ≡ true
+        → specs.AreRangesOf x dimension.now set.now ranges.now }
 {
-    if !are_all_ranges(dimension, ranges) {
-        return Ok(false);
-    }
     if !are_cut(dimension, ranges) {
-        return Ok(false);
+        return false;
     }
-    let holds = segments_in(alloc, ranges, &dimension.starts)?;
-    Ok(agrees(&set.segments, &holds))
-}
-
-fn made_ranges(
-    alloc: Global,
-    dimension: &Dimension,
-    segments: &[u16],
-) -> Result<Vec<LeftRange>, AllocError> {
-    let intervals = intervals_of(alloc, dimension, segments)?;
-    let mut ranges = Vec::with_capacity(alloc, intervals.len())?;
-    for k in 0..intervals.len() {
-        ranges.push(LeftRange {
-            low: intervals[k].low,
-            high: intervals[k].high,
-        })?;
-    }
-    Ok(ranges)
+    ranges_agree(&set.segments, ranges, &dimension.starts)
 }
 
 /// The ranges of a set's numbers.
@@ -144,12 +95,12 @@ pub(crate) fn ranges_of(
     alloc: Global,
     dimension: &Dimension,
     set: &SegmentSet,
-) -> Result<Option<Vec<LeftRange>>, AllocError>
+) -> Result<Option<Vec<Interval>>, AllocError>
     ensures { (x : Scope) → IsLine x dimension.now → IfOk result (λ o. IfSome o (λ ranges.
         specs.AreRangesOf x dimension.now set.now ranges.items)) }
 {
-    let ranges = made_ranges(alloc, dimension, &set.segments)?;
-    if are_ranges(alloc, dimension, set, &ranges)? {
+    let ranges = intervals_of(alloc, dimension, &set.segments)?;
+    if are_ranges(dimension, set, &ranges) {
         return Ok(Some(ranges));
     }
     Ok(None)

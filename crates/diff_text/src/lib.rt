@@ -15,7 +15,6 @@
 
 mod condition;
 mod conjuncts;
-mod days;
 mod grants;
 mod intervals;
 mod kind;
@@ -30,6 +29,7 @@ mod showing;
 mod shown;
 mod sources;
 mod steps;
+mod test_texts;
 mod truth_table;
 
 pub use kind::RowKind;

@@ -1,11 +1,10 @@
-//! Texts of tests of a number. Nothing is proved of them here: the condition is read back.
+//! Tests of a number. Nothing is proved of them here: the condition is read back.
 
 use crate::intervals::Interval;
+use crate::test_texts::TestTexts;
 use attrs::{Context, Flag};
-use reasons::push_test;
 use rule_lang::{Comparison, Test};
-use rule_space::Coordinate;
-use std::alloc::AllocError;
+use rule_space::{Coordinate, Dimension};
 
 const WORD: u128 = 0x1_0000_0000;
 
@@ -54,25 +53,6 @@ fn test_of(of: &Coordinate, comparison: Comparison, number: u128) -> Option<Test
     }
 }
 
-/// Adds the text of a test, which is dropped.
-pub(crate) fn push_owned_test(text: &mut String, test: Test) -> Result<(), AllocError> {
-    let pushed = push_test(text, &test);
-    drop(test);
-    pushed
-}
-
-fn push_line_test(
-    text: &mut String,
-    of: &Coordinate,
-    comparison: Comparison,
-    number: u128,
-) -> Result<(), AllocError> {
-    match test_of(of, comparison, number) {
-        Some(test) => push_owned_test(text, test),
-        None => Ok(()),
-    }
-}
-
 fn is_unknown(of: &Coordinate, number: u128) -> bool {
     match of {
         Coordinate::Installed => number == UNKNOWN_DAY,
@@ -80,54 +60,59 @@ fn is_unknown(of: &Coordinate, number: u128) -> bool {
     }
 }
 
-fn push_known_install(text: &mut String) -> Result<(), AllocError> {
-    push_owned_test(text, Test::Flag(Flag::InstalldateKnown))
-}
-
-// The test that a number is below this one. An installation before the unknown day is a known one.
-fn push_below(text: &mut String, of: &Coordinate, end: u128) -> Result<(), AllocError> {
-    if is_unknown(of, end) {
-        return push_known_install(text);
+fn is_day(of: &Coordinate) -> bool {
+    match of {
+        Coordinate::Today | Coordinate::Installed => true,
+        _ => false,
     }
-    push_line_test(text, of, Comparison::Lt, end)
 }
 
-/// Adds the test of the coordinate's number against this one. A number that is compared by `Le`
-/// isn't the greatest.
-pub(crate) fn push_comparison(
-    text: &mut String,
+/// Adds the test of the coordinate's number against this one, by `Eq`, `Ne`, `Ge` or `Lt`. The
+/// number that stands for an unknown day of installation is the greatest: other days are below it.
+pub(crate) fn add_comparison(
+    texts: &mut TestTexts,
     of: &Coordinate,
     comparison: Comparison,
     number: u128,
-) -> Result<(), AllocError> {
-    match comparison {
-        Comparison::Eq if is_unknown(of, number) => {
-            text.push_str("not ")?;
-            push_known_install(text)
+) {
+    if is_unknown(of, number) {
+        if let Comparison::Eq = comparison {
+            texts.push("not ");
         }
-        Comparison::Ne if is_unknown(of, number) => push_known_install(text),
-        Comparison::Le => push_below(text, of, number.saturating_add(1)),
-        _ => push_line_test(text, of, comparison, number),
+        return texts.add_test(Test::Flag(Flag::InstalldateKnown));
+    }
+    if let Some(test) = test_of(of, comparison, number) {
+        texts.add_test(test);
+    }
+    if is_day(of) {
+        texts.note_day(digit(number));
     }
 }
 
-/// Adds the test or the two tests of an interval, joined by `and`.
-pub(crate) fn push_interval(
-    text: &mut String,
-    of: &Coordinate,
+/// Adds the test or the two tests of an interval. Two are joined by `and` within a text of several
+/// intervals, and are texts of their own otherwise.
+pub(crate) fn add_interval(
+    texts: &mut TestTexts,
+    dimension: &Dimension,
     interval: Interval,
-) -> Result<(), AllocError> {
+    is_alone: bool,
+) {
+    let of = &dimension.of;
     if interval.is_single() {
-        return push_comparison(text, of, Comparison::Eq, interval.low);
+        return add_comparison(texts, of, Comparison::Eq, interval.low);
     }
-    if !interval.from_least {
-        push_line_test(text, of, Comparison::Ge, interval.low)?;
+    let has_low = interval.low != dimension.begin(0);
+    let has_high = interval.high != dimension.last;
+    if has_low {
+        add_comparison(texts, of, Comparison::Ge, interval.low);
     }
-    if interval.to_greatest {
-        return Ok(());
+    if has_low && has_high && is_alone {
+        texts.end();
+    } else if has_low && has_high {
+        texts.push(" and ");
     }
-    if !interval.from_least {
-        text.push_str(" and ")?;
+    if has_high {
+        let end = interval.high.saturating_add(1);
+        add_comparison(texts, of, Comparison::Lt, end);
     }
-    push_comparison(text, of, Comparison::Le, interval.high)
 }

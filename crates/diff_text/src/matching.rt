@@ -42,7 +42,8 @@ pub(crate) fn is_grant(dimensions: &[Dimension], set: &SegmentSet) -> bool
     }
 }
 
-fn agrees_at(segments: &[u16], segment: usize, holds: bool) -> bool
+/// Whether the segment is one of these exactly if a part holds at it.
+pub(crate) fn agrees_at(segments: &[u16], segment: usize, holds: bool) -> bool
     ensures { result ≡ specs.agrees_at segments.now segment holds }
 {
     if holds {

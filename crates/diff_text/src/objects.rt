@@ -1,13 +1,13 @@
 //! Rows as JSON.
 
 ghost use Rattle.std.specs.Prelude.{◌≡◌, ◌++◌, false, IfOk, OnOk, map, string_bytes};
-ghost use Rattle.serde_json.specs.Data.{string};
 ghost use Rattle.serde_json.specs.View.{items_of, view};
 ghost use Rattle.serde_json.specs.Written.{items_have_float};
 ghost use Rattle.diff_text.specs.Objects as specs;
 
 use crate::shown::{AppRows, ShownRelease, ShownRow};
-use serde_json::{Value, json};
+use json_object::ObjectBuilder;
+use serde_json::Value;
 use simulate::push_value;
 use std::alloc::{AllocError, Global};
 
@@ -17,13 +17,10 @@ fn release_object(alloc: Global, release: &Option<ShownRelease>) -> Result<Value
     let Some(release) = release else {
         return Ok(Value::Null);
     };
-    json!(in alloc; {"release": release.number, "version": release.version.as_str()})
-}
-
-fn text_value(alloc: Global, text: &str) -> Result<Value, AllocError>
-    ensures { IfOk result (λ value. view value ≡ string text.now) }
-{
-    Ok(Value::String(String::from_str(alloc, text)?))
+    let mut object = ObjectBuilder::new(alloc);
+    object.put_number("release", release.number as u64);
+    object.put_text("version", release.version.as_str());
+    object.finish()
 }
 
 fn push_texts(values: &mut Vec<Value>, texts: &[String]) -> Result<(), AllocError>
@@ -32,7 +29,7 @@ fn push_texts(values: &mut Vec<Value>, texts: &[String]) -> Result<(), AllocErro
 {
     let mut left = texts;
     while let [text, others @ ..] = left {
-        let value = text_value(*values.allocator(), text.as_str())?;
+        let value = Value::try_from_str(*values.allocator(), text.as_str())?;
         push_value(values, value)?;
         left = others;
     }
@@ -52,25 +49,13 @@ fn condition_values(alloc: Global, row: &ShownRow) -> Result<Vec<Value>, AllocEr
 fn row_object(alloc: Global, row: &ShownRow) -> Result<Value, AllocError>
     ensures { IfOk result (λ value. view value ≡ specs.row_object row.now) }
 {
-    let next = release_object(alloc, &row.next)?;
-    let Ok(current) = release_object(alloc, &row.current) else {
-        drop(next);
-        return Err(AllocError);
-    };
-    let Ok(when) = condition_values(alloc, row) else {
-        drop(next);
-        drop(current);
-        return Err(AllocError);
-    };
-    let kind = row.kind.name();
-    let lost = row.kind.is_lost();
-    json!(in alloc; {
-        "kind": kind,
-        "lost": lost,
-        "next": next,
-        "now": current,
-        "when": when
-    })
+    let mut object = ObjectBuilder::new(alloc);
+    object.put_text("kind", row.kind.name());
+    object.put_bool("lost", row.kind.is_lost());
+    object.put("next", release_object(alloc, &row.next));
+    object.put("now", release_object(alloc, &row.current));
+    object.put_list("when", condition_values(alloc, row));
+    object.finish()
 }
 
 fn objects_of(alloc: Global, rows: &[ShownRow]) -> Result<Vec<Value>, AllocError>

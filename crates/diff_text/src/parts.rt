@@ -133,7 +133,10 @@ fn either(alloc: Global, first: Part, second: Part) -> Result<Option<Part>, Allo
     let Some(other) = only_table(second) else {
         return Ok(None);
     };
-    match joined_table(alloc, false, &one, &other)? {
+    let table = joined_table(alloc, false, &one, &other);
+    drop(one);
+    drop(other);
+    match table? {
         Some(table) => {
             let part = part_of(alloc, table)?;
             Ok(Some(part))

@@ -15,25 +15,6 @@ use rule_lang::{Rule, RuleFault, Statement, Step, parse};
 use rule_space::Dimension;
 use std::alloc::{AllocError, Global};
 
-/// Whether a condition holds exactly for the machines in states that are in these sets, apart from
-/// sets of cells that grant takes. If the steps aren't of the form that is printed, the result is
-/// no.
-fn mean_sets(
-    alloc: Global,
-    dimensions: &[Dimension],
-    sets: &[SegmentSet],
-    steps: &[Step],
-) -> Result<bool, AllocError>
-    ensures { (x : Scope) → All (IsLine x) dimensions.now → IfOk result (λ ok. ok ≡ true
-        → specs.MeansSets x dimensions.now (specs.tested_sets dimensions.now sets.now)
-        steps.now) }
-{
-    match tables_of(alloc, dimensions, steps)? {
-        Some(whole) => Ok(are_tables_of(dimensions, sets, &whole.tables)),
-        None => Ok(false),
-    }
-}
-
 // The steps of the condition, if there is one `when` that offers release 1.
 fn steps_of(statements: &[Statement]) -> Option<&[Step]>
     ensures { IfSome result (λ steps. statements.now ≡ Statement.When steps.now 1 ∷ []) }
@@ -52,6 +33,9 @@ fn steps_of(statements: &[Statement]) -> Option<&[Step]>
     }
 }
 
+// Whether the statement offers release 1 exactly to the machines in states that are in these sets,
+// apart from sets of cells that grant takes. If its steps aren't of the form that is printed, the
+// result is no.
 fn is_meant(
     alloc: Global,
     dimensions: &[Dimension],
@@ -65,8 +49,10 @@ fn is_meant(
     let Some(steps) = steps_of(statements) else {
         return Ok(false);
     };
-    let ok = mean_sets(alloc, dimensions, sets, steps)?;
-    Ok(ok)
+    match tables_of(alloc, dimensions, steps)? {
+        Some(whole) => Ok(are_tables_of(dimensions, sets, &whole.tables)),
+        None => Ok(false),
+    }
 }
 
 fn starts_comment(quoted: bool, byte: u8) -> bool

@@ -5,6 +5,7 @@ ghost use Rattle.printing.specs.Pushed.{Puts};
 ghost use Rattle.diff_text.specs.Conditions.{and_texts};
 ghost use Rattle.diff_text.specs.Lines as specs;
 
+use crate::condition::push_and_texts;
 use crate::shown::{AppRows, ShownRelease, ShownRow};
 use attrs::Elapsed;
 use moments::CivilDate;
@@ -88,18 +89,6 @@ fn push_columns(
 }
 
 // ---- rows
-
-fn push_and_texts(text: &mut String, texts: &[String]) -> Result<(), AllocError>
-    ensures { OnOk result (Puts text.old text.new (and_texts (map string_bytes texts.now))) }
-{
-    let mut left = texts;
-    while let [one, others @ ..] = left {
-        text.push_str(" and ")?;
-        text.push_str(one.as_str())?;
-        left = others;
-    }
-    Ok(())
-}
 
 // The texts of one list.
 fn push_joined(text: &mut String, texts: &[String]) -> Result<(), AllocError>

@@ -8,7 +8,6 @@ ghost use Rattle.diff_text.specs.Kinds as kinds;
 ghost use Rattle.diff_text.specs.Shown as specs;
 
 use crate::condition::tests_of;
-use crate::days::days_of;
 use crate::grants::grants_of;
 use crate::shown::{AppRows, ShownRelease, ShownRow};
 use crate::sources::{Sources, has_releases, kind_of, shown_current, shown_next, sources_of};
@@ -18,8 +17,10 @@ use rule_diff::{Contents, Diff, Row};
 use rule_space::Dimension;
 use std::alloc::{AllocError, Global};
 
+// A row as it is shown. The days that its condition names are added to `days`.
 fn shown_row(
     alloc: Global,
+    days: &mut Vec<u32>,
     from: &Sources<'_>,
     dimensions: &[Dimension],
     row: &Row,
@@ -30,7 +31,7 @@ fn shown_row(
     if !has_releases(from, row) {
         return Ok(None);
     }
-    let Some(tests) = tests_of(alloc, dimensions, &row.sets)? else {
+    let Some(tests) = tests_of(alloc, days, dimensions, &row.sets)? else {
         return Ok(None);
     };
     let Some(grants) = grants_of(
@@ -58,6 +59,7 @@ fn shown_row(
 // The rows in their order.
 fn shown_rows(
     alloc: Global,
+    days: &mut Vec<u32>,
     from: &Sources<'_>,
     dimensions: &[Dimension],
     rows: &[Row],
@@ -68,7 +70,7 @@ fn shown_rows(
     let mut shown = Vec::with_capacity(alloc, rows.len())?;
     let mut left = rows;
     while let [row, others @ ..] = left {
-        let Some(one) = shown_row(alloc, from, dimensions, row)? else {
+        let Some(one) = shown_row(alloc, days, from, dimensions, row)? else {
             return Ok(None);
         };
         shown.push(one)?;
@@ -84,9 +86,9 @@ fn number_of(release: &Option<ShownRelease>) -> usize {
     }
 }
 
-fn key_of(row: &ShownRow) -> (u64, usize, usize) {
+fn key_of(row: &ShownRow) -> (u8, usize, usize) {
     (
-        row.kind.rank(),
+        row.kind as u8,
         number_of(&row.current),
         number_of(&row.next),
     )
@@ -108,12 +110,13 @@ fn rows_of(
     ensures { (x : Scope) → All (IsLine x) dimensions.now → IfOk result (λ o. IfSome o
         (λ shown. specs.AreShown x dimensions.now from.now rows.now shown.rows.items)) }
 {
-    let days = days_of(alloc, dimensions, rows)?;
-    let Some(shown) = shown_rows(alloc, from, dimensions, rows)? else {
+    let mut days = Vec::new(alloc);
+    let Some(shown) = shown_rows(alloc, &mut days, from, dimensions, rows)? else {
         return Ok(None);
     };
     let mut sorted = shown;
     sort(&mut sorted)?;
+    days.as_mut_slice().sort_unstable();
     Ok(Some(AppRows { rows: sorted, days }))
 }
 

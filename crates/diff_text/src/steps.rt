@@ -39,25 +39,6 @@ fn negate(alloc: Global, parts: &mut Vec<Part>) -> Result<bool, AllocError>
 }
 
 // Joins the newest part with the one before it.
-fn join_with(
-    alloc: Global,
-    parts: &mut Vec<Part>,
-    is_and: bool,
-    second: Part,
-) -> Result<bool, AllocError>
-    ensures { (x : Scope) (ds : _) (all left : List a_step) → All (IsLine x) ds
-        → specs.HaveMade x ds all (specs.join_step is_and ∷ left)
-        (second ∷ reverse parts.old.items) → IfOk result (λ ok. ok ≡ true
-        → specs.HaveMade x ds all left (reverse parts.new.items)) }
-{
-    let Some(first) = parts.pop() else {
-        return Ok(false);
-    };
-    let made = joined(alloc, is_and, first, second)?;
-    let ok = push_made(parts, made)?;
-    Ok(ok)
-}
-
 fn join(alloc: Global, parts: &mut Vec<Part>, is_and: bool) -> Result<bool, AllocError>
     ensures { (x : Scope) (ds : _) (all left : List a_step) → All (IsLine x) ds
         → specs.HaveMade x ds all (specs.join_step is_and ∷ left) (reverse parts.old.items)
@@ -67,7 +48,11 @@ fn join(alloc: Global, parts: &mut Vec<Part>, is_and: bool) -> Result<bool, Allo
     let Some(second) = parts.pop() else {
         return Ok(false);
     };
-    let ok = join_with(alloc, parts, is_and, second)?;
+    let Some(first) = parts.pop() else {
+        return Ok(false);
+    };
+    let made = joined(alloc, is_and, first, second)?;
+    let ok = push_made(parts, made)?;
     Ok(ok)
 }
 

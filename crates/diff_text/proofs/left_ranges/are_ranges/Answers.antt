@@ -1,4 +1,4 @@
-use Rattle.std.proofs.Common.{◌∙◌, ap, ap₂, List, map, sym, ℕ, Bool}
+use Rattle.std.proofs.Common.{◌∙◌, ap, ap₂, List, map, sym, ℕ}
 use Rattle.rule_diff.specs.Rows.{SegmentSet}
 use Rattle.rule_space.specs.Coordinates.{Dimension}
 use Rattle.diff_text.specs.Grants.{have_number}
@@ -9,11 +9,9 @@ use Rattle.diff_text.proofs.left_ranges.are_ranges.Goals as goal
 pub returns : goal.returns
 returns c = λ x line is.
     let ranges = c.args.ranges.now in
-    are_ranges x c.args.dimension.now c.args.set.now ranges c.in_ok-holds.holds.items line
-    (sym c.are_all_ranges.ensures ∙ c.if-not-are_all_ranges.false)
+    are_ranges x c.args.dimension.now c.args.set.now ranges line
     (sym c.are_cut.ensures ∙ c.if-not-are_cut.false)
-    (c.in_ok-holds.ensures ∙ ap (map (have_number ranges))
-    (c.deref.ensures.value ∙ ap (λ (e : Dimension). e.starts) c.dimension.view_is))
-    (ap₂ (λ (s : List ℕ) (h : List Bool). agrees s 0 h)
-    (sym (c.deref-2.ensures.value ∙ ap (λ (s : SegmentSet). s.segments) c.set.view_is))
-    (sym c.deref-3.ensures.value) ∙ sym c.agrees.ensures ∙ is)
+    (ap₂ (λ (s e : List ℕ). agrees s 0 (map (have_number ranges) e))
+    (sym (c.deref.ensures.value ∙ ap (λ (s : SegmentSet). s.segments) c.set.view_is))
+    (sym (c.deref-2.ensures.value ∙ ap (λ (e : Dimension). e.starts) c.dimension.view_is))
+    ∙ sym c.ranges_agree.ensures ∙ is)

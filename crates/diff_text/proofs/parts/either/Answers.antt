@@ -3,8 +3,8 @@ use Rattle.diff_text.specs.Tables.{IsJoined, Table, join_by}
 use Rattle.diff_text.proofs.Tabled.{either_is}
 use Rattle.diff_text.proofs.parts.either.Goals as goal
 
-pub returns-in-Some-2 : goal.returns-in-Some-2
-returns-in-Some-2 c = λ ds all others.
+pub returns-in_ok-part-in-Some-2 : goal.returns-in_ok-part-in-Some-2
+returns-in_ok-part-in-Some-2 c = λ ds all others.
     let t = c.in-Some.one in
     let u = c.in-Some-only_table.other in
     either_is ds (join_by false) c.args.first c.args.second c.in_ok-part-in-Some-2.part t u
