@@ -46,7 +46,7 @@ fn rows_of(
         arrays_or_none(old),
         arrays_or_none(new),
     );
-    drop(diff);
+    diff.discard();
     Ok(shown?)
 }
 

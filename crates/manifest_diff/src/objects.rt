@@ -11,7 +11,8 @@ use crate::lines::is_silent;
 use crate::outcome::{AppChange, AppOutcome, WhyNot};
 use declarations::ArrayDeclaration;
 use diff_text::row_objects;
-use serde_json::{Value, json};
+use json_object::ObjectBuilder;
+use serde_json::Value;
 use simulate::push_value;
 use std::alloc::{AllocError, Global};
 
@@ -49,9 +50,7 @@ fn why_object(alloc: Global, outcome: &AppOutcome) -> Result<Value, AllocError>
     ensures { IfOk result (λ value. view value ≡ specs.why_object outcome.now) }
 {
     match outcome {
-        AppOutcome::NotCompared(why) => {
-            Ok(Value::String(String::from_str(alloc, why_name(*why))?))
-        }
+        AppOutcome::NotCompared(why) => Value::try_from_str(alloc, why_name(*why)),
         _ => Ok(Value::Null),
     }
 }
@@ -68,14 +67,14 @@ fn is_compared(outcome: &AppOutcome) -> bool
 fn app_object(alloc: Global, diff: &AppDiff) -> Result<Value, AllocError>
     ensures { IfOk result (λ value. view value ≡ specs.app_object diff.now) }
 {
-    json!(in alloc; {
-        "appid": diff.appid.as_str(),
-        "compared": is_compared(&diff.outcome),
-        "is": change_name(diff.change),
-        "lost": diff.loses(),
-        "rows": rows_in(alloc, &diff.outcome)?,
-        "why": why_object(alloc, &diff.outcome)?
-    })
+    let mut object = ObjectBuilder::new(alloc);
+    object.put_text("appid", diff.appid.as_str());
+    object.put_bool("compared", is_compared(&diff.outcome));
+    object.put_text("is", change_name(diff.change));
+    object.put_bool("lost", diff.loses());
+    object.put_list("rows", rows_in(alloc, &diff.outcome));
+    object.put("why", why_object(alloc, &diff.outcome));
+    object.finish()
 }
 
 // The objects of the apps that differ.
@@ -105,11 +104,11 @@ fn text_object(alloc: Global, array: &ArrayDeclaration) -> Result<Value, AllocEr
 fn array_object(alloc: Global, change: &ArrayChange<'_>) -> Result<Value, AllocError>
     ensures { IfOk result (λ value. view value ≡ specs.array_object change.now) }
 {
-    json!(in alloc; {
-        "name": change.old.name(),
-        "next": text_object(alloc, change.new)?,
-        "now": text_object(alloc, change.old)?
-    })
+    let mut object = ObjectBuilder::new(alloc);
+    object.put_text("name", change.old.name());
+    object.put("next", text_object(alloc, change.new));
+    object.put("now", text_object(alloc, change.old));
+    object.finish()
 }
 
 fn array_objects(alloc: Global, changes: &[ArrayChange<'_>]) -> Result<Vec<Value>, AllocError>
@@ -129,7 +128,10 @@ fn server_object(alloc: Global, old: &str, new: &str) -> Result<Value, AllocErro
     if old == new {
         return Ok(Value::Null);
     }
-    json!(in alloc; {"next": new, "now": old})
+    let mut object = ObjectBuilder::new(alloc);
+    object.put_text("next", new);
+    object.put_text("now", old);
+    object.finish()
 }
 
 // ---- the whole
@@ -146,11 +148,11 @@ pub(crate) fn diff_object(
     ensures { IfOk result (λ value. view value ≡ specs.diff_object servers.entry.0.now
         servers.entry.1.now changes.now diffs.now lost same) }
 {
-    json!(in alloc; {
-        "apps": app_objects(alloc, diffs)?,
-        "arrays": array_objects(alloc, changes)?,
-        "lost": lost,
-        "same": same,
-        "server": server_object(alloc, servers.0, servers.1)?
-    })
+    let mut object = ObjectBuilder::new(alloc);
+    object.put_list("apps", app_objects(alloc, diffs));
+    object.put_list("arrays", array_objects(alloc, changes));
+    object.put_bool("lost", lost);
+    object.put_bool("same", same);
+    object.put("server", server_object(alloc, servers.0, servers.1));
+    object.finish()
 }

@@ -37,7 +37,21 @@ pub struct OpenedBoth {
     pub new: OpenedManifest,
 }
 
+impl OpenedBoth {
+    /// Drops both. A crate that calls this proves no drop of a manifest's parts itself.
+    pub fn close(self) {
+        let OpenedBoth { old, new } = self;
+        old.close();
+        new.close();
+    }
+}
+
 impl OpenedManifest {
+    /// Drops it, as `OpenedBoth::close` does.
+    pub fn close(self) {
+        drop(self);
+    }
+
     /// The app with an appid.
     pub(crate) fn app(&self, appid: &str) -> Option<ManifestApp<'_>>
         requires judged { AreJudged self.now.sources.apps.items self.now.programs.items }
@@ -64,8 +78,8 @@ impl OpenedManifest {
     }
 }
 
-// The fault of a refusal, whose other parts are dropped here.
-fn fault_of(refusal: SourcesRefusal) -> LoadFault
+/// The fault of a refusal, whose other parts are dropped here.
+pub fn fault_of(refusal: SourcesRefusal) -> LoadFault
     ensures { result ≡ refusal.fault }
 {
     let SourcesRefusal {
@@ -135,7 +149,7 @@ pub fn open_both<D: Disk>(
     match open_manifest(alloc, disk, new) {
         Ok(new) => Ok(OpenedBoth { old: opened, new }),
         Err(fault) => {
-            drop(opened);
+            opened.close();
             Err(DiffFault::New(fault))
         }
     }

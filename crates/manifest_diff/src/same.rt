@@ -78,9 +78,10 @@ fn has_same_file(old: &ManifestApp<'_>, new: &ManifestApp<'_>) -> bool
 fn has_same_shape(old: &Verified, new: &Verified) -> bool
     ensures { result ≡ true → old.now.shape ≡ new.now.shape }
 {
-    old.shape().releases() == new.shape().releases()
-        && old.shape().arrays().len() == new.shape().arrays().len()
-        && agree_on_arrays(old.shape().arrays(), new.shape().arrays())
+    let (old, new) = (old.shape(), new.shape());
+    old.releases() == new.releases()
+        && old.arrays().len() == new.arrays().len()
+        && agree_on_arrays(old.arrays(), new.arrays())
 }
 
 // Whether both apps have one rule, by the text of their files.
