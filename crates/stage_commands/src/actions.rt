@@ -6,7 +6,7 @@ ghost use Rattle.stage_commands.specs.Actions.{IsStaged};
 use crate::backs::go_back;
 use crate::halts::halt;
 use crate::loads::load_all;
-use crate::options::{StageAction, StageOptions};
+use crate::options::{StageAction, StageCall, StageOptions};
 use crate::outcome::{Lines, StageOutcome, Stop};
 use crate::puts::put;
 use crate::raises::raise;
@@ -22,32 +22,26 @@ use std::time::Clock;
 
 // Changes the files as the action says. A status changes nothing.
 fn change_files<R, D, F>(
-    rt: &R,
-    disk: &D,
+    call: &StageCall<'_, R, D>,
     folder: &mut F,
-    manifest: &str,
     action: &StageAction<'_>,
-    options: &StageOptions<'_>,
     lines: &mut Lines,
 ) -> Result<(), Stop>
 where
     R: Files + AllocGlobal + Clock + Net<Stream = TcpStream>,
     D: Disk,
     F: StageFolder,
-    ensures done { OnOk result (options.now.dry_run ≡ false → IsStaged (D.known disk.now)
-        manifest.now options.now.anyway action.now (F.records folder.old) (F.files folder.old)
-        (F.files folder.new)) }
-    ensures unchanged { options.now.dry_run ≡ true → F.files folder.new ≡ F.files folder.old }
+    ensures done { OnOk result (call.now.options.now.dry_run ≡ false
+        → IsStaged (D.known call.now.disk.now) call.now.manifest.now call.now.options.now.anyway
+        action.now (F.records folder.old) (F.files folder.old) (F.files folder.new)) }
+    ensures unchanged { call.now.options.now.dry_run ≡ true
+        → F.files folder.new ≡ F.files folder.old }
 {
     match *action {
-        StageAction::Halt { appid } => halt(rt, disk, folder, manifest, appid, options, lines),
-        StageAction::Raise { appid, buckets } => {
-            raise(rt, disk, folder, manifest, appid, buckets, options, lines)
-        }
-        StageAction::Back => go_back(rt, disk, folder, manifest, options, lines),
-        StageAction::Put { manifest: next } => {
-            put(rt, disk, folder, manifest, next, options, lines)
-        }
+        StageAction::Halt { appid } => halt(call, folder, appid, lines),
+        StageAction::Raise { appid, buckets } => raise(call, folder, appid, buckets, lines),
+        StageAction::Back => go_back(call, folder, lines),
+        StageAction::Put { manifest } => put(call, folder, manifest, lines),
         StageAction::Status => Ok(()),
     }
 }
@@ -55,32 +49,27 @@ where
 // Prints the status; or changes the files, and has the servers load the manifest. Returns whether
 // all is done.
 fn act<R, D, F>(
-    rt: &R,
-    disk: &D,
+    call: &StageCall<'_, R, D>,
     folder: &mut F,
-    manifest: &str,
     action: &StageAction<'_>,
-    options: &StageOptions<'_>,
     lines: &mut Lines,
 ) -> Result<bool, Stop>
 where
     R: Files + AllocGlobal + Clock + Net<Stream = TcpStream>,
     D: Disk,
     F: StageFolder,
-    ensures done { OnOk result (options.now.dry_run ≡ false → IsStaged (D.known disk.now)
-        manifest.now options.now.anyway action.now (F.records folder.old) (F.files folder.old)
-        (F.files folder.new)) }
-    ensures unchanged { options.now.dry_run ≡ true → F.files folder.new ≡ F.files folder.old }
+    ensures done { OnOk result (call.now.options.now.dry_run ≡ false
+        → IsStaged (D.known call.now.disk.now) call.now.manifest.now call.now.options.now.anyway
+        action.now (F.records folder.old) (F.files folder.old) (F.files folder.new)) }
+    ensures unchanged { call.now.options.now.dry_run ≡ true
+        → F.files folder.new ≡ F.files folder.old }
 {
     if let StageAction::Status = action {
-        return push_status(rt, disk, folder, manifest, options, lines);
+        return push_status(call, folder, lines);
     }
-    if let Err(stop) = change_files(rt, disk, folder, manifest, action, options, lines) {
-        return Err(stop);
-    }
-    match load_all(rt, disk, &*folder, manifest, options, lines) {
-        Ok(is_done) => Ok(is_done),
-        Err(_) => Err(Stop::Memory),
+    match change_files(call, folder, action, lines) {
+        Ok(()) => Ok(load_all(call, &*folder, lines)),
+        Err(stop) => Err(stop),
     }
 }
 
@@ -106,11 +95,22 @@ where
         (F.records folder.old) (F.files folder.old) (F.files folder.new)) }
     ensures unchanged { options.now.dry_run ≡ true → F.files folder.new ≡ F.files folder.old }
 {
+    let call = StageCall {
+        rt,
+        disk,
+        manifest,
+        options,
+    };
     let mut lines = Lines::new(rt.alloc());
-    match act(rt, disk, folder, manifest, action, options, &mut lines) {
-        Ok(is_done) => Ok(lines.into_outcome(is_done)),
+    match act(&call, folder, action, &mut lines) {
+        Ok(is_done) => lines.into_outcome(is_done),
         Err(stop) => lines.into_stopped(stop),
     }
+}
+
+// The path of the manifest in a folder.
+fn manifest_in(alloc: Global, folder: &str) -> Result<String, AllocError> {
+    format!(in alloc; "{folder}/current.toml")
 }
 
 // Refuses the folder while another call is at work in it. A status only looks.
@@ -121,7 +121,7 @@ fn lock_for<F: StageFolder>(folder: &mut F, action: &StageAction<'_>) -> Result<
     }
 }
 
-// The same in a folder that is open, and not locked yet.
+// Does an action in a folder that is open, and not locked yet.
 fn stage_opened<R, D, F>(
     rt: &R,
     disk: &D,
@@ -134,13 +134,13 @@ where
     D: Disk,
     F: StageFolder,
 {
-    let alloc = rt.alloc();
     if let Err(fault) = lock_for(folder, action) {
-        return stopped(alloc, options, fault);
+        return stopped(rt.alloc(), options, fault);
     }
-    let path = folder.path();
-    let manifest = format!(in alloc; "{path}/current.toml")?;
-    stage_in(rt, disk, folder, manifest.as_str(), action, options)
+    match manifest_in(rt.alloc(), folder.path()) {
+        Ok(manifest) => stage_in(rt, disk, folder, manifest.as_str(), action, options),
+        Err(_) => Err(AllocError),
+    }
 }
 
 fn stopped(

@@ -5,7 +5,7 @@ ghost use Rattle.stage_commands.specs.Apps as specs;
 ghost use Rattle.stage_folder.specs.Folders.{GivesFile, KnownFolder};
 
 use crate::collected::app_named;
-use crate::options::StageOptions;
+use crate::options::StageCall;
 use crate::outcome::{Lines, Stop};
 use crate::stop_texts::{no_app, one_file};
 use attrs::Text;
@@ -14,24 +14,20 @@ use staging::ReplacedFile;
 use std::alloc::{AllocError, Global};
 use std::fs;
 use std::os::unix::fs::MetadataExt;
-use std::path::{Path, PathBuf};
+use std::path::Path;
 use std::rt::Files;
 
-// The path of a name in a manifest.
-fn path_in_folder(alloc: Global, manifest: &str, name: &str) -> Result<PathBuf, AllocError> {
+// The device and the inode of a file that a manifest names, links followed; None if there is none.
+fn file_identity<R>(rt: &R, manifest: &str, name: &str) -> Result<Option<(u64, u64)>, AllocError>
+where
+    R: Files + AllocGlobal,
+{
     let folder = Path::new(manifest).parent().unwrap_or(Path::new(""));
-    folder.join(alloc, name)
-}
-
-// Whether two paths lead to one file, links followed.
-fn leads_to_same<R: Files>(rt: &R, one: &str, other: &str) -> bool {
-    let Ok(found) = fs::metadata(rt, one) else {
-        return false;
-    };
-    let Ok(too) = fs::metadata(rt, other) else {
-        return false;
-    };
-    found.dev() == too.dev() && found.ino() == too.ino()
+    let path = folder.join(rt.alloc(), name)?;
+    match fs::metadata(rt, path.as_str()) {
+        Ok(found) => Ok(Some((found.dev(), found.ino()))),
+        Err(_) => Ok(None),
+    }
 }
 
 // Whether two names of a manifest are those of one file.
@@ -42,13 +38,13 @@ where
     if one == other {
         return Ok(true);
     }
-    let Ok(path) = path_in_folder(rt.alloc(), manifest, one) else {
-        return Err(AllocError);
+    let Some(found) = file_identity(rt, manifest, one)? else {
+        return Ok(false);
     };
-    let Ok(another) = path_in_folder(rt.alloc(), manifest, other) else {
-        return Err(AllocError);
-    };
-    Ok(leads_to_same(rt, path.as_str(), another.as_str()))
+    match file_identity(rt, manifest, other)? {
+        Some(too) => Ok(found.0 == too.0 && found.1 == too.1),
+        None => Ok(false),
+    }
 }
 
 // Another app of the manifest with the same file.
@@ -73,30 +69,28 @@ where
 
 /// The app with this appid. It is a refusal if another app has the same file, unless `--anyway` is
 /// given.
-pub(crate) fn app_to_change<'a, R>(
-    rt: &R,
-    manifest: &str,
+pub(crate) fn app_to_change<'a, R, D>(
+    call: &StageCall<'_, R, D>,
     apps: &'a [AppSources],
     appid: &str,
-    options: &StageOptions<'_>,
     lines: &mut Lines,
 ) -> Result<&'a AppSources, Stop>
 where
     R: Files + AllocGlobal,
     ensures { IfOk result (λ app. specs.app_named apps.now appid.now ≡ Some app.now) }
 {
-    let alloc = rt.alloc();
+    let alloc = call.rt.alloc();
     let Some(app) = app_named(apps, appid) else {
         return Err(no_app(alloc, appid, apps));
     };
-    let Ok(found) = app_with_file(rt, manifest, apps, app) else {
+    let Ok(found) = app_with_file(call.rt, call.manifest, apps, app) else {
         return Err(Stop::Memory);
     };
     let Some(other) = found else {
         return Ok(app);
     };
     let refusal = one_file(alloc, file_of(app.entry.source()), other);
-    match lines.go_on_if(options.anyway, refusal) {
+    match lines.go_on_if(call.options.anyway, refusal) {
         Ok(()) => Ok(app),
         Err(stop) => Err(stop),
     }

@@ -5,12 +5,12 @@ ghost use Rattle.staging.specs.Steps.{last_step};
 ghost use Rattle.stage_commands.specs.Backs.{HasGoneBack};
 ghost use Rattle.stage_folder.specs.Steps.{undone};
 
-use crate::options::StageOptions;
+use crate::options::StageCall;
 use crate::outcome::{Lines, Stop};
 use crate::restored::compare_restored;
-use crate::step_lines::push_action;
+use crate::step_lines::push_step;
 use crate::steps::{RECORDS, name_at, read_steps};
-use crate::stop_texts::{in_folder, not_undone, nothing_to_undo};
+use crate::stop_texts::{NOTHING_TO_UNDO, in_folder, not_undone, refused};
 use bounded_files::Disk;
 use stage_folder::{FolderFault, StageFolder, StepFault, undo, write_record};
 use staging::StagingStep;
@@ -59,40 +59,38 @@ fn undo_step<F: StageFolder>(
     }
 }
 
-// Adds the line of a step.
-fn push_step(lines: &mut Lines, word: &str, step: &StagingStep) -> Result<(), Stop> {
-    match push_action(&mut lines.text, word, step) {
-        Ok(()) => Ok(()),
-        Err(_) => Err(Stop::Memory),
-    }
-}
-
 // Undoes a step once what changes is compared; for `--dry-run` it only prints the step.
 fn undo_compared<R, D, F>(
-    rt: &R,
-    disk: &D,
+    call: &StageCall<'_, R, D>,
     folder: &mut F,
-    manifest: &str,
     step: &mut StagingStep,
-    options: &StageOptions<'_>,
     lines: &mut Lines,
 ) -> Result<(), Stop>
 where
     R: AllocGlobal + Clock + Net<Stream = TcpStream>,
     D: Disk,
     F: StageFolder,
-    ensures done { OnOk result (options.now.dry_run ≡ false
+    ensures done { OnOk result (call.now.options.now.dry_run ≡ false
         → F.files folder.new ≡ option_map (undone step.old.files) (F.files folder.old)) }
-    ensures unchanged { options.now.dry_run ≡ true → F.files folder.new ≡ F.files folder.old }
+    ensures unchanged { call.now.options.now.dry_run ≡ true
+        → F.files folder.new ≡ F.files folder.old }
 {
-    if let Err(stop) = compare_restored(rt, disk, manifest, &*step, options, lines) {
+    if let Err(stop) = compare_restored(call, &*step, lines) {
         return Err(stop);
     }
-    if options.dry_run {
-        return push_step(lines, "would undo", &*step);
+    let alloc = call.rt.alloc();
+    if call.options.dry_run {
+        push_step(alloc, &mut lines.text, "would undo", &*step);
+        return Ok(());
     }
-    match undo_step(rt.alloc(), folder, step) {
-        Ok(()) => push_step(lines, "undone", &*step),
+    if !lines.are_complete() {
+        return Err(Stop::Memory);
+    }
+    match undo_step(alloc, folder, step) {
+        Ok(()) => {
+            push_step(alloc, &mut lines.text, "undone", &*step);
+            Ok(())
+        }
         Err(stop) => Err(stop),
     }
 }
@@ -101,28 +99,26 @@ where
 /// its middle.
 #[tactic(auto, using(crate::proofs::Replacing::gone_back))]
 pub(crate) fn go_back<R, D, F>(
-    rt: &R,
-    disk: &D,
+    call: &StageCall<'_, R, D>,
     folder: &mut F,
-    manifest: &str,
-    options: &StageOptions<'_>,
     lines: &mut Lines,
 ) -> Result<(), Stop>
 where
     R: AllocGlobal + Clock + Net<Stream = TcpStream>,
     D: Disk,
     F: StageFolder,
-    ensures done { OnOk result (options.now.dry_run ≡ false → HasGoneBack (F.records folder.old)
-        (F.files folder.old) (F.files folder.new)) }
-    ensures unchanged { options.now.dry_run ≡ true → F.files folder.new ≡ F.files folder.old }
+    ensures done { OnOk result (call.now.options.now.dry_run ≡ false → HasGoneBack
+        (F.records folder.old) (F.files folder.old) (F.files folder.new)) }
+    ensures unchanged { call.now.options.now.dry_run ≡ true
+        → F.files folder.new ≡ F.files folder.old }
 {
-    let alloc = rt.alloc();
+    let alloc = call.rt.alloc();
     let recorded = read_steps(alloc, folder)?;
     let Some(step) = take_last(recorded.steps) else {
-        return Err(nothing_to_undo(alloc));
+        return Err(refused(alloc, NOTHING_TO_UNDO));
     };
     let mut step = step;
-    let gone_back = undo_compared(rt, disk, folder, manifest, &mut step, options, lines);
+    let gone_back = undo_compared(call, folder, &mut step, lines);
     drop(step);
     gone_back
 }

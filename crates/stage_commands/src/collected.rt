@@ -6,7 +6,7 @@ ghost use Rattle.stage_commands.specs.Apps as specs;
 ghost use Rattle.stage_commands.specs.Compared.{IsJudged};
 
 use crate::outcome::Stop;
-use crate::stop_texts::{no_manifest, not_judged};
+use crate::stop_texts::no_manifest;
 use app_rules::read_rules;
 use bounded_files::Disk;
 use cells::Directory;
@@ -107,20 +107,23 @@ pub(crate) fn judged(alloc: Global, sources: Sources) -> Result<OpenedManifest, 
     ensures judged { IfOk result IsJudged }
     ensures sources { IfOk result (λ opened. opened.sources ≡ sources) }
 {
-    let Ok(rules) = read_rules(alloc, &sources.apps) else {
-        drop(sources);
-        return Err(LoadFault::Memory);
+    let programs = match judge(alloc, &sources.apps) {
+        Ok(programs) => programs,
+        Err(fault) => {
+            drop(sources);
+            return Err(fault);
+        }
     };
-    match judge(alloc, &sources.apps) {
-        Ok(programs) => Ok(OpenedManifest {
+    match read_rules(alloc, &sources.apps) {
+        Ok(rules) => Ok(OpenedManifest {
             sources,
             programs,
             rules,
         }),
-        Err(fault) => {
-            drop(rules);
+        Err(_) => {
+            drop(programs);
             drop(sources);
-            Err(fault)
+            Err(LoadFault::Memory)
         }
     }
 }
@@ -132,7 +135,7 @@ pub(crate) fn judged_at(alloc: Global, path: &str, sources: Sources) -> Result<O
 {
     match judged(alloc, sources) {
         Ok(opened) => Ok(opened),
-        Err(fault) => Err(not_judged(alloc, path, fault)),
+        Err(fault) => Err(no_manifest(alloc, path, PathFault::Load(fault))),
     }
 }
 

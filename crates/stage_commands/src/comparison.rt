@@ -3,16 +3,16 @@
 ghost use Rattle.stage_commands.specs.Compared.{IsJudged};
 ghost use Rattle.manifest_diff.specs.Opened.{AreKept};
 
-use crate::options::StageOptions;
+use crate::options::{StageCall, StageOptions};
 use crate::outcome::{Lines, Stop};
 use crate::quota_lines::push_quotas;
-use crate::stop_texts::{loses, not_compared};
+use crate::stop_texts::{LOSES, not_compared, refused};
+use crate::text_buffer::TextBuffer;
 use attrs::Elapsed;
 use cell_assignments::{CellAssignment, read_assignments};
-use manifest_diff::{DiffOptions, OpenedBoth, OpenedManifest, diff_manifests};
+use manifest_diff::{DiffOptions, DiffOutput, OpenedBoth, OpenedManifest, diff_manifests};
 use operator::ask_server;
 use operator_request::OperatorRequest;
-use std::fmt::Write;
 use std::net::{Net, TcpStream};
 use std::time::{Clock, SystemTime, UNIX_EPOCH};
 
@@ -34,28 +34,24 @@ fn today<R: Clock>(rt: &R) -> u32 {
 }
 
 // The lines of the first server's counters; none without a reply.
-fn counters<R>(rt: &R, options: &StageOptions<'_>, lines: &mut Lines) -> Result<String, Stop>
+fn counters<R>(rt: &R, options: &StageOptions<'_>, stderr: &mut TextBuffer) -> String
 where
     R: AllocGlobal + Net<Stream = TcpStream>,
 {
     if options.no_load {
-        return Ok(String::new(rt.alloc()));
+        return String::new(rt.alloc());
     }
     let Some(port) = options.ports().first() else {
-        return Ok(String::new(rt.alloc()));
+        return String::new(rt.alloc());
     };
     match ask_server(rt, OperatorRequest::Cells, *port) {
-        Ok(reply) => Ok(reply),
+        Ok(reply) => reply,
         Err(fault) => {
-            let pushed = writeln!(
-                lines.stderr,
-                "stage: no counters of the server at {port} ({fault}): all quotas count as open"
-            );
+            stderr.push_number("stage: no counters of the server at ", *port as u64, " (");
+            stderr.push_value(&fault);
+            stderr.push("): all quotas count as open\n");
             drop(fault);
-            match pushed {
-                Ok(()) => Ok(String::new(rt.alloc())),
-                Err(_) => Err(Stop::Memory),
-            }
+            String::new(rt.alloc())
         }
     }
 }
@@ -65,7 +61,7 @@ fn push_rows<R>(
     rt: &R,
     both: &OpenedBoth,
     cells: &[CellAssignment<'_>],
-    lines: &mut Lines,
+    text: &mut TextBuffer,
 ) -> Result<bool, Stop>
 where
     R: AllocGlobal + Clock,
@@ -77,14 +73,10 @@ where
         json: false,
     };
     match diff_manifests(rt.alloc(), both, cells, &[], &options) {
-        Ok(output) => {
-            let loses = output.loses;
-            let pushed = lines.text.push_str(output.text.as_str());
-            drop(output);
-            match pushed {
-                Ok(()) => Ok(loses),
-                Err(_) => Err(Stop::Memory),
-            }
+        Ok(DiffOutput { text: rows, loses }) => {
+            text.push(rows.as_str());
+            drop(rows);
+            Ok(loses)
         }
         Err(fault) => Err(not_compared(rt.alloc(), fault)),
     }
@@ -95,7 +87,7 @@ fn push_comparison<R>(
     rt: &R,
     both: &OpenedBoth,
     reply: &str,
-    lines: &mut Lines,
+    text: &mut TextBuffer,
 ) -> Result<bool, Stop>
 where
     R: AllocGlobal + Clock,
@@ -104,20 +96,17 @@ where
     let Ok(cells) = read_assignments(rt.alloc(), reply) else {
         return Err(Stop::Memory);
     };
-    match push_quotas(&mut lines.text, &both.new.sources.arrays, &cells) {
-        Ok(()) => push_rows(rt, both, &cells, lines),
-        Err(_) => Err(Stop::Memory),
-    }
+    push_quotas(text, &both.new.sources.arrays, &cells);
+    push_rows(rt, both, &cells, text)
 }
 
 /// Prints what changes from today on. A lost row, or an app that isn't compared, is a refusal,
 /// unless `--anyway` is given.
 #[tactic(auto, using(crate::proofs::Opening::both_kept))]
-pub(crate) fn compare<R>(
-    rt: &R,
+pub(crate) fn compare<R, D>(
+    call: &StageCall<'_, R, D>,
     old: OpenedManifest,
     new: OpenedManifest,
-    options: &StageOptions<'_>,
     lines: &mut Lines,
 ) -> Result<(), Stop>
 where
@@ -126,14 +115,12 @@ where
     requires new { IsJudged new }
 {
     let both = OpenedBoth { old, new };
-    let reply = counters(rt, options, lines);
-    let lost = match reply {
-        Ok(reply) => push_comparison(rt, &both, reply.as_str(), lines),
-        Err(stop) => Err(stop),
-    };
-    drop(both);
+    let reply = counters(call.rt, call.options, &mut lines.stderr);
+    let lost = push_comparison(call.rt, &both, reply.as_str(), &mut lines.text);
+    drop(reply);
+    both.close();
     match lost {
-        Ok(true) => lines.go_on_if(options.anyway, loses(rt.alloc())),
+        Ok(true) => lines.go_on_if(call.options.anyway, refused(call.rt.alloc(), LOSES)),
         Ok(false) => Ok(()),
         Err(stop) => Err(stop),
     }

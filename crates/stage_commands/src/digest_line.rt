@@ -33,7 +33,7 @@ fn last_in<B: BufRead>(alloc: Global, reader: &mut B) -> io::Result<Option<Strin
     for _ in 0..u64::MAX {
         line.clear();
         match reader.read_until(b'\n', &mut line) {
-            Ok(0) => return Ok(last),
+            Ok(0) => break,
             Ok(_) => {}
             Err(error) => return Err(error),
         }

@@ -7,7 +7,7 @@ ghost use Rattle.stage_commands.specs.Stages.{HasHalted, PlansHalt, PlansHaltOf}
 
 use crate::app_file::{app_to_change, replacement};
 use crate::collected::{CollectedManifest, collected_at};
-use crate::options::StageOptions;
+use crate::options::StageCall;
 use crate::outcome::{Lines, Stop};
 use crate::steps::{number_in, owned_text, take_file};
 use crate::stop_texts::in_folder;
@@ -39,50 +39,44 @@ fn halting_file_of<F: StageFolder>(
 }
 
 // The same, by the manifest in place. No other app is looked at, and nothing is compared.
-fn file_by<R, F>(
-    rt: &R,
+fn file_by<R, D, F>(
+    call: &StageCall<'_, R, D>,
     folder: &F,
-    manifest: &str,
     collected: &CollectedManifest,
     appid: &str,
-    options: &StageOptions<'_>,
     lines: &mut Lines,
 ) -> Result<Option<ReplacedFile>, Stop>
 where
     R: Files + AllocGlobal,
     F: StageFolder,
     ensures { IfOk result (λ file. (known : KnownFiles)
-        → IsCollected known manifest.now collected.now.bytes.items collected.now.sources
-        → PlansHalt known manifest.now appid.now (F.files folder.now) file) }
+        → IsCollected known call.now.manifest.now collected.now.bytes.items collected.now.sources
+        → PlansHalt known call.now.manifest.now appid.now (F.files folder.now) file) }
 {
-    let apps = &collected.sources.apps;
-    let app = app_to_change(rt, manifest, apps, appid, options, lines)?;
-    let file = halting_file_of(rt.alloc(), folder, app)?;
+    let app = app_to_change(call, &collected.sources.apps, appid, lines)?;
+    let file = halting_file_of(call.rt.alloc(), folder, app)?;
     Ok(file)
 }
 
 // The same, by the manifest at a path.
 fn planned_file<R, D, F>(
-    rt: &R,
-    disk: &D,
+    call: &StageCall<'_, R, D>,
     folder: &F,
-    manifest: &str,
     appid: &str,
-    options: &StageOptions<'_>,
     lines: &mut Lines,
 ) -> Result<Option<ReplacedFile>, Stop>
 where
     R: Files + AllocGlobal,
     D: Disk,
     F: StageFolder,
-    ensures { IfOk result (PlansHalt (D.known disk.now) manifest.now appid.now
+    ensures { IfOk result (PlansHalt (D.known call.now.disk.now) call.now.manifest.now appid.now
         (F.files folder.now)) }
 {
-    let collected = match collected_at(rt.alloc(), disk, manifest) {
+    let collected = match collected_at(call.rt.alloc(), call.disk, call.manifest) {
         Ok(collected) => collected,
         Err(stop) => return Err(stop),
     };
-    let file = file_by(rt, folder, manifest, &collected, appid, options, lines);
+    let file = file_by(call, folder, &collected, appid, lines);
     drop(collected);
     Ok(file?)
 }
@@ -90,23 +84,22 @@ where
 /// Halts an app.
 #[tactic(auto, using(crate::proofs::Replacing::halted))]
 pub(crate) fn halt<R, D, F>(
-    rt: &R,
-    disk: &D,
+    call: &StageCall<'_, R, D>,
     folder: &mut F,
-    manifest: &str,
     appid: &str,
-    options: &StageOptions<'_>,
     lines: &mut Lines,
 ) -> Result<(), Stop>
 where
     R: Files + AllocGlobal + Clock,
     D: Disk,
     F: StageFolder,
-    ensures done { OnOk result (options.now.dry_run ≡ false → HasHalted (D.known disk.now)
-        manifest.now appid.now (F.files folder.old) (F.files folder.new)) }
-    ensures unchanged { options.now.dry_run ≡ true → F.files folder.new ≡ F.files folder.old }
+    ensures done { OnOk result (call.now.options.now.dry_run ≡ false
+        → HasHalted (D.known call.now.disk.now) call.now.manifest.now appid.now
+        (F.files folder.old) (F.files folder.new)) }
+    ensures unchanged { call.now.options.now.dry_run ≡ true
+        → F.files folder.new ≡ F.files folder.old }
 {
-    let alloc = rt.alloc();
+    let alloc = call.rt.alloc();
     let number = match number_in(alloc, folder) {
         Ok(number) => number,
         Err(stop) => return Err(stop),
@@ -114,10 +107,10 @@ where
     let Ok(owned) = owned_text(alloc, appid) else {
         return Err(Stop::Memory);
     };
-    match planned_file(rt, disk, folder, manifest, appid, options, lines) {
+    match planned_file(call, folder, appid, lines) {
         Ok(file) => {
             let action = StepAction::Halt { appid: owned };
-            take_file(rt, folder, number, action, file, options, lines)
+            take_file(call, folder, number, action, file, lines)
         }
         Err(stop) => {
             drop(owned);

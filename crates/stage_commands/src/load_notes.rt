@@ -6,9 +6,9 @@
 //
 // No contract says what is noted: bench/outside tests it.
 
+use crate::text_buffer::TextBuffer;
 use stage_folder::StageFolder;
 use std::alloc::{AllocError, Global};
-use std::fmt::Write;
 use std::str;
 
 /// What is noted of a server's load.
@@ -53,15 +53,17 @@ pub(crate) fn with_note(
     port: u16,
     note: LoadNote<'_>,
 ) -> Result<String, AllocError> {
-    let mut text = String::new(alloc);
+    let mut text = TextBuffer::new(alloc);
     for line in notes.lines() {
         if after_port(line, port).is_none() {
-            writeln!(text, "{line}")?;
+            text.push(line);
+            text.push("\n");
         }
     }
-    let LoadNote { generation, digest } = note;
-    let Ok(()) = writeln!(text, "{port} {generation} {digest}") else {
-        return Err(AllocError);
-    };
-    Ok(text)
+    text.push_number("", port as u64, " ");
+    text.push(note.generation);
+    text.push(" ");
+    text.push(note.digest);
+    text.push("\n");
+    text.finish()
 }

@@ -4,92 +4,66 @@
 
 use crate::collected::{CollectedManifest, collect, digest_text};
 use crate::load_notes::{LoadNote, read_notes, with_note};
-use crate::options::StageOptions;
+use crate::options::StageCall;
 use crate::outcome::Lines;
 use crate::removed_apps::{apps_shown, push_removed};
+use crate::text_buffer::TextBuffer;
 use bounded_files::Disk;
 use operator::{RequestFault, ask_server};
 use operator_request::OperatorRequest;
-use printing::Printed;
 use stage_folder::StageFolder;
 use std::alloc::{AllocError, Global};
-use std::fmt::Write;
 use std::net::{Net, TcpStream};
 
 /// Adds the line of a server that did not do what it was to do, and how to mend it.
-pub(crate) fn push_fault(
-    text: &mut String,
-    port: u16,
-    fault: &RequestFault,
-    manifest: &str,
-) -> Result<(), AllocError> {
-    write!(text, "server at {port}: refused {fault}: ")?;
-    let manifest = Printed(manifest);
-    match fault {
+pub(crate) fn push_fault(text: &mut TextBuffer, port: u16, fault: RequestFault, manifest: &str) {
+    text.push_number("server at ", port as u64, ": refused ");
+    text.push_value(&fault);
+    match &fault {
         RequestFault::Connect => {
-            writeln!(text, "no server replies, is {port} its operator's port?")
-        }
-        RequestFault::Refused(words) if words.starts_with("M7") => {
-            writeln!(
-                text,
-                "the arrays don't fit the server's: its log has the cause"
+            text.push_number(
+                ": no server replies, is ",
+                port as u64,
+                " its operator's port?\n",
             )
         }
-        RequestFault::Refused(_) => writeln!(text, "call rollout check {manifest}"),
-        RequestFault::Word => writeln!(text, "rename the folder, its path can't be sent"),
-        RequestFault::Memory => writeln!(text, "call it again"),
+        RequestFault::Refused(words) if words.starts_with("M7") => {
+            text.push(": the arrays don't fit the server's: its log has the cause\n")
+        }
+        RequestFault::Refused(_) => text.push_printed(": call rollout check ", manifest, "\n"),
+        RequestFault::Word => text.push(": rename the folder, its path can't be sent\n"),
+        RequestFault::Memory => text.push(": call it again\n"),
     }
+    drop(fault);
 }
 
 // Has the server at a port load the manifest. Returns its reply, if it did.
-fn load_at<R>(
-    rt: &R,
-    port: u16,
-    manifest: &str,
-    lines: &mut Lines,
-) -> Result<Option<String>, AllocError>
+fn load_at<R, D>(call: &StageCall<'_, R, D>, port: u16, lines: &mut Lines) -> Option<String>
 where
     R: AllocGlobal + Net<Stream = TcpStream>,
 {
-    match ask_server(rt, OperatorRequest::Load(manifest), port) {
+    match ask_server(call.rt, OperatorRequest::Load(call.manifest), port) {
         Ok(reply) => {
-            let generation = reply.as_str().trim_end();
-            match writeln!(lines.text, "server at {port}: {generation}") {
-                Ok(()) => Ok(Some(reply)),
-                Err(_) => {
-                    drop(reply);
-                    Err(AllocError)
-                }
-            }
+            lines.text.push_number("server at ", port as u64, ": ");
+            lines.text.push(reply.as_str().trim_end());
+            lines.text.push("\n");
+            Some(reply)
         }
         Err(fault) => {
-            let pushed = push_fault(&mut lines.stderr, port, &fault, manifest);
-            drop(fault);
-            match pushed {
-                Ok(()) => Ok(None),
-                Err(_) => Err(AllocError),
-            }
+            push_fault(&mut lines.stderr, port, fault, call.manifest);
+            None
         }
     }
 }
 
-// The notes after a load, by what the server showed before it and replied to it. Adds which apps
-// the server no longer has.
+// The notes after a load, by what the server replied to it.
 fn notes_after(
     alloc: Global,
     port: u16,
-    collected: Option<&CollectedManifest>,
-    shown: &str,
+    collected: &CollectedManifest,
     reply: &str,
     notes: &str,
-    text: &mut String,
 ) -> Result<String, AllocError> {
-    let Some(collected) = collected else {
-        return String::from_str(alloc, notes);
-    };
-    let Ok(()) = push_removed(text, port, shown, &collected.sources.apps) else {
-        return Err(AllocError);
-    };
     let Ok(digest) = digest_text(alloc, collected) else {
         return Err(AllocError);
     };
@@ -100,121 +74,84 @@ fn notes_after(
     with_note(alloc, notes, port, note)
 }
 
-// Has the server at a port load the manifest, and returns the notes with this load.
-fn load_noted<R>(
-    rt: &R,
+// Has the server at a port load the manifest, adds which apps it no longer has, and notes this
+// load. Returns whether it loaded.
+fn load_noted<R, D>(
+    call: &StageCall<'_, R, D>,
     port: u16,
-    manifest: &str,
-    collected: Option<&CollectedManifest>,
-    notes: &str,
-    lines: &mut Lines,
-) -> Result<Option<String>, AllocError>
-where
-    R: AllocGlobal + Net<Stream = TcpStream>,
-{
-    let shown = apps_shown(rt, port);
-    match load_at(rt, port, manifest, lines) {
-        Ok(Some(reply)) => {
-            let text = &mut lines.stderr;
-            let (before, after) = (shown.as_str(), reply.as_str());
-            let noted = notes_after(rt.alloc(), port, collected, before, after, notes, text);
-            drop(reply);
-            drop(shown);
-            match noted {
-                Ok(text) => Ok(Some(text)),
-                Err(_) => Err(AllocError),
-            }
-        }
-        Ok(None) => Ok(None),
-        Err(_) => Err(AllocError),
-    }
-}
-
-// The same for one server more: its notes take the place of the others, or its port is added.
-fn load_next<R>(
-    rt: &R,
-    port: u16,
-    manifest: &str,
     collected: Option<&CollectedManifest>,
     notes: &mut String,
-    refused: &mut String,
     lines: &mut Lines,
-) -> Result<(), AllocError>
+) -> bool
 where
     R: AllocGlobal + Net<Stream = TcpStream>,
 {
-    match load_noted(rt, port, manifest, collected, notes.as_str(), lines) {
-        Ok(Some(text)) => {
-            *notes = text;
-            Ok(())
+    let shown = apps_shown(call.rt, port);
+    let Some(reply) = load_at(call, port, lines) else {
+        return false;
+    };
+    if let Some(collected) = collected {
+        let (alloc, apps) = (call.rt.alloc(), &collected.sources.apps);
+        push_removed(&mut lines.stderr, port, shown.as_str(), apps);
+        match notes_after(alloc, port, collected, reply.as_str(), notes.as_str()) {
+            Ok(text) => *notes = text,
+            Err(_) => lines.stderr.leave_out(),
         }
-        Ok(None) => write!(refused, " {port}"),
-        Err(_) => Err(AllocError),
     }
+    true
 }
 
 // Has each server load the manifest, and notes the loads. Returns the ports of those that didn't,
 // each after a space. If the notes can't be written, a status only doesn't know of these loads.
-fn load_each<R, F>(
-    rt: &R,
+fn load_each<R, D, F>(
+    call: &StageCall<'_, R, D>,
     folder: &F,
-    manifest: &str,
     collected: Option<&CollectedManifest>,
-    options: &StageOptions<'_>,
     lines: &mut Lines,
 ) -> Result<String, AllocError>
 where
     R: AllocGlobal + Net<Stream = TcpStream>,
     F: StageFolder,
 {
-    let mut notes = read_notes(rt.alloc(), folder)?;
-    let mut refused = String::new(rt.alloc());
-    for port in options.ports() {
-        load_next(
-            rt,
-            *port,
-            manifest,
-            collected,
-            &mut notes,
-            &mut refused,
-            lines,
-        )?;
+    let Ok(mut notes) = read_notes(call.rt.alloc(), folder) else {
+        return Err(AllocError);
+    };
+    let mut refused = TextBuffer::new(call.rt.alloc());
+    for port in call.options.ports() {
+        if !load_noted(call, *port, collected, &mut notes, lines) {
+            refused.push_number(" ", *port as u64, "");
+        }
     }
     if !notes.is_empty() {
         let _noted = folder.write_loads(notes.as_bytes());
     }
-    Ok(refused)
+    refused.finish()
 }
 
 /// Has each server load the manifest, whatever the others do. Returns whether all did.
-pub(crate) fn load_all<R, D, F>(
-    rt: &R,
-    disk: &D,
-    folder: &F,
-    manifest: &str,
-    options: &StageOptions<'_>,
-    lines: &mut Lines,
-) -> Result<bool, AllocError>
+pub(crate) fn load_all<R, D, F>(call: &StageCall<'_, R, D>, folder: &F, lines: &mut Lines) -> bool
 where
     R: AllocGlobal + Net<Stream = TcpStream>,
     D: Disk,
     F: StageFolder,
 {
-    if options.no_load || options.dry_run {
-        return Ok(true);
+    if call.options.no_load || call.options.dry_run {
+        return true;
     }
-    let collected = collect(rt.alloc(), disk, manifest).ok();
-    let each = load_each(rt, folder, manifest, collected.as_ref(), options, lines);
+    let collected = collect(call.rt.alloc(), call.disk, call.manifest).ok();
+    let each = load_each(call, folder, collected.as_ref(), lines);
     drop(collected);
-    let Ok(refused) = each else {
-        return Err(AllocError);
-    };
-    if refused.is_empty() {
-        return Ok(true);
+    match each {
+        Ok(refused) if refused.is_empty() => true,
+        Ok(refused) => {
+            lines.stderr.push("stage: not loaded at");
+            lines.stderr.push(refused.as_str());
+            lines.stderr.push("; the files are in place, so mend it and call this again\n");
+            false
+        }
+        Err(_) => {
+            lines.stderr.leave_out();
+            false
+        }
     }
-    writeln!(
-        lines.stderr,
-        "stage: not loaded at{refused}; the files are in place, so mend it and call this again"
-    )?;
-    Ok(false)
 }

@@ -1,4 +1,4 @@
-//! What `stage` does with the folder of a manifest, and how.
+//! What `stage` does with the folder of a manifest, how, and with what.
 
 /// What is done with the folder of a manifest.
 #[derive(Clone, Copy)]
@@ -43,4 +43,14 @@ impl<'a> StageOptions<'a> {
         }
         self.operators
     }
+}
+
+/// One call of `stage`: what it works with besides the folder.
+#[derive(Drop)]
+pub(crate) struct StageCall<'a, R, D> {
+    pub(crate) rt: &'a R,
+    pub(crate) disk: &'a D,
+    /// The path of the manifest in place.
+    pub(crate) manifest: &'a str,
+    pub(crate) options: &'a StageOptions<'a>,
 }

@@ -3,8 +3,8 @@
 ghost use Rattle.std.specs.Prelude.{◌≡◌, IfOk, OnOk, false, true};
 ghost use Rattle.stage_commands.specs.declared.outcome.Stop.TheVariants.{Memory};
 
+use crate::text_buffer::TextBuffer;
 use std::alloc::{AllocError, Global};
-use std::fmt::Write;
 
 /// The lines for standard output and for standard error, each ended by LF, and whether everything
 /// was done.
@@ -18,8 +18,8 @@ pub struct StageOutcome {
 /// The lines that are printed so far.
 #[derive(Drop)]
 pub(crate) struct Lines {
-    pub(crate) text: String,
-    pub(crate) stderr: String,
+    pub(crate) text: TextBuffer,
+    pub(crate) stderr: TextBuffer,
 }
 
 /// Why nothing more is done.
@@ -45,19 +45,29 @@ impl Lines {
     /// No lines.
     pub(crate) fn new(alloc: Global) -> Lines {
         Lines {
-            text: String::new(alloc),
-            stderr: String::new(alloc),
+            text: TextBuffer::new(alloc),
+            stderr: TextBuffer::new(alloc),
         }
     }
 
-    /// Adds the reason of a stop.
-    fn push_stop(&mut self, stop: &Stop) -> Result<(), AllocError> {
+    /// Whether no piece of a line is left out.
+    pub(crate) fn are_complete(&self) -> bool {
+        self.text.is_complete() && self.stderr.is_complete()
+    }
+
+    // Adds a line with a reason.
+    fn push_reason(&mut self, reason: String, end: &str) {
+        self.stderr.push("stage: ");
+        self.stderr.push(reason.as_str());
+        self.stderr.push(end);
+    }
+
+    // Adds the reason of a stop.
+    fn push_stop(&mut self, stop: Stop) {
         match stop {
-            Stop::Refused(reason) => {
-                writeln!(self.stderr, "stage: {reason}; nothing has changed")
-            }
-            Stop::Failed(reason) => writeln!(self.stderr, "stage: {reason}"),
-            Stop::Memory => Err(AllocError),
+            Stop::Refused(reason) => self.push_reason(reason, "; nothing has changed\n"),
+            Stop::Failed(reason) => self.push_reason(reason, "\n"),
+            Stop::Memory => self.stderr.leave_out(),
         }
     }
 
@@ -70,26 +80,28 @@ impl Lines {
         }
         match refusal {
             Stop::Refused(reason) => {
-                let pushed = writeln!(self.stderr, "stage: {reason}; it goes on");
-                drop(reason);
-                match pushed {
-                    Ok(()) => Ok(()),
-                    Err(_) => Err(Stop::Memory),
-                }
+                self.push_reason(reason, "; it goes on\n");
+                Ok(())
             }
             other => Err(other),
         }
     }
 
-    /// The outcome, which has these lines.
-    pub(crate) fn into_outcome(self, is_done: bool) -> StageOutcome
-        ensures { result.is_done ≡ is_done }
+    /// The outcome, which has these lines, if they are complete.
+    pub(crate) fn into_outcome(self, is_done: bool) -> Result<StageOutcome, AllocError>
+        ensures { IfOk result (λ outcome. outcome.is_done ≡ is_done) }
     {
         let Lines { text, stderr } = self;
-        StageOutcome {
-            text,
-            stderr,
-            is_done,
+        let Ok(text) = text.finish() else {
+            return Err(AllocError);
+        };
+        match stderr.finish() {
+            Ok(stderr) => Ok(StageOutcome {
+                text,
+                stderr,
+                is_done,
+            }),
+            Err(_) => Err(AllocError),
         }
     }
 
@@ -98,11 +110,7 @@ impl Lines {
         ensures { IfOk result (λ outcome. outcome.is_done ≡ false) }
     {
         let mut lines = self;
-        let pushed = lines.push_stop(&stop);
-        drop(stop);
-        let Ok(()) = pushed else {
-            return Err(AllocError);
-        };
-        Ok(lines.into_outcome(false))
+        lines.push_stop(stop);
+        lines.into_outcome(false)
     }
 }

@@ -8,7 +8,7 @@ ghost use Rattle.staging.specs.Steps as specs;
 
 use crate::collected::{CollectedManifest, collected_at, judged_at};
 use crate::comparison::compare;
-use crate::options::StageOptions;
+use crate::options::StageCall;
 use crate::outcome::{Lines, Stop};
 use crate::put_files::files_to_put;
 use crate::steps::{next_number, owned_text, read_steps, take_step};
@@ -42,20 +42,21 @@ fn stop_if_lifted(
 
 // The manifest in place, judged, if the next one lifts no halt. A manifest that can't be judged is
 // a refusal, unless `--anyway` is given; there is none then.
-fn present_manifest<D: Disk>(
-    alloc: Global,
-    disk: &D,
-    current: &str,
+fn present_manifest<R, D>(
+    call: &StageCall<'_, R, D>,
     steps: &[StagingStep],
     next: &[AppSources],
-    anyway: bool,
     lines: &mut Lines,
 ) -> Result<Option<OpenedManifest>, Stop>
+where
+    R: AllocGlobal,
+    D: Disk,
     ensures judged { IfOk result (λ opened. IfSome opened IsJudged) }
-    ensures lifts { OnOk result (anyway ≡ false
-        → LiftsNone (D.known disk.now) current.now steps.now next.now) }
+    ensures lifts { OnOk result (call.now.options.now.anyway ≡ false
+        → LiftsNone (D.known call.now.disk.now) call.now.manifest.now steps.now next.now) }
 {
-    let sources = match collected_at(alloc, disk, current) {
+    let (alloc, anyway) = (call.rt.alloc(), call.options.anyway);
+    let sources = match collected_at(alloc, call.disk, call.manifest) {
         Ok(CollectedManifest { sources, .. }) => sources,
         Err(stop) => {
             return match lines.go_on_if(anyway, stop) {
@@ -68,7 +69,7 @@ fn present_manifest<D: Disk>(
         drop(sources);
         return Err(stop);
     }
-    match judged_at(alloc, current, sources) {
+    match judged_at(alloc, call.manifest, sources) {
         Ok(opened) => Ok(Some(opened)),
         Err(stop) => match lines.go_on_if(anyway, stop) {
             Ok(()) => Ok(None),
@@ -80,31 +81,27 @@ fn present_manifest<D: Disk>(
 // Compares the next manifest with the one in place: a halt that is lifted and a lost row are
 // refusals, unless `--anyway` is given.
 fn compare_next<R, D>(
-    rt: &R,
-    disk: &D,
-    current: &str,
+    call: &StageCall<'_, R, D>,
     steps: &[StagingStep],
     next: OpenedManifest,
-    options: &StageOptions<'_>,
     lines: &mut Lines,
 ) -> Result<(), Stop>
 where
     R: AllocGlobal + Clock + Net<Stream = TcpStream>,
     D: Disk,
     requires { IsJudged next }
-    ensures { OnOk result (options.now.anyway ≡ false → LiftsNone (D.known disk.now) current.now
-        steps.now next.sources.apps.items) }
+    ensures { OnOk result (call.now.options.now.anyway ≡ false
+        → LiftsNone (D.known call.now.disk.now) call.now.manifest.now steps.now
+        next.sources.apps.items) }
 {
-    let (alloc, anyway) = (rt.alloc(), options.anyway);
-    let apps = &next.sources.apps;
-    match present_manifest(alloc, disk, current, steps, apps, anyway, lines) {
-        Ok(Some(present)) => compare(rt, present, next, options, lines),
+    match present_manifest(call, steps, &next.sources.apps, lines) {
+        Ok(Some(present)) => compare(call, present, next, lines),
         Ok(None) => {
-            drop(next);
+            next.close();
             Ok(())
         }
         Err(stop) => {
-            drop(next);
+            next.close();
             Err(stop)
         }
     }
@@ -135,28 +132,25 @@ fn next_manifest<D: Disk>(
 
 // What is put in place, once it is compared with what is there.
 fn planned_files<R, D, F>(
-    rt: &R,
-    disk: &D,
+    call: &StageCall<'_, R, D>,
     folder: &F,
-    current: &str,
     manifest: &str,
     steps: &[StagingStep],
-    options: &StageOptions<'_>,
     lines: &mut Lines,
 ) -> Result<Vec<ReplacedFile>, Stop>
 where
     R: AllocGlobal + Clock + Net<Stream = TcpStream>,
     D: Disk,
     F: StageFolder,
-    ensures { IfOk result (λ files. PlansPut (D.known disk.now) current.now manifest.now steps.now
-        options.now.anyway files.items) }
+    ensures { IfOk result (λ files. PlansPut (D.known call.now.disk.now) call.now.manifest.now
+        manifest.now steps.now call.now.options.now.anyway files.items) }
 {
-    let alloc = rt.alloc();
-    let (bytes, next) = next_manifest(alloc, disk, manifest)?;
+    let alloc = call.rt.alloc();
+    let (bytes, next) = next_manifest(alloc, call.disk, manifest)?;
     let files = files_to_put(alloc, folder, &bytes, &next.sources.apps);
     drop(bytes);
     match files {
-        Ok(files) => match compare_next(rt, disk, current, steps, next, options, lines) {
+        Ok(files) => match compare_next(call, steps, next, lines) {
             Ok(()) => Ok(files),
             Err(stop) => {
                 drop(files);
@@ -164,7 +158,7 @@ where
             }
         },
         Err(stop) => {
-            drop(next);
+            next.close();
             Err(stop)
         }
     }
@@ -172,40 +166,30 @@ where
 
 /// Puts the manifest at a path, and the files that it names, in place.
 pub(crate) fn put<R, D, F>(
-    rt: &R,
-    disk: &D,
+    call: &StageCall<'_, R, D>,
     folder: &mut F,
-    current: &str,
     manifest: &str,
-    options: &StageOptions<'_>,
     lines: &mut Lines,
 ) -> Result<(), Stop>
 where
     R: AllocGlobal + Clock + Net<Stream = TcpStream>,
     D: Disk,
     F: StageFolder,
-    ensures done { OnOk result (options.now.dry_run ≡ false → HasPut (D.known disk.now) current.now
-        manifest.now options.now.anyway (F.records folder.old) (F.files folder.old)
+    ensures done { OnOk result (call.now.options.now.dry_run ≡ false
+        → HasPut (D.known call.now.disk.now) call.now.manifest.now manifest.now
+        call.now.options.now.anyway (F.records folder.old) (F.files folder.old)
         (F.files folder.new)) }
-    ensures unchanged { options.now.dry_run ≡ true → F.files folder.new ≡ F.files folder.old }
+    ensures unchanged { call.now.options.now.dry_run ≡ true
+        → F.files folder.new ≡ F.files folder.old }
 {
-    let alloc = rt.alloc();
+    let alloc = call.rt.alloc();
     let Ok(owned) = owned_text(alloc, manifest) else {
         return Err(Stop::Memory);
     };
     let steps = read_steps(alloc, folder)?;
-    let files = planned_files(
-        rt,
-        disk,
-        folder,
-        current,
-        manifest,
-        &steps.steps,
-        options,
-        lines,
-    )?;
+    let files = planned_files(call, folder, manifest, &steps.steps, lines)?;
     let number = next_number(&steps.steps);
     drop(steps);
     let action = StepAction::Put { manifest: owned };
-    take_step(rt, folder, number, action, files, options, lines)
+    take_step(call, folder, number, action, files, lines)
 }

@@ -1,9 +1,8 @@
 //! The quotas of a manifest that a server's counters have used.
 
+use crate::text_buffer::TextBuffer;
 use cell_assignments::CellAssignment;
 use declarations::ArrayDeclaration;
-use std::alloc::AllocError;
-use std::fmt::Write;
 
 // The quota of a cell, if a manifest's array has one.
 fn quota_of(arrays: &[ArrayDeclaration], cell: &CellAssignment<'_>) -> Option<u64> {
@@ -18,16 +17,18 @@ fn quota_of(arrays: &[ArrayDeclaration], cell: &CellAssignment<'_>) -> Option<u6
 /// Adds a line for each cell of an array with a quota: how many takes the server has counted, of
 /// how many that it grants.
 pub(crate) fn push_quotas(
-    text: &mut String,
+    text: &mut TextBuffer,
     arrays: &[ArrayDeclaration],
     cells: &[CellAssignment<'_>],
-) -> Result<(), AllocError> {
+) {
     for cell in cells {
         if let Some(quota) = quota_of(arrays, cell) {
-            let (array, index, value) = (cell.array(), cell.index(), cell.value());
-            let end = if value < quota { "" } else { ": used up" };
-            writeln!(text, "{array}[{index}] {value} of {quota}{end}")?;
+            let value = cell.value();
+            let end = if value < quota { "\n" } else { ": used up\n" };
+            text.push(cell.array());
+            text.push_number("[", cell.index() as u64, "] ");
+            text.push_number("", value, " of ");
+            text.push_number("", quota, end);
         }
     }
-    Ok(())
 }

@@ -12,11 +12,13 @@ ghost use Rattle.stage_folder.specs.Folders.{GivesFile};
 use crate::app_file::{app_to_change, replacement};
 use crate::collected::{CollectedManifest, collected_at, judged, judged_at};
 use crate::comparison::compare;
-use crate::options::StageOptions;
+use crate::options::StageCall;
 use crate::outcome::{Lines, Stop};
 use crate::replaced_files::sources_with;
 use crate::steps::{number_in, owned_text, take_file};
-use crate::stop_texts::{has_program, in_folder, is_halted, next_refused, no_text, not_raised};
+use crate::stop_texts::{
+    HAS_PROGRAM, IS_HALTED, NO_TEXT, in_folder, next_refused, not_raised, refusal_of,
+};
 use bounded_files::Disk;
 use load::{AppSources, file_of};
 use manifest::ProgramSource;
@@ -36,10 +38,10 @@ fn raised_text(alloc: Global, app: &AppSources, bytes: &[u8], buckets: u32) -> R
 {
     let name = file_of(app.entry.source());
     if bytes == halting_file(app.entry.source()) {
-        return Err(is_halted(alloc, name));
+        return Err(refusal_of(alloc, name, IS_HALTED));
     }
     let Ok(text) = str::from_utf8(bytes) else {
-        return Err(no_text(alloc, name));
+        return Err(refusal_of(alloc, name, NO_TEXT));
     };
     match raised_rule(alloc, text, &app.shape, buckets) {
         Ok(raised) => Ok(raised),
@@ -54,11 +56,11 @@ fn rule_bytes<F: StageFolder>(alloc: Global, folder: &F, app: &AppSources) -> Re
 {
     let name = file_of(app.entry.source());
     if let ProgramSource::Program(_) = app.entry.source() {
-        return Err(has_program(alloc, name));
+        return Err(refusal_of(alloc, name, HAS_PROGRAM));
     }
     match folder.read(name) {
         Ok(Some(bytes)) => Ok(bytes),
-        Ok(None) => Err(no_text(alloc, name)),
+        Ok(None) => Err(refusal_of(alloc, name, NO_TEXT)),
         Err(fault) => Err(in_folder(alloc, name, fault)),
     }
 }
@@ -109,89 +111,78 @@ fn judged_with<D: Disk>(
 
 // Prints what changes by another file. A lost row is a refusal, unless `--anyway` is given.
 fn compare_with<R, D>(
-    rt: &R,
-    disk: &D,
-    manifest: &str,
+    call: &StageCall<'_, R, D>,
     collected: CollectedManifest,
     file: &ReplacedFile,
-    options: &StageOptions<'_>,
     lines: &mut Lines,
 ) -> Result<(), Stop>
 where
     R: AllocGlobal + Clock + Net<Stream = TcpStream>,
     D: Disk,
 {
-    let alloc = rt.alloc();
+    let alloc = call.rt.alloc();
     let CollectedManifest { bytes, sources } = collected;
-    let old = match judged_at(alloc, manifest, sources) {
+    let old = match judged_at(alloc, call.manifest, sources) {
         Ok(old) => old,
         Err(stop) => {
             drop(bytes);
             return Err(stop);
         }
     };
-    let next = judged_with(alloc, disk, manifest, &bytes, file);
+    let next = judged_with(alloc, call.disk, call.manifest, &bytes, file);
     drop(bytes);
     match next {
-        Ok(new) => compare(rt, old, new, options, lines),
+        Ok(new) => compare(call, old, new, lines),
         Err(stop) => {
-            drop(old);
+            old.close();
             Err(stop)
         }
     }
 }
 
 // The raised rule of an app of the manifest in place.
-fn file_by<R, F>(
-    rt: &R,
+fn file_by<R, D, F>(
+    call: &StageCall<'_, R, D>,
     folder: &F,
-    manifest: &str,
     collected: &CollectedManifest,
     appid: &str,
     buckets: u32,
-    options: &StageOptions<'_>,
     lines: &mut Lines,
 ) -> Result<Option<ReplacedFile>, Stop>
 where
     R: Files + AllocGlobal,
     F: StageFolder,
     ensures { IfOk result (λ file. (known : KnownFiles)
-        → IsCollected known manifest.now collected.now.bytes.items collected.now.sources
-        → PlansRaise known manifest.now appid.now buckets (F.files folder.now) file) }
+        → IsCollected known call.now.manifest.now collected.now.bytes.items collected.now.sources
+        → PlansRaise known call.now.manifest.now appid.now buckets (F.files folder.now) file) }
 {
-    let apps = &collected.sources.apps;
-    let app = app_to_change(rt, manifest, apps, appid, options, lines)?;
-    let file = raised_file_of(rt.alloc(), folder, app, buckets)?;
+    let app = app_to_change(call, &collected.sources.apps, appid, lines)?;
+    let file = raised_file_of(call.rt.alloc(), folder, app, buckets)?;
     Ok(file)
 }
 
 // The same, once it is compared.
 fn planned_file<R, D, F>(
-    rt: &R,
-    disk: &D,
+    call: &StageCall<'_, R, D>,
     folder: &F,
-    manifest: &str,
     appid: &str,
     buckets: u32,
-    options: &StageOptions<'_>,
     lines: &mut Lines,
 ) -> Result<Option<ReplacedFile>, Stop>
 where
     R: Files + AllocGlobal + Clock + Net<Stream = TcpStream>,
     D: Disk,
     F: StageFolder,
-    ensures { IfOk result (PlansRaise (D.known disk.now) manifest.now appid.now buckets
-        (F.files folder.now)) }
+    ensures { IfOk result (PlansRaise (D.known call.now.disk.now) call.now.manifest.now appid.now
+        buckets (F.files folder.now)) }
 {
-    let collected = match collected_at(rt.alloc(), disk, manifest) {
+    let collected = match collected_at(call.rt.alloc(), call.disk, call.manifest) {
         Ok(collected) => collected,
         Err(stop) => return Err(stop),
     };
-    let file = file_by(
-        rt, folder, manifest, &collected, appid, buckets, options, lines,
-    );
+    let file = file_by(call, folder, &collected, appid, buckets, lines);
     let compared = match &file {
-        Ok(Some(file)) => compare_with(rt, disk, manifest, collected, file, options, lines),
+        Ok(Some(file)) => compare_with(call, collected, file, lines),
         _ => {
             drop(collected);
             Ok(())
@@ -209,24 +200,23 @@ where
 /// Raises the rule of an app, once the next manifest is judged and compared with the present one.
 #[tactic(auto, using(crate::proofs::Replacing::raised))]
 pub(crate) fn raise<R, D, F>(
-    rt: &R,
-    disk: &D,
+    call: &StageCall<'_, R, D>,
     folder: &mut F,
-    manifest: &str,
     appid: &str,
     buckets: u32,
-    options: &StageOptions<'_>,
     lines: &mut Lines,
 ) -> Result<(), Stop>
 where
     R: Files + AllocGlobal + Clock + Net<Stream = TcpStream>,
     D: Disk,
     F: StageFolder,
-    ensures done { OnOk result (options.now.dry_run ≡ false → HasRaised (D.known disk.now)
-        manifest.now appid.now buckets (F.files folder.old) (F.files folder.new)) }
-    ensures unchanged { options.now.dry_run ≡ true → F.files folder.new ≡ F.files folder.old }
+    ensures done { OnOk result (call.now.options.now.dry_run ≡ false
+        → HasRaised (D.known call.now.disk.now) call.now.manifest.now appid.now buckets
+        (F.files folder.old) (F.files folder.new)) }
+    ensures unchanged { call.now.options.now.dry_run ≡ true
+        → F.files folder.new ≡ F.files folder.old }
 {
-    let alloc = rt.alloc();
+    let alloc = call.rt.alloc();
     let number = match number_in(alloc, folder) {
         Ok(number) => number,
         Err(stop) => return Err(stop),
@@ -234,13 +224,13 @@ where
     let Ok(owned) = owned_text(alloc, appid) else {
         return Err(Stop::Memory);
     };
-    match planned_file(rt, disk, folder, manifest, appid, buckets, options, lines) {
+    match planned_file(call, folder, appid, buckets, lines) {
         Ok(file) => {
             let action = StepAction::Raise {
                 appid: owned,
                 buckets,
             };
-            take_file(rt, folder, number, action, file, options, lines)
+            take_file(call, folder, number, action, file, lines)
         }
         Err(stop) => {
             drop(owned);

@@ -3,12 +3,10 @@
 // No contract says what is printed: bench/outside tests it.
 
 use crate::collected::app_named;
+use crate::text_buffer::TextBuffer;
 use load::AppSources;
 use operator::ask_server;
 use operator_request::OperatorRequest;
-use printing::Printed;
-use std::alloc::AllocError;
-use std::fmt::Write;
 use std::net::{Net, TcpStream};
 
 /// The apps of a server before a load, in its lines; empty if it doesn't reply.
@@ -36,22 +34,20 @@ fn removed_app<'a>(line: &'a str, apps: &[AppSources]) -> Option<&'a str> {
 
 /// Adds a line with the apps that a server showed and that are not among the loaded ones, if there
 /// are any.
-pub(crate) fn push_removed(
-    text: &mut String,
-    port: u16,
-    shown: &str,
-    apps: &[AppSources],
-) -> Result<(), AllocError> {
-    let mut names = String::new(*text.allocator());
+pub(crate) fn push_removed(text: &mut TextBuffer, port: u16, shown: &str, apps: &[AppSources]) {
+    let mut is_first = true;
     for line in shown.lines() {
         if let Some(appid) = removed_app(line, apps) {
-            let mark = if names.is_empty() { "" } else { ", " };
-            let appid = Printed(appid);
-            write!(names, "{mark}{appid}")?;
+            if is_first {
+                text.push_number("server at ", port as u64, ": apps gone: ");
+            } else {
+                text.push(", ");
+            }
+            text.push_printed("", appid, "");
+            is_first = false;
         }
     }
-    if names.is_empty() {
-        return Ok(());
+    if !is_first {
+        text.push("\n");
     }
-    writeln!(text, "server at {port}: apps gone: {names}")
 }

@@ -5,7 +5,7 @@ ghost use Rattle.stage_commands.specs.Compared.{IsJudged};
 
 use crate::collected::{CollectedManifest, collect, judged};
 use crate::comparison::compare;
-use crate::options::StageOptions;
+use crate::options::StageCall;
 use crate::outcome::{Lines, Stop};
 use crate::replaced_files::{bytes_of, file_named, sources_with};
 use bounded_files::Disk;
@@ -18,6 +18,9 @@ use std::time::Clock;
 
 /// The name of the manifest in place.
 const CURRENT: &str = "current.toml";
+
+/// What is said in place of a comparison.
+const NOT_COMPARED: &str = "stage: a manifest is refused, so what changes isn't compared\n";
 
 // The sources of the manifest in place.
 fn sources_at<D: Disk>(alloc: Global, disk: &D, manifest: &str) -> Option<Sources> {
@@ -60,30 +63,24 @@ fn judged_if(alloc: Global, sources: Option<Sources>) -> Option<OpenedManifest>
 /// refusal, unless `--anyway` is given. A manifest that a server would refuse, as after a step that
 /// stopped in its middle, isn't compared, and doesn't stop it.
 pub(crate) fn compare_restored<R, D>(
-    rt: &R,
-    disk: &D,
-    manifest: &str,
+    call: &StageCall<'_, R, D>,
     step: &StagingStep,
-    options: &StageOptions<'_>,
     lines: &mut Lines,
 ) -> Result<(), Stop>
 where
     R: AllocGlobal + Clock + Net<Stream = TcpStream>,
     D: Disk,
 {
-    let alloc = rt.alloc();
-    let Some(old) = judged_if(alloc, sources_at(alloc, disk, manifest)) else {
-        return not_compared(lines);
+    let (alloc, disk) = (call.rt.alloc(), call.disk);
+    let Some(old) = judged_if(alloc, sources_at(alloc, disk, call.manifest)) else {
+        lines.stderr.push(NOT_COMPARED);
+        return Ok(());
     };
-    let before = sources_before(alloc, disk, manifest, &step.files);
+    let before = sources_before(alloc, disk, call.manifest, &step.files);
     let Some(new) = judged_if(alloc, before) else {
-        drop(old);
-        return not_compared(lines);
+        old.close();
+        lines.stderr.push(NOT_COMPARED);
+        return Ok(());
     };
-    compare(rt, old, new, options, lines)
-}
-
-fn not_compared(lines: &mut Lines) -> Result<(), Stop> {
-    let line = "stage: a manifest is refused, so what changes isn't compared\n";
-    Ok(lines.stderr.push_str(line)?)
+    compare(call, old, new, lines)
 }

@@ -4,10 +4,10 @@ use crate::load_notes::LoadNote;
 
 /// What is in place: the lines by which a server would show its apps, if a load wouldn't refuse it;
 /// and the digest of the manifest and its files.
-#[derive(Clone, Copy)]
-pub(crate) struct InPlace<'a> {
-    pub(crate) shown: Option<&'a str>,
-    pub(crate) digest: &'a str,
+#[derive(Drop)]
+pub(crate) struct InPlace {
+    pub(crate) shown: Option<String>,
+    pub(crate) digest: String,
 }
 
 /// What a server serves: what is in place, other apps, or other rules or programs for these apps.
@@ -24,18 +24,18 @@ impl Served {
     /// What a server serves, by the generation and the apps that it shows, and the note of its last
     /// load by `stage`.
     pub(crate) fn of(
-        in_place: InPlace<'_>,
+        in_place: &InPlace,
         generation: &str,
         shown: &str,
         note: Option<LoadNote<'_>>,
     ) -> Served {
-        match in_place.shown {
+        match in_place.shown.as_deref() {
             Some(apps) if apps == shown => {}
             _ => return Served::OtherApps,
         }
         match note {
             Some(note) if note.generation != generation => Served::SameApps,
-            Some(note) if note.digest == in_place.digest => Served::InPlace,
+            Some(note) if note.digest == in_place.digest.as_str() => Served::InPlace,
             Some(_) => Served::OtherFiles,
             None => Served::SameApps,
         }

@@ -6,20 +6,18 @@ use crate::collected::{CollectedManifest, digest_text};
 use crate::digest_line::last_digest;
 use crate::load_notes::{note_of, read_notes};
 use crate::loads::push_fault;
-use crate::options::StageOptions;
+use crate::options::StageCall;
 use crate::outcome::Lines;
 use crate::quota_lines::push_quotas;
 use crate::served::{InPlace, Served, are_both};
+use crate::text_buffer::TextBuffer;
 use bpf_verify::Verified;
 use cell_assignments::read_assignments;
 use load::{AppSources, judge};
 use operator::{RequestFault, ask_server};
 use operator_request::OperatorRequest;
-use printing::Printed;
 use stage_folder::StageFolder;
 use std::alloc::{AllocError, Global};
-use std::fmt::Write;
-use std::io::ErrorKind;
 use std::net::{Net, TcpStream};
 use std::rt::Files;
 
@@ -29,22 +27,23 @@ fn app_lines(
     apps: &[AppSources],
     programs: &[Verified],
 ) -> Result<String, AllocError> {
-    let mut text = String::new(alloc);
+    let mut text = TextBuffer::new(alloc);
     let mut left = programs;
     for app in apps {
         let [program, others @ ..] = left else {
-            return Ok(text);
+            break;
         };
-        let (appid, releases) = (app.entry.appid(), app.entry.releases().len());
-        let slots = program.len();
-        writeln!(text, "app {appid} releases {releases} slots {slots}")?;
+        text.push("app ");
+        text.push(app.entry.appid());
+        text.push_number(" releases ", app.entry.releases().len() as u64, "");
+        text.push_number(" slots ", program.len() as u64, "\n");
         left = others;
     }
-    Ok(text)
+    text.finish()
 }
 
-/// The lines by which a server shows the apps of a manifest; None if a load would refuse it.
-pub(crate) fn shown_apps(alloc: Global, apps: &[AppSources]) -> Result<Option<String>, AllocError> {
+// The lines by which a server shows the apps of a manifest; None if a load would refuse it.
+fn shown_apps(alloc: Global, apps: &[AppSources]) -> Result<Option<String>, AllocError> {
     match judge(alloc, apps) {
         Ok(programs) => {
             let text = app_lines(alloc, apps, &programs);
@@ -58,19 +57,28 @@ pub(crate) fn shown_apps(alloc: Global, apps: &[AppSources]) -> Result<Option<St
     }
 }
 
+// What is in place, for a comparison with what servers serve.
+fn in_place_of(alloc: Global, collected: &CollectedManifest) -> Result<InPlace, AllocError> {
+    let digest = digest_text(alloc, collected)?;
+    let shown = shown_apps(alloc, &collected.sources.apps)?;
+    Ok(InPlace { shown, digest })
+}
+
 // Adds the generation of a server, and what is known of what it serves.
 fn push_shown(
-    text: &mut String,
+    text: &mut TextBuffer,
     port: u16,
     reply: &str,
     notes: &str,
-    in_place: InPlace<'_>,
-) -> Result<Served, AllocError> {
+    in_place: &InPlace,
+) -> Served {
     let (generation, shown) = reply.split_once('\n').unwrap_or((reply, ""));
     let served = Served::of(in_place, generation, shown, note_of(notes, port));
-    let (generation, words) = (Printed(generation), served.words());
-    writeln!(text, "server at {port}: {generation}, {words}")?;
-    Ok(served)
+    text.push_number("server at ", port as u64, ": ");
+    text.push_printed("", generation, ", ");
+    text.push(served.words());
+    text.push("\n");
+    served
 }
 
 // The lines of a server's counters that have a quota.
@@ -78,19 +86,20 @@ fn push_counters<R>(
     rt: &R,
     port: u16,
     collected: &CollectedManifest,
-    text: &mut String,
+    text: &mut TextBuffer,
 ) -> Result<(), RequestFault>
 where
     R: AllocGlobal + Net<Stream = TcpStream>,
 {
-    let reply = ask_server(rt, OperatorRequest::Cells, port)?;
+    let reply = match ask_server(rt, OperatorRequest::Cells, port) {
+        Ok(reply) => reply,
+        Err(fault) => return Err(fault),
+    };
     let Ok(cells) = read_assignments(rt.alloc(), reply.as_str()) else {
         return Err(RequestFault::Memory);
     };
-    match push_quotas(text, &collected.sources.arrays, &cells) {
-        Ok(()) => Ok(()),
-        Err(_) => Err(RequestFault::Memory),
-    }
+    push_quotas(text, &collected.sources.arrays, &cells);
+    Ok(())
 }
 
 // What a server serves, and its counters.
@@ -99,8 +108,8 @@ fn push_server<R>(
     port: u16,
     collected: &CollectedManifest,
     notes: &str,
-    in_place: InPlace<'_>,
-    text: &mut String,
+    in_place: &InPlace,
+    text: &mut TextBuffer,
 ) -> Result<Served, RequestFault>
 where
     R: AllocGlobal + Net<Stream = TcpStream>,
@@ -109,9 +118,8 @@ where
         Ok(reply) => reply,
         Err(fault) => return Err(fault),
     };
-    let Ok(served) = push_shown(text, port, reply.as_str(), notes, in_place) else {
-        return Err(RequestFault::Memory);
-    };
+    let served = push_shown(text, port, reply.as_str(), notes, in_place);
+    drop(reply);
     match push_counters(rt, port, collected, text) {
         Ok(()) => Ok(served),
         Err(fault) => Err(fault),
@@ -119,127 +127,115 @@ where
 }
 
 // Adds what each server serves. Returns whether all serve what is in place, if that is known.
-fn push_each<R>(
-    rt: &R,
-    manifest: &str,
+fn push_each<R, D>(
+    call: &StageCall<'_, R, D>,
     collected: &CollectedManifest,
     notes: &str,
-    in_place: InPlace<'_>,
-    options: &StageOptions<'_>,
+    in_place: &InPlace,
     lines: &mut Lines,
-) -> Result<Option<bool>, AllocError>
+) -> Option<bool>
 where
     R: AllocGlobal + Net<Stream = TcpStream>,
 {
     let mut all = Some(true);
-    for port in options.ports() {
-        match push_server(rt, *port, collected, notes, in_place, &mut lines.text) {
+    for port in call.options.ports() {
+        match push_server(call.rt, *port, collected, notes, in_place, &mut lines.text) {
             Ok(served) => all = are_both(all, served.is_in_place()),
             Err(fault) => {
-                let pushed = push_fault(&mut lines.stderr, *port, &fault, manifest);
-                drop(fault);
-                pushed?;
+                push_fault(&mut lines.stderr, *port, fault, call.manifest);
                 all = Some(false);
             }
         }
     }
-    Ok(all)
+    all
 }
 
 /// Adds what each server serves. Returns whether all serve what is in place, if that is known.
-pub(crate) fn push_servers<R, F>(
-    rt: &R,
+pub(crate) fn push_servers<R, D, F>(
+    call: &StageCall<'_, R, D>,
     folder: &F,
-    manifest: &str,
     collected: &CollectedManifest,
-    options: &StageOptions<'_>,
     lines: &mut Lines,
-) -> Result<Option<bool>, AllocError>
+) -> Option<bool>
 where
     R: AllocGlobal + Net<Stream = TcpStream>,
     F: StageFolder,
 {
-    if options.no_load {
-        return Ok(Some(true));
+    if call.options.no_load {
+        return Some(true);
     }
-    let Ok(notes) = read_notes(rt.alloc(), folder) else {
-        return Err(AllocError);
+    let Ok(notes) = read_notes(call.rt.alloc(), folder) else {
+        lines.stderr.leave_out();
+        return None;
     };
-    let Ok(digest) = digest_text(rt.alloc(), collected) else {
-        return Err(AllocError);
-    };
-    let Ok(shown) = shown_apps(rt.alloc(), &collected.sources.apps) else {
-        return Err(AllocError);
-    };
-    let in_place = InPlace {
-        shown: shown.as_deref(),
-        digest: digest.as_str(),
-    };
-    let notes = notes.as_str();
-    push_each(rt, manifest, collected, notes, in_place, options, lines)
+    match in_place_of(call.rt.alloc(), collected) {
+        Ok(in_place) => push_each(call, collected, notes.as_str(), &in_place, lines),
+        Err(_) => {
+            lines.stderr.leave_out();
+            None
+        }
+    }
 }
 
-// Whether the log's last digest is the one in place; and a line of it.
-fn push_digests(
-    text: &mut String,
-    log: &str,
-    in_place: &str,
-    last: Option<&str>,
-) -> Result<bool, AllocError> {
-    let log = Printed(log);
+// Adds whether a digest, that of what is in place, is the last one of a log, and returns it.
+fn push_digests(text: &mut TextBuffer, log: &str, in_place: &str, last: Option<&str>) -> bool {
     let Some(last) = last else {
-        writeln!(text, "{log}: no load yet")?;
-        return Ok(false);
+        text.push_printed("", log, ": no load yet\n");
+        return false;
     };
     let is_same = last == in_place;
     let end = if is_same {
-        "what is in place was loaded last"
+        ", what is in place was loaded last\n"
     } else {
-        "it wasn't loaded last"
+        ", it wasn't loaded last\n"
     };
-    writeln!(text, "{log}: digest {in_place}, {end}")?;
-    Ok(is_same)
+    text.push_printed("", log, ": digest ");
+    text.push(in_place);
+    text.push(end);
+    is_same
 }
 
-// Adds that line for a manifest's digest.
+// The same for a manifest.
 fn push_last(
     alloc: Global,
     collected: &CollectedManifest,
     log: &str,
     last: Option<&str>,
-    text: &mut String,
-) -> Result<bool, AllocError> {
-    let in_place = digest_text(alloc, collected)?;
-    push_digests(text, log, in_place.as_str(), last)
-}
-
-// Adds that a log can't be read: what it has isn't what is in place.
-fn push_unread(text: &mut String, log: &str, reason: ErrorKind) -> Result<bool, AllocError> {
-    let log = Printed(log);
-    writeln!(
-        text,
-        "stage: {log} can't be read ({reason}): name a server's log"
-    )?;
-    Ok(false)
+    text: &mut TextBuffer,
+) -> bool {
+    match digest_text(alloc, collected) {
+        Ok(in_place) => push_digests(text, log, in_place.as_str(), last),
+        Err(_) => {
+            text.leave_out();
+            false
+        }
+    }
 }
 
 /// Adds whether what is in place is what the log's server loaded last, and returns it, if a log is
-/// named.
-pub(crate) fn push_log<R>(
-    rt: &R,
+/// named. If the log can't be read, it isn't.
+pub(crate) fn push_log<R, D>(
+    call: &StageCall<'_, R, D>,
     collected: &CollectedManifest,
-    options: &StageOptions<'_>,
     lines: &mut Lines,
-) -> Result<Option<bool>, AllocError>
+) -> Option<bool>
 where
     R: Files + AllocGlobal,
 {
-    let Some(log) = options.log else {
-        return Ok(None);
+    let Some(log) = call.options.log else {
+        return None;
     };
-    let is_same = match last_digest(rt, log) {
-        Ok(last) => push_last(rt.alloc(), collected, log, last.as_deref(), &mut lines.text),
-        Err(error) => push_unread(&mut lines.stderr, log, error.kind()),
-    };
-    Ok(Some(is_same?))
+    match last_digest(call.rt, log) {
+        Ok(last) => {
+            let alloc = call.rt.alloc();
+            Some(push_last(alloc, collected, log, last.as_deref(), &mut lines.text))
+        }
+        Err(error) => {
+            let (reason, stderr) = (error.kind(), &mut lines.stderr);
+            stderr.push_printed("stage: ", log, " can't be read (");
+            stderr.push_value(&reason);
+            stderr.push("): name a server's log\n");
+            Some(false)
+        }
+    }
 }

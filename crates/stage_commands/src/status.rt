@@ -2,38 +2,34 @@
 
 // No contract says what is printed: bench/outside tests it.
 
-use crate::collected::{CollectedManifest, collected_at};
-use crate::options::StageOptions;
+use crate::collected::collected_at;
+use crate::options::StageCall;
 use crate::outcome::{Lines, Stop};
 use crate::servers::{push_log, push_servers};
-use crate::step_lines::push_action;
+use crate::step_lines::push_step;
 use crate::steps::RECORDS;
 use crate::stop_texts::in_folder;
+use crate::text_buffer::TextBuffer;
 use bounded_files::Disk;
 use load::AppSources;
-use printing::Printed;
 use stage_folder::{RecordedSteps, StageFolder, recorded_steps};
 use staging::{FileState, ReplacedFile, StagingStep, is_in_force, last_step};
-use std::alloc::AllocError;
-use std::fmt::Write;
+use std::alloc::Global;
 use std::net::{Net, TcpStream};
 use std::rt::Files;
 
 // A line for each step, and for each record that isn't one.
-fn push_steps(recorded: &RecordedSteps, lines: &mut Lines) -> Result<(), AllocError> {
+fn push_steps(alloc: Global, recorded: &RecordedSteps, lines: &mut Lines) {
     for step in &recorded.steps {
         let word = if step.is_undone { "undone" } else { "done" };
-        let Ok(()) = push_action(&mut lines.text, word, step) else {
-            return Err(AllocError);
-        };
+        push_step(alloc, &mut lines.text, word, step);
     }
     for number in &recorded.unread {
-        writeln!(
-            lines.stderr,
-            "stage: {RECORDS}/{number}.json is no record of a step: move it away"
-        )?;
+        let end = ".json is no record of a step: move it away\n";
+        lines.stderr.push("stage: ");
+        lines.stderr.push(RECORDS);
+        lines.stderr.push_number("/", *number as u64, end);
     }
-    Ok(())
 }
 
 fn state_of<F: StageFolder>(folder: &F, file: &ReplacedFile) -> FileState {
@@ -47,39 +43,35 @@ fn state_of<F: StageFolder>(folder: &F, file: &ReplacedFile) -> FileState {
 fn push_states<F: StageFolder>(
     folder: &F,
     step: Option<&StagingStep>,
-    lines: &mut Lines,
-) -> Result<bool, AllocError> {
+    stderr: &mut TextBuffer,
+) -> bool {
     let Some(step) = step else {
-        return Ok(true);
+        return true;
     };
-    let number = step.number;
     let mut whole = true;
     for file in &step.files {
         let end = match state_of(folder, file) {
             FileState::After => continue,
-            FileState::Before => "isn't replaced yet: call stage back, and then the action again",
-            FileState::Edited => "was edited since: stage back would stop there",
+            FileState::Before => {
+                " isn't replaced yet: call stage back, and then the action again\n"
+            }
+            FileState::Edited => " was edited since: stage back would stop there\n",
         };
-        let name = Printed(file.name.as_str());
-        writeln!(lines.stderr, "stage: {name} of step {number} {end}")?;
+        stderr.push_printed("stage: ", file.name.as_str(), "");
+        stderr.push_number(" of step ", step.number as u64, end);
         whole = false;
     }
-    Ok(whole)
+    whole
 }
 
 // Adds the apps whose halts are in force.
-fn push_halts(
-    steps: &[StagingStep],
-    apps: &[AppSources],
-    lines: &mut Lines,
-) -> Result<(), AllocError> {
+fn push_halts(steps: &[StagingStep], apps: &[AppSources], text: &mut TextBuffer) {
     for app in apps {
-        if is_in_force(steps, apps, app.entry.appid()) {
-            let appid = Printed(app.entry.appid());
-            writeln!(lines.text, "halted: {appid}")?;
+        let appid = app.entry.appid();
+        if is_in_force(steps, apps, appid) {
+            text.push_printed("halted: ", appid, "\n");
         }
     }
-    Ok(())
 }
 
 // Whether the servers serve what is in place, by what is known of them, and by a log, if one is
@@ -94,39 +86,10 @@ fn are_served(servers: Option<bool>, log: Option<bool>, ports: &[u16]) -> bool {
 }
 
 // Adds what is in place, and who serves it. Returns whether all servers do.
-fn push_collected<R, F>(
-    rt: &R,
-    folder: &F,
-    manifest: &str,
-    collected: &CollectedManifest,
-    steps: &[StagingStep],
-    options: &StageOptions<'_>,
-    lines: &mut Lines,
-) -> Result<bool, Stop>
-where
-    R: Files + AllocGlobal + Net<Stream = TcpStream>,
-    F: StageFolder,
-{
-    let Ok(()) = push_halts(steps, &collected.sources.apps, lines) else {
-        return Err(Stop::Memory);
-    };
-    let Ok(servers) = push_servers(rt, folder, manifest, collected, options, lines) else {
-        return Err(Stop::Memory);
-    };
-    let Ok(log) = push_log(rt, collected, options, lines) else {
-        return Err(Stop::Memory);
-    };
-    Ok(are_served(servers, log, options.ports()))
-}
-
-// The same by the manifest at a path.
 fn push_in_place<R, D, F>(
-    rt: &R,
-    disk: &D,
+    call: &StageCall<'_, R, D>,
     folder: &F,
-    manifest: &str,
     steps: &[StagingStep],
-    options: &StageOptions<'_>,
     lines: &mut Lines,
 ) -> Result<bool, Stop>
 where
@@ -134,51 +97,22 @@ where
     D: Disk,
     F: StageFolder,
 {
-    match collected_at(rt.alloc(), disk, manifest) {
-        Ok(collected) => {
-            let pushed = push_collected(rt, folder, manifest, &collected, steps, options, lines);
-            drop(collected);
-            pushed
-        }
-        Err(stop) => Err(stop),
-    }
-}
-
-// The same after the recorded steps. Returns whether each step is also whole.
-fn push_recorded<R, D, F>(
-    rt: &R,
-    disk: &D,
-    folder: &F,
-    manifest: &str,
-    recorded: &RecordedSteps,
-    options: &StageOptions<'_>,
-    lines: &mut Lines,
-) -> Result<bool, Stop>
-where
-    R: Files + AllocGlobal + Net<Stream = TcpStream>,
-    D: Disk,
-    F: StageFolder,
-{
-    let Ok(()) = push_steps(recorded, lines) else {
-        return Err(Stop::Memory);
+    let collected = match collected_at(call.rt.alloc(), call.disk, call.manifest) {
+        Ok(collected) => collected,
+        Err(stop) => return Err(stop),
     };
-    let Ok(is_whole) = push_states(folder, last_step(&recorded.steps), lines) else {
-        return Err(Stop::Memory);
-    };
-    match push_in_place(rt, disk, folder, manifest, &recorded.steps, options, lines) {
-        Ok(is_served) => Ok(is_whole && is_served && recorded.unread.is_empty()),
-        Err(stop) => Err(stop),
-    }
+    push_halts(steps, &collected.sources.apps, &mut lines.text);
+    let servers = push_servers(call, folder, &collected, lines);
+    let log = push_log(call, &collected, lines);
+    drop(collected);
+    Ok(are_served(servers, log, call.options.ports()))
 }
 
 /// Prints the status of a folder. Returns whether each step is whole, and the servers are known to
 /// serve what is in place.
 pub(crate) fn push_status<R, D, F>(
-    rt: &R,
-    disk: &D,
+    call: &StageCall<'_, R, D>,
     folder: &F,
-    manifest: &str,
-    options: &StageOptions<'_>,
     lines: &mut Lines,
 ) -> Result<bool, Stop>
 where
@@ -186,8 +120,18 @@ where
     D: Disk,
     F: StageFolder,
 {
-    match recorded_steps(rt.alloc(), folder) {
-        Ok(recorded) => push_recorded(rt, disk, folder, manifest, &recorded, options, lines),
-        Err(fault) => Err(in_folder(rt.alloc(), RECORDS, fault)),
+    let alloc = call.rt.alloc();
+    let recorded = match recorded_steps(alloc, folder) {
+        Ok(recorded) => recorded,
+        Err(fault) => return Err(in_folder(alloc, RECORDS, fault)),
+    };
+    push_steps(alloc, &recorded, lines);
+    let is_whole = push_states(folder, last_step(&recorded.steps), &mut lines.stderr);
+    let in_place = push_in_place(call, folder, &recorded.steps, lines);
+    let are_read = recorded.unread.is_empty();
+    drop(recorded);
+    match in_place {
+        Ok(is_served) => Ok(is_whole && is_served && are_read),
+        Err(stop) => Err(stop),
     }
 }

@@ -2,12 +2,11 @@
 
 // No contract says what they are: bench/outside tests them.
 
+use crate::text_buffer::TextBuffer;
 use jiff_core::Timestamp;
 use moments::{NamedTime, time_text};
-use printing::Printed;
 use staging::{StagingStep, StepAction};
 use std::alloc::{AllocError, Global};
-use std::fmt::Write;
 
 /// The nanoseconds of a second.
 const NANOSECONDS: i128 = 1_000_000_000;
@@ -20,36 +19,25 @@ fn time_of(alloc: Global, second: u64) -> Result<String, AllocError> {
     }
 }
 
-// Adds what a line of a step begins with: a word, its number, and its time.
-fn push_start(text: &mut String, word: &str, step: &StagingStep) -> Result<(), AllocError> {
-    let Ok(time) = time_of(*text.allocator(), step.time) else {
-        return Err(AllocError);
-    };
-    let number = step.number;
-    write!(text, "{word} step {number} of {time}: ")
+// Adds what a step did.
+fn push_action(text: &mut TextBuffer, action: &StepAction) {
+    match action {
+        StepAction::Halt { appid } => text.push_printed(": halt ", appid.as_str(), "\n"),
+        StepAction::Raise { appid, buckets } => {
+            text.push_printed(": raise ", appid.as_str(), "");
+            text.push_number(" ", *buckets as u64, "\n");
+        }
+        StepAction::Put { manifest } => text.push_printed(": put ", manifest.as_str(), "\n"),
+    }
 }
 
 /// Adds a line of a step: a word, its number, its time, and what it did.
-pub(crate) fn push_action(
-    text: &mut String,
-    word: &str,
-    step: &StagingStep,
-) -> Result<(), AllocError> {
-    let Ok(()) = push_start(text, word, step) else {
-        return Err(AllocError);
-    };
-    match &step.action {
-        StepAction::Halt { appid } => {
-            let appid = Printed(appid.as_str());
-            writeln!(text, "halt {appid}")
-        }
-        StepAction::Raise { appid, buckets } => {
-            let appid = Printed(appid.as_str());
-            writeln!(text, "raise {appid} {buckets}")
-        }
-        StepAction::Put { manifest } => {
-            let manifest = Printed(manifest.as_str());
-            writeln!(text, "put {manifest}")
-        }
+pub(crate) fn push_step(alloc: Global, text: &mut TextBuffer, word: &str, step: &StagingStep) {
+    text.push(word);
+    text.push_number(" step ", step.number as u64, " of ");
+    match time_of(alloc, step.time) {
+        Ok(time) => text.push(time.as_str()),
+        Err(_) => text.leave_out(),
     }
+    push_action(text, &step.action);
 }

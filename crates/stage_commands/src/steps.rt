@@ -6,17 +6,16 @@ ghost use Rattle.stage_folder.specs.Steps.{done};
 
 use crate::app_file::files_of;
 use crate::comparison::now_of;
-use crate::options::StageOptions;
+use crate::options::StageCall;
 use crate::outcome::{Lines, Stop};
-use crate::stop_texts::{in_folder, no_number, stopped_at};
+use crate::stop_texts::{NO_NUMBER, in_folder, refused, stopped_at};
+use crate::text_buffer::TextBuffer;
 use attrs::Text;
-use printing::Printed;
 use stage_folder::{
     FolderFault, RecordedSteps, StageFolder, StepFault, perform, recorded_steps, write_record,
 };
 use staging::{ReplacedFile, StagingStep, StepAction};
 use std::alloc::{AllocError, Global};
-use std::fmt::Write;
 use std::time::Clock;
 
 /// The name of the folder of the records, as it is printed.
@@ -73,14 +72,11 @@ pub(crate) fn name_at(files: &[ReplacedFile], place: usize) -> &str {
 }
 
 // A line for each file that is replaced, or would be.
-fn push_files(lines: &mut Lines, files: &[ReplacedFile], verb: &str) -> Result<(), Stop> {
+fn push_files(text: &mut TextBuffer, verb: &str, files: &[ReplacedFile]) {
     for file in files {
-        let name = Printed(file.name.as_str());
-        let Ok(()) = writeln!(lines.text, "{verb} {name}") else {
-            return Err(Stop::Memory);
-        };
+        text.push(verb);
+        text.push_printed(" ", file.name.as_str(), "\n");
     }
-    Ok(())
 }
 
 // Records a step that is about to be performed.
@@ -130,71 +126,76 @@ fn take<F: StageFolder>(
     ensures unchanged { dry_run ≡ true → F.files folder.new ≡ F.files folder.old }
 {
     if step.files.is_empty() {
-        let Ok(()) = lines.text.push_str("the files are so already\n") else {
-            return Err(Stop::Memory);
-        };
+        lines.text.push("the files are so already\n");
     }
     if dry_run {
-        return push_files(lines, &step.files, "would replace");
+        push_files(&mut lines.text, "would replace", &step.files);
+        return Ok(());
+    }
+    if !lines.are_complete() {
+        return Err(Stop::Memory);
     }
     if step.number == 0 {
-        return Err(no_number(alloc));
+        return Err(refused(alloc, NO_NUMBER));
     }
     match perform_step(alloc, folder, step) {
-        Ok(()) => push_files(lines, &step.files, "replaced"),
+        Ok(()) => {
+            push_files(&mut lines.text, "replaced", &step.files);
+            Ok(())
+        }
         Err(stop) => Err(stop),
     }
 }
 
 /// Records and performs a step of this number that replaces these files. It does nothing for
 /// `--dry-run`, and records none that replaces no file.
-pub(crate) fn take_step<R, F>(
-    rt: &R,
+pub(crate) fn take_step<R, D, F>(
+    call: &StageCall<'_, R, D>,
     folder: &mut F,
     number: u32,
     action: StepAction,
     files: Vec<ReplacedFile>,
-    options: &StageOptions<'_>,
     lines: &mut Lines,
 ) -> Result<(), Stop>
 where
     R: AllocGlobal + Clock,
     F: StageFolder,
-    ensures done { OnOk result (options.now.dry_run ≡ false
+    ensures done { OnOk result (call.now.options.now.dry_run ≡ false
         → F.files folder.new ≡ option_map (done files.items) (F.files folder.old)) }
-    ensures unchanged { options.now.dry_run ≡ true → F.files folder.new ≡ F.files folder.old }
+    ensures unchanged { call.now.options.now.dry_run ≡ true
+        → F.files folder.new ≡ F.files folder.old }
 {
     let step = StagingStep {
         number,
-        time: now_of(rt),
+        time: now_of(call.rt),
         action,
         files,
         is_undone: false,
     };
-    let taken = take(rt.alloc(), folder, &step, options.dry_run, lines);
+    let taken = take(call.rt.alloc(), folder, &step, call.options.dry_run, lines);
     drop(step);
     taken
 }
 
 /// The same for at most one file.
-pub(crate) fn take_file<R, F>(
-    rt: &R,
+pub(crate) fn take_file<R, D, F>(
+    call: &StageCall<'_, R, D>,
     folder: &mut F,
     number: u32,
     action: StepAction,
     file: Option<ReplacedFile>,
-    options: &StageOptions<'_>,
     lines: &mut Lines,
 ) -> Result<(), Stop>
 where
     R: AllocGlobal + Clock,
     F: StageFolder,
-    ensures done { OnOk result (options.now.dry_run ≡ false
+    ensures done { OnOk result (call.now.options.now.dry_run ≡ false
         → F.files folder.new ≡ option_map (done (option_to_list file)) (F.files folder.old)) }
-    ensures unchanged { options.now.dry_run ≡ true → F.files folder.new ≡ F.files folder.old }
+    ensures unchanged { call.now.options.now.dry_run ≡ true
+        → F.files folder.new ≡ F.files folder.old }
 {
-    match files_of(rt.alloc(), file) {
-        Ok(files) => take_step(rt, folder, number, action, files, options, lines),
+    match files_of(call.rt.alloc(), file) {
+        Ok(files) => take_step(call, folder, number, action, files, lines),
         Err(_) => {
             drop(action);
             Err(Stop::Memory)

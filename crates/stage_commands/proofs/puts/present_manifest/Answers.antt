@@ -10,12 +10,12 @@ returns-in-Ok-go_on_if-clause-lifts g c = λ plain.
 
 pub returns-in-Ok-judged_at-clause-lifts : goal.returns-in-Ok-judged_at-clause-lifts
 returns-in-Ok-judged_at-clause-lifts g c = λ plain.
-    let known = g.D.Disk.known c.args.disk.now in
+    let known = g.D.Disk.known c.args.call.now.disk.now in
     let found = c.in-Ok.field-0 in
-    let collected : IsCollected known c.args.current.now found.bytes.items found.sources =
+    let collected : IsCollected known c.args.call.now.manifest.now found.bytes.items found.sources =
     search rules in
     let none = rw c.deref.ensures.value at c.in_default.ensures in
-    lifts_none known c.args.current.now found.bytes.items c.args.steps.now found.sources
+    lifts_none known c.args.call.now.manifest.now found.bytes.items c.args.steps.now found.sources
     c.args.next.now collected (none plain)
 
 pub returns-in-Ok-go_on_if-2-clause-lifts : goal.returns-in-Ok-go_on_if-2-clause-lifts
