@@ -12,7 +12,7 @@ mod runs;
 use crate::judge::{verified, verify_times};
 use crate::pattern::{Pattern, ProgramSize};
 use crate::program::program;
-use crate::runs::{apps, run_times};
+use crate::runs::{RunTotals, apps, run_times};
 use anyhow::{Context, Result, bail};
 use attrs::fnv1a;
 use std::alloc::Global;
@@ -40,22 +40,21 @@ fn work_of(word: &str) -> Option<Work> {
     }
 }
 
-/// Verifies the program of the bytes `times` times, and prints the rest of its line.
-fn verify<O: Write>(alloc: Global, bytes: &[u8], times: u32, out: &mut O) -> Result<()> {
-    verify_times(alloc, bytes, times)?;
-    Ok(writeln!(out, "verifications={times}")?)
+/// Runs the program of the bytes `times` times.
+fn run(alloc: Global, bytes: &[u8], times: u32) -> Result<RunTotals> {
+    let program = Arc::new(alloc, verified(alloc, bytes)?)?;
+    Ok(run_times(alloc, &program, &apps(alloc)?, times)?)
 }
 
-/// Runs the program of the bytes `times` times, and prints the rest of its line.
-fn run<O: Write>(alloc: Global, bytes: &[u8], times: u32, out: &mut O) -> Result<()> {
-    let program = Arc::new(alloc, verified(alloc, bytes)?)?;
-    let totals = run_times(alloc, &program, &apps(alloc)?, times)?;
-    let instructions = totals.instructions;
-    let choices = totals.choices;
-    Ok(writeln!(
-        out,
-        "runs={times} instructions={instructions} choices={choices:016x}"
-    )?)
+/// Verifies the program of the bytes, or runs it, `times` times. Runs have totals.
+fn totals_of(alloc: Global, work: Work, bytes: &[u8], times: u32) -> Result<Option<RunTotals>> {
+    match work {
+        Work::Run => Ok(Some(run(alloc, bytes, times)?)),
+        _ => {
+            verify_times(alloc, bytes, times)?;
+            Ok(None)
+        }
+    }
 }
 
 /// Does the work with the bytes of a program, and prints its line, or the bytes.
@@ -70,13 +69,25 @@ fn print<O: Write>(
     if let Work::Bytes = work {
         return Ok(out.write_all(bytes)?);
     }
+    let totals = totals_of(alloc, work, bytes, times)?;
     let slots = bytes.len() / 8;
     let hash = fnv1a(bytes);
     write!(out, "{word} slots={slots} bytes={hash:016x} ")?;
-    match work {
-        Work::Run => run(alloc, bytes, times, out),
-        _ => verify(alloc, bytes, times, out),
-    }
+    let printed = match totals {
+        Some(
+            RunTotals {
+                instructions,
+                choices,
+            },
+        ) => {
+            writeln!(
+                out,
+                "runs={times} instructions={instructions} choices={choices:016x}"
+            )
+        }
+        None => writeln!(out, "verifications={times}"),
+    };
+    Ok(printed?)
 }
 
 /// Does the work with the program of a pattern, which a word names.
@@ -93,9 +104,9 @@ fn do_work<O: Write>(
     print(alloc, work, word, &bytes, times, out)
 }
 
-fn main(rt: HostRuntime) -> Result<()> {
-    let words: Vec<String> = env::args(&rt)?.collect(rt.alloc())?;
-    let [_, work, slots, times, patterns @ ..] = words.as_slice() else {
+/// Does what the words after the program's name request.
+fn measure<O: Write>(alloc: Global, words: &[String], out: &mut O) -> Result<()> {
+    let [_, work, slots, times, patterns @ ..] = words else {
         bail!("{USAGE}")
     };
     if patterns.is_empty() {
@@ -104,9 +115,13 @@ fn main(rt: HostRuntime) -> Result<()> {
     let work = work_of(work.as_str()).context(USAGE)?;
     let size = ProgramSize::of(slots.as_str()).context(USAGE)?;
     let times: u32 = times.as_str().parse().ok().context(USAGE)?;
-    let mut out = rt.stdout();
     for word in patterns {
-        do_work(rt.alloc(), work, size, times, word.as_str(), &mut out)?;
+        do_work(alloc, work, size, times, word.as_str(), out)?;
     }
     Ok(())
+}
+
+fn main(rt: HostRuntime) -> Result<()> {
+    let words: Vec<String> = env::args(&rt)?.collect(rt.alloc())?;
+    measure(rt.alloc(), words.as_slice(), &mut rt.stdout())
 }
