@@ -1,6 +1,6 @@
 //! The names that a line's apps count under, by question.
 
-ghost use Rattle.std.specs.Prelude.{◌≡◌, IfOk, option_map};
+ghost use Rattle.std.specs.Prelude.{◌≡◌, IfOk};
 ghost use Rattle.std.specs.String.{string_bytes};
 ghost use Rattle.serde_json.specs.View.{view};
 ghost use Rattle.report.specs.Names as specs;
@@ -11,41 +11,8 @@ use crate::question::AppQuestion;
 use serde_json::Value;
 use std::alloc::{AllocError, Global};
 
-/// The name that an app counts under, if the question has one for it.
-pub(crate) fn app_name(
-    alloc: Global,
-    question: AppQuestion,
-    line: &Value,
-    app: &Value,
-) -> Result<Option<String>, AllocError>
-    ensures { IfOk result (λ name. option_map string_bytes name
-        ≡ specs.app_name question (view line.now) (view app.now)) }
-{
-    match text_in(app, "appid") {
-        Some(appid) => named(alloc, question, line, app, appid),
-        None => Ok(None),
-    }
-}
-
-fn named(
-    alloc: Global,
-    question: AppQuestion,
-    line: &Value,
-    app: &Value,
-    appid: &str,
-) -> Result<Option<String>, AllocError>
-    ensures { IfOk result (λ name. option_map string_bytes name
-        ≡ specs.named question (view line.now) (view app.now) appid.now) }
-{
-    if !is_about_app(question, line, app) {
-        return Ok(None);
-    }
-    let name = app_name_of(alloc, question, line, app, appid)?;
-    Ok(Some(name))
-}
-
-// Whether the question is about this app of the line.
-fn is_about_app(question: AppQuestion, line: &Value, app: &Value) -> bool
+/// Whether the question is about this app of the line.
+pub(crate) fn is_about_app(question: AppQuestion, line: &Value, app: &Value) -> bool
     ensures { result ≡ specs.is_about_app question (view line.now) (view app.now) }
 {
     match question {
@@ -57,15 +24,15 @@ fn is_about_app(question: AppQuestion, line: &Value, app: &Value) -> bool
         AppQuestion::Unknown => is_unknown(app),
         AppQuestion::WithoutCohort => is_unnamed(app),
         AppQuestion::WithoutId => has_no_id(line, app),
-        AppQuestion::CutEvent => has_cut_event(app),
+        AppQuestion::CutEvent => number_in(app, "event_left_out").is_some(),
         AppQuestion::UpdateCheckBy => has_update_check(line, app),
         AppQuestion::UpdateCheckAt(_) => has_update_check(line, app),
         AppQuestion::OfferedAt(_) => has_offer(line, app),
     }
 }
 
-// The name of an app that the question is about.
-fn app_name_of(
+/// The name of an app that the question is about.
+pub(crate) fn app_name_of(
     alloc: Global,
     question: AppQuestion,
     line: &Value,
@@ -147,12 +114,6 @@ fn is_without_id(line: &Value) -> bool
         Some(id) => !id,
         None => false,
     }
-}
-
-fn has_cut_event(app: &Value) -> bool
-    ensures { result ≡ specs.has_cut_event (view app.now) }
-{
-    number_in(app, "event_left_out").is_some()
 }
 
 // Whether a release was offered, and the whole reply was sent.

@@ -88,8 +88,7 @@ fn push_row(text: &mut String, counter: &CellAssignment<'_>) -> Result<(), Alloc
 fn push_sample(text: &mut String, counter: &CellAssignment<'_>) -> Result<(), AllocError>
     ensures { OnOk result (Puts text.old text.new (specs.counter_sample counter.now)) }
 {
-    push_name(text, MetricKind::Gauge, METRIC)?;
-    text.push_str("{")?;
+    push_name(text, MetricKind::Gauge, METRIC, "{")?;
     push_counter_labels(text, counter)?;
     let value = counter.value();
     write!(text, "}} {value}\n")

@@ -1,6 +1,6 @@
 //! How installs ended, by the events in a line's apps.
 
-ghost use Rattle.std.specs.Prelude.{◌≡◌, [], IfOk, OnOk, option_map, if◌then◌else◌};
+ghost use Rattle.std.specs.Prelude.{◌≡◌, [], IfOk, OnOk, if◌then◌else◌};
 ghost use Rattle.std.specs.String.{string_bytes};
 ghost use Rattle.serde_json.specs.View.{view, items_view};
 ghost use Rattle.report.specs.Events as specs;
@@ -12,7 +12,7 @@ use crate::log_events::{is_number, number_in, text_in};
 use crate::name_text::{course_name, decimal, text_or_mark, three, two};
 use crate::objects::ObjectReader;
 use crate::question::EventQuestion;
-use crate::tally::{Tally, note_if, note_nothing};
+use crate::tally::{Tally, note_nothing};
 use json_value::read_json;
 use serde_json::Value;
 use std::alloc::{AllocError, Global};
@@ -106,45 +106,33 @@ fn note_closed(
     if !closes {
         return note_nothing(tally);
     }
-    let name = object_name(alloc, question, app, appid, object)?;
-    note_if(tally, name)
-}
-
-fn object_name(
-    alloc: Global,
-    question: EventQuestion,
-    app: &Value,
-    appid: &str,
-    object: &[u8],
-) -> Result<Option<String>, AllocError>
-    ensures { IfOk result (λ name. option_map string_bytes name
-        ≡ specs.object_name question (view app.now) appid.now object.now) }
-{
     match read_json(alloc, object)? {
         Some(event) => {
-            let name = event_name(alloc, question, app, appid, &event);
+            let noted = note_event(alloc, tally, question, app, appid, &event);
             drop(event);
-            name
+            noted
         }
-        None => Ok(None),
+        None => note_nothing(tally),
     }
 }
 
-fn event_name(
+// Counts an event, if the question is about it.
+fn note_event(
     alloc: Global,
+    tally: &mut Tally,
     question: EventQuestion,
     app: &Value,
     appid: &str,
     event: &Value,
-) -> Result<Option<String>, AllocError>
-    ensures { IfOk result (λ name. option_map string_bytes name
-        ≡ specs.event_name question (view app.now) appid.now (view event.now)) }
+) -> Result<(), AllocError>
+    ensures { OnOk result (Notes tally.old tally.new
+        (listed (specs.event_name question (view app.now) appid.now (view event.now)))) }
 {
     if !is_about(question, event) {
-        return Ok(None);
+        return note_nothing(tally);
     }
     let name = event_name_of(alloc, question, app, appid, event)?;
-    Ok(Some(name))
+    tally.note(name)
 }
 
 fn event_name_of(
@@ -226,10 +214,9 @@ fn result_name(alloc: Global, app: &Value, appid: &str, event: &Value) -> Result
     ensures { IfOk result (λ name. string_bytes name
         ≡ specs.result_name (view app.now) appid.now (view event.now)) }
 {
-    let mut name = result_text(alloc, number_in(event, "eventresult"))?;
-    name.push_str("\t")?;
-    name.push_str(install_name(alloc, app, appid, event)?.as_str())?;
-    Ok(name)
+    let text = result_text(alloc, number_in(event, "eventresult"))?;
+    let install = install_name(alloc, app, appid, event)?;
+    format!(in alloc; "{text}\t{install}")
 }
 
 fn result_text(alloc: Global, found: Option<u64>) -> Result<String, AllocError>

@@ -5,6 +5,7 @@ ghost use Rattle.report.specs.Exposition as specs;
 ghost use Rattle.printing.specs.Pushed.{Puts};
 
 use std::alloc::AllocError;
+use std::fmt::Write;
 
 /// The labels for a name's texts.
 #[derive(Clone, Copy)]
@@ -61,8 +62,7 @@ fn push_install(text: &mut String, name: &str) -> Result<(), AllocError>
 pub(crate) fn push_label(text: &mut String, name: &str, value: &str) -> Result<(), AllocError>
     ensures { OnOk result (Puts text.old text.new (specs.label name.now value.now)) }
 {
-    text.push_str(name)?;
-    text.push_str("=\"")?;
+    write!(text, "{name}=\"")?;
     push_value(text, value)?;
     text.push_str("\"")
 }
@@ -88,8 +88,8 @@ fn push_char(text: &mut String, c: char) -> Result<(), AllocError>
     }
 }
 
-// The first text of a name.
-fn first<'a>(name: &'a str) -> &'a str
+/// The first text of a name.
+pub(crate) fn first<'a>(name: &'a str) -> &'a str
     ensures { result.now ≡ specs.first name.now }
 {
     match name.split_once('\t') {
@@ -98,8 +98,8 @@ fn first<'a>(name: &'a str) -> &'a str
     }
 }
 
-// The texts after the first.
-fn rest<'a>(name: &'a str) -> &'a str
+/// The texts after the first.
+pub(crate) fn rest<'a>(name: &'a str) -> &'a str
     ensures { result.now ≡ specs.rest name.now }
 {
     match name.split_once('\t') {

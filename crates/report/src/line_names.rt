@@ -1,6 +1,6 @@
 //! The names that a line itself counts under, by question.
 
-ghost use Rattle.std.specs.Prelude.{◌≡◌, IfOk, option_map};
+ghost use Rattle.std.specs.Prelude.{◌≡◌, IfOk};
 ghost use Rattle.std.specs.String.{string_bytes};
 ghost use Rattle.serde_json.specs.View.{view};
 ghost use Rattle.report.specs.Names as specs;
@@ -11,24 +11,8 @@ use crate::question::LineQuestion;
 use serde_json::Value;
 use std::alloc::{AllocError, Global};
 
-/// The name that a line counts under, if the question has one for it.
-pub(crate) fn line_name(
-    alloc: Global,
-    question: LineQuestion,
-    line: &Value,
-) -> Result<Option<String>, AllocError>
-    ensures { IfOk result (λ name. option_map string_bytes name
-        ≡ specs.line_name question (view line.now)) }
-{
-    if !is_about_line(question, line) {
-        return Ok(None);
-    }
-    let name = line_name_of(alloc, question, line)?;
-    Ok(Some(name))
-}
-
-// Whether the question is about this line.
-fn is_about_line(question: LineQuestion, line: &Value) -> bool
+/// Whether the question is about this line.
+pub(crate) fn is_about_line(question: LineQuestion, line: &Value) -> bool
     ensures { result ≡ specs.is_about_line question (view line.now) }
 {
     match question {
@@ -38,8 +22,12 @@ fn is_about_line(question: LineQuestion, line: &Value) -> bool
     }
 }
 
-// The name of a line that the question is about.
-fn line_name_of(alloc: Global, question: LineQuestion, line: &Value) -> Result<String, AllocError>
+/// The name of a line that the question is about.
+pub(crate) fn line_name_of(
+    alloc: Global,
+    question: LineQuestion,
+    line: &Value,
+) -> Result<String, AllocError>
     ensures { IfOk result (λ name. string_bytes name
         ≡ specs.line_name_of question (view line.now)) }
 {

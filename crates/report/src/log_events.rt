@@ -67,21 +67,14 @@ pub(crate) fn is_number(n: u64, found: Option<u64>) -> bool
     }
 }
 
-// Whether the text is there, and is `text`.
-fn is_text(text: &str, found: Option<&str>) -> bool
-    ensures { result ≡ specs.is_text text.now (option_copied found.entry) }
-{
-    match found {
-        Some(other) => other == text,
-        None => false,
-    }
-}
-
 /// Whether a line is of this kind.
 pub(crate) fn is_kind(kind: &str, line: &Value) -> bool
     ensures { result ≡ specs.is_kind kind.now (view line.now) }
 {
-    is_text(kind, text_in(line, "kind"))
+    match text_in(line, "kind") {
+        Some(found) => found == kind,
+        None => false,
+    }
 }
 
 /// The apps of a line, if it is a connection's.

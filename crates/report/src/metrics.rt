@@ -1,6 +1,6 @@
 //! A metric in the text format of Prometheus: its help, its type and its samples.
 
-ghost use Rattle.std.specs.Prelude.{◌≡◌, OnOk};
+ghost use Rattle.std.specs.Prelude.{◌≡◌, ◌++◌, OnOk};
 ghost use Rattle.report.specs.Exposition as specs;
 ghost use Rattle.printing.specs.Pushed.{Puts};
 
@@ -51,17 +51,23 @@ pub(crate) fn push_number(
         (specs.number_metric kind metric.now help.now n)) }
 {
     push_head(text, kind, metric, help)?;
-    push_name(text, kind, metric)?;
-    write!(text, " {n}\n")
+    push_name(text, kind, metric, " ")?;
+    write!(text, "{n}\n")
 }
 
-/// Appends the name of a metric.
+/// Appends the name of a metric, and a text after it.
 #[tactic(auto, unfolding(crate::specs::Exposition::metric_name))]
-pub(crate) fn push_name(text: &mut String, kind: MetricKind, metric: &str) -> Result<(), AllocError>
-    ensures { OnOk result (Puts text.old text.new (specs.metric_name kind metric.now)) }
+pub(crate) fn push_name(
+    text: &mut String,
+    kind: MetricKind,
+    metric: &str,
+    after: &str,
+) -> Result<(), AllocError>
+    ensures { OnOk result (Puts text.old text.new
+        (specs.metric_name kind metric.now ++ after.now)) }
 {
-    text.push_str(metric)?;
-    text.push_str(suffix_of(kind))
+    let suffix = suffix_of(kind);
+    write!(text, "{metric}{suffix}{after}")
 }
 
 fn suffix_of(kind: MetricKind) -> &'static str
@@ -83,6 +89,7 @@ fn type_of(kind: MetricKind) -> &'static str
 }
 
 /// Appends the help and the type of a metric.
+#[tactic(auto, unfolding(crate::specs::Exposition::metric_name))]
 pub(crate) fn push_head(
     text: &mut String,
     kind: MetricKind,
@@ -91,27 +98,10 @@ pub(crate) fn push_head(
 ) -> Result<(), AllocError>
     ensures { OnOk result (Puts text.old text.new (specs.head kind metric.now help.now)) }
 {
-    push_help(text, kind, metric, help)?;
-    text.push_str("# TYPE ")?;
-    push_name(text, kind, metric)?;
-    text.push_str(" ")?;
-    text.push_str(type_of(kind))?;
-    text.push_str("\n")
-}
-
-fn push_help(
-    text: &mut String,
-    kind: MetricKind,
-    metric: &str,
-    help: &str,
-) -> Result<(), AllocError>
-    ensures { OnOk result (Puts text.old text.new (specs.help_line kind metric.now help.now)) }
-{
-    text.push_str("# HELP ")?;
-    push_name(text, kind, metric)?;
-    text.push_str(" ")?;
-    text.push_str(help)?;
-    text.push_str("\n")
+    let suffix = suffix_of(kind);
+    let type_name = type_of(kind);
+    write!(text, "# HELP {metric}{suffix} {help}\n")?;
+    write!(text, "# TYPE {metric}{suffix} {type_name}\n")
 }
 
 #[tactic(auto, using(crate::proofs::Written::one_further, crate::proofs::Written::at_end))]
@@ -142,8 +132,7 @@ fn push_sample(
     ensures { OnOk result (Puts text.old text.new
         (specs.sample kind metric.now (specs.labels_text labels name.now) n)) }
 {
-    push_name(text, kind, metric)?;
-    text.push_str("{")?;
+    push_name(text, kind, metric, "{")?;
     push_labels(text, labels, name)?;
     write!(text, "}} {n}\n")
 }
@@ -160,8 +149,7 @@ fn push_other_sample(
     if others == 0 {
         return Ok(());
     }
-    push_name(text, kind, metric)?;
-    text.push_str("{")?;
+    push_name(text, kind, metric, "{")?;
     push_label(text, "others", "true")?;
     write!(text, "}} {others}\n")
 }

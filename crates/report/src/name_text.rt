@@ -1,10 +1,9 @@
 //! How a name is written: one or more texts, with tabs between them. Control characters in a text
 //! are escaped, so no text contains a tab.
 
-ghost use Rattle.std.specs.Prelude.{◌≡◌, IfOk, OnOk};
+ghost use Rattle.std.specs.Prelude.{◌≡◌, IfOk};
 ghost use Rattle.std.specs.Option.{option_copied};
 ghost use Rattle.std.specs.String.{string_bytes};
-ghost use Rattle.printing.specs.Pushed.{Puts};
 ghost use Rattle.report.specs.Names as specs;
 
 use printing::Printed;
@@ -18,20 +17,13 @@ pub(crate) fn one(alloc: Global, text: &str) -> Result<String, AllocError>
     Printed(text).to_string(alloc)
 }
 
-fn push_printed(name: &mut String, text: &str) -> Result<(), AllocError>
-    ensures { OnOk result (Puts name.old name.new (specs.one text.now)) }
-{
-    let text = Printed(text);
-    write!(name, "{text}")
-}
-
 /// A name of two texts.
 pub(crate) fn two(alloc: Global, a: &str, b: &str) -> Result<String, AllocError>
     ensures { IfOk result (λ s. string_bytes s ≡ specs.two a.now b.now) }
 {
     let mut name = one(alloc, a)?;
-    name.push_str("\t")?;
-    push_printed(&mut name, b)?;
+    let last = Printed(b);
+    write!(name, "\t{last}")?;
     Ok(name)
 }
 
@@ -40,8 +32,8 @@ pub(crate) fn three(alloc: Global, a: &str, b: &str, c: &str) -> Result<String, 
     ensures { IfOk result (λ s. string_bytes s ≡ specs.three a.now b.now c.now) }
 {
     let mut name = two(alloc, a, b)?;
-    name.push_str("\t")?;
-    push_printed(&mut name, c)?;
+    let last = Printed(c);
+    write!(name, "\t{last}")?;
     Ok(name)
 }
 
@@ -57,8 +49,7 @@ pub(crate) fn course_name(
         ≡ specs.course_name what.now appid.now version.now moment) }
 {
     let mut name = three(alloc, what, appid, version)?;
-    name.push_str("\t")?;
-    name.push_str(decimal(alloc, moment)?.as_str())?;
+    write!(name, "\t{moment}")?;
     Ok(name)
 }
 

@@ -6,12 +6,12 @@ ghost use Rattle.report.specs.Events.{event_names};
 ghost use Rattle.report.specs.Names as specs;
 ghost use Rattle.report.specs.Tallies.{Notes};
 
-use crate::app_names::app_name;
+use crate::app_names::{app_name_of, is_about_app};
 use crate::events::note_events;
-use crate::line_names::line_name;
-use crate::log_events::apps_in;
+use crate::line_names::{is_about_line, line_name_of};
+use crate::log_events::{apps_in, text_in};
 use crate::question::{AppQuestion, EventQuestion, LineQuestion};
-use crate::tally::{Tally, note_if, note_nothing};
+use crate::tally::{Tally, note_nothing};
 use serde_json::Value;
 use std::alloc::{AllocError, Global};
 
@@ -25,8 +25,11 @@ pub(crate) fn note_line(
     ensures { OnOk result (Notes tally.old tally.new
         (specs.line_names question (view line.now))) }
 {
-    let name = line_name(alloc, question, line)?;
-    note_if(tally, name)
+    if !is_about_line(question, line) {
+        return note_nothing(tally);
+    }
+    let name = line_name_of(alloc, question, line)?;
+    tally.note(name)
 }
 
 /// Counts the line's apps.
@@ -87,6 +90,14 @@ fn note_app(
     ensures { OnOk result (Notes tally.old tally.new
         (specs.listed (specs.app_name question (view line.now) (view app.now)))) }
 {
-    let name = app_name(alloc, question, line, app)?;
-    note_if(tally, name)
+    match text_in(app, "appid") {
+        Some(appid) => {
+            if !is_about_app(question, line, app) {
+                return note_nothing(tally);
+            }
+            let name = app_name_of(alloc, question, line, app, appid)?;
+            tally.note(name)
+        }
+        None => note_nothing(tally),
+    }
 }

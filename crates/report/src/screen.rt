@@ -6,6 +6,7 @@ ghost use Rattle.printing.specs.Pushed.{Puts};
 ghost use Rattle.report.specs.Screen as specs;
 
 use crate::counting::Report;
+use crate::labels::{first, rest};
 use crate::rows::{push_others, push_row, push_table, push_title};
 use crate::tally::Tally;
 use std::alloc::{AllocError, Global};
@@ -171,21 +172,11 @@ fn buckets_of(app: &str, buckets: &BTreeMap<String, u64>) -> u64
 {
     let mut count = 0;
     for (name, _) in buckets.iter() {
-        if is_of(app, name.as_str()) {
+        if first(name.as_str()) == app {
             count += 1;
         }
     }
     count
-}
-
-// Whether the first text of a name is `first`.
-fn is_of(first: &str, name: &str) -> bool
-    ensures { result ≡ specs.is_of_text first.now name.now }
-{
-    match name.split_once('\t') {
-        Some((text, _)) => text == first,
-        None => name == first,
-    }
 }
 
 // ---- results of installs
@@ -221,18 +212,8 @@ fn push_result(text: &mut String, ended: &Tally, n: u64, name: &str) -> Result<(
     ensures { OnOk result (Puts text.old text.new (specs.result_row ended.now n name.now)) }
 {
     write!(text, "{n}\t")?;
-    push_share(text, n, ended.count_of(install_of(name)))?;
+    push_share(text, n, ended.count_of(rest(name)))?;
     write!(text, "\t{name}\n")
-}
-
-// The install in a result's name: all texts but the first.
-fn install_of<'a>(name: &'a str) -> &'a str
-    ensures { result.now ≡ specs.install_of name.now }
-{
-    match name.split_once('\t') {
-        Some((_, install)) => install,
-        None => "",
-    }
 }
 
 // The percentage of n in the whole, or a question mark if the whole is unknown.

@@ -1,10 +1,9 @@
 //! A table that counts names. It has at most `limit` rows. Names that get no row are counted
 //! together, so memory is bounded for any log.
 
-ghost use Rattle.std.specs.Prelude.{◌≡◌, ◌<◌, ◌≤◌, [], ◌∷◌, None, Some, OnOk, option_map};
+ghost use Rattle.std.specs.Prelude.{◌≡◌, [], ◌∷◌, None, OnOk};
 ghost use Rattle.std.specs.String.{string_bytes};
-ghost use Rattle.std.specs.BTreeMap.{btree_map_len, get_by_text};
-ghost use Rattle.report.specs.Names.{listed};
+ghost use Rattle.std.specs.BTreeMap.{get_by_text};
 ghost use Rattle.report.specs.Tallies.{IsTally, Notes, Sets, with_others};
 
 use std::alloc::{AllocError, Global};
@@ -74,63 +73,27 @@ impl Tally {
     }
 
     /// Counts a name.
+    #[tactic(auto, using(crate::proofs::Tallied::goes_up))]
     pub(crate) fn note(&mut self, name: String) -> Result<(), AllocError>
         ensures { OnOk result (Notes self.old self.new (string_bytes name ∷ [])) }
     {
         match self.count_of(name.as_str()) {
-            Some(count) => self.raise(name, count),
+            Some(count) => self.set(name, count.saturating_add(1)),
             None => self.note_new(name),
         }
     }
 
-    // Counts a name with a row.
-    #[tactic(auto, using(crate::proofs::Tallied::goes_up))]
-    fn raise(&mut self, name: String, count: u64) -> Result<(), AllocError>
-        requires { get_by_text self.old.rows (string_bytes name) ≡ Some count }
-        ensures { OnOk result (Notes self.old self.new (string_bytes name ∷ [])) }
-    {
-        self.set(name, count.saturating_add(1))
-    }
-
     // Counts a name without a row.
+    #[tactic(auto, using(crate::proofs::Tallied::gets_row, crate::proofs::Tallied::joins_others))]
     fn note_new(&mut self, name: String) -> Result<(), AllocError>
         requires { get_by_text self.old.rows (string_bytes name) ≡ None }
         ensures { OnOk result (Notes self.old self.new (string_bytes name ∷ [])) }
     {
         if self.rows.len() < self.limit {
-            return self.add_row(name);
+            return self.set(name, 1);
         }
-        self.add_other(name);
-        Ok(())
-    }
-
-    #[tactic(auto, using(crate::proofs::Tallied::gets_row))]
-    fn add_row(&mut self, name: String) -> Result<(), AllocError>
-        requires none { get_by_text self.old.rows (string_bytes name) ≡ None }
-        requires free { btree_map_len self.old.rows < self.old.limit }
-        ensures { OnOk result (Notes self.old self.new (string_bytes name ∷ [])) }
-    {
-        self.set(name, 1)
-    }
-
-    #[tactic(auto, using(crate::proofs::Tallied::joins_others))]
-    fn add_other(&mut self, name: String)
-        requires none { get_by_text self.old.rows (string_bytes name) ≡ None }
-        requires full { self.old.limit ≤ btree_map_len self.old.rows }
-        ensures { Notes self.old self.new (string_bytes name ∷ []) }
-    {
         self.others = self.others.saturating_add(1);
-    }
-}
-
-/// Counts a name, if there is one.
-pub(crate) fn note_if(tally: &mut Tally, name: Option<String>) -> Result<(), AllocError>
-    ensures { OnOk result (Notes tally.old tally.new
-        (listed (option_map string_bytes name))) }
-{
-    match name {
-        Some(name) => tally.note(name),
-        None => note_nothing(tally),
+        Ok(())
     }
 }
 
