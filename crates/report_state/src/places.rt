@@ -1,8 +1,9 @@
 //! The part of a log that was counted before, and its record in a state.
 
 use hex::FromHexError;
+use json_object::ObjectBuilder;
 use report::{list_in, number_in, text_in};
-use serde_json::{Value, json};
+use serde_json::Value;
 use std::alloc::{AllocError, Global};
 
 /// The place in a log up to which its lines are counted.
@@ -14,24 +15,21 @@ pub struct LogPlace {
     pub counted: u64,
 }
 
-fn beginning_of(alloc: Global, value: &Value) -> Result<Option<Vec<u8>>, AllocError> {
+// Adds the place that a value says, and returns whether it says one.
+fn add_place(alloc: Global, places: &mut Vec<LogPlace>, value: &Value) -> Result<bool, AllocError> {
+    let Some(counted) = number_in(value, "counted") else {
+        return Ok(false);
+    };
     let Some(text) = text_in(value, "beginning") else {
-        return Ok(None);
+        return Ok(false);
     };
     match hex::decode(alloc, text.as_bytes()) {
-        Ok(bytes) => Ok(Some(bytes)),
+        Ok(beginning) => {
+            places.push(LogPlace { beginning, counted })?;
+            Ok(true)
+        }
         Err(FromHexError::OutOfMemory) => Err(AllocError),
-        Err(_) => Ok(None),
-    }
-}
-
-fn place_of(alloc: Global, value: &Value) -> Result<Option<LogPlace>, AllocError> {
-    let Some(counted) = number_in(value, "counted") else {
-        return Ok(None);
-    };
-    match beginning_of(alloc, value)? {
-        Some(beginning) => Ok(Some(LogPlace { beginning, counted })),
-        None => Ok(None),
+        Err(_) => Ok(false),
     }
 }
 
@@ -40,11 +38,10 @@ pub(crate) fn places_in(alloc: Global, state: &Value) -> Result<Option<Vec<LogPl
     let Some(values) = list_in(state, "logs") else {
         return Ok(None);
     };
-    let mut places = Vec::with_capacity(alloc, values.len())?;
+    let mut places = Vec::new(alloc);
     for value in values {
-        match place_of(alloc, value)? {
-            Some(place) => places.push(place)?,
-            None => return Ok(None),
+        if !add_place(alloc, &mut places, value)? {
+            return Ok(None);
         }
     }
     Ok(Some(places))
@@ -52,14 +49,17 @@ pub(crate) fn places_in(alloc: Global, state: &Value) -> Result<Option<Vec<LogPl
 
 fn place_value(alloc: Global, place: &LogPlace) -> Result<Value, AllocError> {
     let beginning = hex::encode(alloc, place.beginning.as_slice())?;
-    json!(in alloc; {"beginning": beginning.as_str(), "counted": place.counted})
+    let mut value = ObjectBuilder::new(alloc);
+    value.put("beginning", Ok(Value::String(beginning)));
+    value.put_number("counted", place.counted);
+    value.finish()
 }
 
 /// The member `logs` of a state.
-pub(crate) fn place_values(alloc: Global, places: &[LogPlace]) -> Result<Value, AllocError> {
+pub(crate) fn place_values(alloc: Global, places: &[LogPlace]) -> Result<Vec<Value>, AllocError> {
     let mut values = Vec::with_capacity(alloc, places.len())?;
     for place in places {
         values.push(place_value(alloc, place)?)?;
     }
-    Ok(Value::Array(values))
+    Ok(values)
 }

@@ -19,10 +19,13 @@ pub struct ReportState {
 }
 
 fn fill_row(alloc: Global, value: &Value, tally: &mut Tally) -> Result<(), AllocError> {
-    if let (Some(name), Some(count)) = (text_in(value, "name"), number_in(value, "count")) {
-        tally.set(String::from_str(alloc, name)?, count)?;
-    }
-    Ok(())
+    let Some(name) = text_in(value, "name") else {
+        return Ok(());
+    };
+    let Some(count) = number_in(value, "count") else {
+        return Ok(());
+    };
+    tally.set(String::from_str(alloc, name)?, count)
 }
 
 // Fills a table with what the member of this name says; if it is malformed, some rows are missing.
@@ -47,30 +50,39 @@ fn fill_numbers(counts: &Value, report: &mut Report) {
     report.offers_left_out = number_in(counts, "offers_left_out").unwrap_or(0);
 }
 
-fn fill_lines(alloc: Global, counts: &Value, report: &mut Report) -> Result<(), AllocError> {
-    fill(alloc, counts, "kinds", &mut report.kinds)?;
-    fill(alloc, counts, "refusals", &mut report.refusals)?;
-    fill(alloc, counts, "loads", &mut report.loads)?;
-    fill(alloc, counts, "ended", &mut report.ended)?;
-    fill(alloc, counts, "results", &mut report.results)
+// Fills tables, and notes whether an allocation has failed.
+#[derive(Drop)]
+struct TableFiller {
+    alloc: Global,
+    failed: bool,
 }
 
-fn fill_apps(alloc: Global, counts: &Value, report: &mut Report) -> Result<(), AllocError> {
-    fill(alloc, counts, "update_checks", &mut report.update_checks)?;
-    fill(alloc, counts, "offered", &mut report.offered)?;
-    fill(alloc, counts, "unoffered", &mut report.unoffered)?;
-    fill(alloc, counts, "hours", &mut report.hours)?;
-    fill(alloc, counts, "buckets", &mut report.buckets)?;
-    fill(alloc, counts, "unknown", &mut report.unknown)?;
-    fill(alloc, counts, "without_cohort", &mut report.without_cohort)?;
-    fill(alloc, counts, "without_id", &mut report.without_id)?;
-    fill(alloc, counts, "cut_events", &mut report.cut_events)
-}
+impl TableFiller {
+    fn fill(&mut self, counts: &Value, name: &str, tally: &mut Tally) {
+        if fill(self.alloc, counts, name, tally).is_err() {
+            self.failed = true;
+        }
+    }
 
-fn fill_course(alloc: Global, counts: &Value, report: &mut Report) -> Result<(), AllocError> {
-    fill(alloc, counts, "versions", &mut report.course.versions)?;
-    fill(alloc, counts, "by_minute", &mut report.course.by_minute)?;
-    fill(alloc, counts, "by_hour", &mut report.course.by_hour)
+    fn fill_all(&mut self, counts: &Value, report: &mut Report) {
+        self.fill(counts, "kinds", &mut report.kinds);
+        self.fill(counts, "refusals", &mut report.refusals);
+        self.fill(counts, "loads", &mut report.loads);
+        self.fill(counts, "ended", &mut report.ended);
+        self.fill(counts, "results", &mut report.results);
+        self.fill(counts, "update_checks", &mut report.update_checks);
+        self.fill(counts, "offered", &mut report.offered);
+        self.fill(counts, "unoffered", &mut report.unoffered);
+        self.fill(counts, "hours", &mut report.hours);
+        self.fill(counts, "buckets", &mut report.buckets);
+        self.fill(counts, "unknown", &mut report.unknown);
+        self.fill(counts, "without_cohort", &mut report.without_cohort);
+        self.fill(counts, "without_id", &mut report.without_id);
+        self.fill(counts, "cut_events", &mut report.cut_events);
+        self.fill(counts, "versions", &mut report.course.versions);
+        self.fill(counts, "by_minute", &mut report.course.by_minute);
+        self.fill(counts, "by_hour", &mut report.course.by_hour);
+    }
 }
 
 fn fill_report(alloc: Global, state: &Value, report: &mut Report) -> Result<(), AllocError> {
@@ -78,9 +90,15 @@ fn fill_report(alloc: Global, state: &Value, report: &mut Report) -> Result<(), 
         return Ok(());
     };
     fill_numbers(counts, report);
-    fill_lines(alloc, counts, report)?;
-    fill_apps(alloc, counts, report)?;
-    fill_course(alloc, counts, report)
+    let mut filler = TableFiller {
+        alloc,
+        failed: false,
+    };
+    filler.fill_all(counts, report);
+    if filler.failed {
+        return Err(AllocError);
+    }
+    Ok(())
 }
 
 fn is_drawn(state: &Value) -> bool {
@@ -95,10 +113,13 @@ fn report_of(alloc: Global, state: &Value) -> Result<Option<Report>, AllocError>
     ensures { IfOk result (λ o. IfSome o (λ report. HasCounts report (view state.now))) }
 {
     let mut report = Report::new(alloc, is_drawn(state));
-    fill_report(alloc, state, &mut report)?;
+    let filled = fill_report(alloc, state, &mut report);
+    // Rows that an allocation left out show in the comparison.
     if has_counts(state, &report) {
         return Ok(Some(report));
     }
+    drop(report);
+    filled?;
     Ok(None)
 }
 
@@ -120,7 +141,11 @@ pub fn read_state(alloc: Global, bytes: &[u8]) -> Result<Option<ReportState>, Al
     ensures { IfOk result (λ o. IfSome o (λ state. SpellsCounts bytes.now state.report)) }
 {
     match read_json(alloc, bytes)? {
-        Some(value) => state_of(alloc, &value),
+        Some(value) => {
+            let state = state_of(alloc, &value);
+            drop(value);
+            state
+        }
         None => Ok(None),
     }
 }

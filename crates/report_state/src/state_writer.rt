@@ -5,118 +5,79 @@ ghost use Rattle.report_state.specs.States.{SpellsCounts};
 
 use crate::places::{LogPlace, place_values};
 use crate::spelling::has_counts;
+use json_object::ObjectBuilder;
 use json_value::read_json;
 use report::{Report, Tally};
-use serde_json::{Map, Value, json};
+use serde_json::Value;
 use std::alloc::{AllocError, Global};
 
-fn row_values(alloc: Global, tally: &Tally) -> Result<Value, AllocError> {
+fn row_value(alloc: Global, name: &str, count: u64) -> Result<Value, AllocError> {
+    let mut row = ObjectBuilder::new(alloc);
+    row.put_number("count", count);
+    row.put_text("name", name);
+    row.finish()
+}
+
+fn row_values(alloc: Global, tally: &Tally) -> Result<Vec<Value>, AllocError> {
     let mut values = Vec::new(alloc);
     for (name, count) in tally.rows().iter() {
-        values.push(json!(in alloc; {"count": *count, "name": name.as_str()})?)?;
+        values.push(row_value(alloc, name.as_str(), *count)?)?;
     }
-    Ok(Value::Array(values))
+    Ok(values)
 }
 
-fn put(
-    alloc: Global,
-    counts: &mut Map<String, Value>,
-    name: &str,
-    value: Value,
-) -> Result<(), AllocError> {
-    counts.insert(String::from_str(alloc, name)?, value)?;
-    Ok(())
+fn put_table(alloc: Global, counts: &mut ObjectBuilder, name: &str, tally: &Tally) {
+    let mut table = ObjectBuilder::new(alloc);
+    table.put_number("limit", tally.limit() as u64);
+    table.put_number("others", tally.others());
+    table.put_list("rows", row_values(alloc, tally));
+    counts.put(name, table.finish());
 }
 
-fn put_number(
-    alloc: Global,
-    counts: &mut Map<String, Value>,
-    name: &str,
-    number: u64,
-) -> Result<(), AllocError> {
-    put(alloc, counts, name, Value::from(number))
+fn put_numbers(counts: &mut ObjectBuilder, report: &Report) {
+    counts.put_number("lines", report.lines);
+    counts.put_number("foreign", report.foreign);
+    counts.put_number("lost", report.lost);
+    counts.put_number("left_out", report.left_out);
+    counts.put_number("offers_left_out", report.offers_left_out);
+    counts.put_bool("drawn", report.course.drawn);
 }
 
-fn put_table(
-    alloc: Global,
-    counts: &mut Map<String, Value>,
-    name: &str,
-    tally: &Tally,
-) -> Result<(), AllocError> {
-    let rows = row_values(alloc, tally)?;
-    let limit = tally.limit() as u64;
-    let table = json!(in alloc; {"limit": limit, "others": tally.others(), "rows": rows})?;
-    put(alloc, counts, name, table)
+fn put_tables(alloc: Global, counts: &mut ObjectBuilder, report: &Report) {
+    put_table(alloc, counts, "kinds", &report.kinds);
+    put_table(alloc, counts, "refusals", &report.refusals);
+    put_table(alloc, counts, "loads", &report.loads);
+    put_table(alloc, counts, "ended", &report.ended);
+    put_table(alloc, counts, "results", &report.results);
+    put_table(alloc, counts, "update_checks", &report.update_checks);
+    put_table(alloc, counts, "offered", &report.offered);
+    put_table(alloc, counts, "unoffered", &report.unoffered);
+    put_table(alloc, counts, "hours", &report.hours);
+    put_table(alloc, counts, "buckets", &report.buckets);
+    put_table(alloc, counts, "unknown", &report.unknown);
+    put_table(alloc, counts, "without_cohort", &report.without_cohort);
+    put_table(alloc, counts, "without_id", &report.without_id);
+    put_table(alloc, counts, "cut_events", &report.cut_events);
+    put_table(alloc, counts, "versions", &report.course.versions);
+    put_table(alloc, counts, "by_minute", &report.course.by_minute);
+    put_table(alloc, counts, "by_hour", &report.course.by_hour);
 }
 
-fn put_numbers(
-    alloc: Global,
-    counts: &mut Map<String, Value>,
-    report: &Report,
-) -> Result<(), AllocError> {
-    put_number(alloc, counts, "lines", report.lines)?;
-    put_number(alloc, counts, "foreign", report.foreign)?;
-    put_number(alloc, counts, "lost", report.lost)?;
-    put_number(alloc, counts, "left_out", report.left_out)?;
-    put_number(alloc, counts, "offers_left_out", report.offers_left_out)
-}
-
-fn put_lines(
-    alloc: Global,
-    counts: &mut Map<String, Value>,
-    report: &Report,
-) -> Result<(), AllocError> {
-    put_table(alloc, counts, "kinds", &report.kinds)?;
-    put_table(alloc, counts, "refusals", &report.refusals)?;
-    put_table(alloc, counts, "loads", &report.loads)?;
-    put_table(alloc, counts, "ended", &report.ended)?;
-    put_table(alloc, counts, "results", &report.results)
-}
-
-fn put_apps(
-    alloc: Global,
-    counts: &mut Map<String, Value>,
-    report: &Report,
-) -> Result<(), AllocError> {
-    put_table(alloc, counts, "update_checks", &report.update_checks)?;
-    put_table(alloc, counts, "offered", &report.offered)?;
-    put_table(alloc, counts, "unoffered", &report.unoffered)?;
-    put_table(alloc, counts, "hours", &report.hours)?;
-    put_table(alloc, counts, "buckets", &report.buckets)?;
-    put_table(alloc, counts, "unknown", &report.unknown)?;
-    put_table(alloc, counts, "without_cohort", &report.without_cohort)?;
-    put_table(alloc, counts, "without_id", &report.without_id)?;
-    put_table(alloc, counts, "cut_events", &report.cut_events)
-}
-
-fn put_course(
-    alloc: Global,
-    counts: &mut Map<String, Value>,
-    report: &Report,
-) -> Result<(), AllocError> {
-    put(alloc, counts, "drawn", Value::Bool(report.course.drawn))?;
-    put_table(alloc, counts, "versions", &report.course.versions)?;
-    put_table(alloc, counts, "by_minute", &report.course.by_minute)?;
-    put_table(alloc, counts, "by_hour", &report.course.by_hour)
-}
-
-fn put_counts(
-    alloc: Global,
-    counts: &mut Map<String, Value>,
-    report: &Report,
-) -> Result<(), AllocError> {
-    put_numbers(alloc, counts, report)?;
-    put_lines(alloc, counts, report)?;
-    put_apps(alloc, counts, report)?;
-    put_course(alloc, counts, report)
+fn counts_value(alloc: Global, report: &Report) -> Result<Value, AllocError> {
+    let mut counts = ObjectBuilder::new(alloc);
+    put_numbers(&mut counts, report);
+    put_tables(alloc, &mut counts, report);
+    counts.finish()
 }
 
 fn text_of(alloc: Global, report: &Report, places: &[LogPlace]) -> Result<String, AllocError> {
-    let mut counts = Map::new(alloc);
-    put_counts(alloc, &mut counts, report)?;
-    let logs = place_values(alloc, places)?;
-    let state = json!(in alloc; {"counts": Value::Object(counts), "logs": logs})?;
-    let mut text = state.to_string(alloc)?;
+    let mut state = ObjectBuilder::new(alloc);
+    state.put("counts", counts_value(alloc, report));
+    state.put_list("logs", place_values(alloc, places));
+    let state = state.finish()?;
+    let printed = state.to_string(alloc);
+    drop(state);
+    let mut text = printed?;
     text.push_str("\n")?;
     Ok(text)
 }
@@ -126,7 +87,11 @@ fn reads_back(alloc: Global, text: &str, report: &Report) -> Result<bool, AllocE
     ensures { IfOk result (λ ok. ok ≡ true → SpellsCounts text.now report.now) }
 {
     match read_json(alloc, text.as_bytes())? {
-        Some(value) => Ok(has_counts(&value, report)),
+        Some(value) => {
+            let spelled = has_counts(&value, report);
+            drop(value);
+            Ok(spelled)
+        }
         None => Ok(false),
     }
 }
