@@ -68,7 +68,7 @@ fn is_day(of: &Coordinate) -> bool {
 }
 
 /// Adds the test of the coordinate's number against this one, by `Eq`, `Ne`, `Ge` or `Lt`. The
-/// number that stands for an unknown day of installation is the greatest: other days are below it.
+/// number of an unknown day of installation is the greatest: other days are below it.
 pub(crate) fn add_comparison(
     texts: &mut TestTexts,
     of: &Coordinate,
