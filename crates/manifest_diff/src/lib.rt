@@ -32,6 +32,6 @@ pub use app_diff::AppDiff;
 pub use apps::ManifestApp;
 pub use diff_fault::DiffFault;
 pub use laws::diff_is_so;
-pub use opened::{OpenedBoth, OpenedManifest, fault_of, open_both};
+pub use opened::{OpenedBoth, OpenedManifest, open_both};
 pub use outcome::{AppChange, AppOutcome, WhyNot};
 pub use output::{DiffOptions, DiffOutput, diff_manifests};

@@ -78,8 +78,8 @@ impl OpenedManifest {
     }
 }
 
-/// The fault of a refusal, whose other parts are dropped here.
-pub fn fault_of(refusal: SourcesRefusal) -> LoadFault
+// The fault of a refusal, whose other parts are dropped here.
+fn fault_of(refusal: SourcesRefusal) -> LoadFault
     ensures { result ≡ refusal.fault }
 {
     let SourcesRefusal {
