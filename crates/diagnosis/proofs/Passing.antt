@@ -22,7 +22,7 @@ use Rattle.load.specs.declared.load_fault.LoadFault.TheVariants.{Program}
 use Rattle.load.specs.declared.load_fault.LoadFault.TheVariants.{Rule, Cells, Memory}
 use Rattle.load.specs.declared.sources.Sources.{Sources}
 use Rattle.load.specs.declared.sources.AppSources.{AppSources}
-use Rattle.load.specs.declared.sources.SourcesRefusal.{SourcesRefusal}
+use Rattle.load.specs.declared.refusal.SourcesRefusal.{SourcesRefusal}
 use Rattle.manifest.specs.declared.refused.Parsed.TheVariants.{Nothing}
 use Rattle.ruleset.specs.Rules.{AppRule}
 use Rattle.warnings.specs.RuleWarnings.{whole_budget}

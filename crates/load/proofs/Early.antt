@@ -13,7 +13,7 @@ use Rattle.load.specs.declared.load_fault.LoadFault.{LoadFault}
 use Rattle.load.specs.declared.load_fault.LoadFault.TheVariants.{Manifest as NoManifest, File}
 use Rattle.load.specs.declared.load_fault.LoadFault.TheVariants.{Program}
 use Rattle.load.specs.declared.load_fault.LoadFault.TheVariants.{Rule, Cells, Memory}
-use Rattle.load.specs.declared.sources.SourcesRefusal.{SourcesRefusal}
+use Rattle.load.specs.declared.refusal.SourcesRefusal.{SourcesRefusal}
 use Rattle.load.specs.Sources.{AreArraysWithFault, AreArraysOf, IsParsedWithFault, IsSourcesRefusal}
 use Rattle.load.specs.Sources.{of_manifest}
 use Rattle.load.specs.Load.{IsLoadFault, RefusesArrays, RefusesManifest, of_bytes}

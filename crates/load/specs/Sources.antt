@@ -18,7 +18,7 @@ use Rattle.load.specs.declared.load_fault.LoadFault.TheVariants.{Manifest as NoM
 use Rattle.load.specs.declared.load_fault.LoadFault.TheVariants.{Memory}
 use Rattle.load.specs.declared.sources.Sources.{Sources}
 use Rattle.load.specs.declared.sources.AppSources.{AppSources}
-use Rattle.load.specs.declared.sources.SourcesRefusal.{SourcesRefusal}
+use Rattle.load.specs.declared.refusal.SourcesRefusal.{SourcesRefusal}
 use Rattle.load.specs.App.{IsShapeOf}
 use Rattle.load.specs.Kept.{IsKeptFrom, is_unread, long_count}
 use Rattle.load.specs.Load.{IsLoadFault}

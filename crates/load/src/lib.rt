@@ -50,5 +50,5 @@ pub use loading::{load_over, load_ruleset};
 pub use made::make_ruleset;
 pub use path::{MOST_MANIFEST, load_path, load_with_digest, manifest_bytes};
 pub use programs::{in_app, judge, judge_app, supply};
-pub use refusal::LoadRefusal;
-pub use sources::{AppSources, Sources, SourcesRefusal, collect_sources};
+pub use refusal::{LoadRefusal, SourcesRefusal};
+pub use sources::{AppSources, Sources, collect_sources};

@@ -1,9 +1,12 @@
-//! Why a load is refused, with the cause that a log prints.
+//! Why a load is refused, with the cause that a log prints, and why a manifest and its files
+//! aren't gathered.
 
 ghost use Rattle.std.specs.Prelude.{◌≡◌, Some, None};
 ghost use Rattle.load.specs.Texts.{path_fault_text};
 
-use crate::load_fault::PathFault;
+use crate::load_fault::{LoadFault, PathFault};
+use declarations::ArrayDeclaration;
+use manifest::Parsed;
 use std::error::Error;
 use std::fmt;
 
@@ -43,3 +46,29 @@ impl fmt::Debug for LoadRefusal {
 }
 
 impl Error for LoadRefusal {}
+
+/// Why nothing is gathered: M1 to M3 and M7, for which no file is read, or M8, possibly after some
+/// were read. With M7 it has the manifest's arrays, with M8 those or none. With M1 to M3 it has no
+/// arrays, but the result of parsing the bytes.
+#[derive(Drop)]
+pub struct SourcesRefusal {
+    pub fault: LoadFault,
+    pub arrays: Vec<ArrayDeclaration>,
+    pub parsed: Parsed,
+}
+
+impl SourcesRefusal {
+    /// The fault. Everything else is dropped.
+    pub fn into_fault(self) -> LoadFault
+        ensures { result ≡ self.fault }
+    {
+        let SourcesRefusal {
+            fault,
+            arrays,
+            parsed,
+        } = self;
+        drop(arrays);
+        drop(parsed);
+        fault
+    }
+}

@@ -15,6 +15,7 @@ use crate::arrays::declare_arrays;
 use crate::files::Files;
 use crate::kept_file::{collect_file, file_of, long_count};
 use crate::load_fault::LoadFault;
+use crate::refusal::SourcesRefusal;
 use attrs::Text;
 use bounded_files::KeptBytes;
 use cells::{ArrayNo, Directory, Shape};
@@ -56,16 +57,6 @@ pub struct Sources {
 struct ReadApps {
     apps: Vec<AppSources>,
     unread: usize,
-}
-
-/// Why nothing is gathered: M1 to M3 and M7, for which no file is read, or M8, possibly after some
-/// were read. With M7 it has the manifest's arrays, with M8 those or none. With M1 to M3 it has no
-/// arrays, but the result of parsing the bytes.
-#[derive(Drop)]
-pub struct SourcesRefusal {
-    pub fault: LoadFault,
-    pub arrays: Vec<ArrayDeclaration>,
-    pub parsed: Parsed,
 }
 
 /// Gathers a manifest and its files. Each file is read once, and none after more than 64 MiB of

@@ -15,8 +15,7 @@ use bpf_verify::Verified;
 use cells::Directory;
 use declarations::ArrayDeclaration;
 use load::{
-    FolderFiles, LoadFault, PathFault, Sources, SourcesRefusal, collect_sources, judge,
-    manifest_bytes, sources_are_loaded,
+    FolderFiles, PathFault, Sources, collect_sources, judge, manifest_bytes, sources_are_loaded,
 };
 use rule_lang::Rule;
 use std::alloc::Global;
@@ -78,20 +77,6 @@ impl OpenedManifest {
     }
 }
 
-// The fault of a refusal, whose other parts are dropped here.
-fn fault_of(refusal: SourcesRefusal) -> LoadFault
-    ensures { result ≡ refusal.fault }
-{
-    let SourcesRefusal {
-        fault,
-        arrays,
-        parsed,
-    } = refusal;
-    drop(arrays);
-    drop(parsed);
-    fault
-}
-
 // Opens the manifest at a path, as on a server without arrays.
 #[tactic(auto, using(crate::proofs::Opening::is_opened))]
 fn open_manifest<D: Disk>(alloc: Global, disk: &D, path: &str) -> Result<OpenedManifest, PathFault>
@@ -107,7 +92,7 @@ fn open_manifest<D: Disk>(alloc: Global, disk: &D, path: &str) -> Result<OpenedM
     let none = Directory::new(alloc);
     let sources = match collect_sources(alloc, &bytes, &mut files, &none) {
         Ok(sources) => sources,
-        Err(refusal) => return Err(PathFault::Load(fault_of(refusal))),
+        Err(refusal) => return Err(PathFault::Load(refusal.into_fault())),
     };
     drop(bytes);
     drop(none);

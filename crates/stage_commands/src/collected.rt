@@ -11,8 +11,8 @@ use app_rules::read_rules;
 use bounded_files::Disk;
 use cells::Directory;
 use load::{
-    AppSources, Files, FolderFiles, LoadFault, PathFault, Sources, SourcesRefusal, collect_sources,
-    digest_of, judge, manifest_bytes,
+    AppSources, Files, FolderFiles, LoadFault, PathFault, Sources, collect_sources, digest_of,
+    judge, manifest_bytes,
 };
 use manifest_diff::OpenedManifest;
 use std::alloc::{AllocError, Global};
@@ -22,18 +22,6 @@ use std::alloc::{AllocError, Global};
 pub(crate) struct CollectedManifest {
     pub(crate) bytes: Vec<u8>,
     pub(crate) sources: Sources,
-}
-
-// What isn't returned is dropped here, once.
-fn fault_of(refusal: SourcesRefusal) -> LoadFault {
-    let SourcesRefusal {
-        fault,
-        arrays,
-        parsed,
-    } = refusal;
-    drop(arrays);
-    drop(parsed);
-    fault
 }
 
 /// Gathers a manifest's bytes and its files, over no arrays.
@@ -47,7 +35,7 @@ pub(crate) fn sources_over<L: Files>(
     let none = Directory::new(alloc);
     match collect_sources(alloc, bytes, files, &none) {
         Ok(sources) => Ok(sources),
-        Err(refusal) => Err(fault_of(refusal)),
+        Err(refusal) => Err(refusal.into_fault()),
     }
 }
 
