@@ -10,7 +10,7 @@ use omaha_json::OmahaFault;
 use std::fmt::{self, Display};
 
 /// What is wrong; it is displayed as it is printed.
-#[derive(Debug, Drop)]
+#[derive(Drop)]
 pub enum DryRunFault {
     /// B3, B4, M1 to M8: the manifest gives no ruleset.
     Manifest(PathFault),

@@ -22,6 +22,12 @@ pub struct Opened {
     pub body: Vec<u8>,
 }
 
+impl Opened {
+    /// Drops it in this crate, where its parts are dropped anyway: a crate that drops them proves a
+    /// function for the type of each.
+    pub fn close(self) {}
+}
+
 /// Loads a manifest over no arrays, like a server's first one, and reads a body from a file of any
 /// kind; `-` is standard input. The manifest's faults come first, M1 to M8 or B3; then B3 of the
 /// body, and P5 if it has more than 1 MiB. Returns B4 if an allocation fails.

@@ -106,8 +106,12 @@ fn explain_apps(
     let mut place = 0;
     for app in apps {
         let note = note_at(notes, place);
-        let lines = explain_app(alloc, why, facts, moment, app, note, counters)?;
-        text.push_str(lines.as_str())?;
+        let Ok(lines) = explain_app(alloc, why, facts, moment, app, note, counters) else {
+            return Err(AllocError);
+        };
+        let Ok(()) = text.push_str(lines.as_str()) else {
+            return Err(AllocError);
+        };
         place += 1;
     }
     Ok(text)
@@ -130,20 +134,17 @@ fn explain_app(
     let appid = app.appid();
     let stated = app.facts();
     let Some(known) = why.rules.find(appid) else {
-        let text = unknown_app(alloc, appid, note)?;
-        return Ok(text);
+        return unknown_app(alloc, appid, note);
     };
     let Ok(attrs) = attrs_of(alloc, stated, facts, moment) else {
         return Err(AllocError);
     };
     if !stated.updatecheck {
-        let text = no_request_app(alloc, stated, attrs.context(), note)?;
-        return Ok(text);
+        return no_request_app(alloc, stated, attrs.context(), note);
     }
     known.invariant_law();
     let rule = rule_of(why.rules.apps(), &why.optional_rules, appid);
-    let text = run_app(alloc, known, rule, stated, attrs, note, counters)?;
-    Ok(text)
+    run_app(alloc, known, rule, stated, attrs, note, counters)
 }
 
 // The attributes of an app at a moment.

@@ -11,8 +11,8 @@ use app_rules::read_rules;
 use bounded_files::{Disk, ResourceFault};
 use cells::Directory;
 use load::{
-    FolderFiles, LoadFault, PathFault, SourcesRefusal, collect_sources, make_ruleset,
-    manifest_bytes, sources_are_loaded, sources_are_made,
+    FolderFiles, PathFault, collect_sources, make_ruleset, manifest_bytes, sources_are_loaded,
+    sources_are_made,
 };
 use rule_lang::Rule;
 use ruleset::{LoadedRuleset, Ruleset};
@@ -27,6 +27,11 @@ pub struct OpenedWhy {
     pub digest: [u8; 32],
     pub body: Vec<u8>,
     pub optional_rules: Vec<Option<Rule>>,
+}
+
+impl OpenedWhy {
+    /// Drops it in this crate, as `Opened::close` does.
+    pub fn close(self) {}
 }
 
 /// A ruleset that was loaded, and the rule of each app.
@@ -95,7 +100,7 @@ fn load_why<D: Disk>(alloc: Global, disk: &D, path: &str) -> Result<LoadedWhy, P
     let none = Directory::new(alloc);
     let sources = match collect_sources(alloc, &bytes, &mut files, &none) {
         Ok(sources) => sources,
-        Err(refused) => return Err(PathFault::Load(fault_of(refused))),
+        Err(refused) => return Err(PathFault::Load(refused.into_fault())),
     };
     let Ok(optional_rules) = read_rules(alloc, &sources.apps) else {
         drop(sources);
@@ -108,18 +113,4 @@ fn load_why<D: Disk>(alloc: Global, disk: &D, path: &str) -> Result<LoadedWhy, P
         }),
         Err(fault) => Err(PathFault::Load(fault)),
     }
-}
-
-// Only the fault: what else a refusal has is dropped.
-fn fault_of(refused: SourcesRefusal) -> LoadFault
-    ensures { result ≡ refused.fault }
-{
-    let SourcesRefusal {
-        fault,
-        arrays,
-        parsed,
-    } = refused;
-    drop(arrays);
-    drop(parsed);
-    fault
 }

@@ -6,12 +6,12 @@ pub loop-app-preserved : goal.loop-app-preserved
 loop-app-preserved c =
     let so_far = c.loop-app.invariant in
     let pushed =
-    c.in_ok-push_str.ensures.bytes
+    c.in-Ok-push_str.ensures.bytes
     ∙ ap (λ (t : List ℕ). string_bytes c.loop-app.text ++ t) c.as_str.ensures.value in (
       ap (λ (n : ℕ). n + 1) so_far.0,
       one_more c.args.why.now.rules c.args.why.now.optional_rules.items c.facts-facts.result.now
           c.args.moment.now (map string_bytes c.args.notes.now) c.args.counters.now
           c.apps-apps.result.now c.loop-app.app-index c.loop-app.place c.app-item.result
           c.note_at-note.result.now _ _ _ _ _ c.loop-app-test.true c.app-item.is so_far.0
-          c.note_at-note.ensures so_far.1 c.in_ok-lines.ensures pushed,
+          c.note_at-note.ensures so_far.1 c.in-Ok.ensures pushed,
     )
