@@ -1,6 +1,6 @@
 -- From what was gathered and judged to the report.
 use Rattle.std.proofs.Common.{◌≡◌, ℕ, List, [], ◌++◌, length, string_bytes, ◌∙◌, ap, subst}
-use Rattle.std.proofs.Common.{refl, sym, Result, Ok, Err, IfOk, IfErr, Some, inl, inr}
+use Rattle.std.proofs.Common.{refl, sym, Some, inl, inr}
 use Rattle.diagnosis.specs.Check.{FailsApps, FailsCheck, PassesApps, PassesCheck, files, no_file}
 use Rattle.diagnosis.specs.Texts.{accepted_text}
 use Rattle.diagnosis.specs.Reported.{ReportsRefused}
@@ -27,16 +27,6 @@ use Rattle.manifest.specs.declared.refused.Parsed.TheVariants.{Nothing}
 use Rattle.ruleset.specs.Rules.{AppRule}
 use Rattle.warnings.specs.RuleWarnings.{whole_budget}
 use Rattle.warnings.specs.declared.warning.Warning.{Warning}
-
-pub ok_by : {X E : Type 0} {P Q : X → Type 0} (r : Result X E) → ((x : X) → P x → Q x)
-    → IfOk r P → IfOk r Q
-ok_by (Ok x) f h = f x h
-ok_by (Err e) f h = tt
-
-pub err_by : {X E : Type 0} {P Q : E → Type 0} (r : Result X E) → ((e : E) → P e → Q e)
-    → IfErr r P → IfErr r Q
-err_by (Ok x) f h = tt
-err_by (Err e) f h = f e h
 
 pub passes_apps : (bytes : List ℕ) (g : Sources) (programs : List ShapedProgram)
     (gone : List AppSources) (reported : CheckedManifest) (by_rule lent : List Warning)

@@ -45,7 +45,9 @@ pub(crate) fn report_accepted(
     requires judged { AreJudged sources.apps.items programs.items }
     ensures { IfOk result (PassesApps manifest.now sources) }
 {
-    let reported = warnings_of_apps(alloc, sources.apps.as_slice())?;
+    let Ok(reported) = warnings_of_apps(alloc, sources.apps.as_slice()) else {
+        return Err(AllocError);
+    };
     let digest = judged_digest(manifest, &sources.apps, &programs);
     let Sources {
         server: _server,
@@ -54,14 +56,20 @@ pub(crate) fn report_accepted(
         apps: collected_apps,
         unread: _unread,
     } = sources;
-    let apps = supply(alloc, collected_apps, programs)?;
-    let text = accepted_lines(alloc, arrays.as_slice(), apps.as_slice())?;
-    let warnings = warning_text(
+    let Ok(apps) = supply(alloc, collected_apps, programs) else {
+        return Err(AllocError);
+    };
+    let Ok(text) = accepted_lines(alloc, arrays.as_slice(), apps.as_slice()) else {
+        return Err(AllocError);
+    };
+    let Ok(warnings) = warning_text(
         alloc,
         directory.arrays(),
         apps.as_slice(),
         reported.as_slice(),
-    )?;
+    ) else {
+        return Err(AllocError);
+    };
     Ok(CheckedManifest {
         arrays,
         apps,

@@ -66,9 +66,6 @@ fn key_of(source: &ProgramSource) -> &'static str
 fn show_inside(alloc: Global, place: Place, app: &AppSources) -> String
     ensures { ShowsPlace app.now place (string_bytes result) }
 {
-    if place == Place::Whole {
-        return String::new(alloc);
-    }
     if !lies_inside(app) {
         return String::new(alloc);
     }

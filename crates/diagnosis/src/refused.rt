@@ -3,7 +3,7 @@
 use load::LoadFault;
 
 /// Why a manifest is refused, and where. Lines are ended by a line feed.
-#[derive(Debug, Drop)]
+#[derive(Drop)]
 pub struct Refused {
     /// The fault of the manifest's load.
     pub fault: LoadFault,
@@ -25,7 +25,7 @@ pub struct Refused {
 }
 
 /// A further fault of a manifest.
-#[derive(Debug, Drop)]
+#[derive(Drop)]
 pub struct FaultReport {
     pub fault: LoadFault,
     /// Where and why: lines, each ended by a line feed. Empty if an allocation for them failed.

@@ -19,7 +19,7 @@ use std::alloc::Global;
 use std::str;
 
 /// A place in the file of an app.
-#[derive(Clone, Copy, PartialEq, Eq)]
+#[derive(Clone, Copy)]
 pub(crate) enum Place {
     /// The whole file.
     Whole,

@@ -1,7 +1,8 @@
 use Rattle.std.proofs.Common.{[], List, subst}
+use Rattle.std.proofs.lemmas.Result.{IfErr-weaker, IfOk-weaker}
 use Rattle.cells.specs.declared.array.CellArray.{CellArray}
 use Rattle.load.specs.Sources.{AreSources, IsSourcesRefusal}
-use Rattle.diagnosis.proofs.Passing.{err_by, fails, fails_early, ok_by, passes}
+use Rattle.diagnosis.proofs.Passing.{fails, fails_early, passes}
 use Rattle.diagnosis.proofs.checking.check.Goals as goal
 
 pub check_apps-requires : goal.check_apps-requires
@@ -14,7 +15,7 @@ returns-in-Ok-clause-passes g c =
     AreSources (g.F.Files.known c.args.files.now) old c.args.manifest.now c.in-Ok.sources)
     c.new-directory.ensures c.in-Ok.ensures.sources in
     let load = c.sources_are_loaded.ensures.manifest _ [] _ _ is in
-    ok_by c.check_apps.result (passes _ _ _ is load) c.check_apps.ensures.passes
+    IfOk-weaker c.check_apps.result _ _ (passes _ _ _ is load) c.check_apps.ensures.passes
 
 pub returns-in-Ok-clause-fails : goal.returns-in-Ok-clause-fails
 returns-in-Ok-clause-fails g c =
@@ -22,7 +23,7 @@ returns-in-Ok-clause-fails g c =
     AreSources (g.F.Files.known c.args.files.now) old c.args.manifest.now c.in-Ok.sources)
     c.new-directory.ensures c.in-Ok.ensures.sources in
     let load = c.sources_are_loaded.ensures.manifest _ [] _ _ is in
-    err_by c.check_apps.result (fails _ _ _ is load) c.check_apps.ensures.fails
+    IfErr-weaker c.check_apps.result _ _ (fails _ _ _ is load) c.check_apps.ensures.fails
 
 pub returns-clause-fails : goal.returns-clause-fails
 returns-clause-fails g c =

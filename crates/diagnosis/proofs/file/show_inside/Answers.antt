@@ -2,11 +2,8 @@ use Rattle.std.proofs.Common.{sym, ◌∙◌}
 use Rattle.diagnosis.specs.Shown.ShowsPlace.{nothing, shown}
 use Rattle.diagnosis.proofs.file.show_inside.Goals as goal
 
-pub returns-then-eq : goal.returns-then-eq
-returns-then-eq c = rw c.new.ensures.bytes nothing
-
 pub returns-then-not-lies_inside : goal.returns-then-not-lies_inside
-returns-then-not-lies_inside c = rw c.new-then-not-lies_inside.ensures.bytes nothing
+returns-then-not-lies_inside c = rw c.new.ensures.bytes nothing
 
 pub returns-in-Some : goal.returns-in-Some
 returns-in-Some c =
