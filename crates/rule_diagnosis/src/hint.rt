@@ -5,7 +5,6 @@ use crate::lexeme::{byte_at, is_relation, is_word};
 use crate::quoting::character_code;
 use attrs::{attribute_named, flag_named};
 use std::alloc::{AllocError, Global};
-use std::fmt::Write;
 
 /// What to write instead of an unknown lexeme; empty if that isn't obvious.
 pub(crate) fn hint(lexeme: &str) -> &'static str {
@@ -50,19 +49,22 @@ pub(crate) fn misplaced_hint(
     found: &str,
     is_test: bool,
 ) -> Result<String, AllocError> {
-    let mut hint = String::new(alloc);
-    if is_test {
-        if flag_named(found).is_some() {
-            write!(hint, ": a flag is tested by flag {found}")?;
-        } else if attribute_named(found).is_some() {
-            write!(hint, ": an attribute is tested by attr {found} is \"..\"")?;
-        }
-    } else if parts_digits(text, place) {
-        hint.push_str(": a number has no comma")?;
-    } else if found == "else" {
-        hint.push_str(": a rule ends with otherwise none;")?;
+    if is_test && flag_named(found).is_some() {
+        return format!(in alloc; ": a flag is tested by flag {found}");
     }
-    Ok(hint)
+    if is_test && attribute_named(found).is_some() {
+        return format!(in alloc; ": an attribute is tested by attr {found} is \"..\"");
+    }
+    let hint = if is_test {
+        ""
+    } else if parts_digits(text, place) {
+        ": a number has no comma"
+    } else if found == "else" {
+        ": a rule ends with otherwise none;"
+    } else {
+        ""
+    };
+    String::from_str(alloc, hint)
 }
 
 // Whether there is a comma between two digits.

@@ -23,8 +23,8 @@ pub(crate) fn push_sentence(
     push_lexeme(text, found)?;
     match kind {
         RuleFaultKind::Token => {
-            text.push_str(" is no word of a rule")?;
-            text.push_str(hint(found))
+            let hint = hint(found);
+            write!(text, " is no word of a rule{hint}")
         }
         RuleFaultKind::Shape => Ok(()),
         RuleFaultKind::Name => push_name_sentence(text, shape, before, found),
@@ -43,9 +43,9 @@ fn push_name_sentence(
     found: &str,
 ) -> Result<(), AllocError> {
     if before == "flag" {
-        text.push_str(" is no flag; there are: ")?;
         return text.push_str(
-            "version_known, updatecheck, ping, event, cohort_known, installdate_known",
+            " is no flag; there are: version_known, updatecheck, ping, event, cohort_known, \
+            installdate_known",
         );
     }
     if before == "attr" {
@@ -63,15 +63,14 @@ fn push_name_sentence(
 }
 
 fn push_array_names(text: &mut String, shape: &Shape) -> Result<(), AllocError> {
-    text.push_str(" is no array; there are: ")?;
     if shape.arrays().is_empty() {
-        return text.push_str("none");
+        return text.push_str(" is no array; there are: none");
     }
-    let mut divider = "";
+    let mut before = " is no array; there are: ";
     for array in shape.arrays() {
-        text.push_str(divider)?;
-        text.push_str(array.name.as_str())?;
-        divider = ", ";
+        let name = array.name.as_str();
+        write!(text, "{before}{name}")?;
+        before = ", ";
     }
     Ok(())
 }
