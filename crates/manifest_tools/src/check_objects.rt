@@ -2,6 +2,7 @@
 
 ghost use Rattle.std.specs.Prelude.{◌≡◌, ◌∷◌, ◌++◌, [], IfOk, OnOk, map, string_bytes};
 ghost use Rattle.std.specs.Io.BufRead.{strip_last};
+ghost use Rattle.serde_json.specs.Data.{string};
 ghost use Rattle.serde_json.specs.View.{view};
 ghost use Rattle.manifest_tools.specs.CheckObjects as specs;
 ghost use Rattle.manifest_tools.specs.Manifests.{fault_text};
@@ -11,8 +12,9 @@ use bpf_verify::Verified;
 use cells::CellWidth;
 use declarations::ArrayDeclaration;
 use diagnosis::{CheckedManifest, FaultReport, Refused};
+use json_object::ObjectBuilder;
 use ruleset::App;
-use serde_json::{Value, json};
+use serde_json::Value;
 use simulate::push_value;
 use std::alloc::{AllocError, Global};
 use warnings::{Warning, push_warning_text, some_counts};
@@ -27,14 +29,24 @@ pub(crate) fn accepted_object(
     ensures { IfOk result (λ value. view value
         ≡ specs.accepted_object allowed.now path.now checked.now) }
 {
-    json!(in alloc; {
-        "accepted": true,
-        "apps": app_objects(alloc, checked.apps.as_slice())?,
-        "arrays": array_objects(alloc, checked.arrays.as_slice())?,
-        "digest": hex::encode(alloc, checked.digest)?,
-        "manifest": path,
-        "warnings": warning_objects(alloc, allowed, checked.warnings.as_slice())?
-    })
+    let digest = hex::encode(alloc, checked.digest)?;
+    let mut object = ObjectBuilder::new(alloc);
+    object.put_bool("accepted", true);
+    object.put_list("apps", app_objects(alloc, checked.apps.as_slice()));
+    object.put_list("arrays", array_objects(alloc, checked.arrays.as_slice()));
+    object.put("digest", Ok(text_value(digest)));
+    object.put_text("manifest", path);
+    object.put_list(
+        "warnings",
+        warning_objects(alloc, allowed, checked.warnings.as_slice()),
+    );
+    object.finish()
+}
+
+fn text_value(text: String) -> Value
+    ensures { view result ≡ string (string_bytes text) }
+{
+    Value::String(text)
 }
 
 fn app_objects(alloc: Global, apps: &[App]) -> Result<Vec<Value>, AllocError>
@@ -53,8 +65,11 @@ fn app_object(alloc: Global, app: &App) -> Result<Value, AllocError>
     ensures { IfOk result (λ value. view value ≡ specs.checked_app_object app.now) }
 {
     let program: &Verified = app.program();
-    let (releases, slots) = (app.releases().len(), program.len());
-    json!(in alloc; {"appid": app.appid(), "releases": releases, "slots": slots})
+    let mut object = ObjectBuilder::new(alloc);
+    object.put_text("appid", app.appid());
+    object.put_number("releases", app.releases().len() as u64);
+    object.put_number("slots", program.len() as u64);
+    object.finish()
 }
 
 fn array_objects(alloc: Global, arrays: &[ArrayDeclaration]) -> Result<Vec<Value>, AllocError>
@@ -71,12 +86,12 @@ fn array_objects(alloc: Global, arrays: &[ArrayDeclaration]) -> Result<Vec<Value
 fn array_object(alloc: Global, array: &ArrayDeclaration) -> Result<Value, AllocError>
     ensures { IfOk result (λ value. view value ≡ specs.array_object array.now) }
 {
-    json!(in alloc; {
-        "length": array.length(),
-        "name": array.name(),
-        "quota": quota_object(array.quota()),
-        "width": bits_of(array.width())
-    })
+    let mut object = ObjectBuilder::new(alloc);
+    object.put_number("length", array.length() as u64);
+    object.put_text("name", array.name());
+    object.put("quota", Ok(quota_object(array.quota())));
+    object.put_number("width", bits_of(array.width()));
+    object.finish()
 }
 
 fn quota_object(quota: Option<u64>) -> Value
@@ -88,7 +103,7 @@ fn quota_object(quota: Option<u64>) -> Value
     }
 }
 
-fn bits_of(width: CellWidth) -> u8
+fn bits_of(width: CellWidth) -> u64
     ensures { result ≡ specs.bits_of width }
 {
     match width {
@@ -120,7 +135,11 @@ fn warning_object(alloc: Global, allowed: &[&str], warning: &Warning) -> Result<
     let mut text = String::new(alloc);
     push_warning_text(&mut text, warning)?;
     let counts = some_counts(&[*warning], allowed);
-    json!(in alloc; {"counts": counts, "name": warning.kind.name(), "text": text})
+    let mut object = ObjectBuilder::new(alloc);
+    object.put_bool("counts", counts);
+    object.put_text("name", warning.kind.name());
+    object.put("text", Ok(text_value(text)));
+    object.finish()
 }
 
 /// The objects of all manifests, and whether they pass.
@@ -132,7 +151,10 @@ pub(crate) fn checks_object(
     ensures { IfOk result (λ value. view value
         ≡ specs.checks_object (map view manifests.items) passes) }
 {
-    json!(in alloc; {"manifests": manifests, "passes": passes})
+    let mut object = ObjectBuilder::new(alloc);
+    object.put_list("manifests", Ok(manifests));
+    object.put_bool("passes", passes);
+    object.finish()
 }
 
 // ---- refused
@@ -147,13 +169,13 @@ pub(crate) fn refused_object(
     ensures { IfOk result (λ value. view value
         ≡ specs.refused_object path.now reason.now fault.now) }
 {
-    json!(in alloc; {
-        "accepted": false,
-        "faults": fault_objects(alloc, reason, fault)?,
-        "left_out": left_out_of(fault),
-        "manifest": path,
-        "unread_apps": unread_of(fault)
-    })
+    let mut object = ObjectBuilder::new(alloc);
+    object.put_bool("accepted", false);
+    object.put_list("faults", fault_objects(alloc, reason, fault));
+    object.put_number("left_out", left_out_of(fault) as u64);
+    object.put_text("manifest", path);
+    object.put_number("unread_apps", unread_of(fault) as u64);
+    object.finish()
 }
 
 fn fault_objects(
@@ -219,7 +241,10 @@ fn fault_object(alloc: Global, refusal: String, reason: &str) -> Result<Value, A
     ensures { IfOk result (λ value. view value
         ≡ specs.fault_object (string_bytes refusal) reason.now) }
 {
-    json!(in alloc; {"reason": without_line_feed(reason), "refusal": refusal})
+    let mut object = ObjectBuilder::new(alloc);
+    object.put_text("reason", without_line_feed(reason));
+    object.put("refusal", Ok(text_value(refusal)));
+    object.finish()
 }
 
 // Lines without the line feed that ends the last of them.
