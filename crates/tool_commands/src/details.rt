@@ -1,14 +1,11 @@
 //! The second line of a refusal: the path or the port that it is about, and why, or what exists
 //! instead of what the words name.
 
+use crate::subject::{Subject, subject_of};
 use crate::tool_fault::Fault;
 use bounded_files::{Disk, ResourceFault};
-use dry_run::DryRunFault;
 use log_tools::ReportFault;
-use manifest_diff::DiffFault;
-use manifest_tools::ManifestToolFault;
 use operator::RequestFault;
-use program_tools::ProgramToolFault;
 use refusal_details::{
     print_app_names, print_arrays, print_connect_fault, print_manifest_hint, print_picture_fault,
     print_program_fault, print_read_fault, print_unread_manifest, print_write_fault,
@@ -16,7 +13,7 @@ use refusal_details::{
 use std::io::Write;
 use std::net::{Net, TcpStream};
 use std::rt::Files;
-use tool_words::{AskArgs, DiffArgs, ReportArgs, SimulateArgs, ToolCommand};
+use tool_words::{ReportArgs, ToolCommand};
 
 /// Prints a line about what a refused command names, if looking at it again shows the cause.
 // open: the line, and when there is one: rows.
@@ -32,15 +29,28 @@ where
     D: Disk,
     E: Write,
 {
-    let _printed = match command {
-        ToolCommand::Ask(args) => print_ask_fault(rt, disk, args, fault, err),
-        ToolCommand::Check(_) | ToolCommand::Completion { .. } | ToolCommand::Stage(_) => false,
-        ToolCommand::Diff(args) => print_diff_fault(rt, disk, args, fault, err),
-        ToolCommand::Explain { path, .. } => print_program_fault(rt, disk, path, err),
-        ToolCommand::Order { path, out } => print_order_fault(rt, disk, path, out, fault, err),
-        ToolCommand::Report(args) => print_report_fault(rt, args, fault, err),
-        ToolCommand::Simulate(args) => print_simulate_fault(rt, disk, args, fault, err),
-        ToolCommand::Trace(run) => print_program_fault(rt, disk, run.path, err),
+    if let ToolCommand::Report(args) = command {
+        let _printed = print_report_fault(rt, args, fault, err);
+        return;
+    }
+    let _printed = match subject_of(command, fault) {
+        Subject::Manifest(Some(path)) => print_manifest_hint(rt, disk, path, err),
+        Subject::Arrays(old, new) => {
+            print_arrays(rt.alloc(), disk, old, err)
+                && (old == new || print_arrays(rt.alloc(), disk, new, err))
+        }
+        Subject::Apps(old, new) => {
+            print_app_names(rt.alloc(), disk, old, err)
+                && (old == new || print_app_names(rt.alloc(), disk, new, err))
+        }
+        Subject::Program(path, None) => print_program_fault(rt, disk, path, err),
+        Subject::Program(path, Some(out)) => {
+            print_program_fault(rt, disk, path, err) || print_write_fault(rt, out, err)
+        }
+        Subject::Request(path) => print_read_fault(rt, path, err),
+        Subject::Picture(Some(path)) => print_picture_fault(rt, path, err),
+        Subject::Server(Some(port)) => print_connect_fault(rt, port, err),
+        _ => false,
     };
 }
 
@@ -69,58 +79,6 @@ where
     }
 }
 
-fn print_ask_fault<R, D, E>(
-    rt: &R,
-    disk: &D,
-    args: &AskArgs<'_>,
-    fault: &Fault,
-    err: &mut E,
-) -> bool
-where
-    R: Files + AllocGlobal + Net<Stream = TcpStream>,
-    D: Disk,
-    E: Write,
-{
-    match fault {
-        Fault::DryRun(DryRunFault::Manifest(_)) => {
-            print_manifest_hint(rt, disk, args.manifest, err)
-        }
-        Fault::DryRun(DryRunFault::Resource(_)) => print_read_fault(rt, args.request, err),
-        Fault::DryRun(DryRunFault::Cell) => print_arrays(rt.alloc(), disk, args.manifest, err),
-        Fault::Ask(fault) => print_server_fault(rt, args.operator, fault, err),
-        _ => false,
-    }
-}
-
-fn print_diff_fault<R, D, E>(
-    rt: &R,
-    disk: &D,
-    args: &DiffArgs<'_>,
-    fault: &Fault,
-    err: &mut E,
-) -> bool
-where
-    R: Files + AllocGlobal + Net<Stream = TcpStream>,
-    D: Disk,
-    E: Write,
-{
-    let alloc = rt.alloc();
-    match fault {
-        Fault::Diff(DiffFault::Old(_)) => print_manifest_hint(rt, disk, args.old, err),
-        Fault::Diff(DiffFault::New(_)) => print_manifest_hint(rt, disk, args.new, err),
-        Fault::Diff(DiffFault::Cell) => {
-            print_arrays(alloc, disk, args.old, err)
-                && (args.old == args.new || print_arrays(alloc, disk, args.new, err))
-        }
-        Fault::Diff(DiffFault::NoApp) => {
-            print_app_names(alloc, disk, args.old, err)
-                && (args.old == args.new || print_app_names(alloc, disk, args.new, err))
-        }
-        Fault::Ask(fault) => print_server_fault(rt, args.operator, fault, err),
-        _ => false,
-    }
-}
-
 // A server whose counters are requested and that doesn't reply.
 fn print_server_fault<R, E>(rt: &R, port: Option<u16>, fault: &RequestFault, err: &mut E) -> bool
 where
@@ -129,30 +87,6 @@ where
 {
     match (fault, port) {
         (RequestFault::Connect, Some(port)) => print_connect_fault(rt, port, err),
-        _ => false,
-    }
-}
-
-fn print_order_fault<R, D, E>(
-    rt: &R,
-    disk: &D,
-    path: &str,
-    out: &str,
-    fault: &Fault,
-    err: &mut E,
-) -> bool
-where
-    R: Files,
-    D: Disk,
-    E: Write,
-{
-    if print_program_fault(rt, disk, path, err) {
-        return true;
-    }
-    match fault {
-        Fault::Program(ProgramToolFault::Resource(ResourceFault::File)) => {
-            print_write_fault(rt, out, err)
-        }
         _ => false,
     }
 }
@@ -177,34 +111,6 @@ where
             print_write_fault(rt, path, err)
         }
         (Fault::Resource(ResourceFault::File), _, Some(path)) => {
-            print_picture_fault(rt, path, err)
-        }
-        _ => false,
-    }
-}
-
-fn print_simulate_fault<R, D, E>(
-    rt: &R,
-    disk: &D,
-    args: &SimulateArgs<'_>,
-    fault: &Fault,
-    err: &mut E,
-) -> bool
-where
-    R: Files + AllocGlobal,
-    D: Disk,
-    E: Write,
-{
-    let Fault::Manifest(fault) = fault else {
-        return false;
-    };
-    match (fault, args.against, args.picture) {
-        (ManifestToolFault::Load(_), _, _) => print_manifest_hint(rt, disk, args.manifest, err),
-        (ManifestToolFault::Against(_), Some(path), _) => print_manifest_hint(rt, disk, path, err),
-        (ManifestToolFault::NoApp, _, _) => {
-            print_app_names(rt.alloc(), disk, args.manifest, err)
-        }
-        (ManifestToolFault::Resource(ResourceFault::File), _, Some(path)) => {
             print_picture_fault(rt, path, err)
         }
         _ => false,

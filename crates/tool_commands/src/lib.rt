@@ -19,6 +19,7 @@ mod requests;
 mod simulations;
 mod stages;
 mod status;
+mod subject;
 mod tool_fault;
 mod whys;
 

@@ -56,17 +56,14 @@ impl fmt::Display for Fault {
 
     fn fmt<W: fmt::Write>(&self, f: &mut fmt::Formatter<W>) -> fmt::Result {
         match self {
-            Fault::Resource(fault) => write!(f, "{fault}"),
-            Fault::Program(fault) => write!(f, "{fault}"),
-            Fault::Explained { refused, .. } => {
-                let refusal = refused.refusal;
-                write!(f, "{refusal}")
-            }
-            Fault::Manifest(fault) => write!(f, "{fault}"),
-            Fault::DryRun(fault) => write!(f, "{fault}"),
-            Fault::Diff(fault) => write!(f, "{fault}"),
-            Fault::Report(fault) => write!(f, "{fault}"),
-            Fault::Ask(fault) => write!(f, "{fault}"),
+            Fault::Resource(fault) => fmt::Display::fmt(fault, f),
+            Fault::Program(fault) => fmt::Display::fmt(fault, f),
+            Fault::Explained { refused, .. } => fmt::Display::fmt(&refused.refusal, f),
+            Fault::Manifest(fault) => fmt::Display::fmt(fault, f),
+            Fault::DryRun(fault) => fmt::Display::fmt(fault, f),
+            Fault::Diff(fault) => fmt::Display::fmt(fault, f),
+            Fault::Report(fault) => fmt::Display::fmt(fault, f),
+            Fault::Ask(fault) => fmt::Display::fmt(fault, f),
         }
     }
 }
