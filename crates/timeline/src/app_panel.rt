@@ -23,27 +23,20 @@ pub(crate) struct PictureSource<'a> {
     pub loads: &'a BTreeMap<String, u64>,
 }
 
-/// The height at which the panel of an app ends that begins at `top`: each version takes 20 pixels,
-/// and the rest 500.
-pub(crate) fn panel_end(
-    alloc: Global,
-    source: &PictureSource<'_>,
-    top: u64,
-    app: &str,
-) -> Result<u64, AllocError> {
-    let versions = versions_in_rows(alloc, source.versions, app)?;
-    let rows = (versions.len() as u64).saturating_mul(20);
-    Ok(top.saturating_add(500).saturating_add(rows))
+/// The height of the panels of apps: each app takes 500 pixels, and each of their versions 20.
+pub(crate) fn panels_height(apps: usize, versions: usize) -> u64 {
+    let rows = (versions as u64).saturating_mul(20);
+    (apps as u64).saturating_mul(500).saturating_add(rows)
 }
 
-/// Draws the panel of an app at the height `top`.
+/// Draws the panel of an app at the height `top`, and returns the height at which it ends.
 pub(crate) fn draw_panel(
     alloc: Global,
     picture: &mut Picture,
     source: &PictureSource<'_>,
     top: u64,
     app: &str,
-) -> Result<(), AllocError>
+) -> Result<u64, AllocError>
     requires { AreBins source.now.bins }
 {
     let versions = versions_in_rows(alloc, source.versions, app)?;
@@ -58,5 +51,5 @@ pub(crate) fn draw_panel(
     draw_legend(picture, source.rows, app, versions.as_slice())?;
     picture.close();
     picture.line();
-    Ok(())
+    Ok(top.saturating_add(panels_height(1, versions.len())))
 }

@@ -5,10 +5,10 @@ ghost use Rattle.svg.specs.WellFormed.{IsDocument};
 ghost use Rattle.timeline.specs.Bins.{AreBins};
 ghost use Rattle.timeline.specs.Loads as specs;
 
-use crate::app_panel::{PictureSource, draw_panel, panel_end};
+use crate::app_panel::{PictureSource, draw_panel, panels_height};
 use crate::bins::{Bins, Reach, bins_over, reach_of};
 use crate::load_marks::loads_outside;
-use crate::marks::added;
+use crate::marks::{added, first};
 use report::{Course, Report, Tally};
 use std::alloc::{AllocError, Global};
 use std::collections::BTreeMap;
@@ -133,27 +133,24 @@ fn draw_panels(
     requires { AreBins source.now.bins }
     ensures { IfOk result (λ text. IsDocument (string_bytes text)) }
 {
-    let mut picture = Picture::new(alloc, height_of(alloc, source, apps)?)?;
+    let mut picture = Picture::new(alloc, height_of(source, apps))?;
     draw_heading(&mut picture, &source.bins);
     draw_undrawn(&mut picture, undrawn);
     let mut top = HEAD;
     for (app, _asks) in apps.iter() {
-        draw_panel(alloc, &mut picture, source, top, app.as_str())?;
-        top = panel_end(alloc, source, top, app.as_str())?;
+        top = draw_panel(alloc, &mut picture, source, top, app.as_str())?;
     }
     picture.finish()
 }
 
-fn height_of(
-    alloc: Global,
-    source: &PictureSource<'_>,
-    apps: &BTreeMap<String, u64>,
-) -> Result<u64, AllocError> {
-    let mut top = HEAD;
-    for (app, _asks) in apps.iter() {
-        top = panel_end(alloc, source, top, app.as_str())?;
+fn height_of(source: &PictureSource<'_>, apps: &BTreeMap<String, u64>) -> u64 {
+    let mut versions: usize = 0;
+    for (name, _count) in source.versions.iter() {
+        if apps.contains_key(first(name.as_str())) {
+            versions = versions.saturating_add(1);
+        }
     }
-    Ok(top)
+    HEAD.saturating_add(panels_height(apps.len(), versions))
 }
 
 fn draw_heading(picture: &mut Picture, bins: &Bins) {

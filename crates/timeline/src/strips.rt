@@ -61,19 +61,9 @@ fn draw_shares<'a>(
 {
     let what = drawn.what;
     let count = drawn_count(source.rows, drawn)?;
-    let totals = counts_by_bin(alloc, source.rows, drawn, &source.bins)?;
     picture.label(LEFT, top.saturating_sub(6), format_args!("{what}: {count}"));
     picture.line();
-    draw_parts(
-        alloc,
-        picture,
-        source,
-        drawn,
-        versions,
-        totals.as_slice(),
-        totals.as_slice(),
-        top,
-    )
+    draw_strip(alloc, picture, source, drawn, drawn, versions, top)
 }
 
 // The rate of failures in each bin: of the installs that ended, those that failed, by version.
@@ -87,34 +77,41 @@ fn draw_rates<'a>(
 ) -> Result<(), AllocError>
     requires { AreBins source.now.bins }
 {
-    let ended = drawn_count(source.rows, Series::of_all("installs", app))?;
-    let failed = drawn_count(source.rows, Series::of_all("failures", app))?;
-    let totals = counts_by_bin(
-        alloc,
-        source.rows,
-        Series::of_all("installs", app),
-        &source.bins,
-    )?;
-    let failures = counts_by_bin(
-        alloc,
-        source.rows,
-        Series::of_all("failures", app),
-        &source.bins,
-    )?;
+    let installs = Series::of_all("installs", app);
+    let failures = Series::of_all("failures", app);
+    let ended = drawn_count(source.rows, installs)?;
+    let failed = drawn_count(source.rows, failures)?;
     picture.label(
         LEFT,
         top.saturating_sub(6),
         format_args!("failures: {failed} of {ended} installs"),
     );
     picture.line();
+    draw_strip(alloc, picture, source, installs, failures, versions, top)
+}
+
+// The versions of a series, as parts of the counts of another or of the same.
+fn draw_strip<'a>(
+    alloc: Global,
+    picture: &mut Picture,
+    source: &PictureSource<'_>,
+    whole: Series<'a>,
+    drawn: Series<'a>,
+    versions: &'a [String],
+    top: u64,
+) -> Result<(), AllocError>
+    requires { AreBins source.now.bins }
+{
+    let totals = counts_by_bin(alloc, source.rows, whole, &source.bins)?;
+    let parts = counts_by_bin(alloc, source.rows, drawn, &source.bins)?;
     draw_parts(
         alloc,
         picture,
         source,
-        Series::of_all("failures", app),
+        drawn,
         versions,
         totals.as_slice(),
-        failures.as_slice(),
+        parts.as_slice(),
         top,
     )
 }
