@@ -6,7 +6,7 @@ ghost use Rattle.report_state.specs.States.{SpellsCounts};
 ghost use Rattle.log_tools.specs.Continued.{Continues, HasContinued};
 ghost use Rattle.log_tools.specs.Reports.{CountsLogs};
 
-use crate::log_part::{keep_others, part_of};
+use crate::log_part::{begin_part, keep_others};
 use crate::progress_lines::ProgressLines;
 use crate::report_fault::ReportFault;
 use crate::report_form::{ReportForm, text_by};
@@ -17,7 +17,7 @@ use report::{MetricKind, Report, Window, count_log};
 use report_state::{LogPlace, state_text};
 use std::alloc::Global;
 use std::fs::{self, File};
-use std::io::{self, Read, Seek, SeekFrom};
+use std::io::{self, Read};
 use std::rt::Files;
 use std::time::Clock;
 
@@ -84,7 +84,9 @@ where
     let Ok(()) = keep_others(rt.alloc(), places, &mut new) else {
         return Err(ReportFault::Resource(ResourceFault::Memory));
     };
-    let kept = kept_text(rt.alloc(), report, new.as_slice())?;
+    let kept = kept_text(rt.alloc(), report, new.as_slice());
+    drop(new);
+    let kept = kept?;
     let Ok(text) = text_by(rt.alloc(), form, MetricKind::Counter, report) else {
         return Err(ReportFault::Resource(ResourceFault::Memory));
     };
@@ -139,13 +141,8 @@ where
     ensures { OnOk result (CountsLogs window.now 1 report.old report.new) }
 {
     let mut file = fs::open(rt, path_of(path))?;
-    let part = part_of(rt.alloc(), &mut file, &[old, new.as_slice()])?;
-    file.seek(SeekFrom::Start(part.start))?;
-    new.push(LogPlace {
-        beginning: part.beginning,
-        counted: part.end,
-    })?;
-    let mut reader = file.take(part.end.saturating_sub(part.start));
+    let length = begin_part(rt.alloc(), &mut file, old, new)?;
+    let mut reader = file.take(length);
     let mut onlooker = ProgressLines::new(rt);
     count_log(rt.alloc(), &mut reader, window, report, &mut onlooker)
 }

@@ -21,16 +21,34 @@ const MOST_PLACES: usize = 1000;
 
 /// A part of a log, by the numbers of bytes before its first byte and up to its last one.
 #[derive(Drop)]
-pub(crate) struct LogPart {
+struct LogPart {
     /// The first bytes of the log.
-    pub beginning: Vec<u8>,
-    pub start: u64,
-    pub end: u64,
+    beginning: Vec<u8>,
+    start: u64,
+    end: u64,
 }
 
-/// The part that isn't counted, by these places. A log that begins like a place continues there. If
-/// it isn't longer, it may be a copy that isn't finished, and nothing of it is read.
-pub(crate) fn part_of<F: Read + Seek + OpenFile>(
+/// Moves to the part of a log that isn't counted, by the old and the new places, and returns its
+/// length. Adds the place after it to the new ones.
+pub(crate) fn begin_part<F: Read + Seek + OpenFile>(
+    alloc: Global,
+    file: &mut F,
+    old: &[LogPlace],
+    new: &mut Vec<LogPlace>,
+) -> io::Result<u64> {
+    let part = part_of(alloc, file, &[old, new.as_slice()])?;
+    let length = part.end.saturating_sub(part.start);
+    new.push(LogPlace {
+        beginning: part.beginning,
+        counted: part.end,
+    })?;
+    file.seek(SeekFrom::Start(part.start))?;
+    Ok(length)
+}
+
+// The part that isn't counted, by these places. A log that begins like a place continues there. If
+// it isn't longer, it may be a copy that isn't finished, and nothing of it is read.
+fn part_of<F: Read + Seek + OpenFile>(
     alloc: Global,
     file: &mut F,
     places: &[&[LogPlace]],

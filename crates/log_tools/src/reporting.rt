@@ -1,7 +1,8 @@
 //! `report`: counts the lines of logs.
 
-ghost use Rattle.std.specs.Prelude.{◌≡◌, IfOk, OnOk, is_some, length};
+ghost use Rattle.std.specs.Prelude.{◌≡◌, [], IfOk, OnOk, is_some, length};
 ghost use Rattle.std.specs.String.{string_bytes};
+ghost use Rattle.report.specs.Counts.{Counts};
 ghost use Rattle.log_tools.specs.Reports.{CountsLogs, HasReported, kind_of, text_by};
 ghost use Rattle.svg.specs.WellFormed.{HasPicture};
 
@@ -52,12 +53,16 @@ where
         (HasReported (length logs.now) since until form (is_some file.entry)) }
 {
     require_drawable(rt, logs, file)?;
-    let output = output_of_logs(rt, logs, since, until, form, file.is_some())?;
+    let drawn = file.is_some();
+    let mut report = Report::new(rt.alloc(), drawn);
+    let output = output_of_logs(rt, logs, since, until, form, drawn, &mut report);
+    drop(report);
+    let output = output?;
     write_picture(rt, file, &output.picture)?;
     Ok(output)
 }
 
-// The report, before its picture is written.
+// The report, before its picture is written. It is counted in `report`, which has counted nothing.
 fn output_of_logs<R>(
     rt: &R,
     logs: &[&str],
@@ -65,9 +70,11 @@ fn output_of_logs<R>(
     until: Option<NamedTime>,
     form: ReportForm,
     drawn: bool,
+    report: &mut Report,
 ) -> Result<ReportOutput, ResourceFault>
 where
     R: Files + AllocGlobal + Clock + Eprint,
+    requires { (window : Window) → Counts window [] drawn report.old }
     ensures { IfOk result (HasReported (length logs.now) since until form drawn) }
 {
     let kind = kind_of(since, until);
@@ -77,9 +84,8 @@ where
         since: text_of(&since),
         until: text_of(&until),
     };
-    let mut report = Report::new(rt.alloc(), drawn);
-    count_logs(rt, logs, &window, &mut report)?;
-    match output_of(rt.alloc(), form, kind, drawn, &report) {
+    count_logs(rt, logs, &window, report)?;
+    match output_of(rt.alloc(), form, kind, drawn, report) {
         Ok(output) => Ok(output),
         Err(_) => Err(ResourceFault::Memory),
     }
@@ -165,25 +171,11 @@ where
     ensures { OnOk result (CountsLogs window.now (length paths.now) report.old report.new) }
 {
     for path in paths {
-        count_file(rt, *path, window, report)?;
+        if let Err(error) = read_file(rt, *path, window, report) {
+            return Err(fault_of(&error));
+        }
     }
     Ok(())
-}
-
-fn count_file<R>(
-    rt: &R,
-    path: &str,
-    window: &Window<'_>,
-    report: &mut Report,
-) -> Result<(), ResourceFault>
-where
-    R: Files + AllocGlobal + Clock + Eprint,
-    ensures { OnOk result (CountsLogs window.now 1 report.old report.new) }
-{
-    match read_file(rt, path, window, report) {
-        Ok(()) => Ok(()),
-        Err(error) => Err(fault_of(&error)),
-    }
 }
 
 /// Why a log can't be read.
