@@ -1,14 +1,13 @@
 //! Files of a device that are written.
 
-use crate::files::{has_mode, has_text, set_mode};
+use crate::files::{has_mode, has_text, set_mode, shown};
 use bounded_files::{may_write_over, write_file};
 use std::fs;
 use std::io::{self, ErrorKind};
 use std::os::unix::fs::symlink;
-use std::rt::Files;
 use std::test::Fail;
 
-fn write<R: Files + AllocGlobal>(rt: &R, path: &str, bytes: &[u8]) -> io::Result<()> {
+fn write(rt: &HostRuntime, path: &str, bytes: &[u8]) -> io::Result<()> {
     match write_file(rt, path, bytes) {
         Ok(_) => Ok(()),
         Err(_) => Err(io::Error::from(ErrorKind::InvalidData)),
@@ -16,7 +15,7 @@ fn write<R: Files + AllocGlobal>(rt: &R, path: &str, bytes: &[u8]) -> io::Result
 }
 
 /// Writes a file with a mode, replaces it by a link to it, and writes to a device.
-fn write_by_link<R: Files + AllocGlobal>(rt: &R) -> io::Result<()> {
+fn write_by_link(rt: &HostRuntime) -> io::Result<()> {
     fs::create_dir(rt, "place")?;
     write(rt, "place/new", b"1")?;
     set_mode(rt, "place/new", 0o640)?;
@@ -25,14 +24,19 @@ fn write_by_link<R: Files + AllocGlobal>(rt: &R) -> io::Result<()> {
     write(rt, "/dev/null", b"3")
 }
 
-/// A rewritten file is where its link leads, has its mode, and leaves no other file there.
+/// Whether it is where its link leads, has its mode, and left no other file there.
+fn is_rewritten(rt: &HostRuntime) -> io::Result<bool> {
+    Ok(
+        has_mode(rt, "place/new", 0o640)?
+            && has_text(rt, "place/new", "two")?
+            && fs::read_dir(rt, "place")?.count() == 1,
+    )
+}
+
 #[test]
 fn written(rt: HostRuntime) -> Result<(), Fail> {
     write_by_link(&rt)?;
-    assert!(rt; has_mode(&rt, "place/new", 0o640)?);
-    assert!(rt; has_text(&rt, "place/new", "two")?);
-    assert!(rt; fs::read_dir(&rt, "place")?.count() == 1);
-    Ok(())
+    shown(is_rewritten(&rt)?, "a file is rewritten in its place")
 }
 
 /// Bytes that a file has, and whether a picture may overwrite it.
@@ -44,7 +48,7 @@ const OVERWRITTEN: &[(&str, bool)] = &[
 ];
 
 /// Whether a picture may overwrite a file of these bytes.
-fn may_overwrite<R: Files + AllocGlobal>(rt: &R, bytes: &str) -> io::Result<bool> {
+fn may_overwrite(rt: &HostRuntime, bytes: &str) -> io::Result<bool> {
     write(rt, "over", bytes.as_bytes())?;
     Ok(may_write_over(rt, "over", b"<svg"))
 }
@@ -52,9 +56,9 @@ fn may_overwrite<R: Files + AllocGlobal>(rt: &R, bytes: &str) -> io::Result<bool
 #[test]
 fn written_over(rt: HostRuntime) -> Result<(), Fail> {
     for (bytes, may) in OVERWRITTEN {
-        assert!(rt; may_overwrite(&rt, *bytes)? == *may, "{bytes}");
+        shown(may_overwrite(&rt, *bytes)? == *may, *bytes)?;
     }
-    assert!(rt; may_write_over(&rt, "/dev/null", b"<svg"));
-    assert!(rt; may_write_over(&rt, "no", b"<svg"));
-    Ok(())
+    let may_others = may_write_over(&rt, "/dev/null", b"<svg")
+        && may_write_over(&rt, "no", b"<svg");
+    shown(may_others, "a device and a new file")
 }

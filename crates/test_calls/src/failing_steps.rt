@@ -1,5 +1,6 @@
 //! A step of `stage` that fails at each of its files, in a folder in memory.
 
+use crate::files::shown;
 use attrs::Text;
 use stage_folder::{FolderFault, StageFolder, perform, undo};
 use staging::ReplacedFile;
@@ -126,12 +127,19 @@ const STATES: &[(u32, [[u8; 3]; 3])] = &[
     (3, [*b"xyz", *b"1-3", *b"1-3"]),
 ];
 
+/// Whether a step of these files leaves the states.
+fn are_left(alloc: Global, files: &[ReplacedFile]) -> bool {
+    for (puts, states) in STATES {
+        if outcome(alloc, files, *puts) != *states {
+            return false;
+        }
+    }
+    true
+}
+
 #[test]
 fn fails_at_each_file(rt: HostRuntime) -> Result<(), Fail> {
     let mut files = Vec::new(rt.alloc());
     push_files(rt.alloc(), &mut files)?;
-    for (puts, states) in STATES {
-        assert!(rt; outcome(rt.alloc(), &files, *puts) == *states, "{puts}");
-    }
-    Ok(())
+    shown(are_left(rt.alloc(), &files), "a step fails at each file")
 }

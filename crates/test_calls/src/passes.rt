@@ -3,6 +3,7 @@
 
 ghost use Rattle.shared_cells.specs.Passes.{IsPassOf};
 
+use crate::files::shown;
 use cells::{CellNo, CellOp, CellSteps};
 use shared_cells::{SharedCells, SharedFault, SharedPass};
 use std::alloc::Global;
@@ -65,8 +66,8 @@ fn two_threads<H: Threads + Sync>(
 
 #[test]
 fn threads_add_up(rt: HostRuntime) -> Result<(), Fail> {
-    assert!(rt; two_threads(&rt, rt.alloc())? == Some((2000, 4294967290)));
-    Ok(())
+    let left = two_threads(&rt, rt.alloc())?;
+    shown(left == Some((2000, 4294967290)), "threads add up")
 }
 
 /// What seven operations of two passes return, in turn.
@@ -89,7 +90,7 @@ fn seven_replies(alloc: Global) -> Result<Option<[u64; 7]>, SharedFault> {
 
 #[test]
 fn passes_see_one_another(rt: HostRuntime) -> Result<(), Fail> {
-    let wanted = [0, 7, 0, 4294967295, 1, 1, 9];
-    assert!(rt; seven_replies(rt.alloc())? == Some(wanted));
-    Ok(())
+    let replies = seven_replies(rt.alloc())?;
+    let wanted = Some([0, 7, 0, 4294967295, 1, 1, 9]);
+    shown(replies == wanted, "passes see one another")
 }

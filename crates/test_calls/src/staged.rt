@@ -1,17 +1,15 @@
 //! A folder of the device for `stage`: which modes its files have, that one process at a time is
 //! at work, and which names are refused.
 
-use crate::files::{has_mode, has_text, set_mode};
+use crate::files::{has_mode, has_text, set_mode, shown};
 use stage_folder::{DeviceFolder, FolderFault, StageFolder};
 use std::alloc::{AllocError, Global};
-use std::fs::{self, File};
-use std::io;
 use std::os::unix::fs::symlink;
-use std::rt::Files;
 use std::test::Fail;
+use std::{fs, io};
 
 /// A folder `staged` with a file and a folder, and a file outside; and links to both.
-fn make_place<R: Files>(rt: &R) -> io::Result<()> {
+fn make_place(rt: &HostRuntime) -> io::Result<()> {
     fs::create_dir(rt, "staged")?;
     fs::create_dir(rt, "staged/folder")?;
     fs::write(rt, "staged/a", b"1")?;
@@ -22,9 +20,9 @@ fn make_place<R: Files>(rt: &R) -> io::Result<()> {
 }
 
 /// Whether the folder refuses another process.
-fn is_locked<R: Files<File = File> + AllocGlobal>(rt: &R) -> bool {
+fn is_locked(rt: &HostRuntime) -> bool {
     match DeviceFolder::open(rt, "staged") {
-        Ok(mut folder) => folder.lock() == Err(FolderFault::Locked),
+        Ok(mut folder) => matches!(folder.lock(), Err(FolderFault::Locked)),
         Err(_) => false,
     }
 }
@@ -36,7 +34,7 @@ fn change_locked<F: StageFolder>(folder: &mut F) -> Result<(), FolderFault> {
 }
 
 /// Replaces a file, and makes a record. Returns whether another process is refused meanwhile.
-fn change<R: Files<File = File> + AllocGlobal>(rt: &R) -> Result<bool, FolderFault> {
+fn change(rt: &HostRuntime) -> Result<bool, FolderFault> {
     let mut folder = DeviceFolder::open(rt, "staged")?;
     let changed = change_locked(&mut folder);
     let locked = is_locked(rt);
@@ -94,20 +92,40 @@ fn read_and_put<F: StageFolder>(
     Ok(text)
 }
 
-fn result_of<R: Files<File = File> + AllocGlobal>(
-    rt: &R,
+/// Whether reading a name and then putting bytes there gives this.
+fn has_result<F: StageFolder>(
+    alloc: Global,
+    folder: &mut F,
     name: &str,
-) -> Result<String, FolderFault> {
-    let mut folder = DeviceFolder::open(rt, "staged")?;
-    let text = read_and_put(rt.alloc(), &mut folder, name);
-    drop(folder);
-    Ok(text?)
+    want: &str,
+) -> Result<bool, AllocError> {
+    let text = read_and_put(alloc, folder, name)?;
+    Ok(text.as_str() == want)
 }
 
-fn has_result<R: Files<File = File> + AllocGlobal>(rt: &R, name: &str, want: &str) -> bool {
-    match result_of(rt, name) {
-        Ok(text) => text.as_str() == want,
-        Err(_) => false,
+/// The first name that gives something else, if there is one.
+fn wrong_name<F: StageFolder>(
+    alloc: Global,
+    folder: &mut F,
+) -> Result<Option<&'static str>, AllocError> {
+    for (name, want) in NAMES {
+        if !has_result(alloc, folder, *name, *want)? {
+            return Ok(Some(*name));
+        }
+    }
+    Ok(None)
+}
+
+/// Fails with the first name that gives something else.
+fn have_results(rt: &HostRuntime) -> Result<(), Fail> {
+    let Ok(mut folder) = DeviceFolder::open(rt, "staged") else {
+        return Err(Fail::new("no folder"));
+    };
+    let wrong = wrong_name(rt.alloc(), &mut folder);
+    drop(folder);
+    match wrong? {
+        Some(name) => Err(Fail::new(name)),
+        None => Ok(()),
     }
 }
 
@@ -118,33 +136,26 @@ const MODES: &[(&str, u32)] = &[
     ("staged/.stage/1.json", 0o600),
 ];
 
-/// The first file that has another mode, if there is one.
-fn wrong_mode<R: Files>(rt: &R) -> io::Result<Option<&'static str>> {
+/// Fails with the first file that has another mode.
+fn have_modes(rt: &HostRuntime) -> Result<(), Fail> {
     for (path, mode) in MODES {
-        if !has_mode(rt, *path, *mode)? {
-            return Ok(Some(*path));
-        }
+        shown(has_mode(rt, *path, *mode)?, *path)?;
     }
-    Ok(None)
-}
-
-/// The first name that gives something else, if there is one.
-fn wrong_name<R: Files<File = File> + AllocGlobal>(rt: &R) -> Option<&'static str> {
-    for (name, want) in NAMES {
-        if !has_result(rt, *name, *want) {
-            return Some(*name);
-        }
-    }
-    None
+    Ok(())
 }
 
 #[test]
 fn on_a_device(rt: HostRuntime) -> Result<(), Fail> {
     make_place(&rt)?;
-    assert!(rt; change(&rt) == Ok(true));
-    assert!(rt; !is_locked(&rt));
-    assert!(rt; wrong_mode(&rt)?.is_none());
-    assert!(rt; wrong_name(&rt).is_none());
-    assert!(rt; has_text(&rt, "outside", "4")?);
-    Ok(())
+    let is_locked_meanwhile = matches!(change(&rt), Ok(true));
+    shown(
+        is_locked_meanwhile && !is_locked(&rt),
+        "one process at a time",
+    )?;
+    have_modes(&rt)?;
+    have_results(&rt)?;
+    shown(
+        has_text(&rt, "outside", "4")?,
+        "the file outside is unchanged",
+    )
 }

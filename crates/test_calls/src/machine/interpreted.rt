@@ -3,6 +3,7 @@
 
 ghost use Rattle.std.specs.Prelude.{◌≤◌, length};
 
+use crate::files::shown;
 use crate::machine::given::shape_over;
 use attrs::Attrs;
 use bpf_insn::Insn;
@@ -104,17 +105,20 @@ fn code_of(alloc: Global, text: &str) -> Result<Vec<Option<Insn>>, Fail> {
     Ok(laid_out(alloc, &code)?)
 }
 
-fn has_end(alloc: Global, text: &str, end: RunEnd, count: u64) -> Result<bool, Fail> {
+fn end_of(alloc: Global, text: &str, shape: &Shape) -> Result<(RunEnd, u64), Fail> {
     let code = code_of(alloc, text)?;
-    let shape = shape_over(alloc, 64, "a:64:4,b:32:4")?;
-    let found = ran(alloc, &code, &shape)?;
-    Ok(found == (end, count))
+    ran(alloc, &code, shape)
+}
+
+/// Fails with the first program that ends otherwise.
+fn are_ended(alloc: Global, shape: &Shape) -> Result<(), Fail> {
+    for (end, count, text) in ENDS {
+        shown(end_of(alloc, *text, shape)? == (*end, *count), *text)?;
+    }
+    Ok(())
 }
 
 #[test]
 fn interpreted_programs(rt: HostRuntime) -> Result<(), Fail> {
-    for (end, count, text) in ENDS {
-        assert!(rt; has_end(rt.alloc(), *text, *end, *count)?, "{text}");
-    }
-    Ok(())
+    are_ended(rt.alloc(), &shape_over(rt.alloc(), 64, "a:64:4,b:32:4")?)
 }
