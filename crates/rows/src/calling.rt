@@ -1,19 +1,16 @@
 //! What a step calls: a command, a file that is shown, or a request that is sent to a port.
 
 use crate::escapes::words_of;
-use crate::logging::Logging;
+use crate::logging::{Handles, Logging};
 use crate::loopback::reply_of;
-use crate::marks::marked;
+use crate::marks::{first_word, marked};
 use crate::printed::Printed;
-use anyhow::Result;
 use command_line::{WordsFault, unreadable_words, usage};
 use commands::Device;
 use std::alloc::Global;
 use std::fs;
 use std::io::{self, ErrorKind, Write};
 use std::os::unix::fs::symlink;
-use std::sync::Wait;
-use std::thread::Threads;
 
 /// The commands of `rollout-tools`; `rollout` has any other word.
 const TOOLS: [&str; 10] = [
@@ -29,72 +26,57 @@ const TOOLS: [&str; 10] = [
     "completion",
 ];
 
-fn is_tool(words: &[String]) -> bool {
-    let [_, command, ..] = words else {
-        return false;
-    };
+fn is_tool(command: &str) -> bool {
     for tool in TOOLS {
-        if command.as_str() == tool {
+        if command == tool {
             return true;
         }
     }
     false
 }
 
-/// Whether the first word is this name.
-fn begins_with(words: &[String], name: &str) -> bool {
-    match words {
-        [first, ..] => first.as_str() == name,
-        [] => false,
-    }
-}
-
 /// The words of a command, without a name of a program in front of them, and whether
 /// `rollout-tools` has the command.
 fn program_of(words: &[String]) -> (&[String], bool) {
-    match words {
-        [_, named @ ..] if begins_with(named, "rollout") => (named, false),
-        [_, named @ ..] if begins_with(named, "rollout-tools") => (named, true),
-        _ => (words, is_tool(words)),
+    let [_, named @ ..] = words else {
+        return (words, false);
+    };
+    let [first, ..] = named else {
+        return (words, false);
+    };
+    match first.as_str() {
+        "rollout" => (named, false),
+        "rollout-tools" => (named, true),
+        command => (words, is_tool(command)),
     }
 }
 
 /// Calls a command, and returns its status.
 fn status_of<T, O>(rt: &Logging<T>, words: &[String], out: &mut O, err: &mut Vec<u8>) -> u8
 where
-    T: Threads + Wait + Copy + Drop + Send + Sync + 'static,
+    T: Handles + 'static,
     O: Write,
 {
-    let disk = Device::new(rt);
+    let disk = Device::new(&rt.rt);
     let (words, is_of_tools) = program_of(words);
     if is_of_tools {
-        tool_commands::command(rt, &disk, words, out, err)
+        tool_commands::command(&rt.rt, &disk, words, out, err)
     } else {
         commands::command(rt, &disk, words, out, err)
     }
 }
 
-/// The output of a command.
-pub(crate) fn printed_of<T>(rt: &Logging<T>, words: &[String]) -> Printed
-where
-    T: Threads + Wait + Copy + Drop + Send + Sync + 'static,
-{
-    let mut out = Vec::new(rt.alloc());
-    let mut err = Vec::new(rt.alloc());
-    let status = status_of(rt, words, &mut out, &mut err);
-    Printed { status, out, err }
-}
-
-/// The output of a command whose standard output takes only ten bytes, without these.
-fn narrow_of<T>(rt: &Logging<T>, words: &[String]) -> Printed
-where
-    T: Threads + Wait + Copy + Drop + Send + Sync + 'static,
-{
-    let mut bytes = [0; 10];
-    let mut out: &mut [u8] = &mut bytes;
-    let mut err = Vec::new(rt.alloc());
-    let status = status_of(rt, words, &mut out, &mut err);
-    let out = Vec::new(rt.alloc());
+/// The output of a command. If its standard output takes only ten bytes, these aren't in it.
+fn printed_of<T: Handles + 'static>(rt: &Logging<T>, words: &[String], is_narrow: bool) -> Printed {
+    let mut out = Vec::new(rt.rt.alloc());
+    let mut err = Vec::new(rt.rt.alloc());
+    let status = if is_narrow {
+        let mut bytes = [0; 10];
+        let mut narrow: &mut [u8] = &mut bytes;
+        status_of(rt, words, &mut narrow, &mut err)
+    } else {
+        status_of(rt, words, &mut out, &mut err)
+    };
     Printed { status, out, err }
 }
 
@@ -111,36 +93,28 @@ fn without_memory(alloc: Global) -> Printed {
 }
 
 /// The text of a file, as if a command printed it.
-fn file_of(rt: &HostRuntime, name: &str) -> Result<Printed> {
+fn file_of(rt: &HostRuntime, name: &str) -> io::Result<Printed> {
     Ok(Printed::of(rt.alloc(), fs::read(rt, name)?))
 }
 
 /// Makes a symbolic link, by its name and its target.
-fn link(rt: &HostRuntime, text: &str) -> Result<Printed> {
-    let (name, target) = text.split_once(' ').unwrap_or((text, ""));
+fn link(rt: &HostRuntime, text: &str) -> io::Result<Printed> {
+    let (name, target) = first_word(text);
     symlink(rt, target, name)?;
-    Ok(Printed::of(rt.alloc(), Vec::new(rt.alloc())))
-}
-
-/// What a file, a port or a link gives, by the mark before its name.
-fn marked_output(rt: &HostRuntime, mark: u8, text: &str) -> Result<Printed> {
-    match mark {
-        b'<' => file_of(rt, text),
-        b'>' => reply_of(rt, text),
-        _ => link(rt, text),
-    }
+    Ok(Printed::nothing(rt.alloc()))
 }
 
 /// What the call of a step gives.
-pub(crate) fn called<T>(rt: &Logging<T>, words: &str) -> Result<Printed>
-where
-    T: Threads + Wait + Copy + Drop + Send + Sync + 'static,
-{
-    let (mark, rest) = marked(words);
-    match mark {
-        b'<' | b'>' | b'@' => marked_output(&rt.rt, mark, rest),
-        b'^' if rest.is_empty() => Ok(without_memory(rt.alloc())),
-        b'^' => Ok(narrow_of(rt, words_of(rt.alloc(), rest)?.as_slice())),
-        _ => Ok(printed_of(rt, words_of(rt.alloc(), words)?.as_slice())),
-    }
+pub(crate) fn called<T: Handles + 'static>(rt: &Logging<T>, line: &str) -> io::Result<Printed> {
+    let (mark, rest) = marked(line);
+    let words = match mark {
+        b'<' => return file_of(&rt.rt, rest),
+        b'>' => return reply_of(&rt.rt, rest),
+        b'@' => return link(&rt.rt, rest),
+        b'^' if rest.is_empty() => return Ok(without_memory(rt.rt.alloc())),
+        b'^' => rest,
+        _ => line,
+    };
+    let words = words_of(rt.rt.alloc(), words)?;
+    Ok(printed_of(rt, words.as_slice(), mark == b'^'))
 }

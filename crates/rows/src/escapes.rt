@@ -2,8 +2,8 @@
 
 ghost use Rattle.std.specs.Prelude.{◌≤◌};
 
-use anyhow::Result;
-use std::alloc::Global;
+use crate::printed::text_of;
+use std::alloc::{AllocError, Global};
 
 /// The value of a hexadecimal digit; 0 for any other byte.
 fn digit(byte: u8) -> u8
@@ -33,7 +33,7 @@ fn spelled(left: &[u8]) -> (u8, &[u8]) {
 }
 
 /// The bytes that a text spells.
-pub(crate) fn unescape(alloc: Global, text: &str) -> Result<Vec<u8>> {
+pub(crate) fn unescape(alloc: Global, text: &str) -> Result<Vec<u8>, AllocError> {
     let mut bytes = Vec::new(alloc);
     let mut left = text.as_bytes();
     for _ in 0..text.len() {
@@ -47,32 +47,44 @@ pub(crate) fn unescape(alloc: Global, text: &str) -> Result<Vec<u8>> {
     Ok(bytes)
 }
 
-/// Appends the words of a piece of a command; a quoted one is one word.
-fn push_words(alloc: Global, words: &mut Vec<String>, piece: &str, quoted: bool) -> Result<()> {
-    if quoted {
-        words.push(String::from_utf8(unescape(alloc, piece)?)?)?;
-        return Ok(());
-    }
-    for word in piece.split_whitespace() {
-        words.push(String::from_str(alloc, word)?)?;
+/// Appends a word.
+fn push_word(alloc: Global, words: &mut Vec<String>, word: &str) -> Result<(), AllocError> {
+    let word = String::from_str(alloc, word)?;
+    Ok(words.push(word)?)
+}
+
+/// Appends the word that a quoted text spells.
+fn push_spelled(alloc: Global, words: &mut Vec<String>, text: &str) -> Result<(), AllocError> {
+    let word = unescape(alloc, text)?;
+    push_word(alloc, words, text_of(&word))
+}
+
+/// Appends the words that spaces divide.
+fn push_divided(alloc: Global, words: &mut Vec<String>, text: &str) -> Result<(), AllocError> {
+    for word in text.split_whitespace() {
+        push_word(alloc, words, word)?;
     }
     Ok(())
 }
 
 /// Appends the words of a command: spaces divide them, and two single quotes enclose one word.
-fn push_all_words(alloc: Global, words: &mut Vec<String>, line: &str) -> Result<()> {
-    let mut quoted = false;
-    for piece in line.split('\'') {
-        push_words(alloc, words, piece, quoted)?;
-        quoted = !quoted;
+fn push_words(alloc: Global, words: &mut Vec<String>, line: &str) -> Result<(), AllocError> {
+    push_word(alloc, words, "rollout")?;
+    let mut is_quoted = false;
+    for text in line.split('\'') {
+        if is_quoted {
+            push_spelled(alloc, words, text)?;
+        } else {
+            push_divided(alloc, words, text)?;
+        }
+        is_quoted = !is_quoted;
     }
     Ok(())
 }
 
 /// The words of a command, after the name of a program.
-pub(crate) fn words_of(alloc: Global, line: &str) -> Result<Vec<String>> {
+pub(crate) fn words_of(alloc: Global, line: &str) -> Result<Vec<String>, AllocError> {
     let mut words = Vec::new(alloc);
-    words.push(String::from_str(alloc, "rollout")?)?;
-    push_all_words(alloc, &mut words, line)?;
+    push_words(alloc, &mut words, line)?;
     Ok(words)
 }

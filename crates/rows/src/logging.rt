@@ -14,6 +14,11 @@ use std::sync::Wait;
 use std::thread::Threads;
 use std::time::{Clock, Duration};
 
+/// What may start threads and wait, and may be used by several threads.
+pub(crate) trait Handles: Threads + Wait + Copy + Drop + Send + Sync {}
+
+impl<T: Threads + Wait + Copy + Drop + Send + Sync> Handles for T {}
+
 /// The runtime to which it passes on.
 #[derive(Clone, Copy)]
 pub(crate) struct Logging<T> {
@@ -25,8 +30,7 @@ pub(crate) struct Logging<T> {
 /// Appends a line to a file.
 fn append(rt: &HostRuntime, name: &str, line: &str) -> io::Result<()> {
     let mut file = OpenOptions::new().append(true).create(true).open(rt, name)?;
-    file.write_all(line.as_bytes())?;
-    file.write_all(b"\n")
+    writeln!(file, "{line}")
 }
 
 impl<T> LogOutput for Logging<T> {
@@ -35,13 +39,10 @@ impl<T> LogOutput for Logging<T> {
             return Err(io::Error::from(ErrorKind::InvalidData));
         };
         for line in text.lines() {
-            match line.split_once("\"kind\":") {
-                Some((_time, rest)) if rest.starts_with("\"connection\"") => {
-                    append(&self.rt, "connections", rest)?
-                }
-                Some((_time, rest)) => append(&self.rt, "log", rest)?,
-                None => append(&self.rt, "log", line)?,
-            }
+            let (_time, line) = line.split_once("\"kind\":").unwrap_or(("", line));
+            let is_connection = line.starts_with("\"connection\"");
+            let name = if is_connection { "connections" } else { "log" };
+            append(&self.rt, name, line)?;
         }
         Ok(())
     }
@@ -136,10 +137,6 @@ impl<T> Files for Logging<T> {
 
     fn create_dir(&self, path: &str) -> io::Result<()> {
         self.rt.create_dir(path)
-    }
-
-    fn create_dir_with_mode(&self, path: &str, mode: u32) -> io::Result<()> {
-        self.rt.create_dir_with_mode(path, mode)
     }
 
     fn remove_dir(&self, path: &str) -> io::Result<()> {

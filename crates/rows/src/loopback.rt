@@ -1,19 +1,19 @@
 //! Ports of loopback: free ones, and what comes back from a port for the bytes that are sent to it.
 
+use crate::marks::first_word;
 use crate::printed::{Printed, text_of};
-use anyhow::Result;
 use std::alloc::{AllocError, Global};
 use std::fs;
-use std::io::{self, Read, Write};
+use std::io::{self, Error, Read, Write};
 use std::net::{Ipv4Addr, TcpListener, TcpStream};
-use std::time::{SystemTime, UNIX_EPOCH};
+use std::time::Clock;
 
 /// A free port, which the listener that is added takes.
 fn free_port(rt: &HostRuntime, taken: &mut Vec<TcpListener>) -> io::Result<u16> {
     let listener = TcpListener::bind(rt, (Ipv4Addr::LOCALHOST, 0))?;
-    let port = listener.local_addr()?.port();
+    let address = listener.local_addr();
     taken.push(listener)?;
-    Ok(port)
+    Ok(address?.port())
 }
 
 /// A text in which each of these names is replaced by a number.
@@ -24,14 +24,10 @@ fn with_number(alloc: Global, text: &str, name: &str, number: u64) -> Result<Str
 
 /// The whole days from 2007-01-01 to now.
 fn days_now(rt: &HostRuntime) -> u64 {
-    let seconds = match SystemTime::now(rt) {
-        Ok(now) => match now.duration_since(UNIX_EPOCH) {
-            Ok(since) => since.as_secs(),
-            Err(_) => 0,
-        },
+    match rt.since_1970() {
+        Ok(since) => since.as_secs().saturating_sub(1167609600) / 86400,
         Err(_) => 0,
-    };
-    seconds.saturating_sub(1167609600) / 86400
+    }
 }
 
 const PORTS: [&str; 12] = [
@@ -39,8 +35,8 @@ const PORTS: [&str; 12] = [
     "<port9>", "<port10>", "<port11>", "<port12>",
 ];
 
-/// A text in which the names of ports are replaced by free ports, all different.
-fn with_ports(rt: &HostRuntime, text: &mut String) -> io::Result<()> {
+/// Replaces the names of ports by free ones, all different.
+fn fill_ports(rt: &HostRuntime, text: &mut String) -> io::Result<()> {
     let mut taken = Vec::new(rt.alloc());
     for name in PORTS.iter() {
         let port = free_port(rt, &mut taken)?;
@@ -52,7 +48,7 @@ fn with_ports(rt: &HostRuntime, text: &mut String) -> io::Result<()> {
 /// A text in which the names of ports and of the day are replaced by numbers.
 fn with_numbers(rt: &HostRuntime, text: &str) -> io::Result<String> {
     let mut text = with_number(rt.alloc(), text, "<day>", days_now(rt))?;
-    with_ports(rt, &mut text)?;
+    fill_ports(rt, &mut text)?;
     Ok(text)
 }
 
@@ -74,8 +70,16 @@ pub(crate) fn filled_text(rt: &HostRuntime, text: &str) -> io::Result<String> {
     }
 }
 
+/// The port that a word names.
+pub(crate) fn port_of(word: &str) -> io::Result<u16> {
+    match word.parse::<u16>() {
+        Ok(port) => Ok(port),
+        Err(_) => Err(Error::other("it has no port")),
+    }
+}
+
 /// What comes back over a connection until the other side ends it, with `\r` for a carriage return.
-pub(crate) fn replied(alloc: Global, stream: &TcpStream) -> Result<Printed> {
+pub(crate) fn replied(alloc: Global, stream: &TcpStream) -> io::Result<Printed> {
     let mut bytes = Vec::new(alloc);
     let mut from = stream;
     let _count = from.read_to_end(&mut bytes)?;
@@ -93,10 +97,12 @@ pub(crate) fn sent(rt: &HostRuntime, port: u16, bytes: &[u8]) -> io::Result<TcpS
 }
 
 /// What comes back for the bytes of a file, by a port and the file's name.
-pub(crate) fn reply_of(rt: &HostRuntime, text: &str) -> Result<Printed> {
-    let (port, name) = text.split_once(' ').unwrap_or((text, ""));
-    let port: u16 = port.parse()?;
+pub(crate) fn reply_of(rt: &HostRuntime, text: &str) -> io::Result<Printed> {
+    let (port, name) = first_word(text);
+    let port = port_of(port)?;
     let bytes = fs::read(rt, name)?;
-    let stream = sent(rt, port, &bytes)?;
+    let stream = sent(rt, port, &bytes);
+    drop(bytes);
+    let stream = stream?;
     replied(rt.alloc(), &stream)
 }

@@ -16,16 +16,19 @@ mod running;
 mod steps;
 
 use crate::logging::Logging;
-use crate::running::run_files;
+use crate::running::run_file;
 use anyhow::Result;
 use std::env;
 use std::process::ExitCode;
 
 fn main(rt: HostRuntime) -> Result<ExitCode> {
     let names: Vec<String> = env::args(&rt)?.collect(rt.alloc())?;
-    Ok(if run_files(&Logging { rt, threads: rt }, names.as_slice())? {
-        ExitCode::SUCCESS
-    } else {
-        ExitCode::FAILURE
-    })
+    let runtime = Logging { rt, threads: rt };
+    let mut status = ExitCode::SUCCESS;
+    for name in names.iter().skip(1) {
+        if !run_file(&runtime, name.as_str())? {
+            status = ExitCode::FAILURE;
+        }
+    }
+    Ok(status)
 }

@@ -20,6 +20,11 @@ impl Printed {
             err: Vec::new(alloc),
         }
     }
+
+    /// Status 0 and no output.
+    pub(crate) fn nothing(alloc: Global) -> Printed {
+        Printed::of(alloc, Vec::new(alloc))
+    }
 }
 
 /// The text that these bytes spell.
@@ -27,57 +32,49 @@ pub(crate) fn text_of(bytes: &[u8]) -> &str {
     str::from_utf8(bytes).unwrap_or("(no UTF-8)\n")
 }
 
-/// What a row wants a command to print: all of its output, and texts that are somewhere in it.
+/// A command with its line, and what it is to print: a whole output, and texts that are somewhere
+/// in it.
 #[derive(Drop)]
-pub(crate) struct Wanted {
-    pub(crate) printed: Printed,
-    pub(crate) parts: Vec<String>,
+pub(crate) struct Row {
+    pub(crate) line: usize,
+    pub(crate) words: String,
+    /// Whether the output is compared; if not, only the status is.
+    pub(crate) is_compared: bool,
+    pub(crate) wanted: Printed,
+    /// The texts, each a line.
+    pub(crate) parts: Vec<u8>,
 }
 
-impl Wanted {
-    /// Status 0 and no output.
-    pub(crate) fn nothing(alloc: Global) -> Wanted {
-        Wanted {
-            printed: Printed::of(alloc, Vec::new(alloc)),
-            parts: Vec::new(alloc),
-        }
-    }
-
+impl Row {
     /// Wants one line and nothing else: a refusal is on standard error, with status 1, and `usage`
     /// is an error of the words, with status 2.
     pub(crate) fn want_line(&mut self, line: &str) -> Result<(), AllocError> {
         if line == "usage" {
-            self.printed.status = 2;
-            push_line(&mut self.printed.err, "error: ...")
+            self.wanted.status = 2;
+            push_line(&mut self.wanted.err, "error: ...")
         } else if line.starts_with("refused ") {
-            self.printed.status = 1;
-            push_line(&mut self.printed.err, line)
+            self.wanted.status = 1;
+            push_line(&mut self.wanted.err, line)
         } else {
-            push_line(&mut self.printed.out, line)
+            push_line(&mut self.wanted.out, line)
         }
-    }
-
-    /// Wants this text somewhere in the output.
-    pub(crate) fn want_part(&mut self, alloc: Global, text: &str) -> Result<(), AllocError> {
-        let part = String::from_str(alloc, text)?;
-        self.parts.push(part)?;
-        Ok(())
     }
 
     /// Whether a command that printed this did what is wanted.
     pub(crate) fn is_met(&self, printed: &Printed) -> bool {
-        printed.status == self.printed.status
-            && is_wanted(&printed.out, &self.printed.out)
-            && is_wanted(&printed.err, &self.printed.err)
-            && has_parts(printed, self.parts.as_slice())
+        let is_output_wanted = !self.is_compared
+            || (is_wanted(&printed.out, &self.wanted.out)
+                && is_wanted(&printed.err, &self.wanted.err)
+                && has_parts(printed, text_of(&self.parts)));
+        is_output_wanted && printed.status == self.wanted.status
     }
 }
 
-/// Whether each of these texts is somewhere in the output.
-fn has_parts(printed: &Printed, parts: &[String]) -> bool {
+/// Whether each of these lines is somewhere in the output.
+fn has_parts(printed: &Printed, parts: &str) -> bool {
     let (out, err) = (text_of(&printed.out), text_of(&printed.err));
-    for part in parts.iter() {
-        if !out.contains(part.as_str()) && !err.contains(part.as_str()) {
+    for part in parts.lines() {
+        if !out.contains(part) && !err.contains(part) {
             return false;
         }
     }
@@ -99,6 +96,5 @@ fn is_wanted(bytes: &[u8], wanted: &[u8]) -> bool {
 /// Appends a line.
 pub(crate) fn push_line(bytes: &mut Vec<u8>, line: &str) -> Result<(), AllocError> {
     bytes.extend_from_slice(line.as_bytes())?;
-    bytes.push(b'\n')?;
-    Ok(())
+    bytes.extend_from_slice(b"\n")
 }

@@ -33,7 +33,7 @@
 //! ~ TEXT         its standard output or its standard error contains this text
 //! # TEXT         a comment, but not in the text of a file
 //! each           the lines up to `rows` are read once for each line of the table below `rows`,
-//! rows           which an empty line ends; in them `<1>`, `<2>` .. are the columns of that line,
+//! rows           which an empty line ends; in them `<1>` to `<12>` are the columns of that line,
 //!                which ` | ` divides; a line of the table that begins with `# ` is a comment
 //! ```
 //!
@@ -48,9 +48,10 @@
 //! The log of a server is appended to the file `log`, but its lines of connections to the file
 //! `connections`; each line begins after its `"kind":`.
 
-use crate::steps::{Step, Steps};
+use crate::steps::{Step, read_marked};
 use anyhow::{Result, bail};
-use std::alloc::Global;
+use std::alloc::{AllocError, Global};
+use std::io::{self, Error};
 
 /// How lines are read: plain, as the lines of a block, or as those of its table.
 #[derive(Clone, Copy)]
@@ -60,40 +61,55 @@ enum Part {
     Table,
 }
 
-/// A line of a block, with the columns that it names filled in. It may name no further one.
-fn filled(alloc: Global, number: usize, line: &str, columns: &[&str]) -> Result<String> {
-    let mut line = String::from_str(alloc, line)?;
-    let further = format!(in alloc; "<{}>", columns.len().saturating_add(1))?;
-    if line.contains(further.as_str()) {
-        bail!("line {number}: it has fewer columns than its block names")
+/// The part that a line begins, if it does.
+fn part_begun(part: Part, line: &str) -> Option<Part> {
+    match (part, line) {
+        (Part::Plain, "each") => Some(Part::Block),
+        (Part::Block, "rows") => Some(Part::Table),
+        (Part::Table, "") => Some(Part::Plain),
+        _ => None,
     }
-    for (place, column) in columns.iter().enumerate() {
-        let name = format!(in alloc; "<{}>", place.saturating_add(1))?;
-        line = line.replace(alloc, name.as_str(), column)?;
+}
+
+/// The names of columns.
+const COLUMNS: [&str; 12] = [
+    "<1>", "<2>", "<3>", "<4>", "<5>", "<6>", "<7>", "<8>", "<9>", "<10>", "<11>", "<12>",
+];
+
+/// A line of a block, in which the names of columns are replaced by these.
+fn filled(alloc: Global, line: &str, columns: &[&str]) -> Result<String, AllocError> {
+    let mut line = String::from_str(alloc, line)?;
+    for (name, column) in COLUMNS.iter().zip(columns.iter()) {
+        line = line.replace(alloc, *name, column)?;
     }
     Ok(line)
 }
 
-/// Reads a line of a block with these columns.
+/// Reads a line of a block with these columns. It may name no further one.
 fn read_filled(
     alloc: Global,
-    steps: &mut Steps,
+    steps: &mut Vec<Step>,
     number: usize,
     line: &str,
     columns: &[&str],
-) -> Result<()> {
-    let line = filled(alloc, number, line, columns)?;
-    steps.read(number, line.as_str())
+) -> io::Result<()> {
+    if let Some(further) = COLUMNS.get(columns.len()) {
+        if line.contains(*further) {
+            return Err(Error::other("it has fewer columns than its block names"));
+        }
+    }
+    let line = filled(alloc, line, columns)?;
+    read_marked(alloc, steps, number, line.as_str())
 }
 
 /// Reads a block for a line of its table.
 fn read_block(
     alloc: Global,
-    steps: &mut Steps,
+    steps: &mut Vec<Step>,
     block: &[&str],
     number: usize,
     row: &str,
-) -> Result<()> {
+) -> io::Result<()> {
     if row.starts_with("# ") {
         return Ok(());
     }
@@ -105,21 +121,28 @@ fn read_block(
 }
 
 /// Reads the lines of a file of rows.
-fn read_lines(alloc: Global, steps: &mut Steps, text: &str) -> Result<()> {
+fn read_lines(alloc: Global, steps: &mut Vec<Step>, text: &str) -> Result<()> {
     let mut block: Vec<&str> = Vec::new(alloc);
     let mut part = Part::Plain;
     for (number, line) in text.lines().enumerate() {
         let number = number.saturating_add(1);
-        match (part, line) {
-            (Part::Plain, "each") => {
+        if let Some(begun) = part_begun(part, line) {
+            part = begun;
+            if line == "each" {
                 block.clear();
-                part = Part::Block;
             }
-            (Part::Plain, _) => steps.read(number, line)?,
-            (Part::Block, "rows") => part = Part::Table,
-            (Part::Block, _) => block.push(line)?,
-            (Part::Table, "") => part = Part::Plain,
-            (Part::Table, row) => read_block(alloc, steps, block.as_slice(), number, row)?,
+            continue;
+        }
+        let read: io::Result<()> = match part {
+            Part::Plain => read_marked(alloc, steps, number, line),
+            Part::Block => match block.push(line) {
+                Ok(()) => Ok(()),
+                Err(error) => Err(Error::from(error)),
+            },
+            Part::Table => read_block(alloc, steps, block.as_slice(), number, line),
+        };
+        if let Err(error) = read {
+            bail!("line {number}: {error}")
         }
     }
     if matches!(part, Part::Block) {
@@ -130,7 +153,7 @@ fn read_lines(alloc: Global, steps: &mut Steps, text: &str) -> Result<()> {
 
 /// The steps of a file of rows.
 pub(crate) fn read_steps(alloc: Global, text: &str) -> Result<Vec<Step>> {
-    let mut steps = Steps::new(alloc);
+    let mut steps = Vec::new(alloc);
     read_lines(alloc, &mut steps, text)?;
-    steps.finish()
+    Ok(steps)
 }
