@@ -3,7 +3,6 @@
 use load::LoadFault;
 
 /// Why a manifest is refused, and where. Lines are ended by a line feed.
-#[derive(Drop)]
 pub struct Refused {
     /// The fault of the manifest's load.
     pub fault: LoadFault,
@@ -24,10 +23,34 @@ pub struct Refused {
     pub unread: usize,
 }
 
+// Not derived: a crate that drops one would prove the drop of each of its parts anew.
+impl Drop for Refused {
+    fn drop(self) {
+        let Self {
+            fault: _fault,
+            reason: _reason,
+            own: _own,
+            further: _further,
+            left_out: _left_out,
+            read: _read,
+            unread: _unread,
+        } = self;
+    }
+}
+
 /// A further fault of a manifest.
-#[derive(Drop)]
 pub struct FaultReport {
     pub fault: LoadFault,
     /// Where and why: lines, each ended by a line feed. Empty if an allocation for them failed.
     pub reason: String,
+}
+
+// Not derived: a crate that drops one would prove the drop of each of its parts anew.
+impl Drop for FaultReport {
+    fn drop(self) {
+        let Self {
+            fault: _fault,
+            reason: _reason,
+        } = self;
+    }
 }

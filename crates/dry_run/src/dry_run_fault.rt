@@ -10,7 +10,6 @@ use omaha_json::OmahaFault;
 use std::fmt::{self, Display};
 
 /// What is wrong; it is displayed as it is printed.
-#[derive(Drop)]
 pub enum DryRunFault {
     /// B3, B4, M1 to M8: the manifest gives no ruleset.
     Manifest(PathFault),
@@ -22,6 +21,19 @@ pub enum DryRunFault {
     Cell,
     /// O1 to O5: the body isn't a request, or an allocation for its reply failed.
     Omaha(OmahaFault),
+}
+
+// Not derived: a crate that drops one would prove the drop of each of its parts anew.
+impl Drop for DryRunFault {
+    fn drop(self) {
+        match self {
+            DryRunFault::Manifest(fault) => drop(fault),
+            DryRunFault::Resource(_fault) => {}
+            DryRunFault::TooLarge => {}
+            DryRunFault::Cell => {}
+            DryRunFault::Omaha(_fault) => {}
+        }
+    }
 }
 
 impl Display for DryRunFault {

@@ -12,7 +12,6 @@ use std::fmt;
 
 /// What is wrong, with the codes M1 to M8 that are printed. Arrays and apps are numbered from 1 in
 /// the order of the manifest.
-#[derive(Drop)]
 pub enum LoadFault {
     /// M1 to M3: the bytes aren't a manifest. The fault inside has more details than are printed.
     Manifest(ManifestFault),
@@ -26,6 +25,29 @@ pub enum LoadFault {
     Cells { array: usize, fault: CellsFault },
     /// M8: out of memory.
     Memory,
+}
+
+// Not derived: a crate that drops one would prove the drop of each of its parts anew.
+impl Drop for LoadFault {
+    fn drop(self) {
+        match self {
+            LoadFault::Manifest(fault) => drop(fault),
+            LoadFault::File { app: _app } => {}
+            LoadFault::Program {
+                app: _app,
+                fault: _fault,
+            } => {}
+            LoadFault::Rule {
+                app: _app,
+                fault: _fault,
+            } => {}
+            LoadFault::Cells {
+                array: _array,
+                fault: _fault,
+            } => {}
+            LoadFault::Memory => {}
+        }
+    }
 }
 
 impl fmt::Display for LoadFault {
@@ -52,12 +74,22 @@ impl fmt::Debug for LoadFault {
 impl Error for LoadFault {}
 
 /// Why the manifest at a path gives no ruleset.
-#[derive(Debug, Drop)]
+#[derive(Debug)]
 pub enum PathFault {
     /// B3 and B4: the manifest can't be read, or an allocation for its bytes failed.
     Resource(ResourceFault),
     /// M1 to M8: the manifest and its files give no ruleset.
     Load(LoadFault),
+}
+
+// Not derived: a crate that drops one would prove the drop of each of its parts anew.
+impl Drop for PathFault {
+    fn drop(self) {
+        match self {
+            PathFault::Resource(_fault) => {}
+            PathFault::Load(fault) => drop(fault),
+        }
+    }
 }
 
 impl fmt::Display for PathFault {

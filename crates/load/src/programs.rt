@@ -89,17 +89,11 @@ fn with_program(alloc: Global, app: AppSources, program: Verified) -> Result<App
     requires judged { IsJudged app program }
     ensures { IfOk result (λ supplied. supplied ≡ app_of app program) }
 {
-    let AppSources {
-        entry,
-        shape: _shape,
-        kept: _kept,
-        through_link: _through_link,
-    } = app;
     let AppParts {
         appid,
         source: _source,
         releases,
-    } = entry.into_parts();
+    } = app.into_entry().into_parts();
     let Ok(program) = Arc::new(alloc, program) else {
         return Err(AllocError);
     };

@@ -31,12 +31,38 @@ const MOST_LONG: u128 = 0x400_0000;
 
 /// An app of a manifest, its shape, and what is kept of its file (None if that can't be read). Also
 /// whether the file's path had a symbolic link just before it was read.
-#[derive(Drop)]
 pub struct AppSources {
     pub entry: AppEntry,
     pub shape: Shape,
     pub kept: Option<KeptBytes>,
     pub through_link: bool,
+}
+
+// Not derived: a crate that drops one would prove the drop of each of its parts anew.
+impl Drop for AppSources {
+    fn drop(self) {
+        let Self {
+            entry: _entry,
+            shape: _shape,
+            kept: _kept,
+            through_link: _through_link,
+        } = self;
+    }
+}
+
+impl AppSources {
+    /// The manifest's app. Everything else is dropped.
+    pub(crate) fn into_entry(self) -> AppEntry
+        ensures { result ≡ self.entry }
+    {
+        let Self {
+            entry,
+            shape: _shape,
+            kept: _kept,
+            through_link: _through_link,
+        } = self;
+        entry
+    }
 }
 
 /// A manifest that was read: the text with its server's name, its arrays, the directory in which

@@ -30,11 +30,21 @@ pub enum ProgramSource {
 }
 
 /// An app of a manifest, with an appid of 1 to 1024 bytes and at most 64 releases.
-#[derive(Drop)]
 pub struct AppEntry {
     appid: Text,
     source: ProgramSource,
     releases: Vec<Release>,
+}
+
+// Not derived: a crate that drops one would prove the drop of each of its parts anew.
+impl Drop for AppEntry {
+    fn drop(self) {
+        let Self {
+            appid: _appid,
+            source: _source,
+            releases: _releases,
+        } = self;
+    }
 }
 
 impl Model for AppEntry {
@@ -93,10 +103,15 @@ impl AppEntry {
         ensures releases { result.releases.items ≡ self.releases }
         ensures count { length result.releases.items ≤ 64 }
     {
+        let Self {
+            appid,
+            source,
+            releases,
+        } = self;
         AppParts {
-            appid: self.appid,
-            source: self.source,
-            releases: self.releases,
+            appid,
+            source,
+            releases,
         }
     }
 }

@@ -23,11 +23,21 @@ use toml::Table;
 pub(crate) const MAX_ARRAYS: usize = 64;
 
 /// The data of a manifest: the server's name, its arrays of counters, and its apps.
-#[derive(Drop)]
 pub struct Manifest {
     server: Text,
     arrays: Vec<ArrayDeclaration>,
     apps: Vec<AppEntry>,
+}
+
+// Not derived: a crate that drops one would prove the drop of each of its parts anew.
+impl Drop for Manifest {
+    fn drop(self) {
+        let Self {
+            server: _server,
+            arrays: _arrays,
+            apps: _apps,
+        } = self;
+    }
 }
 
 impl Model for Manifest {
@@ -80,10 +90,15 @@ impl Manifest {
         ensures arrays { result.arrays.items ≡ self.arrays }
         ensures apps { result.apps.items ≡ self.apps }
     {
+        let Self {
+            server,
+            arrays,
+            apps,
+        } = self;
         ManifestParts {
-            server: self.server,
-            arrays: self.arrays,
-            apps: self.apps,
+            server,
+            arrays,
+            apps,
         }
     }
 }

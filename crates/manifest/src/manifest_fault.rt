@@ -54,12 +54,21 @@ pub enum TomlFault {
 }
 
 /// A duplicate name.
-#[derive(Drop)]
 pub enum DuplicateName {
     /// The name of an array.
     Array(Quote),
     /// An appid.
     App(Quote),
+}
+
+// Not derived: a crate that drops one would prove the drop of each of its parts anew.
+impl Drop for DuplicateName {
+    fn drop(self) {
+        match self {
+            DuplicateName::Array(name) => drop(name),
+            DuplicateName::App(appid) => drop(appid),
+        }
+    }
 }
 
 impl Display for DuplicateName {

@@ -11,12 +11,23 @@ use std::fmt;
 use std::fmt::{Display, Formatter, Write};
 
 /// A schema error of a manifest.
-#[derive(Drop)]
 pub enum SchemaError {
     Unknown(Quote),
     Server,
     Arrays(InList<ArrayError>),
     Apps(InList<AppError>),
+}
+
+// Not derived: a crate that drops one would prove the drop of each of its parts anew.
+impl Drop for SchemaError {
+    fn drop(self) {
+        match self {
+            SchemaError::Unknown(key) => drop(key),
+            SchemaError::Server => {}
+            SchemaError::Arrays(in_list) => drop(in_list),
+            SchemaError::Apps(in_list) => drop(in_list),
+        }
+    }
 }
 
 /// A schema error in a list of tables.

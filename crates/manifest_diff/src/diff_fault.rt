@@ -8,7 +8,6 @@ use load::PathFault;
 use std::fmt;
 
 /// What is wrong; `Display` gives the line that is printed.
-#[derive(Drop)]
 pub enum DiffFault {
     /// B4: an allocation failed.
     Resource(ResourceFault),
@@ -20,6 +19,19 @@ pub enum DiffFault {
     Cell,
     /// B8: neither manifest has the one app that is to be compared.
     NoApp,
+}
+
+// Not derived: a crate that drops one would prove the drop of each of its parts anew.
+impl Drop for DiffFault {
+    fn drop(self) {
+        match self {
+            DiffFault::Resource(_fault) => {}
+            DiffFault::Old(fault) => drop(fault),
+            DiffFault::New(fault) => drop(fault),
+            DiffFault::Cell => {}
+            DiffFault::NoApp => {}
+        }
+    }
 }
 
 impl fmt::Display for DiffFault {

@@ -9,7 +9,6 @@ use load::PathFault;
 use std::fmt;
 
 /// What is wrong; it is displayed as it is printed, except for the lines of a diagnosis.
-#[derive(Drop)]
 pub enum ManifestToolFault {
     /// B3 and B4: a manifest can't be read, the picture of `simulate` can't be written, or an
     /// allocation of the command failed.
@@ -22,6 +21,19 @@ pub enum ManifestToolFault {
     NoApp,
     /// B3, B4, M1 to M8: the manifest to compare with gives no ruleset.
     Against(PathFault),
+}
+
+// Not derived: a crate that drops one would prove the drop of each of its parts anew.
+impl Drop for ManifestToolFault {
+    fn drop(self) {
+        match self {
+            ManifestToolFault::Resource(_fault) => {}
+            ManifestToolFault::Diagnosed(refused) => drop(refused),
+            ManifestToolFault::Load(fault) => drop(fault),
+            ManifestToolFault::NoApp => {}
+            ManifestToolFault::Against(fault) => drop(fault),
+        }
+    }
 }
 
 impl fmt::Display for ManifestToolFault {

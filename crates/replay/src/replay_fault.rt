@@ -10,7 +10,7 @@ use std::error::Error;
 use std::fmt;
 
 /// Why a script isn't played; it is displayed as it is printed.
-#[derive(Debug, Drop)]
+#[derive(Debug)]
 pub enum ReplayFault {
     /// B3 and B4: the script can't be read, or an allocation fails outside of loading a manifest.
     Resource(ResourceFault),
@@ -18,6 +18,17 @@ pub enum ReplayFault {
     Script(ScriptFault),
     /// B3, B4, M1 to M8: a manifest gives no ruleset.
     Manifest(PathFault),
+}
+
+// Not derived: a crate that drops one would prove the drop of each of its parts anew.
+impl Drop for ReplayFault {
+    fn drop(self) {
+        match self {
+            ReplayFault::Resource(_fault) => {}
+            ReplayFault::Script(_fault) => {}
+            ReplayFault::Manifest(fault) => drop(fault),
+        }
+    }
 }
 
 impl fmt::Display for ReplayFault {

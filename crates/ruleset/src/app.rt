@@ -11,11 +11,21 @@ use std::sync::Arc;
 
 /// An app, its releases, and the program that decides which of them is offered. A choice of the
 /// program is the number of a release, from 1. The appid has 1 to 1024 bytes.
-#[derive(Drop)]
 pub struct App {
     appid: String,
     program: Arc<Verified>,
     releases: Vec<Release>,
+}
+
+// Not derived: a crate that drops one would prove the drop of each of its parts anew.
+impl Drop for App {
+    fn drop(self) {
+        let Self {
+            appid: _appid,
+            program: _program,
+            releases: _releases,
+        } = self;
+    }
 }
 
 impl Model for App {

@@ -7,10 +7,19 @@ use crate::app::App;
 use std::marker::Model;
 
 /// A server's apps, in order and with distinct appids, and the server's name.
-#[derive(Drop)]
 pub struct Ruleset {
     server: String,
     apps: Vec<App>,
+}
+
+// Not derived: a crate that drops one would prove the drop of each of its parts anew.
+impl Drop for Ruleset {
+    fn drop(self) {
+        let Self {
+            server: _server,
+            apps: _apps,
+        } = self;
+    }
 }
 
 impl Model for Ruleset {

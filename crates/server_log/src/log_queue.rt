@@ -27,13 +27,24 @@ pub struct LogPiece {
 }
 
 /// The queue into which a server's threads put lines, and the totals of their connections.
-#[derive(Drop)]
 pub struct LogQueue {
     /// The clients' port of the server.
     port: u16,
     pieces: Sender<LogPiece>,
     lost: AtomicU64,
     tally: Arc<RunningTotals>,
+}
+
+// Not derived: a crate that drops one would prove the drop of each of its parts anew.
+impl Drop for LogQueue {
+    fn drop(self) {
+        let Self {
+            port: _port,
+            pieces: _pieces,
+            lost: _lost,
+            tally: _tally,
+        } = self;
+    }
 }
 
 impl LogQueue {

@@ -18,11 +18,20 @@ use std::sync::Wait;
 use workers::{Ports, bind};
 
 /// A server whose ruleset is loaded, and whose two ports listen.
-#[derive(Drop)]
 pub struct Server {
     ports: Ports,
     loaded: LoadedRuleset,
     ghost only: { KnowsOnly loaded.directory loaded.rules },
+}
+
+// Not derived: a crate that drops one would prove the drop of each of its parts anew.
+impl Drop for Server {
+    fn drop(self) {
+        let Self {
+            ports: _ports,
+            loaded: _loaded,
+        } = self;
+    }
 }
 
 /// Loads the manifest at a path, and binds both ports on loopback; 0 is any free port. Returns the

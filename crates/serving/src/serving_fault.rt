@@ -11,7 +11,7 @@ use std::error::Error;
 use std::fmt::{self, Display};
 
 /// The fault, which is shown as it is printed.
-#[derive(Debug, Drop)]
+#[derive(Debug)]
 pub enum ServingFault {
     /// B3, B4, M1 to M8: the manifest has no ruleset.
     Manifest(LoadRefusal),
@@ -23,6 +23,19 @@ pub enum ServingFault {
     Publisher(SwapFault),
     /// B4: another allocation, or a thread, fails. B3: the ready line can't be written.
     Resource(ResourceFault),
+}
+
+// Not derived: a crate that drops one would prove the drop of each of its parts anew.
+impl Drop for ServingFault {
+    fn drop(self) {
+        match self {
+            ServingFault::Manifest(refusal) => drop(refusal),
+            ServingFault::Bind => {}
+            ServingFault::Cells(_fault) => {}
+            ServingFault::Publisher(_fault) => {}
+            ServingFault::Resource(_fault) => {}
+        }
+    }
 }
 
 impl ServingFault {

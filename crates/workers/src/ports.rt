@@ -17,12 +17,23 @@ const WAKE_SECONDS: u64 = 1;
 const DESCRIPTORS: u8 = 4;
 
 /// The two listening ports, and their addresses.
-#[derive(Drop)]
 pub struct Ports {
     pub(crate) service: TcpListener,
     pub(crate) service_end: PortEnd,
     pub(crate) operator: TcpListener,
     pub(crate) operator_address: SocketAddr,
+}
+
+// Not derived: a crate that drops one would prove the drop of each of its parts anew.
+impl Drop for Ports {
+    fn drop(self) {
+        let Self {
+            service: _service,
+            service_end: _service_end,
+            operator: _operator,
+            operator_address: _operator_address,
+        } = self;
+    }
 }
 
 impl Ports {
