@@ -5,6 +5,7 @@
 #![tactic(auto)]
 
 mod answers;
+mod locked_cells;
 mod publishing;
 mod quotas;
 mod requests;

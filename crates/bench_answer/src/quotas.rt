@@ -5,12 +5,12 @@
 ghost use Rattle.std.specs.Prelude.{All, IfOk};
 
 use crate::answers::answer_times;
+use crate::locked_cells::LockedCells;
 use crate::requests::of_apps;
 use crate::rules::{QUOTA, takers};
 use anyhow::{Context, Error, Result};
 use cells::{CellNo, CellOp, CellSteps};
 use hot_swap::{Publisher, Watcher};
-use locked_cells::LockedCells;
 use shared_cells::SharedCells;
 use std::alloc::Global;
 use std::sync::Wait;
@@ -68,6 +68,9 @@ fn published<H: Threads + Wait + Sync>(
     total
 }
 
+/// The work over counters under a lock.
+// open: which reply an operation gets, and that counters are 0 at first: no contract can name what
+// is under a lock that other threads take.
 fn over_locked<H: Threads + Wait + Sync>(
     rt: &H,
     alloc: Global,

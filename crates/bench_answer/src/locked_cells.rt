@@ -1,6 +1,6 @@
-//! The values of all cells are under a lock, so an operation waits for those of other threads. No
-//! contract can name what a lock holds. It says only which event an operation is, and that the
-//! reply fits the cell.
+//! Counters that several threads share: the cells of one thread, under one lock. So an operation
+//! waits for those of other threads. No contract can name what a lock holds. It says only which
+//! event an operation is, and that the reply fits the cell.
 
 ghost use Rattle.std.specs.Prelude.{◌≡◌, IfErr};
 ghost use Rattle.cells.specs.Events.{CanReply};
@@ -18,12 +18,11 @@ pub struct LockedCells<R: Wait + Drop> {
 }
 
 /// A thread's right to act on locked cells. It keeps nothing.
-#[derive(Clone, Copy, PartialEq, Eq)]
+#[derive(Clone, Copy)]
 pub struct LockedPass;
 
 impl<R: Wait + Drop> LockedCells<R> {
     /// Cells that are all 0. Returns N3 if an allocation fails.
-    // open: whether an allocation fails (N3).
     pub fn new(alloc: Global, rt: R) -> Result<LockedCells<R>, CellsFault>
         ensures { IfErr result (λ e. e ≡ CellsFault.Memory) }
     {
@@ -48,8 +47,6 @@ impl<R: Wait + Drop> CellSteps for LockedCells<R> {
     ghost grew = { λ _ e _. CanReply e.cell e.op e.reply };
 
     /// Waits until no other thread acts on the cells.
-    // open: which reply is returned, and that cells are 0 at first: no contract can name what is
-    // under a lock that other threads take.
     fn act(&self, _pass: &mut LockedPass, cell: CellNo, op: CellOp) -> u64 {
         let mut values = self.values.lock(&self.rt);
         PlainCells.act(&mut values, cell, op)
