@@ -6,7 +6,7 @@ ghost use Rattle.serde_json.specs.Written.{items_have_float};
 ghost use Rattle.diff_text.specs.Objects as specs;
 
 use crate::shown::{AppRows, ShownRelease, ShownRow};
-use json_object::ObjectBuilder;
+use json_value::ObjectBuilder;
 use serde_json::Value;
 use simulate::push_value;
 use std::alloc::{AllocError, Global};

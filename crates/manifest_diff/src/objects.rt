@@ -11,7 +11,7 @@ use crate::lines::is_silent;
 use crate::outcome::{AppChange, AppOutcome, WhyNot};
 use declarations::ArrayDeclaration;
 use diff_text::row_objects;
-use json_object::ObjectBuilder;
+use json_value::ObjectBuilder;
 use serde_json::Value;
 use simulate::push_value;
 use std::alloc::{AllocError, Global};

@@ -12,7 +12,7 @@ use bpf_verify::Verified;
 use cells::CellWidth;
 use declarations::ArrayDeclaration;
 use diagnosis::{CheckedManifest, FaultReport, Refused};
-use json_object::ObjectBuilder;
+use json_value::ObjectBuilder;
 use ruleset::App;
 use serde_json::Value;
 use simulate::push_value;

@@ -1,7 +1,7 @@
 //! The part of a log that was counted before, and its record in a state.
 
 use hex::FromHexError;
-use json_object::ObjectBuilder;
+use json_value::ObjectBuilder;
 use report::{list_in, number_in, text_in};
 use serde_json::Value;
 use std::alloc::{AllocError, Global};

@@ -5,8 +5,7 @@ ghost use Rattle.report_state.specs.States.{SpellsCounts};
 
 use crate::places::{LogPlace, place_values};
 use crate::spelling::has_counts;
-use json_object::ObjectBuilder;
-use json_value::read_json;
+use json_value::{ObjectBuilder, read_json};
 use report::{Report, Tally};
 use serde_json::Value;
 use std::alloc::{AllocError, Global};

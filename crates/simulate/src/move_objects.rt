@@ -13,7 +13,7 @@ use crate::labels::release_count;
 use crate::lost::loses;
 use crate::share_objects::{push_value, release_object};
 use crate::simulated::{Offered, Simulated};
-use json_object::ObjectBuilder;
+use json_value::ObjectBuilder;
 use ruleset::App;
 use serde_json::Value;
 use std::alloc::{AllocError, Global};

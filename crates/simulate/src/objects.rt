@@ -9,7 +9,7 @@ use crate::lost::is_lossy;
 use crate::move_objects::moving_objects;
 use crate::share_objects::app_objects;
 use crate::simulated::Simulated;
-use json_object::ObjectBuilder;
+use json_value::ObjectBuilder;
 use serde_json::Value;
 use std::alloc::{AllocError, Global};
 

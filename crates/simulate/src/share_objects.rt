@@ -9,7 +9,7 @@ use crate::choices::Choices;
 use crate::counts::count_buckets;
 use crate::labels::{release_count, version_at};
 use crate::simulated::Simulated;
-use json_object::ObjectBuilder;
+use json_value::ObjectBuilder;
 use ruleset::App;
 use serde_json::Value;
 use std::alloc::{AllocError, Global};

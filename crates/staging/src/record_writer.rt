@@ -6,7 +6,7 @@ ghost use Rattle.staging.specs.Records.{step_in};
 use crate::record_reader::read_step;
 use crate::same_step::is_same_step;
 use crate::step::{ReplacedFile, StagingStep, StepAction};
-use json_object::ObjectBuilder;
+use json_value::ObjectBuilder;
 use serde_json::Value;
 use std::alloc::{AllocError, Global};
 

@@ -18,8 +18,8 @@ pub struct ObjectBuilder {
 }
 
 impl ObjectBuilder {
-    ghost use Rattle.json_object.specs.Growing.{AddsMade, AddsMember};
-    ghost use Rattle.json_object.specs.Growing.{list_data, members_if_complete};
+    ghost use Rattle.json_value.specs.Growing.{AddsMade, AddsMember};
+    ghost use Rattle.json_value.specs.Growing.{list_data, members_if_complete};
 
     /// No members.
     #[tactic(auto, unfolding(crate::specs::Growing::members_if_complete))]

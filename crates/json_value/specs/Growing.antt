@@ -2,7 +2,7 @@
 use Rattle.std.specs.Prelude.{◌≡◌, ℕ, List, Vec, Option, Some, None, option_map, OnSome}
 use Rattle.std.specs.Prelude.{Result, IsOkAnd, if◌then◌else◌}
 use Rattle.std.specs.declared.alloc.Global.{Global}
-use Rattle.json_object.specs.declared.object_builder.ObjectBuilder.{ObjectBuilder}
+use Rattle.json_value.specs.declared.object_builder.ObjectBuilder.{ObjectBuilder}
 use Rattle.serde_json.specs.Data.{Data, array, Members, put}
 use Rattle.serde_json.specs.View.{items_view, members_view}
 use Rattle.serde_json.specs.declared.value.Value.{Value}
