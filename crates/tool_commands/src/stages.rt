@@ -8,14 +8,13 @@ ghost use Rattle.tool_commands.specs.Outputs.{IsOutput, IsRefused};
 use crate::output::ToolOutput;
 use crate::tool_fault::Fault;
 use bounded_files::{Disk, ResourceFault};
-use completions::completion_text;
 use stage_commands::{StageOptions, stage};
 use std::alloc::Global;
 use std::fs::File;
 use std::net::{Net, TcpStream};
 use std::rt::Files;
 use std::time::Clock;
-use tool_words::{Shell, StageAction, StageArgs, ToolCommand};
+use tool_words::{Shell, StageAction, StageArgs, ToolCommand, completion_text};
 
 /// What was done with the folder's files and servers, or why nothing was.
 // open: what `stage` leaves open.

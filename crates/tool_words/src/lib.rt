@@ -1,4 +1,4 @@
-//! The words of `rollout-tools`, and the command that they make.
+//! The words of `rollout-tools`, and the command that they make; and the completions of shells.
 //!
 //! See docs/PROGRAM.md, "Status".
 #![tactic(auto)]
@@ -14,6 +14,7 @@ mod args;
 mod ask_words;
 mod check_words;
 mod completion_words;
+mod completions;
 mod diff_words;
 mod environment;
 mod manifest_rows;
@@ -29,6 +30,7 @@ pub use args::{
     AskArgs, CheckArgs, DiffArgs, ReportArgs, Shell, SimulateArgs, StageAction, StageArgs,
     ToolCommand,
 };
+pub use completions::completion_text;
 pub use environment::words_of;
 pub use rows::tool_rows;
 pub use words::read_tool_words;

@@ -1,11 +1,11 @@
 //! The page of the manual, in roff with the macros of `man`.
 
-use crate::escaping::Escaping;
-use crate::parts::{ArgumentKind, ArgumentParts};
-use crate::text_buffer::TextBuffer;
+use crate::completions::escaping::Escaping;
+use crate::completions::parts::{ArgumentKind, ArgumentParts};
+use crate::completions::text_buffer::TextBuffer;
+use crate::rows::tool_rows;
 use command_line::CommandRow;
 use command_words::command_rows;
-use tool_words::tool_rows;
 
 const HEAD: &str = "\
 .TH ROLLOUT 1 \"\" \"rollout\" \"User Commands\"

@@ -1,6 +1,6 @@
 //! A text that grows piece by piece, as it is or escaped.
 
-use crate::escaping::Escaping;
+use crate::completions::escaping::Escaping;
 use std::alloc::{AllocError, Global};
 
 /// The pieces appended so far. If an allocation fails, a piece is left out, and the text isn't

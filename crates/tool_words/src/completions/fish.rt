@@ -1,11 +1,11 @@
 //! The completions of fish: a line for each command, and for each of its arguments.
 
-use crate::escaping::Escaping;
-use crate::parts::{ArgumentKind, ArgumentParts};
-use crate::text_buffer::TextBuffer;
+use crate::completions::escaping::Escaping;
+use crate::completions::parts::{ArgumentKind, ArgumentParts};
+use crate::completions::text_buffer::TextBuffer;
+use crate::rows::tool_rows;
 use command_line::CommandRow;
 use command_words::command_rows;
-use tool_words::tool_rows;
 
 const HEAD: &str = "\
 # Completions of rollout for fish: a file named rollout.fish in a folder of fish_complete_path.
