@@ -13,6 +13,7 @@ use std::process::Abort;
 use std::sync::Wait;
 use std::sync::atomic::Ordering;
 use std::thread::Threads;
+use std::time::{Clock, Duration};
 
 /// The moment of the stopped clock in Omaha's reply.
 const DAYSTART: &str = "\"daystart\":{\"elapsed_days\":7000,\"elapsed_seconds\":3600}";
@@ -39,6 +40,8 @@ pub(crate) fn is_requested<T: Abort>(
     let _ended = stream.shutdown(Shutdown::Write);
     let bytes = reply(own.rt.alloc(), &stream).unwrap_or(Vec::new(own.rt.alloc()));
     own.reply_size.store(bytes.len() as u64, Ordering::SeqCst);
+    // The worker logs the line, and the port is polled, before the server is stopped.
+    own.sleep(Duration::from_millis(100));
     is_reply(line, &bytes)
 }
 
