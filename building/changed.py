@@ -56,14 +56,14 @@ class Changed:
     def libraries(self):
         """What is proved as a library or as a program: the selected crates except those that only
         have tests, and all crates on which these and the runs depend."""
-        stood_on = set().union(*(it.below for it in self.known.values()))
+        used = set().union(*(it.below for it in self.known.values()))
         tests = {it.crate for it in self.runs()}
-        wanted = {it for it in self.selected if it in stood_on or it not in tests}
+        wanted = {it for it in self.selected if it in used or it not in tests}
         wanted |= {it for it in self.selected if it.is_program}
         below = set().union(*(it.below for it in [*wanted, *tests]))
         return [it for it in self.known.values() if it in wanted | below]
 
-    def tell(self):
+    def lines(self):
         """The lines of --list."""
         recorded = seconds_recorded()
         count, above = len(self.crates), len(self.above)

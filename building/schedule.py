@@ -62,12 +62,12 @@ class Build:
         chain = max(self.chain[it] - self.worked(it) for it in self.left)
         return int(self.pace() * max(chain, self.work_left() / self.jobs)) // 60 + 1
 
-    def tell(self, text):
+    def report(self, text):
         """Prints the text, with how much is done and left in total."""
         count = f"{len(self.crates) - len(self.left)} of {len(self.crates)}"
         then = f"; about {self.minutes_left()} min left" if self.left else ""
         say(f"{count}: {text}{then}")
-        self.told = time.monotonic()
+        self.reported = time.monotonic()
 
     def under_way(self, crate):
         """The seconds spent on a crate, and the estimated total."""
@@ -140,7 +140,7 @@ class Build:
         self.left.remove(crate)
         seconds = work.seconds()
         self.proved = [self.proved[0] + seconds, self.proved[1] + self.recorded[crate]]
-        self.tell(f"{crate.name}, proved in {seconds:.0f} s")
+        self.report(f"{crate.name}, proved in {seconds:.0f} s")
 
     def run(self):
         with ThreadPoolExecutor(self.jobs) as pool:
@@ -153,7 +153,7 @@ class Build:
     def build(self):
         count, minutes = len(self.left), self.minutes_left()
         say(f"proving and building {self.what}, {count} crates, about {minutes} min")
-        self.told = time.monotonic()
+        self.reported = time.monotonic()
         self.guard = Guard()
         while self.left:
             self.share_processors()
@@ -161,8 +161,8 @@ class Build:
             for crate, work in [*self.running.items()]:
                 if not work.goes_on():
                     self.end(crate)
-            if self.left and time.monotonic() - self.told >= MOST_SILENT:
-                self.tell(", ".join(map(self.under_way, self.running)))
+            if self.left and time.monotonic() - self.reported >= MOST_SILENT:
+                self.report(", ".join(map(self.under_way, self.running)))
 
 
 class Gate(Build):

@@ -40,7 +40,7 @@ class Way:
             found.update((self.library(it) / "format").read_bytes())
         return found.hexdigest()
 
-    def stands(self, crate, kit):
+    def is_current(self, crate, kit):
         """Whether its stamp has the current sum, if all crates below it are built."""
         is_there = (BUILT / crate.program).exists() if crate.is_program else True
         stamp = self.stamp(crate)
@@ -51,7 +51,7 @@ class Way:
         that depend on them."""
         changed = set()
         for it in crates:
-            if it.below & changed or not self.stands(it, kit):
+            if it.below & changed or not self.is_current(it, kit):
                 changed.add(it)
         return changed
 

@@ -20,7 +20,7 @@ HEADING = re.compile(r"^```.*?^```|^#+ ([^\n]+)$", re.M | re.S)
 
 
 def headings(page):
-    """What links to a page's headings have behind `#`."""
+    """What links to a page's headings have after `#`."""
     texts = [re.sub(r"[^\w -]", "", it.lower()) for it in HEADING.findall(page.read_text())]
     return {it.replace(" ", "-") for it in texts if it}
 

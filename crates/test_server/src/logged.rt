@@ -40,7 +40,7 @@ pub(crate) fn is_requested<T: Abort>(
     let _ended = stream.shutdown(Shutdown::Write);
     let bytes = reply(own.rt.alloc(), &stream).unwrap_or(Vec::new(own.rt.alloc()));
     own.reply_size.store(bytes.len() as u64, Ordering::SeqCst);
-    // The worker logs the line, and the port is polled, before the server is stopped.
+    // Time for the worker to log the line, and for the port to be polled, before the stop.
     own.sleep(Duration::from_millis(100));
     is_reply(line, &bytes)
 }
