@@ -20,7 +20,6 @@ use std::alloc::Global;
 
 /// A ruleset with the arrays of its manifest, the digest of the manifest and of its files, and a
 /// body. Also the rule of each app, in the ruleset's order: none if its program isn't a rule's.
-#[derive(Drop)]
 pub struct OpenedWhy {
     pub rules: Ruleset,
     pub directory: Directory,
@@ -29,9 +28,17 @@ pub struct OpenedWhy {
     pub optional_rules: Vec<Option<Rule>>,
 }
 
-impl OpenedWhy {
-    /// Drops it in this crate, as `Opened::close` does.
-    pub fn close(self) {}
+// Not derived: a crate that drops one would prove the drop of each of its parts anew.
+impl Drop for OpenedWhy {
+    fn drop(self) {
+        let Self {
+            rules: _rules,
+            directory: _directory,
+            digest: _digest,
+            body: _body,
+            optional_rules: _optional_rules,
+        } = self;
+    }
 }
 
 /// A ruleset that was loaded, and the rule of each app.

@@ -22,7 +22,6 @@ use std::alloc::Global;
 
 /// A manifest gathered with its files, and for each app its program, and its rule if its file has
 /// one.
-#[derive(Drop)]
 pub struct OpenedManifest {
     pub sources: Sources,
     pub programs: Vec<Verified>,
@@ -30,27 +29,33 @@ pub struct OpenedManifest {
 }
 
 /// Two manifests, OLD and NEW.
-#[derive(Drop)]
 pub struct OpenedBoth {
     pub old: OpenedManifest,
     pub new: OpenedManifest,
 }
 
-impl OpenedBoth {
-    /// Drops both. A crate that calls this proves no drop of a manifest's parts itself.
-    pub fn close(self) {
-        let OpenedBoth { old, new } = self;
-        old.close();
-        new.close();
+// Not derived: a crate that drops one would prove the drop of each of its parts anew.
+impl Drop for OpenedManifest {
+    fn drop(self) {
+        let Self {
+            sources: _sources,
+            programs: _programs,
+            rules: _rules,
+        } = self;
+    }
+}
+
+// Not derived, like that of a manifest.
+impl Drop for OpenedBoth {
+    fn drop(self) {
+        let Self {
+            old: _old,
+            new: _new,
+        } = self;
     }
 }
 
 impl OpenedManifest {
-    /// Drops it, as `OpenedBoth::close` does.
-    pub fn close(self) {
-        drop(self);
-    }
-
     /// The app with an appid.
     pub(crate) fn app(&self, appid: &str) -> Option<ManifestApp<'_>>
         requires judged { AreJudged self.now.sources.apps.items self.now.programs.items }
@@ -134,7 +139,7 @@ pub fn open_both<D: Disk>(
     match open_manifest(alloc, disk, new) {
         Ok(new) => Ok(OpenedBoth { old: opened, new }),
         Err(fault) => {
-            opened.close();
+            drop(opened);
             Err(DiffFault::New(fault))
         }
     }

@@ -118,7 +118,7 @@ where
     let reply = counters(call.rt, call.options, &mut lines.stderr);
     let lost = push_comparison(call.rt, &both, reply.as_str(), &mut lines.text);
     drop(reply);
-    both.close();
+    drop(both);
     match lost {
         Ok(true) => lines.go_on_if(call.options.anyway, refused(call.rt.alloc(), LOSES)),
         Ok(false) => Ok(()),

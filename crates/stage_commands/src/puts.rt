@@ -97,11 +97,11 @@ where
     match present_manifest(call, steps, &next.sources.apps, lines) {
         Ok(Some(present)) => compare(call, present, next, lines),
         Ok(None) => {
-            next.close();
+            drop(next);
             Ok(())
         }
         Err(stop) => {
-            next.close();
+            drop(next);
             Err(stop)
         }
     }
@@ -158,7 +158,7 @@ where
             }
         },
         Err(stop) => {
-            next.close();
+            drop(next);
             Err(stop)
         }
     }

@@ -134,7 +134,7 @@ where
     match next {
         Ok(new) => compare(call, old, new, lines),
         Err(stop) => {
-            old.close();
+            drop(old);
             Err(stop)
         }
     }

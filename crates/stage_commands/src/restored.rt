@@ -78,7 +78,7 @@ where
     };
     let before = sources_before(alloc, disk, call.manifest, &step.files);
     let Some(new) = judged_if(alloc, before) else {
-        old.close();
+        drop(old);
         lines.stderr.push(NOT_COMPARED);
         return Ok(());
     };

@@ -46,7 +46,7 @@ where
         Err(fault) => return Err(Fault::Diff(fault)),
     };
     let output = output_from(rt, &both, args);
-    both.close();
+    drop(both);
     match output {
         Ok(output) => Ok(output),
         Err(fault) => Err(fault),

@@ -57,7 +57,7 @@ where
         Err(fault) => return Err(Fault::DryRun(fault)),
     };
     let reply = reply_to(rt, &opened, args);
-    opened.close();
+    drop(opened);
     match reply {
         Ok(body) => Ok(body),
         Err(fault) => Err(fault),

@@ -37,7 +37,7 @@ where
         Err(fault) => return Err(Fault::DryRun(fault)),
     };
     let why = why_from(rt, &opened, args);
-    opened.close();
+    drop(opened);
     match why {
         Ok(text) => Ok(text),
         Err(fault) => Err(fault),
