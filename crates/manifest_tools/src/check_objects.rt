@@ -2,7 +2,6 @@
 
 ghost use Rattle.std.specs.Prelude.{◌≡◌, ◌∷◌, ◌++◌, [], IfOk, OnOk, map, string_bytes};
 ghost use Rattle.std.specs.Io.BufRead.{strip_last};
-ghost use Rattle.serde_json.specs.Data.{string};
 ghost use Rattle.serde_json.specs.View.{view};
 ghost use Rattle.manifest_tools.specs.CheckObjects as specs;
 ghost use Rattle.manifest_tools.specs.Manifests.{fault_text};
@@ -34,19 +33,13 @@ pub(crate) fn accepted_object(
     object.put_bool("accepted", true);
     object.put_list("apps", app_objects(alloc, checked.apps.as_slice()));
     object.put_list("arrays", array_objects(alloc, checked.arrays.as_slice()));
-    object.put("digest", Ok(text_value(digest)));
+    object.put("digest", Ok(Value::String(digest)));
     object.put_text("manifest", path);
     object.put_list(
         "warnings",
         warning_objects(alloc, allowed, checked.warnings.as_slice()),
     );
     object.finish()
-}
-
-fn text_value(text: String) -> Value
-    ensures { view result ≡ string (string_bytes text) }
-{
-    Value::String(text)
 }
 
 fn app_objects(alloc: Global, apps: &[App]) -> Result<Vec<Value>, AllocError>
@@ -138,7 +131,7 @@ fn warning_object(alloc: Global, allowed: &[&str], warning: &Warning) -> Result<
     let mut object = ObjectBuilder::new(alloc);
     object.put_bool("counts", counts);
     object.put_text("name", warning.kind.name());
-    object.put("text", Ok(text_value(text)));
+    object.put("text", Ok(Value::String(text)));
     object.finish()
 }
 
@@ -243,7 +236,7 @@ fn fault_object(alloc: Global, refusal: String, reason: &str) -> Result<Value, A
 {
     let mut object = ObjectBuilder::new(alloc);
     object.put_text("reason", without_line_feed(reason));
-    object.put("refusal", Ok(text_value(refusal)));
+    object.put("refusal", Ok(Value::String(refusal)));
     object.finish()
 }
 
