@@ -246,7 +246,7 @@ HARMS = [
     ("another salt from a day on", [(TODAY.format(SALTS[0]), 1)], [(TODAY.format(SALTS[1]), 1)],
      "", "", "2.1        none       lost  ", 1),
     ("a raise under a quota", [(TAKING.format(500), 1)], [(TAKING.format(2500), 1)], FIRST, "",
-     "first[0] open\nwhoever is in no row", 0),
+     "first[0] open\na machine in no row", 0),
     ("a raise under a used up quota", [(TAKING.format(500), 1)], [(TAKING.format(2500), 1)], FIRST,
      f"--cells 'first[0]={QUOTA}'", "the same for every machine\n", 0),
 ]

@@ -47,7 +47,7 @@ IsManifestReason (unread.Toml fault) text = IsTomlReason fault text
 IsManifestReason (unread.Field schema_error) text =
     text ≡ line (schema_error_text schema_error) ++ advice schema_error
 IsManifestReason (unread.Duplicate duplicate) text = text ≡ duplicate_text duplicate
-    ++ codes " stands twice\n"
+    ++ codes " occurs twice\n"
 IsManifestReason unread.Memory text = text ≡ []
 
 -- for an array with too few cells left; over no arrays, arrays have no other fault

@@ -42,7 +42,7 @@ unread_text = codes "no file is read: those before that are too long have more t
 
 -- the number of the last app whose file is read, if there are apps after it
 abbrev pub unread_line : ℕ → List ℕ
-unread_line number = line (codes "behind app " ++ decimal number ++ codes " " ++ unread_text)
+unread_line number = line (codes "after app " ++ decimal number ++ codes " " ++ unread_text)
 
 unfoldable pub passes_cells : List ℕ
 passes_cells = codes "passes the 4096 cells that all arrays of a width have"

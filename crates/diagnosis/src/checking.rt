@@ -36,7 +36,7 @@ use std::alloc::Global;
 ///   begin. Nothing is promised about that message except how it is printed. It quotes the
 ///   manifest, so it is left out if the manifest itself is a symbolic link.
 /// - M2: `app[2].release[1].size: a whole number from 0 to 9007199254740991`.
-/// - M3: `array q stands twice` or `app x stands twice`.
+/// - M3: `array q occurs twice` or `app x occurs twice`.
 /// - M4 to M6: `app[1].rule: x.rule`, the name of the file as the manifest has it. If M6 has a
 ///   line, it is followed by what is there and what is expected, such as `line 2, column 9: ..`,
 ///   and below it the line and a caret (`rule_fault_message` of `rule_diagnosis`). If that isn't
@@ -56,7 +56,7 @@ use std::alloc::Global;
 /// the line of the refusal and the reason. A last line counts the rest: `and 3 more`.
 ///
 /// A file that is too long is a fault, whatever its contents. Once such files have more than 64 MiB
-/// in all, no further file is read. The last line then is `behind app 5 no file is read: those
+/// in all, no further file is read. The last line then is `after app 5 no file is read: those
 /// before that are too long have more than 64 MiB`.
 ///
 /// Returns M8 if an allocation fails for the load or for the text about an accepted manifest, and

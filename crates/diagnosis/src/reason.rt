@@ -78,7 +78,7 @@ fn manifest_reason(
     match fault {
         ManifestFault::Toml(fault) => toml_reason(alloc, parsed, is_link, *fault),
         ManifestFault::Field(schema_error) => schema_error_reason(alloc, schema_error),
-        ManifestFault::Duplicate(duplicate) => format!(in alloc; "{duplicate} stands twice\n").ok(),
+        ManifestFault::Duplicate(duplicate) => format!(in alloc; "{duplicate} occurs twice\n").ok(),
         ManifestFault::Memory => None,
     }
 }

@@ -106,7 +106,7 @@ fn push_unread_rest(text: &mut String, app: usize) -> Result<(), AllocError>
     ensures { OnOk result (Puts text.old text.new (texts.unread_line app)) }
 {
     let said = unread_text();
-    writeln!(text, "behind app {app} {said}")
+    writeln!(text, "after app {app} {said}")
 }
 
 #[tactic(auto, unfolding(crate::specs::Texts::unread_text))]

@@ -47,7 +47,7 @@ head_line app c =
 -- ---- the other lines
 
 abbrev pub no_request_line : List ℕ
-no_request_line = codes "  asks for no update\n"
+no_request_line = codes "  has no updatecheck\n"
 
 unfoldable pub program_words : List ℕ
 program_words = codes "  by a program of "

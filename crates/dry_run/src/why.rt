@@ -183,7 +183,7 @@ fn no_request_app(
 {
     let mut text = String::new(alloc);
     push_head(&mut text, app, context)?;
-    text.push_str("  asks for no update\n")?;
+    text.push_str("  has no updatecheck\n")?;
     text.push_str(note)?;
     Ok(text)
 }

@@ -126,7 +126,7 @@ fn push_pointer(
         VerifierRule::PointerCompare => {
             ": only what a lookup gave or a cell's address is compared, with 0 by 64-bit jeq or jne"
         }
-        _ => ": a pointer is stored to a whole slot of the stack alone",
+        _ => ": a pointer is only stored to a whole slot of the stack",
     })
 }
 

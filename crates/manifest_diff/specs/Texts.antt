@@ -120,10 +120,9 @@ all_compared diffs = list_all (λ d. is_compared d.outcome) diffs
 
 -- for all apps, or for one; nothing is said if the one app isn't compared
 unfoldable pub last_line : (one : Bool) → (all : Bool) → List ℕ
-last_line false true = codes "whoever is in no row gets the same from both\n"
-last_line false false =
-    codes "whoever is in no row of an app that is compared gets the same from both\n"
-last_line true true = codes "whoever has this app and is in no row gets the same from both\n"
+last_line false true = codes "a machine in no row gets the same from both\n"
+last_line false false = codes "a machine in no row of a compared app gets the same from both\n"
+last_line true true = codes "a machine with this app that is in no row gets the same from both\n"
 last_line true false = []
 
 unfoldable pub same_line : (one : Bool) → List ℕ

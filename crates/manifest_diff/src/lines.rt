@@ -206,11 +206,9 @@ fn last_line(one: bool, all: bool) -> &'static str
     ensures { result.now ≡ specs.last_line one all }
 {
     match (one, all) {
-        (false, true) => "whoever is in no row gets the same from both\n",
-        (false, false) => {
-            "whoever is in no row of an app that is compared gets the same from both\n"
-        }
-        (true, true) => "whoever has this app and is in no row gets the same from both\n",
+        (false, true) => "a machine in no row gets the same from both\n",
+        (false, false) => "a machine in no row of a compared app gets the same from both\n",
+        (true, true) => "a machine with this app that is in no row gets the same from both\n",
         (true, false) => "",
     }
 }

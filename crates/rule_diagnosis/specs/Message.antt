@@ -51,7 +51,7 @@ lines_at text place sentence =
 -- the sentence about a misplaced token: what is there, what may be there, and a hint
 abbrev pub expected_sentence : (found : Text) → List Follower → (hint : Text) → Text
 expected_sentence found fs hint =
-    found ++ codes " stands where " ++ listed fs ++ codes " is expected" ++ hint
+    found ++ codes " instead of " ++ listed fs ++ hint
 
 -- some words about the lexeme in a row
 abbrev pub IsAbout : Text → (row : ℕ) → (message : Text) → Type 0

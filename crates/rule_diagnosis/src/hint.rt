@@ -27,7 +27,7 @@ pub(crate) fn hint(lexeme: &str) -> &'static str {
             ": a number has no sign, and a day is one, counted from 2007-01-01: 2026-12-01 is 7274"
         }
         b'/' => ": a remark begins with #",
-        b'\'' => ": a text stands in \"\"",
+        b'\'' => ": a text is written in \"\"",
         _ => "",
     }
 }
@@ -35,7 +35,7 @@ pub(crate) fn hint(lexeme: &str) -> &'static str {
 fn character_hint(n: u32) -> &'static str {
     match n {
         0xfeff => ": a byte order mark",
-        0x2018..=0x201f => ": a text stands in \"\"",
+        0x2018..=0x201f => ": a text is written in \"\"",
         _ => "",
     }
 }

@@ -22,7 +22,7 @@ use std::str;
 /// some lines, each ended by a line feed, such as
 ///
 /// ```text
-/// line 2, column 1: "when" stands where ";" is expected
+/// line 2, column 1: "when" instead of ";"
 ///   when version < 3 offer 2;
 ///   ^
 /// ```
@@ -135,9 +135,8 @@ fn expected_sentence(
 {
     let mut text = String::new(alloc);
     push_lexeme(&mut text, lexeme)?;
-    text.push_str(" stands where ")?;
+    text.push_str(" instead of ")?;
     push_followers(&mut text, followers)?;
-    text.push_str(" is expected")?;
     text.push_str(hint)?;
     Ok(text)
 }

@@ -84,7 +84,7 @@ fn push_range_sentence(
     found: &str,
 ) -> Result<(), AllocError> {
     if found == "not" || found == "(" {
-        return text.push_str("at most 32 of not and ( stand in one another");
+        return text.push_str("not and ( are nested at most 32 deep");
     }
     if before == "offer" {
         return push_releases(text, shape.releases());

@@ -80,7 +80,7 @@ impl Lines {
         }
         match refusal {
             Stop::Refused(reason) => {
-                self.push_reason(reason, "; it goes on\n");
+                self.push_reason(reason, "; it continues\n");
                 Ok(())
             }
             other => Err(other),

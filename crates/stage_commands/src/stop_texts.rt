@@ -13,7 +13,7 @@ use std::alloc::Global;
 
 /// Somebody may lose a release.
 pub(crate) const LOSES: &str = "a row is lost, or an app isn't compared: some machines may no \
-    longer get their release (--anyway goes on)";
+    longer get their release (--anyway continues)";
 
 /// No step is left to be undone.
 pub(crate) const NOTHING_TO_UNDO: &str = "no step is left to be undone";
@@ -87,7 +87,7 @@ pub(crate) fn not_compared(alloc: Global, fault: DiffFault) -> Stop {
 /// The next manifest would lift a halt.
 pub(crate) fn lifts(alloc: Global, appid: &str) -> Stop {
     let mut text = TextBuffer::new(alloc);
-    text.push_printed("this lifts the halt of ", appid, " (--anyway goes on)");
+    text.push_printed("this lifts the halt of ", appid, " (--anyway continues)");
     refusal(text)
 }
 

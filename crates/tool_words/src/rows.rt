@@ -82,7 +82,7 @@ const REPORT: CommandRow<ToolVerb> = CommandRow {
         CommandArgument::Text(
             "state",
             "FILE",
-            "File of the counts so far, from which the report goes on, and\n\
+            "File of the counts so far, from which the report continues, and\n\
              into which it writes them; not with --since, --until or --svg",
         ),
         CommandArgument::Flag("heads", "Print a head line before each group of lines"),

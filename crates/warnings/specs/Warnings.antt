@@ -37,7 +37,7 @@ name_of kind.NeverHolds = codes "never-holds"
 name_of kind.NoBucket = codes "no-bucket"
 name_of kind.OfferedAgain = codes "offered-again"
 name_of kind.OfferedLower = codes "offered-lower"
-name_of kind.NotEvaluated = codes "not-asked"
+name_of kind.NotEvaluated = codes "not-evaluated"
 
 -- ---- lines
 
@@ -89,16 +89,16 @@ kind_text_of (kind.FewBuckets up_to number buckets) =
 kind_text_of (kind.AllBuckets up_to number) =
     codes " of the bucket numbers: one percent is 100 of them"
 kind_text_of kind.TakeBeforeVersion =
-    codes ": this take stands before the version, so it is done whatever the version is"
+    codes ": this take comes before the version, so it is done whatever the version is"
 kind_text_of kind.NoCohort = codes ": a reply's cohort is b: and four digits"
 kind_text_of kind.EarlyDay = codes ": this day is before 2026, as days are counted from 2007-01-01"
 kind_text_of kind.NeverReached = codes ": this when is never reached"
 kind_text_of kind.NeverHolds = codes ": this when never holds"
 kind_text_of kind.NoBucket = codes ": no bucket gets it"
-kind_text_of kind.OfferedAgain = codes ".version: in some bucket who has it may get it again"
-kind_text_of kind.OfferedLower = codes ".version: in some bucket who has it may get a lower one"
+kind_text_of kind.OfferedAgain = codes ".version: in some bucket its machines may get it again"
+kind_text_of kind.OfferedLower = codes ".version: in some bucket its machines may get a lower one"
 kind_text_of kind.NotEvaluated =
-    codes ".rule: not asked which releases it gives, since that would take long"
+    codes ".rule: evaluating which releases it gives would take too long"
 
 -- its place, and what it says
 abbrev pub warning_text : Warning → List ℕ

@@ -33,7 +33,7 @@ impl WarningKind {
             WarningKind::NoBucket => "no-bucket",
             WarningKind::OfferedAgain => "offered-again",
             WarningKind::OfferedLower => "offered-lower",
-            WarningKind::NotEvaluated => "not-asked",
+            WarningKind::NotEvaluated => "not-evaluated",
         }
     }
 
@@ -62,7 +62,7 @@ impl WarningKind {
                 " of the bucket numbers: one percent is 100 of them"
             }
             WarningKind::TakeBeforeVersion => {
-                ": this take stands before the version, so it is done whatever the version is"
+                ": this take comes before the version, so it is done whatever the version is"
             }
             WarningKind::NoCohort => ": a reply's cohort is b: and four digits",
             WarningKind::EarlyDay => {
@@ -71,10 +71,11 @@ impl WarningKind {
             WarningKind::NeverReached => ": this when is never reached",
             WarningKind::NeverHolds => ": this when never holds",
             WarningKind::NoBucket => ": no bucket gets it",
-            WarningKind::OfferedAgain => ".version: in some bucket who has it may get it again",
-            WarningKind::OfferedLower => ".version: in some bucket who has it may get a lower one",
+            WarningKind::OfferedAgain => ".version: in some bucket its machines may get it again",
+            WarningKind::OfferedLower =>
+                ".version: in some bucket its machines may get a lower one",
             WarningKind::NotEvaluated => {
-                ".rule: not asked which releases it gives, since that would take long"
+                ".rule: evaluating which releases it gives would take too long"
             }
         }
     }

@@ -29,7 +29,7 @@ pub fn is_warning_name(text: &str) -> bool
         "no-bucket" => true,
         "offered-again" => true,
         "offered-lower" => true,
-        "not-asked" => true,
+        "not-evaluated" => true,
         _ => false,
     }
 }

@@ -5,7 +5,6 @@ pub returns : goal.returns
 returns c = (
   string_bytes c.push_lexeme.new.text,
   rw (
-    c.in_ok-push_str-3.ensures.bytes,
     c.in_ok-push_str-2.ensures.bytes,
     c.in_ok-push_followers.ensures,
     c.in_ok-push_str.ensures.bytes,
