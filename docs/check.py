@@ -9,7 +9,8 @@ of the installed toolchain; VERSION, README and CHANGELOG name one version. The 
 few long sentences. Each wrong body can be put in place: what it replaces is in its file once.
 `plain.txt` and `weight.txt` bound the words of this house in comments, and the words of each page.
 Each file of rows is run. The page of help that the launcher prints is that of the programs, and has
-each of their commands, as has each list of the commands of one program.
+each of their commands, as has each list of the commands of one program. CONTRIBUTING's recipes
+name each file that their searches find.
 
 usage: docs/check.py [--write [FOLDER] | --long | --words CRATE]
 
@@ -23,7 +24,7 @@ import sys
 from pathlib import Path
 
 from checking import (
-    commands, crates_page, left_open, plain, quotes, reference, rows, weight
+    commands, crates_page, left_open, plain, quotes, recipes, reference, rows, weight
 )
 from checking.edits import lost_edits
 from checking.exports import lost_comments
@@ -71,6 +72,7 @@ def faults():
     yield from weight.too_heavy()
     yield from rows.left_out()
     yield from commands.other_lists()
+    yield from recipes.lost_files()
     yield from lost_edits()
 
 
