@@ -8,14 +8,15 @@ ROLLOUT = ("command_words/src/program_rows.rt", "command_words/src/server_rows.r
 TOOLS = ("tool_words/src/manifest_rows.rt", "tool_words/src/rows.rt")
 NAME = re.compile(r'^    name: "([a-z]+)",$', re.M)
 SHOWN = re.compile(r"^  ([a-z]+)  +[A-Z]", re.M)
-# A list of words: a pattern of the shell's, a set of Python's, or a pattern of a match.
+# A list of words: a pattern of the shell's, a set of Python's, or an array of Rust's.
 SHELL = re.compile(r"^((?:\w+ \| )+\w+)\)\s+program=rollout-tools", re.M)
 SET = re.compile(r'^TOOLS = {\s*((?:"\w+"(?:, )?)+)\s*}', re.M)
-MATCH = re.compile(r'((?:"\w+"\s+\| )+"\w+")')
+ARRAY = re.compile(r'^const TOOLS: [^=]+= \[\s*((?:"\w+"(?:,\s*)?)+)\];', re.M)
 LISTS = {
     ROOT / "rollout": SHELL,
     ROOT / "building" / "installed": SHELL,
     ROOT / "bench" / "asking.py": SET,
+    CRATES / "rows" / "src" / "calling.rt": ARRAY,
 }
 # The rows of words that one program has, and the other refuses.
 REFUSED = CRATES / "rows" / "data" / "other-words.rows"
@@ -30,12 +31,9 @@ def lists():
     for file, form in LISTS.items():
         found = form.search(file.read_text())
         yield file, found[1] if found else "", TOOLS
-    for file in sorted((CRATES / "rows" / "src").glob("*.rt")):
-        yield from ((file, it, TOOLS) for it in MATCH.findall(file.read_text()) if "simulate" in it)
-    if REFUSED.exists():
-        for program, tables in (("rollout", TOOLS), ("rollout-tools", ROLLOUT)):
-            found = re.findall(rf"^{program} ([a-z]+)$", REFUSED.read_text(), re.M)
-            yield REFUSED, " ".join(found), tables
+    for program, tables in (("rollout", TOOLS), ("rollout-tools", ROLLOUT)):
+        found = re.findall(rf"^{program} ([a-z]+)$", REFUSED.read_text(), re.M)
+        yield REFUSED, " ".join(found), tables
     yield HELP, " ".join(SHOWN.findall(HELP.read_text())), ROLLOUT + TOOLS
 
 
