@@ -10,7 +10,7 @@ few long sentences. Each wrong body can be put in place: what it replaces is in 
 `plain.txt` and `weight.txt` bound the words of this house in comments, and the words of each page.
 Each file of rows is run. The page of help that the launcher prints is that of the programs, and has
 each of their commands, as has each list of the commands of one program. CONTRIBUTING's recipes
-name each file that their searches find.
+name each file that their searches find, and ERRORS has each code of the sources.
 
 usage: docs/check.py [--write [FOLDER] | --long | --words CRATE]
 
@@ -24,7 +24,7 @@ import sys
 from pathlib import Path
 
 from checking import (
-    commands, crates_page, left_open, plain, quotes, recipes, reference, rows, weight
+    codes, commands, crates_page, left_open, plain, quotes, recipes, reference, rows, weight
 )
 from checking.edits import lost_edits
 from checking.exports import lost_comments
@@ -73,6 +73,7 @@ def faults():
     yield from rows.left_out()
     yield from commands.other_lists()
     yield from recipes.lost_files()
+    yield from codes.lost_codes()
     yield from lost_edits()
 
 
