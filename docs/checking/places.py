@@ -15,7 +15,7 @@ CRATES_PAGE = DOCS / "ARCHITECTURE.md"
 PROMISE = DOCS / "PROMISE.md"
 PROOF = DOCS / "PROOF.md"
 OPEN = DOCS / "OPEN.md"
-TOP = [README, CHANGELOG, ROOT / "CONTRIBUTING.md"]
+TOP = [README, CHANGELOG, ROOT / "CONTRIBUTING.md", ROOT / "SECURITY.md"]
 # The pages by hand that describe the present state. Those for provers also name things that don't
 # exist.
 CITING = [README, PROMISE, PROOF, CRATES_PAGE]
