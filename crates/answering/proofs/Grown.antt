@@ -1,12 +1,10 @@
--- A pass, which is a ghost token, that grew by the runs of some apps, and then by that of one more;
--- and what was found for the apps.
-use Rattle.std.proofs.Common.{Bool, true, false, not, ◌≡◌, ℕ, suc, ◌+◌, ◌<◌, ◌≤◌, get_or, arith}
+-- A pass, which is a ghost token, that grew by the runs of some apps, and then by that of one more.
+use Rattle.std.proofs.Common.{Bool, true, false, not, ◌≡◌, ℕ, ◌+◌, ◌<◌, ◌≤◌, get_or, arith}
 use Rattle.std.proofs.Common.{List, [], ◌∷◌, ◌++◌, length, take, length-append}
 use Rattle.std.proofs.Common.{Option, None, Some, option_map, refl, ap, sym, subst, ◌∙◌}
 use Rattle.std.proofs.lemmas.List.{take_all, take_more}
 use Rattle.std.specs.Prelude.{ℤ}
 use Rattle.attrs.specs.Attributes.{kept_text}
-use Rattle.attrs.specs.Bucket.{app_bucket}
 use Rattle.attrs.specs.Facts.{attributes_of}
 use Rattle.attrs.specs.declared.facts.AppFacts.{AppFacts}
 use Rattle.attrs.specs.declared.facts.RequestFacts.{RequestFacts}
@@ -18,9 +16,11 @@ use Rattle.bpf_semantics.specs.State.{opening}
 use Rattle.cells.specs.Grown.{Grows, GrowsByAppend}
 use Rattle.cells.specs.declared.event.CellEvent.{CellEvent}
 use Rattle.ruleset.specs.Rules.{AppRule, Rules, IsApp, ListsApp, app_of, appid_of}
-use Rattle.omaha_json.specs.Found.{FoundApp, found_app, found_apps, found_with, listed_app}
+use Rattle.omaha_json.specs.Found.{FoundApp}
+use Rattle.answering.proofs.Found.{found_length, found_snoc}
 use Rattle.answering.specs.Apps.{RunsApp, RunsApps, RunsFew, FindsApp, FindsApps}
 use Rattle.answering.specs.Apps.{no_updatecheck, unknown, ran, none, then}
+use Rattle.answering.specs.Found.{found_app, found_apps, listed_app}
 
 pub not_true : (b : Bool) → not b ≡ true → b ≡ false
 not_true true h = sym h
@@ -50,37 +50,6 @@ module _ (rules : Rules) (facts : RequestFacts) (moment : ℤ) where
   runs_length none = refl
   runs_length (then {apps} {choices} {before} {app} {choice} r s) =
       simp length-append (ap (λ (n : ℕ). n + 1) (runs_length r))
-
--- ---- what the ruleset has for apps
-
-module _ (rules : Rules) (facts : RequestFacts) where
-  -- an app that is in the ruleset
-  pub found_is : (app : AppFacts) (choice : Option ℕ) (known : AppRule) (bucket : ℕ)
-      (found : FoundApp)
-      → app_of rules app.appid ≡ Some known → bucket ≡ app_bucket app facts
-      → found ≡ found_with known choice bucket → Some found ≡ found_app rules facts app choice
-  found_is app choice known bucket found knows hashed is =
-      ap Some (is ∙ ap (found_with known choice) hashed)
-      ∙ sym (ap (option_map (listed_app facts app choice)) knows)
-
-  -- one app more
-  found_snoc : (apps : List AppFacts) (choices : List (Option ℕ)) (app : AppFacts)
-      (choice : Option ℕ) → length choices ≡ length apps
-      → found_apps rules facts (apps ++ app ∷ []) (choices ++ choice ∷ [])
-      ≡ found_apps rules facts apps choices ++ found_app rules facts app choice ∷ []
-  found_snoc [] [] app choice e = refl
-  found_snoc [] (c ∷ cs) app choice e = absurd (omega (arith, e))
-  found_snoc (a ∷ others) [] app choice e = absurd (omega (arith, e))
-  found_snoc (a ∷ others) (c ∷ cs) app choice e =
-      ap (λ (z : List (Option FoundApp)). found_app rules facts a c ∷ z)
-      (found_snoc others cs app choice (omega (arith, e)))
-
-  found_length : (apps : List AppFacts) (choices : List (Option ℕ))
-      → length choices ≡ length apps → length (found_apps rules facts apps choices) ≡ length apps
-  found_length [] choices e = refl
-  found_length (a ∷ others) [] e = absurd (omega (arith, e))
-  found_length (a ∷ others) (c ∷ cs) e =
-      ap (λ (n : ℕ). suc n) (found_length others cs (omega (arith, e)))
 
 module _ (rules : Rules) (facts : RequestFacts) (moment : ℤ) where
   pub finds_length : {apps : List AppFacts} {found : List (Option FoundApp)}

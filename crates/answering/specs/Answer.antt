@@ -10,12 +10,12 @@ use Rattle.http_front.specs.Post.{AnswersPost}
 use Rattle.http_front.specs.declared.post_fault.PostFault.{PostFault}
 use Rattle.http_front.specs.declared.status.Status.{Status}
 use Rattle.omaha_json.specs.Request.{Request, request_in}
-use Rattle.omaha_json.specs.Reply.{reply_text}
 use Rattle.omaha_json.specs.declared.omaha_fault.OmahaFault.{OmahaFault}
 use Rattle.omaha_json.specs.declared.omaha_fault.OmahaFault.TheVariants as omaha
 use Rattle.ruleset.specs.Rules.{Rules}
 use Rattle.cells.specs.Grown.{Grows}
 use Rattle.answering.specs.Apps.{RunsApps, RunsFew}
+use Rattle.answering.specs.Found.{reply_text}
 use Rattle.answering.specs.Reply.{HttpReply, success, rejection}
 use Rattle.answering.specs.Reply.{omaha_rejection, no_place, settled_reply}
 use Rattle.answering.specs.declared.answering.AnswerFault.{AnswerFault}

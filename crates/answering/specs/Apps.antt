@@ -10,7 +10,8 @@ use Rattle.bpf_semantics.specs.Run.{Ends}
 use Rattle.bpf_semantics.specs.State.{opening}
 use Rattle.cells.specs.declared.event.CellEvent.{CellEvent}
 use Rattle.ruleset.specs.Rules.{AppRule, Rules, ListsApp, app_of, appid_of}
-use Rattle.omaha_json.specs.Found.{FoundApp, found_app, found_apps}
+use Rattle.omaha_json.specs.Found.{FoundApp}
+use Rattle.answering.specs.Found.{found_app, found_apps}
 
 module _ (rules : Rules) (facts : RequestFacts) (moment : ℤ) where
   -- one app, with the choice of its run, if it has one, and the events that the run made

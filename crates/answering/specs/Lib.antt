@@ -1,3 +1,4 @@
+pub mod Found
 pub mod Apps
 pub mod Reply
 pub mod Answer

@@ -9,8 +9,9 @@ ghost use Rattle.bpf_machine.specs.Represents.{RunRepresents};
 ghost use Rattle.cells.specs.Grown.{Grows};
 ghost use Rattle.answering.specs.Apps.{FindsApp, FindsApps, RunsFew};
 
+use crate::chosen::listed_app;
 use crate::turn::Turn;
-use attrs::{Attrs, Bucket, Moment, RequestFacts, SharedFacts, hashed_bucket, named_or_hashed};
+use attrs::{Attrs, Bucket, Moment, RequestFacts, SharedFacts, hashed_bucket};
 use bpf_machine::Run;
 use bpf_verify::Verified;
 use cells::{CellSteps, growth};
@@ -47,7 +48,7 @@ fn start(
 }
 
 // What the ruleset has for an app, with the choice of its finished run, if it has one. If an
-// allocation fails, no run is made. An app that names no bucket is in the hashed one.
+// allocation fails, no run is made.
 fn run_app<'r, C: CellSteps>(
     turn: &Turn<'_, C>,
     app: &SharedFacts,
@@ -67,17 +68,15 @@ fn run_app<'r, C: CellSteps>(
     let Some(known) = rules.find(app.appid()) else {
         return Ok(None);
     };
-    let app_facts = app.facts();
-    let bucket = named_or_hashed(app_facts, hashed);
-    if !app_facts.updatecheck {
-        return Ok(Some(FoundApp::new(known, bucket, None)));
+    if !app.facts().updatecheck {
+        return Ok(Some(listed_app(known, app, hashed, None)));
     }
     known.invariant_law();
     let Ok(run) = start(turn.alloc, known.program(), app, facts, hashed, turn.moment) else {
         return Err(AllocError);
     };
     let (choice, _) = run.run(turn.cells, pass);
-    Ok(Some(FoundApp::new(known, bucket, Some(choice))))
+    Ok(Some(listed_app(known, app, hashed, Some(choice))))
 }
 
 /// What the ruleset has for all apps of a request, with the choice of each run that was made. If an

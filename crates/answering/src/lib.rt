@@ -16,6 +16,7 @@
 mod answer_buffers;
 mod answering;
 mod apps;
+mod chosen;
 mod observer;
 mod reading;
 mod rejection;
@@ -27,6 +28,7 @@ mod turn;
 pub use answer_buffers::AnswerBuffers;
 pub use answering::{AnswerFault, answer};
 pub use apps::run_apps;
+pub use chosen::reply_text;
 pub use observer::{NoObserver, RequestObserver};
 pub use sent::Sent;
 pub use settling::answer_in;

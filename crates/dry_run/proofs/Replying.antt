@@ -6,11 +6,11 @@ use Rattle.std.specs.Prelude.{ℤ}
 use Rattle.attrs.specs.declared.facts.AppFacts.{AppFacts}
 use Rattle.attrs.specs.declared.facts.RequestFacts.{RequestFacts}
 use Rattle.answering.specs.Apps.{RunsApp, RunsApps, no_updatecheck, unknown, none, then}
+use Rattle.answering.specs.Found.{reply_text}
 use Rattle.cells.specs.Events.{AreZeros, IsEvent}
 use Rattle.cells.specs.Grown.{GrewBy}
 use Rattle.cells.specs.declared.array.CellArray.{CellArray}
 use Rattle.cells.specs.declared.event.CellEvent.{CellEvent}
-use Rattle.omaha_json.specs.Reply.{reply_text}
 use Rattle.ruleset.specs.Rules.{Rules}
 use Rattle.cell_assignments.specs.Assignments.{Assignment}
 use Rattle.dry_run.specs.Counters.{AreAssigned, with_cells, with_declared}

@@ -11,10 +11,10 @@ use Rattle.cells.specs.Events.{IsEvent}
 use Rattle.cells.specs.Grown.{GrewBy}
 use Rattle.cells.specs.declared.event.CellEvent.{CellEvent}
 use Rattle.ruleset.specs.Rules.{AppRule, Rules}
-use Rattle.omaha_json.specs.Reply.{reply_text}
 use Rattle.omaha_json.specs.Request.{Request}
 use Rattle.omaha_json.specs.declared.omaha_fault.OmahaFault.{OmahaFault}
 use Rattle.answering.specs.Apps.{RunsApp, RunsApps, no_updatecheck, unknown, ran, none, then}
+use Rattle.answering.specs.Found.{reply_text}
 use Rattle.dry_run.specs.Reply.{RepliesOn, RepliesToBodyOn}
 use Rattle.dry_run.proofs.Courses.{cut, one_course}
 

@@ -8,13 +8,13 @@ use Rattle.cells.specs.declared.event.CellEvent.{CellEvent}
 use Rattle.hot_swap.specs.Published.{KnownPrefix, IsLatest}
 use Rattle.http_front.specs.declared.status.Status.TheVariants as status
 use Rattle.ruleset.specs.Rules.{Rules}
-use Rattle.omaha_json.specs.Reply.{reply_text}
 use Rattle.omaha_json.specs.Request.{Request, request_in}
 use Rattle.omaha_json.specs.declared.omaha_fault.OmahaFault.{OmahaFault}
 use Rattle.omaha_json.specs.declared.omaha_fault.OmahaFault.TheVariants.{Json, Shape, Protocol}
 use Rattle.omaha_json.specs.declared.omaha_fault.OmahaFault.TheVariants.{TooManyApps, Memory}
 use Rattle.answering.specs.Answer.{RepliesToRequest, RepliesToBody}
 use Rattle.answering.specs.Answer.{replied, unowned, broken_off, accepted, refused, unread}
+use Rattle.answering.specs.Found.{reply_text}
 use Rattle.answering.specs.Reply.{HttpReply, success, omaha_rejection, omaha_status}
 use Rattle.dry_run.specs.Reply.{Replies, RepliesToBodyOn}
 use Rattle.dry_run.proofs.Requests.{one_reply_to_body}

@@ -4,11 +4,11 @@ use Rattle.cells.specs.Events.{IsEvent}
 use Rattle.cells.specs.Grown.{GrewBy}
 use Rattle.cells.specs.declared.event.CellEvent.{CellEvent}
 use Rattle.ruleset.specs.Rules.{Rules}
-use Rattle.omaha_json.specs.Reply.{reply_text}
 use Rattle.omaha_json.specs.Request.{Request, request_in}
 use Rattle.omaha_json.specs.declared.omaha_fault.OmahaFault.{OmahaFault}
 use Rattle.omaha_json.specs.declared.omaha_fault.OmahaFault.TheVariants.{Memory}
 use Rattle.answering.specs.Apps.{RunsApps}
+use Rattle.answering.specs.Found.{reply_text}
 
 module _ (rules : Rules) (moment : ℤ) where
   -- Omaha's reply to a request: each app is answered by the choice of its run, and the runs make

@@ -7,7 +7,7 @@ use Rattle.attrs.specs.Facts.{attributes_of, context_of}
 use Rattle.attrs.specs.declared.facts.AppFacts.{AppFacts}
 use Rattle.attrs.specs.declared.facts.RequestFacts.{RequestFacts}
 use Rattle.answering.specs.Apps.{RunsApp}
-use Rattle.omaha_json.specs.Reply.{reply_text}
+use Rattle.answering.specs.Found.{reply_text}
 use Rattle.omaha_json.specs.Request.{Request, request_in}
 use Rattle.ruleset.specs.Rules.{AppRule, Rules, app_of}
 use Rattle.cell_assignments.specs.Assignments.{Assignment}

@@ -1,5 +1,4 @@
--- The reply to a request under a ruleset, by this project's profile of Omaha 3.1: its JSON value,
--- and its bytes.
+-- The reply to a request, by this project's profile of Omaha 3.1: its JSON value, and its bytes.
 use Rattle.std.specs.Prelude.{ℕ, ℤ, List, [], ◌∷◌, ◌++◌, codes}
 use Rattle.std.specs.Prelude.{Bool, true, false, Option, Some, None}
 use Rattle.serde_json.specs.Data.{Data, number, string, array, object, unsigned}
@@ -9,9 +8,7 @@ use Rattle.attrs.specs.declared.facts.AppFacts.{AppFacts}
 use Rattle.attrs.specs.Bucket.{cohort_of_bucket}
 use Rattle.attrs.specs.Moment.{elapsed_days, elapsed_seconds}
 use Rattle.releases.specs.Release.{Release}
-use Rattle.ruleset.specs.Rules.{Rules}
-use Rattle.omaha_json.specs.Found.{FoundApp, found_apps}
-use Rattle.omaha_json.specs.Request.{Request}
+use Rattle.omaha_json.specs.Found.{FoundApp}
 use Rattle.omaha_json.specs.Update.{only, status_value, update_value, release_at}
 
 -- the `status` of a known app and, if a run was made, the reply to its `updatecheck`
@@ -80,9 +77,3 @@ guard = codes ")]}'" ++ 10 ∷ []
 unfoldable pub found_text : List ℕ → List AppFacts → List (Option FoundApp) → ℤ → List ℕ
 found_text server apps found moment =
     guard ++ compact_text (reply_value server apps found moment)
-
--- the bytes of a reply under a ruleset. Each app's choice is that of its run, if one was made.
-abbrev pub reply_text : Request → Rules → List (Option ℕ) → ℤ → List ℕ
-reply_text request rules choices moment =
-    found_text rules.server request.apps
-    (found_apps rules request.facts request.apps choices) moment

@@ -1,6 +1,6 @@
 //! Requests and replies of Omaha 3.1 in JSON, by this project's profile of it: from the bytes of a
-//! body to a request, or the first fault; and from a request, a ruleset and the choices of its runs
-//! to the bytes of the reply.
+//! body to a request, or the first fault; and from a request, and what was found for its apps, to
+//! the bytes of the reply.
 //!
 //! See docs/DECISIONS.md, "Requests".
 #![tactic(auto)]
@@ -23,6 +23,6 @@ pub use app_observer::{AppObserver, WrittenApp};
 pub use found::FoundApp;
 pub use omaha_fault::OmahaFault;
 pub use reading::read_request;
-pub use reply::{found_text, reply_text};
+pub use reply::found_text;
 pub use request::Request;
 pub use update::release_at;

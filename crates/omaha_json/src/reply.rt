@@ -1,53 +1,23 @@
 //! The text of a reply. Each function writes one object, with its members in the order of their
 //! names.
 
-ghost use Rattle.std.specs.Prelude.{◌≡◌, length, IfOk, IfErr, OnOk};
+ghost use Rattle.std.specs.Prelude.{◌≡◌, length, IfOk, OnOk};
 ghost use Rattle.omaha_json.specs.Tokens.{Adds, tokens_of};
 ghost use Rattle.attrs.specs.Moment.{elapsed_days, elapsed_seconds};
 ghost use Rattle.omaha_json.specs.Reply as specs;
 
 use crate::app::write_apps;
-use crate::found::{FoundApp, find_apps};
-use crate::omaha_fault::OmahaFault;
-use crate::request::Request;
+use crate::found::FoundApp;
 use crate::tokens::{write_number, write_tokens};
 use attrs::{Elapsed, Moment, SharedFacts};
 use json::{Token, Writer};
-use ruleset::Ruleset;
-use std::alloc::{AllocError, Global};
+use std::alloc::AllocError;
 
 /// What precedes the JSON text, so that no script can read it as its own.
 const GUARD: &[u8] = b")]}'\n";
 
 /// Enough bytes for most replies of a few apps.
 const USUAL_LENGTH: usize = 512;
-
-/// The reply to a request under a ruleset at a moment, with the choice of each app's run, in the
-/// apps' order. The choice is `None` if no run was made, since the app requested no update or isn't
-/// in the ruleset.
-// open: whether an allocation fails (O5).
-pub fn reply_text(
-    alloc: Global,
-    request: &Request,
-    rules: &Ruleset,
-    choices: &[Option<u8>],
-    moment: Moment,
-) -> Result<Vec<u8>, OmahaFault>
-    requires { length choices.now ≡ length request.now.apps }
-    ensures text { IfOk result (λ text.
-        text.items ≡ specs.reply_text request.now rules.now choices.now moment) }
-    ensures memory { IfErr result (λ e. e ≡ OmahaFault.Memory) }
-{
-    let apps = request.apps();
-    let Ok(found) = find_apps(alloc, request.facts(), apps, rules, choices) else {
-        return Err(OmahaFault::Memory);
-    };
-    let room = Vec::new(alloc);
-    match found_text(room, rules.server(), apps, found.as_slice(), &moment) {
-        Ok(text) => Ok(text),
-        Err(_) => Err(OmahaFault::Memory),
-    }
-}
 
 /// The reply by what was found for each app, written into the buffer `text`, whose old contents are
 /// dropped. `None` is an app that isn't in the ruleset; `server` is the server's name.
