@@ -7,7 +7,7 @@ use Rattle.load.specs.declared.sources.Sources.{Sources}
 use Rattle.stage_folder.specs.Folders.{GivesFile, KnownFolder}
 use Rattle.staging.specs.Halts.{Halts, halting_file}
 use Rattle.staging.specs.Raises.{IsRaised}
-use Rattle.staging.specs.Steps.{ReplacedFile}
+use Rattle.stage_records.specs.Steps.{ReplacedFile}
 use Rattle.stage_commands.specs.Apps.{IsAppOf, IsCollected, ReplacesBy, app_named}
 use Rattle.stage_commands.specs.Stages.{PlansHalt, PlansHaltOf, PlansRaise, PlansRaiseOf}
 

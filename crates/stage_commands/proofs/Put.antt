@@ -14,7 +14,8 @@ use Rattle.stage_folder.specs.Folders.{GivesFile, KnownFolder, KnownRecords}
 use Rattle.stage_folder.specs.Recorded.{AreRecorded}
 use Rattle.stage_folder.specs.Steps.{done}
 use Rattle.stage_folder.specs.declared.records.RecordedSteps.{RecordedSteps}
-use Rattle.staging.specs.Steps.{ReplacedFile, StagingStep, lifted_halt}
+use Rattle.stage_records.specs.Steps.{ReplacedFile, StagingStep}
+use Rattle.staging.specs.InForce.{lifted_halt}
 use Rattle.stage_commands.specs.Apps.{IsCollected, ReplacesBy}
 use Rattle.stage_commands.specs.Puts.{AddsAppFile, app_file, no_file}
 use Rattle.stage_commands.specs.Puts.{AddsFile, file_added, nothing_added}

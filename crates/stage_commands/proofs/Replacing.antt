@@ -6,7 +6,7 @@ use Rattle.stage_folder.specs.Folders.{KnownFolder, KnownRecords, put, put_known
 use Rattle.stage_folder.specs.Recorded.{AreRecorded}
 use Rattle.stage_folder.specs.Steps.{done, undone}
 use Rattle.stage_folder.specs.declared.records.RecordedSteps.{RecordedSteps}
-use Rattle.staging.specs.Steps.{ReplacedFile, StagingStep, last_step}
+use Rattle.stage_records.specs.Steps.{ReplacedFile, StagingStep, last_step}
 use Rattle.stage_commands.specs.Apps.{Replaces, ReplacesBy}
 use Rattle.stage_commands.specs.Backs.{HasGoneBack}
 use Rattle.stage_commands.specs.Stages.{HasHalted, HasRaised, PlansHalt, PlansRaise}

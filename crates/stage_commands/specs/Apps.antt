@@ -7,7 +7,7 @@ use Rattle.load.specs.Sources.{AreSources}
 use Rattle.load.specs.declared.sources.AppSources.{AppSources}
 use Rattle.load.specs.declared.sources.Sources.{Sources}
 use Rattle.stage_folder.specs.Folders.{GivesFile, KnownFolder, put_known}
-use Rattle.staging.specs.Steps.{ReplacedFile}
+use Rattle.stage_records.specs.Steps.{ReplacedFile}
 
 -- the app with this appid
 abbrev pub app_named : List AppSources → (appid : List ℕ) → Option AppSources

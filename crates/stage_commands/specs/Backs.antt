@@ -4,7 +4,7 @@ use Rattle.stage_folder.specs.Folders.{KnownFolder, KnownRecords}
 use Rattle.stage_folder.specs.Recorded.{AreRecorded}
 use Rattle.stage_folder.specs.Steps.{undone}
 use Rattle.stage_folder.specs.declared.records.RecordedSteps.{RecordedSteps}
-use Rattle.staging.specs.Steps.{StagingStep, last_step}
+use Rattle.stage_records.specs.Steps.{StagingStep, last_step}
 
 -- the files of the last recorded step that isn't undone are as that step found them, and all
 -- others are as before

@@ -10,7 +10,8 @@ use Rattle.stage_folder.specs.Folders.{KnownFolder, KnownRecords}
 use Rattle.stage_folder.specs.Steps.{done}
 use Rattle.stage_folder.specs.Recorded.{AreRecorded}
 use Rattle.stage_folder.specs.declared.records.RecordedSteps.{RecordedSteps}
-use Rattle.staging.specs.Steps.{ReplacedFile, StagingStep, lifted_halt}
+use Rattle.stage_records.specs.Steps.{ReplacedFile, StagingStep}
+use Rattle.staging.specs.InForce.{lifted_halt}
 use Rattle.stage_commands.specs.Apps.{IsCollected}
 
 -- ---- the files that are replaced

@@ -6,7 +6,7 @@ use Rattle.load.specs.declared.sources.AppSources.{AppSources}
 use Rattle.stage_folder.specs.Folders.{GivesFile, KnownFolder}
 use Rattle.staging.specs.Halts.{Halts, halting_file}
 use Rattle.staging.specs.Raises.{IsRaised}
-use Rattle.staging.specs.Steps.{ReplacedFile}
+use Rattle.stage_records.specs.Steps.{ReplacedFile}
 use Rattle.stage_commands.specs.Apps.{IsAppOf, Replaces, ReplacesBy}
 
 -- ---- halt

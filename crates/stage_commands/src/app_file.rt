@@ -10,7 +10,7 @@ use crate::outcome::{Lines, Stop};
 use crate::stop_texts::{no_app, one_file};
 use attrs::Text;
 use load::{AppSources, file_of};
-use staging::ReplacedFile;
+use stage_records::ReplacedFile;
 use std::alloc::{AllocError, Global};
 use std::fs;
 use std::os::unix::fs::MetadataExt;

@@ -1,7 +1,7 @@
 //! `stage back`: the last step that isn't undone is undone.
 
 ghost use Rattle.std.specs.Prelude.{◌≡◌, OnOk, false, option_map, true};
-ghost use Rattle.staging.specs.Steps.{last_step};
+ghost use Rattle.stage_records.specs.Steps.{last_step};
 ghost use Rattle.stage_commands.specs.Backs.{HasGoneBack};
 ghost use Rattle.stage_folder.specs.Steps.{undone};
 
@@ -13,7 +13,7 @@ use crate::steps::{RECORDS, name_at, read_steps};
 use crate::stop_texts::{NOTHING_TO_UNDO, in_folder, not_undone, refused};
 use bounded_files::Disk;
 use stage_folder::{FolderFault, StageFolder, StepFault, undo, write_record};
-use staging::StagingStep;
+use stage_records::StagingStep;
 use std::alloc::Global;
 use std::net::{Net, TcpStream};
 use std::time::Clock;

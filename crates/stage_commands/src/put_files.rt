@@ -9,7 +9,7 @@ use crate::replaced_files::file_named;
 use crate::stop_texts::in_folder;
 use load::{AppSources, file_of, whole_file};
 use stage_folder::StageFolder;
-use staging::ReplacedFile;
+use stage_records::ReplacedFile;
 use std::alloc::{AllocError, Global};
 
 // The name of the manifest in place.

@@ -4,7 +4,7 @@ ghost use Rattle.std.specs.Prelude.{◌≡◌, IfOk, IfSome, None, OnOk, false, 
 ghost use Rattle.stage_commands.specs.Apps.{IsCollected};
 ghost use Rattle.stage_commands.specs.Compared.{IsJudged};
 ghost use Rattle.stage_commands.specs.Puts.{HasPut, LiftsNone, PlansPut};
-ghost use Rattle.staging.specs.Steps as specs;
+ghost use Rattle.staging.specs.InForce as specs;
 
 use crate::collected::{CollectedManifest, collected_at, judged_at};
 use crate::comparison::compare;
@@ -17,7 +17,8 @@ use bounded_files::Disk;
 use load::AppSources;
 use manifest_diff::OpenedManifest;
 use stage_folder::StageFolder;
-use staging::{ReplacedFile, StagingStep, StepAction, lifted_halt};
+use stage_records::{ReplacedFile, StagingStep, StepAction};
+use staging::lifted_halt;
 use std::alloc::Global;
 use std::net::{Net, TcpStream};
 use std::time::Clock;

@@ -3,7 +3,7 @@
 use crate::collected::sources_over;
 use bounded_files::{Disk, ResourceFault};
 use load::{Files, FolderFiles, LoadFault, Sources};
-use staging::ReplacedFile;
+use stage_records::ReplacedFile;
 use std::alloc::{AllocError, Global};
 
 /// Files next to a manifest. Those of a step have their bytes after it, or those before it.

@@ -11,7 +11,7 @@ use crate::replaced_files::{bytes_of, file_named, sources_with};
 use bounded_files::Disk;
 use load::{Sources, manifest_bytes};
 use manifest_diff::OpenedManifest;
-use staging::{ReplacedFile, StagingStep};
+use stage_records::{ReplacedFile, StagingStep};
 use std::alloc::Global;
 use std::net::{Net, TcpStream};
 use std::time::Clock;

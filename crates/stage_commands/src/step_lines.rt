@@ -5,7 +5,7 @@
 use crate::text_buffer::TextBuffer;
 use jiff_core::Timestamp;
 use moments::{NamedTime, time_text};
-use staging::{StagingStep, StepAction};
+use stage_records::{StagingStep, StepAction};
 use std::alloc::{AllocError, Global};
 
 /// The nanoseconds of a second.

@@ -14,7 +14,7 @@ use attrs::Text;
 use stage_folder::{
     FolderFault, RecordedSteps, StageFolder, StepFault, perform, recorded_steps, write_record,
 };
-use staging::{ReplacedFile, StagingStep, StepAction};
+use stage_records::{ReplacedFile, StagingStep, StepAction};
 use std::alloc::{AllocError, Global};
 use std::time::Clock;
 

@@ -3,9 +3,9 @@ use Rattle.std.proofs.Common.{◌≡◌, ◌+◌, ◌∷◌, ◌∙◌, ℕ, Lis
 use Rattle.std.proofs.Common.{ap, subst, sym, refl}
 use Rattle.std.specs.Prelude.{Option, Some, None, IfSome}
 use Rattle.std.specs.List.{position_from}
-use Rattle.staging.specs.FileStates.{state_of}
-use Rattle.staging.specs.Steps.{ReplacedFile}
-use Rattle.staging.specs.declared.file_state.FileState.{FileState}
+use Rattle.stage_records.specs.FileStates.{state_of}
+use Rattle.stage_records.specs.Steps.{ReplacedFile}
+use Rattle.stage_records.specs.declared.file_state.FileState.{FileState}
 use Rattle.stage_folder.specs.Folders.{KnownFolder}
 use Rattle.stage_folder.specs.Steps.{edited_place, is_edited, is_edited_state}
 

@@ -2,7 +2,7 @@
 use Rattle.std.proofs.Common.{◌≡◌, ◌∙◌, ◌⊎◌, inl, inr, ap, refl, subst, sym, zero, suc}
 use Rattle.std.proofs.Common.{List, [], ◌∷◌, ◌<◌, ◌-◌, arith, get_or, length, take_all}
 use Rattle.std.specs.Prelude.{take, drop, Some, None, option_map}
-use Rattle.staging.specs.Steps.{ReplacedFile}
+use Rattle.stage_records.specs.Steps.{ReplacedFile}
 use Rattle.stage_folder.specs.Folders.{Folder, KnownFolder, put, put_known}
 use Rattle.stage_folder.specs.Steps.{IsPartlyDone, IsPartlyUndone, done}
 

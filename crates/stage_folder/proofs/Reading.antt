@@ -7,7 +7,7 @@ use Rattle.std.specs.List.{cons_option}
 use Rattle.std.specs.Prelude.{IsPermutation, IsSorted}
 use Rattle.std.specs.Ordering.{nat_cmp}
 use Rattle.std.proofs.lemmas.List.Sorted.{Contains-permutation, IsPermutation-sym}
-use Rattle.staging.specs.Steps.{StagingStep}
+use Rattle.stage_records.specs.Steps.{StagingStep}
 use Rattle.stage_folder.specs.Folders.{GivesNumbers, KnownRecords}
 use Rattle.stage_folder.specs.Recorded.{AreRead, AreRecorded, IsStepAt, step_at}
 use Rattle.stage_folder.specs.declared.folder_fault.FolderFault.{FolderFault}

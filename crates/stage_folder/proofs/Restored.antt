@@ -5,7 +5,7 @@ use Rattle.std.specs.Prelude.{All, Option, Some, take, if◌then◌else◌}
 use Rattle.std.proofs.lemmas.List.Elements.{All-nil, All-cons, All-head, All-tail}
 use Rattle.std.proofs.lemmas.Slice.Eq.{bytes_eq-Decides}
 use Rattle.std.specs.Str.{bytes_eq}
-use Rattle.staging.specs.Steps.{ReplacedFile}
+use Rattle.stage_records.specs.Steps.{ReplacedFile}
 use Rattle.stage_folder.specs.Folders.{Folder, put}
 use Rattle.stage_folder.specs.Steps.{DifferOnlyIn, IsFoundBy, done, undone}
 

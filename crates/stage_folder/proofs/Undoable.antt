@@ -6,9 +6,9 @@ use Rattle.std.specs.List.{list_any, position_from}
 use Rattle.std.proofs.lemmas.List.Elements.{All-nil, All-cons, All-head, All-tail}
 use Rattle.std.proofs.lemmas.Slice.Eq.{bytes_eq-Decides}
 use Rattle.std.specs.Str.{bytes_eq}
-use Rattle.staging.specs.FileStates.{is_same_file}
-use Rattle.staging.specs.Steps.{ReplacedFile}
-use Rattle.staging.specs.declared.file_state.FileState.TheVariants.{After, Before, Edited}
+use Rattle.stage_records.specs.FileStates.{is_same_file}
+use Rattle.stage_records.specs.Steps.{ReplacedFile}
+use Rattle.stage_records.specs.declared.file_state.FileState.TheVariants.{After, Before, Edited}
 use Rattle.stage_folder.specs.Folders.{Folder, put}
 use Rattle.stage_folder.specs.Steps.{IsFoundBy, done, edited_place, has_distinct_names}
 use Rattle.stage_folder.specs.Steps.{is_edited, is_edited_state}

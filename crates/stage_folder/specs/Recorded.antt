@@ -3,8 +3,8 @@ use Rattle.std.specs.Prelude.{◌≡◌, ℕ, ◌==◌, List, filter, filter_map
 use Rattle.std.specs.Prelude.{Option, Some, None, IfSome, is_none, option_and_then}
 use Rattle.std.specs.Prelude.{IsSorted}
 use Rattle.std.specs.Ordering.{nat_cmp}
-use Rattle.staging.specs.Records.{step_in}
-use Rattle.staging.specs.Steps.{StagingStep}
+use Rattle.stage_records.specs.Records.{step_in}
+use Rattle.stage_records.specs.Steps.{StagingStep}
 use Rattle.stage_folder.specs.Folders.{GivesNumbers, KnownRecords, Records, record_known}
 use Rattle.stage_folder.specs.declared.records.RecordedSteps.{RecordedSteps}
 

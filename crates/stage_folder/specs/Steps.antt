@@ -3,10 +3,10 @@ use Rattle.std.specs.Prelude.{◌≡◌, ◌≢◌, ℕ, List, [], ◌∷◌, Al
 use Rattle.std.specs.Prelude.{not, ◌&&◌, Option, Some, option_map}
 use Rattle.std.specs.List.{list_any, position_from}
 use Rattle.std.specs.Str.{bytes_eq}
-use Rattle.staging.specs.FileStates.{state_of}
-use Rattle.staging.specs.Steps.{ReplacedFile}
-use Rattle.staging.specs.declared.file_state.FileState.{FileState}
-use Rattle.staging.specs.declared.file_state.FileState.TheVariants.{After, Before, Edited}
+use Rattle.stage_records.specs.FileStates.{state_of}
+use Rattle.stage_records.specs.Steps.{ReplacedFile}
+use Rattle.stage_records.specs.declared.file_state.FileState.{FileState}
+use Rattle.stage_records.specs.declared.file_state.FileState.TheVariants.{After, Before, Edited}
 use Rattle.stage_folder.specs.Folders.{Folder, KnownFolder, put}
 
 -- each file of a step, from the first to the last, gets its bytes `after`

@@ -5,7 +5,7 @@ ghost use Rattle.std.specs.List.{list_any};
 ghost use Rattle.std.specs.Str.{bytes_eq};
 ghost use Rattle.stage_folder.specs.Steps as specs;
 
-use staging::ReplacedFile;
+use stage_records::ReplacedFile;
 
 fn has_name(files: &[ReplacedFile], name: &str) -> bool
     ensures { result ≡ list_any (λ file. bytes_eq file.name name.now) files.now }

@@ -1,7 +1,7 @@
 //! A law of steps and their undoing, for the crates above.
 
 ghost use Rattle.std.specs.Prelude.{◌≡◌, ℕ, List, None, take, true};
-ghost use Rattle.staging.specs.Steps.{ReplacedFile};
+ghost use Rattle.stage_records.specs.Steps.{ReplacedFile};
 ghost use Rattle.stage_folder.specs.Folders.{Folder};
 ghost use Rattle.stage_folder.specs.Steps.{DifferOnlyIn, IsFoundBy, done, undone};
 ghost use Rattle.stage_folder.specs.Steps.{edited_place, has_distinct_names};

@@ -6,7 +6,7 @@ ghost use Rattle.stage_folder.specs.Steps.{IsPartlyDone, done};
 
 use crate::folder::StageFolder;
 use crate::folder_fault::{FolderFault, StepFault};
-use staging::ReplacedFile;
+use stage_records::ReplacedFile;
 
 // Replaces a file by its bytes `after`.
 fn put_after<F: StageFolder>(folder: &mut F, file: &ReplacedFile) -> Result<(), FolderFault>

@@ -8,7 +8,7 @@ ghost use Rattle.stage_folder.specs.Recorded.{AreRead, AreRecorded, IsRecorded, 
 use crate::distinct_names::has_distinct_names;
 use crate::folder::StageFolder;
 use crate::folder_fault::FolderFault;
-use staging::{StagingStep, read_step, step_record};
+use stage_records::{StagingStep, read_step, step_record};
 use std::alloc::Global;
 
 /// The steps that are recorded, in the order of their numbers, and the numbers of the records that

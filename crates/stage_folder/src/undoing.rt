@@ -3,12 +3,12 @@
 ghost use Rattle.std.specs.Prelude.{◌≡◌, ◌⊎◌, ◌+◌, ◌<◌, ◌^◌, IfOk, IfSome, OnErr, OnOk};
 ghost use Rattle.std.specs.Prelude.{length, option_map, None};
 ghost use Rattle.stage_folder.specs.Folders.{put_known};
-ghost use Rattle.staging.specs.FileStates.{state_of};
+ghost use Rattle.stage_records.specs.FileStates.{state_of};
 ghost use Rattle.stage_folder.specs.Steps.{IsPartlyUndone, edited_place, undone};
 
 use crate::folder::StageFolder;
 use crate::folder_fault::{FolderFault, StepFault};
-use staging::{FileState, ReplacedFile};
+use stage_records::{FileState, ReplacedFile};
 
 // How a file that a step replaced is now.
 fn state_in<F: StageFolder>(folder: &F, file: &ReplacedFile) -> Result<FileState, FolderFault>

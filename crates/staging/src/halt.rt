@@ -3,11 +3,11 @@
 ghost use Rattle.std.specs.Prelude.{◌≡◌, option_copied};
 ghost use Rattle.std.specs.List.{list_any};
 ghost use Rattle.std.specs.Str.{bytes_eq};
-ghost use Rattle.staging.specs.Steps as specs;
+ghost use Rattle.staging.specs.InForce as specs;
 
 use crate::halting::is_halting_file;
-use crate::step::{StagingStep, StepAction};
 use load::{AppSources, whole_file};
+use stage_records::{StagingStep, StepAction};
 
 // The app that a step halts, unless the step is undone.
 fn halted_app(step: &StagingStep) -> Option<&str>

@@ -3,7 +3,7 @@
 use crate::files::shown;
 use attrs::Text;
 use stage_folder::{FolderFault, StageFolder, perform, undo};
-use staging::ReplacedFile;
+use stage_records::ReplacedFile;
 use std::alloc::{AllocError, Global};
 use std::test::Fail;
 

@@ -1,5 +1,5 @@
 use Rattle.std.proofs.Common.{◌≡◌, length}
-use Rattle.staging.specs.Steps as specs
+use Rattle.stage_records.specs.Steps as specs
 use Rattle.stage_commands.proofs.backs.take_last.Given as goal
 
 -- the last step of those that are left

@@ -1,6 +1,6 @@
 use Rattle.std.proofs.Common.{◌≡◌, bytes_eq, length}
 use Rattle.std.specs.List.{list_any}
-use Rattle.staging.specs.Steps as specs
+use Rattle.staging.specs.InForce as specs
 use Rattle.staging.proofs.halt.has_halt.Given as goal
 
 -- what is left decides

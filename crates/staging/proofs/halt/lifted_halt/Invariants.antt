@@ -1,5 +1,5 @@
 use Rattle.std.proofs.Common.{◌≡◌, length}
-use Rattle.staging.specs.Steps as specs
+use Rattle.staging.specs.InForce as specs
 use Rattle.staging.proofs.halt.lifted_halt.Given as goal
 
 -- what is left decides

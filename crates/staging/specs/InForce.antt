@@ -1,33 +1,14 @@
--- The steps of staging, as they are recorded: what a step did, and which files it replaced.
-use Rattle.std.specs.Prelude.{ℕ, List, filter_map, find, reverse, Option, Some, None}
+-- Which halts are in force, and which of them another manifest lifts.
+use Rattle.std.specs.Prelude.{ℕ, List, filter_map, find, Option, Some, None}
 use Rattle.std.specs.Prelude.{Bool, false, not, ◌&&◌, if◌then◌else◌}
 use Rattle.std.specs.List.{list_any}
 use Rattle.std.specs.Str.{bytes_eq}
 use Rattle.load.specs.Kept.{whole_file}
 use Rattle.load.specs.declared.sources.AppSources.{AppSources}
+use Rattle.stage_records.specs.Steps.{StagingStep}
+use Rattle.stage_records.specs.declared.step.StepAction.{StepAction}
+use Rattle.stage_records.specs.declared.step.StepAction.TheVariants.{Halt}
 use Rattle.staging.specs.Halts.{halting_file}
-use Rattle.staging.specs.declared.step.StepAction.{StepAction}
-use Rattle.staging.specs.declared.step.StepAction.TheVariants.{Halt}
-
--- a file that a step replaces: its name, its bytes before, if there was a file, and its bytes after
-pub record ReplacedFile : Type 0 where
-  pub name : List ℕ
-  pub before : Option (List ℕ)
-  pub after : List ℕ
-
--- a step, with its number from 1, and its time in seconds since 1970
-pub record StagingStep : Type 0 where
-  pub number : ℕ
-  pub time : ℕ
-  pub action : StepAction
-  pub files : List ReplacedFile
-  pub is_undone : Bool
-
--- the last step that isn't undone, which is the next to be undone
-abbrev pub last_step : List StagingStep → Option StagingStep
-last_step steps = find (λ step. not step.is_undone) (reverse steps)
-
--- ---- halts
 
 -- the app of a halt
 abbrev pub app_of_halt : StepAction → Option (List ℕ)

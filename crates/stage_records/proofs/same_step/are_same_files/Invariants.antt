@@ -1,5 +1,5 @@
 use Rattle.std.proofs.Common.{◌≡◌, length}
-use Rattle.staging.proofs.same_step.are_same_files.Given as goal
+use Rattle.stage_records.proofs.same_step.are_same_files.Given as goal
 
 -- what is left decides
 abbrev pub invariant-loop-left : goal.invariant-loop-left

@@ -1,9 +1,9 @@
 -- How a file is, compared with what a step found and left.
 use Rattle.std.specs.Prelude.{ℕ, List, Option, Some, None, Bool, true, false, if◌then◌else◌}
 use Rattle.std.specs.Str.{bytes_eq}
-use Rattle.staging.specs.Steps.{ReplacedFile}
-use Rattle.staging.specs.declared.file_state.FileState.{FileState}
-use Rattle.staging.specs.declared.file_state.FileState.TheVariants.{After, Before, Edited}
+use Rattle.stage_records.specs.Steps.{ReplacedFile}
+use Rattle.stage_records.specs.declared.file_state.FileState.{FileState}
+use Rattle.stage_records.specs.declared.file_state.FileState.TheVariants.{After, Before, Edited}
 
 -- the same bytes, or no file both times
 abbrev pub is_same_file : (one other : Option (List ℕ)) → Bool

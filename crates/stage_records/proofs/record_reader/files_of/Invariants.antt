@@ -1,9 +1,9 @@
 use Rattle.std.proofs.Common.{◌≡◌, ◌++◌, length, option_map}
 use Rattle.serde_json.specs.View.{items_view}
-use Rattle.staging.specs.Records as specs
-use Rattle.staging.specs.Steps.{ReplacedFile}
+use Rattle.stage_records.specs.Records as specs
+use Rattle.stage_records.specs.Steps.{ReplacedFile}
 use Rattle.std.proofs.Common.{List}
-use Rattle.staging.proofs.record_reader.files_of.Given as goal
+use Rattle.stage_records.proofs.record_reader.files_of.Given as goal
 
 -- the files so far, and those of the values that are left
 abbrev pub invariant-loop-left : goal.invariant-loop-left

@@ -2,7 +2,7 @@
 
 ghost use Rattle.std.specs.Prelude.{◌≡◌, IfOk, option_copied, option_map};
 ghost use Rattle.serde_json.specs.View.{items_view, view};
-ghost use Rattle.staging.specs.Records as specs;
+ghost use Rattle.stage_records.specs.Records as specs;
 
 use crate::step::{ReplacedFile, StagingStep, StepAction};
 use attrs::Text;

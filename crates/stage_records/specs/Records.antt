@@ -6,10 +6,10 @@ use Rattle.hex.specs.Hex.{decode_of}
 use Rattle.json_value.specs.Bytes.{json_of}
 use Rattle.serde_json.specs.Data.{Data, Items, no_items, item, null}
 use Rattle.serde_json.specs.Find.{get, as_array, as_bool, as_number, as_str, as_u64}
-use Rattle.staging.specs.Steps.{ReplacedFile, StagingStep}
-use Rattle.staging.specs.declared.record_reader.Facts.{Facts}
-use Rattle.staging.specs.declared.step.StepAction.{StepAction}
-use Rattle.staging.specs.declared.step.StepAction.TheVariants.{Halt, Put, Raise}
+use Rattle.stage_records.specs.Steps.{ReplacedFile, StagingStep}
+use Rattle.stage_records.specs.declared.record_reader.Facts.{Facts}
+use Rattle.stage_records.specs.declared.step.StepAction.{StepAction}
+use Rattle.stage_records.specs.declared.step.StepAction.TheVariants.{Halt, Put, Raise}
 
 -- ---- members
 

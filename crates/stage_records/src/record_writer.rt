@@ -1,7 +1,7 @@
 //! Writes a step's record: its text is made without a contract, and then it is read back.
 
 ghost use Rattle.std.specs.Prelude.{◌≡◌, IfOk, IfSome, Some, string_bytes, true};
-ghost use Rattle.staging.specs.Records.{step_in};
+ghost use Rattle.stage_records.specs.Records.{step_in};
 
 use crate::record_reader::read_step;
 use crate::same_step::is_same_step;

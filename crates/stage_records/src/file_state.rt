@@ -1,7 +1,7 @@
 //! How a file that a step replaced is now.
 
 ghost use Rattle.std.specs.Prelude.{◌≡◌, option_copied, option_map};
-ghost use Rattle.staging.specs.FileStates as specs;
+ghost use Rattle.stage_records.specs.FileStates as specs;
 
 use crate::step::ReplacedFile;
 

@@ -1,7 +1,7 @@
 //! A step of staging: what it does, and the files that it replaces.
 
 ghost use Rattle.std.specs.Prelude.{◌≡◌, option_copied};
-ghost use Rattle.staging.specs.Steps as specs;
+ghost use Rattle.stage_records.specs.Steps as specs;
 
 use attrs::Text;
 use std::marker::Model;
@@ -28,7 +28,7 @@ pub struct ReplacedFile {
 
 impl Model for ReplacedFile {
     ghost use Rattle.std.specs.Prelude.{option_map};
-    ghost use Rattle.staging.specs.Steps as specs;
+    ghost use Rattle.stage_records.specs.Steps as specs;
 
     ghost Value = { specs.ReplacedFile };
 
@@ -51,7 +51,7 @@ pub struct StagingStep {
 }
 
 impl Model for StagingStep {
-    ghost use Rattle.staging.specs.Steps as specs;
+    ghost use Rattle.stage_records.specs.Steps as specs;
 
     ghost Value = { specs.StagingStep };
 
