@@ -4,7 +4,6 @@ ghost use Rattle.std.specs.Prelude.{◌≡◌, Some};
 ghost use Rattle.bounded_files.specs.Texts.{resource_text};
 
 use std::fmt;
-use std::io::{Error, ErrorKind};
 
 /// What the machine couldn't provide.
 #[derive(Clone, Copy, Debug, Drop)]
@@ -24,14 +23,6 @@ impl ResourceFault {
             ResourceFault::File => "B3 File",
             ResourceFault::Memory => "B4 Memory",
         }
-    }
-}
-
-/// The fault of a failed operation on a file.
-pub(crate) fn fault_of(error: &Error) -> ResourceFault {
-    match error.kind() {
-        ErrorKind::OutOfMemory => ResourceFault::Memory,
-        _ => ResourceFault::File,
     }
 }
 

@@ -1,26 +1,25 @@
-//! Writing files.
+//! Writing a file that a command names, of whatever kind it is.
 
-use crate::resource_fault::{ResourceFault, fault_of};
-use std::fs::{self, File, OpenFile, OpenOptions, Permissions};
+use crate::atomic_write::{IfDenied, NewFile};
+use crate::file_fault::FileFault;
+use crate::resource_fault::ResourceFault;
+use std::fs::{self, File, Metadata, OpenFile, OpenOptions};
 use std::io::{self, Error, ErrorKind, Read, Write};
 use std::path::Path;
 use std::rt::Files;
 
-/// How many names are tried for the new file.
-const MOST_NAMES: u32 = 100;
-
-/// Writes a file. If the path names a regular file (links are followed) or doesn't exist, a new
-/// file is written next to it, with the mode of the old one. It is synced and renamed to the path,
-/// so the old bytes stay if writing fails. A device or a FIFO is written in place, and so is a file
-/// in a folder that takes no new files.
+/// Writes a file. If the path names a regular file (links are followed) or doesn't exist, the file
+/// is replaced as a whole, so the old bytes stay if writing fails. The new file has the mode of the
+/// old one, and its owner if this process may give it away. A device or a FIFO is written in place,
+/// and so is a file in a folder that takes no new files.
 // open: which bytes OUT got, that the old bytes stay if writing fails, and that not every file
 // returns B3: `bench/outside`.
-pub fn write_file<R: Files + AllocGlobal>(
+pub fn write_file<R: Files<File = File> + AllocGlobal>(
     rt: &R,
     path: &str,
     bytes: &[u8],
 ) -> Result<(), ResourceFault> {
-    write_anew(rt, path, bytes).map_err(|error| fault_of(&error))
+    write_anew(rt, path, bytes).map_err(|error| FileFault::from(error).resource())
 }
 
 /// Whether a path may be overwritten by a file that begins with these bytes: it doesn't exist,
@@ -45,12 +44,16 @@ fn begins_so<R: Files>(rt: &R, path: &str, beginning: &[u8; 4]) -> bool {
     }
 }
 
-fn write_anew<R: Files + AllocGlobal>(rt: &R, path: &str, bytes: &[u8]) -> io::Result<()> {
+fn write_anew<R: Files<File = File> + AllocGlobal>(
+    rt: &R,
+    path: &str,
+    bytes: &[u8],
+) -> io::Result<()> {
     match fs::metadata(rt, path) {
         Ok(found) if found.is_file() => {
             require_writable(rt, path)?;
             let whole = Path::new(path).canonicalize(rt)?;
-            replace(rt, whole.as_str(), Some(found.permissions()), bytes)
+            replace(rt, whole.as_str(), Some(found), bytes)
         }
         Err(error) if error.kind() == ErrorKind::NotFound && !is_link(rt, path) => {
             replace(rt, path, None, bytes)
@@ -73,26 +76,18 @@ fn is_link<R: Files>(rt: &R, path: &str) -> bool {
     }
 }
 
-// Writes a file next to the path, and renames it to the path.
-fn replace<R: Files + AllocGlobal>(
+// Replaces a file as a whole if its folder takes a new one, or else in place.
+fn replace<R: Files<File = File> + AllocGlobal>(
     rt: &R,
     path: &str,
-    mode: Option<Permissions>,
+    old: Option<Metadata>,
     bytes: &[u8],
 ) -> io::Result<()> {
-    let (temporary, file) = match open_temporary(rt, path) {
-        Ok(opened) => opened,
-        Err(error) if takes_no_file(&error) => return fs::write(rt, path, bytes),
-        Err(error) => return Err(error),
-    };
-    let moved = match fill(file, mode, bytes) {
-        Ok(()) => fs::rename(rt, temporary.as_str(), path),
+    match NewFile::create(rt, path, old, 0o666) {
+        Ok(new) => new.put(rt, path, bytes, IfDenied::Ignore),
+        Err(error) if takes_no_file(&error) => overwrite(rt, path, bytes),
         Err(error) => Err(error),
-    };
-    if moved.is_err() {
-        let _gone = fs::remove_file(rt, temporary.as_str());
     }
-    moved
 }
 
 // Whether creating a file failed because the folder takes none, not because the disk is full.
@@ -103,29 +98,8 @@ fn takes_no_file(error: &Error) -> bool {
     )
 }
 
-// A new file next to the path, and its name.
-fn open_temporary<R: Files + AllocGlobal>(rt: &R, path: &str) -> io::Result<(String, R::File)> {
-    for number in 0..MOST_NAMES {
-        let name = format!(in rt.alloc(); "{path}.{number}.new")?;
-        match File::create_new(rt, name.as_str()) {
-            Ok(file) => return Ok((name, file)),
-            Err(error) if error.kind() == ErrorKind::AlreadyExists => {}
-            Err(error) => return Err(error),
-        }
-    }
-    Err(Error::from(ErrorKind::AlreadyExists))
-}
-
-// Gives a new file its mode before its bytes, so that only users who could read the old file can
-// read them.
-fn fill<F: Write + OpenFile + Drop>(
-    mut file: F,
-    mode: Option<Permissions>,
-    bytes: &[u8],
-) -> io::Result<()> {
-    if let Some(mode) = mode {
-        file.set_permissions(mode)?;
-    }
+fn overwrite<R: Files>(rt: &R, path: &str, bytes: &[u8]) -> io::Result<()> {
+    let mut file = File::create(rt, path)?;
     file.write_all(bytes)?;
     file.sync_all()
 }

@@ -13,6 +13,7 @@ use operator::{ask_server, stop_and_wait};
 use program_tools::{assemble_file, compile_file, list_file, run_file, verify_file};
 use serving::prepare;
 use std::alloc::Global;
+use std::fs::File;
 use std::net::{Net, TcpListener, TcpStream};
 use std::rt::Files;
 use std::time::Clock;
@@ -23,7 +24,7 @@ use std::time::Clock;
 // each command on files.
 pub fn output_of<R, D>(rt: &R, disk: &D, command: &Command<'_>) -> Result<CommandOutput, Fault>
 where
-    R: Files + AllocGlobal + Clock + Eprint,
+    R: Files<File = File> + AllocGlobal + Clock + Eprint,
     R: Net<Listener = TcpListener, Stream = TcpStream>,
     D: Disk,
     ensures output { IfOk result (IsOutput (D.known disk.now) command.now) }

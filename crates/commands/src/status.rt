@@ -19,6 +19,7 @@ use load::Disk;
 use server_log::LogOutput;
 use serving::Server;
 use std::convert::AsStr;
+use std::fs::File;
 use std::io::Write;
 use std::net::{Net, TcpListener, TcpStream};
 use std::rt::Files;
@@ -35,7 +36,7 @@ use std::time::Clock;
 // tests compare each command's lines and status.
 pub fn command<R, D, S, O, E>(rt: &R, disk: &D, words: &[S], out: &mut O, err: &mut E) -> u8
 where
-    R: Files + Threads + Wait + AllocGlobal + Clock + LogOutput,
+    R: Files<File = File> + Threads + Wait + AllocGlobal + Clock + LogOutput,
     R: Copy + Drop + Send + Sync + 'static,
     R: Net<Listener = TcpListener, Stream = TcpStream>,
     R::File: Send,
@@ -76,7 +77,7 @@ fn perform_comparing<R, D, O, E>(
     err: &mut E,
 ) -> u8
 where
-    R: Files + Threads + Wait + AllocGlobal + Clock + LogOutput,
+    R: Files<File = File> + Threads + Wait + AllocGlobal + Clock + LogOutput,
     R: Copy + Drop + Send + Sync + 'static,
     R: Net<Listener = TcpListener, Stream = TcpStream>,
     R::File: Send,
@@ -106,7 +107,7 @@ fn perform<R, D, O, E>(
     err: &mut E,
 ) -> u8
 where
-    R: Files + Threads + Wait + AllocGlobal + Clock + LogOutput,
+    R: Files<File = File> + Threads + Wait + AllocGlobal + Clock + LogOutput,
     R: Copy + Drop + Send + Sync + 'static,
     R: Net<Listener = TcpListener, Stream = TcpStream>,
     R::File: Send,

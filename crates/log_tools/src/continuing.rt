@@ -71,7 +71,7 @@ fn continue_counts<R>(
     report: &mut Report,
 ) -> Result<String, ReportFault>
 where
-    R: Files + AllocGlobal + Clock + Eprint,
+    R: Files<File = File> + AllocGlobal + Clock + Eprint,
     ensures { IfOk result (λ text.
         Continues (length logs.now) form report.old report.new (string_bytes text)) }
 {

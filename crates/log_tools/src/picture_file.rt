@@ -2,7 +2,7 @@
 
 use crate::reporting::path_of;
 use bounded_files::{ResourceFault, may_write_over, write_file};
-use std::fs::{self, Metadata};
+use std::fs::{self, File, Metadata};
 use std::os::unix::fs::MetadataExt;
 use std::rt::Files;
 
@@ -26,7 +26,7 @@ pub(crate) fn require_drawable<R: Files>(
 }
 
 /// Writes the picture into the named file, if there are both.
-pub(crate) fn write_picture<R: Files + AllocGlobal>(
+pub(crate) fn write_picture<R: Files<File = File> + AllocGlobal>(
     rt: &R,
     file: Option<&str>,
     picture: &Option<String>,

@@ -14,7 +14,7 @@ use jiff_core::Timestamp;
 use moments::{NamedTime, time_text};
 use report::{MetricKind, Report, Window, count_log};
 use std::alloc::{AllocError, Global};
-use std::fs;
+use std::fs::{self, File};
 use std::io::{self, Error, ErrorKind};
 use std::rt::Files;
 use std::time::{Clock, SystemTime, UNIX_EPOCH};
@@ -48,7 +48,7 @@ pub fn report_logs<R>(
     file: Option<&str>,
 ) -> Result<ReportOutput, ResourceFault>
 where
-    R: Files + AllocGlobal + Clock + Eprint,
+    R: Files<File = File> + AllocGlobal + Clock + Eprint,
     ensures { IfOk result
         (HasReported (length logs.now) since until form (is_some file.entry)) }
 {

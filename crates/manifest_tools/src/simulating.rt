@@ -16,6 +16,7 @@ use load::{PathFault, load_path};
 use ruleset::Ruleset;
 use simulate::{Client, Simulated};
 use std::alloc::{AllocError, Global};
+use std::fs::File;
 use std::rt::Files;
 use std::time::Clock;
 
@@ -46,7 +47,7 @@ pub fn simulate_files<R, D>(
     client: Client,
 ) -> Result<SimulationOutput, ManifestToolFault>
 where
-    R: Files + AllocGlobal + Clock + Eprint,
+    R: Files<File = File> + AllocGlobal + Clock + Eprint,
     D: Disk,
     ensures output { IfOk result (specs.HasSimulated (D.known disk.now) json client manifest.now
         (option_copied against.entry) (option_copied appid.entry) (option_copied file.entry)) }
@@ -70,7 +71,7 @@ fn write_picture<R>(
     output: &SimulationOutput,
 ) -> Result<(), ResourceFault>
 where
-    R: Files + AllocGlobal,
+    R: Files<File = File> + AllocGlobal,
     ensures { OnErr result (IsSome (option_copied file.entry)) }
 {
     match (file, &output.picture) {

@@ -10,12 +10,13 @@ use bounded_files::{Disk, write_file};
 use flow_check::FlowFault;
 use program_tools::{ProgramToolFault, read_program};
 use std::alloc::Global;
+use std::fs::File;
 use std::rt::Files;
 
 /// The program of a file, in order. It is written only if the whole program can be put in order.
 // open: whether an allocation fails (F9, B4); what a device's files contain, and which bytes OUT
 // got.
-pub fn order_file<R: Files + AllocGlobal, D: Disk>(
+pub fn order_file<R: Files<File = File> + AllocGlobal, D: Disk>(
     rt: &R,
     disk: &D,
     path: &str,

@@ -8,13 +8,14 @@ use crate::program_tool_fault::ProgramToolFault;
 use bounded_files::{Disk, MOST_BYTES, read_within, write_file};
 use bpf_text::{AsmFault, AsmFaultKind, assemble};
 use std::alloc::Global;
+use std::fs::File;
 use std::rt::Files;
 use std::str;
 
 /// Assembles a file's text into a program. It is written only if the whole text can be assembled.
 // open: whether an allocation fails (A7, B4); what a device's files contain, and which bytes OUT
 // got.
-pub fn assemble_file<R: Files + AllocGlobal, D: Disk>(
+pub fn assemble_file<R: Files<File = File> + AllocGlobal, D: Disk>(
     rt: &R,
     disk: &D,
     text: &str,

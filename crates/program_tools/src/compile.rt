@@ -11,13 +11,14 @@ use bounded_files::{Disk, MOST_BYTES, read_within, write_file};
 use bpf_verify::Verified;
 use command_line::DeclaredShape;
 use std::alloc::Global;
+use std::fs::File;
 use std::rt::Files;
 
 /// The number of slots of the program for a file's rule. The program is written only if the whole
 /// rule has one.
 // open: whether an allocation fails (L5, C2, N3, B4); what a device's files contain, and which
 // bytes OUT got.
-pub fn compile_file<R: Files + AllocGlobal, D: Disk>(
+pub fn compile_file<R: Files<File = File> + AllocGlobal, D: Disk>(
     rt: &R,
     disk: &D,
     text: &str,

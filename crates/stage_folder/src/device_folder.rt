@@ -1,11 +1,10 @@
 //! A folder of a device.
 
 use crate::device_path::{path_in, path_of};
-use crate::file_reader::read_file;
 use crate::folder::StageFolder;
 use crate::folder_fault::FolderFault;
-use crate::new_file::{remove_file, replace_file};
 use crate::record_folder::{RECORDS, has_records, make_records, numbers_in};
+use bounded_files::{IfDenied, Links, read_file, remove_file, replace_file};
 use std::fs::{self, File, TryLockError};
 use std::path::{Path, PathBuf};
 use std::rt::Files;
@@ -21,8 +20,8 @@ const LOADS: &str = ".stage/loads";
 
 const MOST_LOADS: u32 = 0x10_0000;
 
-/// A folder of a device, about whose files and records nothing is known. A new file
-/// is written next to the old one, synced and renamed; none is written through a symbolic link.
+/// A folder of a device, about whose files and records nothing is known. A file is replaced as a
+/// whole, and keeps its owner; none is read or written through a symbolic link.
 #[derive(Drop)]
 pub struct DeviceFolder<'a, R> {
     rt: &'a R,
@@ -65,7 +64,7 @@ impl<'a, R: Files<File = File> + AllocGlobal> DeviceFolder<'a, R> {
     fn replace_own(&self, path: &str, bytes: &[u8]) -> Result<(), FolderFault> {
         let folder = self.path_of_records()?;
         make_records(self.rt, folder.as_str())?;
-        replace_file(self.rt, path, bytes, 0o600)
+        Ok(replace_file(self.rt, path, bytes, 0o600, IfDenied::Fail)?)
     }
 }
 
@@ -91,14 +90,14 @@ impl<'a, R: Files<File = File> + AllocGlobal> StageFolder for DeviceFolder<'a, R
 
     fn read(&self, name: &str) -> Result<Option<Vec<u8>>, FolderFault> {
         let path = path_in(self.rt, self.path.as_str(), name)?;
-        read_file(self.rt, path.as_str(), MOST_BYTES)
+        Ok(read_file(self.rt, path.as_str(), Links::Refused, MOST_BYTES)?)
     }
 
     fn put(&mut self, name: &str, bytes: Option<&[u8]>) -> Result<(), FolderFault> {
         let path = path_in(self.rt, self.path.as_str(), name)?;
         match bytes {
-            Some(bytes) => replace_file(self.rt, path.as_str(), bytes, 0o644),
-            None => remove_file(self.rt, path.as_str()),
+            Some(bytes) => Ok(replace_file(self.rt, path.as_str(), bytes, 0o644, IfDenied::Fail)?),
+            None => Ok(remove_file(self.rt, path.as_str())?),
         }
     }
 
@@ -112,7 +111,7 @@ impl<'a, R: Files<File = File> + AllocGlobal> StageFolder for DeviceFolder<'a, R
 
     fn read_record(&self, number: u32) -> Result<Option<Vec<u8>>, FolderFault> {
         let path = self.path_of_record(number)?;
-        read_file(self.rt, path.as_str(), MOST_RECORD)
+        Ok(read_file(self.rt, path.as_str(), Links::Refused, MOST_RECORD)?)
     }
 
     fn put_record(&mut self, number: u32, bytes: &[u8]) -> Result<(), FolderFault> {
@@ -129,7 +128,7 @@ impl<'a, R: Files<File = File> + AllocGlobal> StageFolder for DeviceFolder<'a, R
             return Ok(None);
         }
         let path = self.path_of_loads()?;
-        read_file(self.rt, path.as_str(), MOST_LOADS)
+        Ok(read_file(self.rt, path.as_str(), Links::Refused, MOST_LOADS)?)
     }
 
     fn write_loads(&self, bytes: &[u8]) -> Result<(), FolderFault> {

@@ -3,6 +3,7 @@
 ghost use Rattle.std.specs.Prelude.{◌≡◌};
 ghost use Rattle.stage_folder.specs.declared.folder_fault.FolderFault.TheVariants.{Memory};
 
+use bounded_files::FileFault;
 use std::alloc::{AllocError, AllocFailed};
 use std::fmt;
 use std::io::{Error, ErrorKind};
@@ -60,12 +61,21 @@ impl<T: Drop> From<AllocFailed<T>> for FolderFault {
     }
 }
 
+impl From<FileFault> for FolderFault {
+    fn from(fault: FileFault) -> Self {
+        match fault {
+            FileFault::Link => FolderFault::Link,
+            FileFault::NotRegular => FolderFault::NotRegular,
+            FileFault::TooLong => FolderFault::TooLong,
+            FileFault::System(ErrorKind::OutOfMemory) => FolderFault::Memory,
+            FileFault::System(kind) => FolderFault::System(kind),
+        }
+    }
+}
+
 impl From<Error> for FolderFault {
     fn from(error: Error) -> Self {
-        match error.kind() {
-            ErrorKind::OutOfMemory => FolderFault::Memory,
-            kind => FolderFault::System(kind),
-        }
+        FolderFault::from(FileFault::from(error))
     }
 }
 

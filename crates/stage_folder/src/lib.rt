@@ -11,11 +11,9 @@
 mod device_folder;
 mod device_path;
 mod distinct_names;
-mod file_reader;
 mod folder;
 mod folder_fault;
 mod laws;
-mod new_file;
 mod performing;
 mod record_folder;
 mod records;

@@ -1,7 +1,7 @@
-//! Files of a device that are written.
+//! Files of a device that are written, and read up to a limit.
 
 use crate::files::{has_mode, has_text, set_mode, shown};
-use bounded_files::{may_write_over, write_file};
+use bounded_files::{FileFault, Links, may_write_over, read_file, write_file};
 use std::fs;
 use std::io::{self, ErrorKind};
 use std::os::unix::fs::symlink;
@@ -61,4 +61,37 @@ fn written_over(rt: HostRuntime) -> Result<(), Fail> {
     let may_others = may_write_over(&rt, "/dev/null", b"<svg")
         && may_write_over(&rt, "no", b"<svg");
     shown(may_others, "a device and a new file")
+}
+
+/// A path, the most bytes, and what reading it gives if no link is followed.
+const READ: &[(&str, u32, &str)] = &[
+    ("four", 4, "read"),
+    ("four", 3, "too long"),
+    ("to-four", 4, "a link"),
+    ("folder", 4, "not regular"),
+    ("no", 4, "missing"),
+    ("four/no", 4, "unreadable"),
+];
+
+/// What reading a path gives.
+fn read_by(rt: &HostRuntime, path: &str, most: u32) -> &'static str {
+    match read_file(rt, path, Links::Refused, most) {
+        Ok(Some(_)) => "read",
+        Ok(None) => "missing",
+        Err(FileFault::Link) => "a link",
+        Err(FileFault::NotRegular) => "not regular",
+        Err(FileFault::TooLong) => "too long",
+        Err(FileFault::System(_)) => "unreadable",
+    }
+}
+
+#[test]
+fn read_to_a_limit(rt: HostRuntime) -> Result<(), Fail> {
+    write(&rt, "four", b"four")?;
+    symlink(&rt, "four", "to-four")?;
+    fs::create_dir(&rt, "folder")?;
+    for (path, most, read) in READ {
+        shown(read_by(&rt, *path, *most) == *read, *path)?;
+    }
+    Ok(())
 }

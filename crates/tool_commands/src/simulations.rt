@@ -11,6 +11,7 @@ use command_line::AppArgs;
 use manifest_tools::{ManifestToolFault, simulate_files};
 use simulate::Client;
 use std::alloc::{AllocError, Global};
+use std::fs::File;
 use std::rt::Files;
 use std::time::Clock;
 use tool_words::{SimulateArgs, ToolCommand};
@@ -22,7 +23,7 @@ pub(crate) fn simulated<R, D>(
     args: &SimulateArgs<'_>,
 ) -> Result<ToolOutput, Fault>
 where
-    R: Files + AllocGlobal + Clock + Eprint,
+    R: Files<File = File> + AllocGlobal + Clock + Eprint,
     D: Disk,
     ensures output { IfOk result (IsOutput (D.known disk.now) (ToolCommand.Simulate args.now)) }
     ensures fault { IfErr result (IsRefused (D.known disk.now) (ToolCommand.Simulate args.now)) }
