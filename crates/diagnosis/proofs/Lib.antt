@@ -6,3 +6,6 @@ mod Judged
 mod Declared
 mod FaultReports
 mod Long
+pub mod Walks
+pub mod NewNames
+mod First

@@ -8,6 +8,9 @@ pub mod Added
 pub mod Reason
 pub mod Lines
 pub mod Undeclared
+pub mod SchemaErrors
+pub mod AllDuplicates
+pub mod FirstFault
 pub mod Others
 pub mod Further
 pub mod Reported

@@ -3,8 +3,8 @@
 use Rattle.std.specs.Prelude.{◌≡◌, List, map, drop}
 use Rattle.load.specs.declared.load_fault.LoadFault.{LoadFault}
 use Rattle.load.specs.declared.load_fault.LoadFault.TheVariants.{Manifest}
-use Rattle.manifest.specs.AllDuplicates.{HasAllDuplicates}
-use Rattle.manifest.specs.SchemaErrors.{schema_errors_of}
+use Rattle.diagnosis.specs.AllDuplicates.{HasAllDuplicates}
+use Rattle.diagnosis.specs.SchemaErrors.{schema_errors_of}
 use Rattle.manifest.specs.declared.manifest_fault.ManifestFault.TheVariants.{Field, Duplicate}
 use Rattle.manifest.specs.declared.manifest_fault.DuplicateName.{DuplicateName}
 use Rattle.manifest.specs.declared.schema_error.SchemaError.{SchemaError}

@@ -5,10 +5,10 @@ ghost use Rattle.diagnosis.specs.Others.{AreOtherDuplicates, AreOtherSchemaError
 ghost use Rattle.diagnosis.specs.Others as specs;
 ghost use Rattle.load.specs.declared.load_fault.LoadFault.{LoadFault};
 
+use crate::duplicates::all_duplicates;
+use crate::schema_errors::all_schema_errors;
 use load::LoadFault;
-use manifest::{
-    DuplicateName, ManifestFault, Parsed, SchemaError, all_duplicates, all_schema_errors,
-};
+use manifest::{DuplicateName, ManifestFault, Parsed, SchemaError};
 use std::alloc::{AllocError, Global};
 
 /// A reason why a document isn't a manifest.

@@ -16,6 +16,11 @@ use Rattle.manifest.specs.Member.{required, text_that, needs, fits}
 use Rattle.manifest.specs.Rows.{rows_of}
 use Rattle.manifest.specs.Release.{release_of}
 
+-- the name of the file
+abbrev pub file_of : ProgramSource → List ℕ
+file_of (Program file) = file
+file_of (Rule file) = file
+
 -- an app: its appid, the file of its program, and its releases
 pub record AppEntry : Type 0 where
   pub appid : List ℕ

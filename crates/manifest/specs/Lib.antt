@@ -9,8 +9,5 @@ pub mod App
 pub mod DuplicateNames
 pub mod Manifest
 pub mod Parsed
-pub mod SchemaErrors
-pub mod AllDuplicates
-pub mod FirstFault
 pub mod OneReading
 pub mod Texts

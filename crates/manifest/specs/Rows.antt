@@ -18,6 +18,15 @@ items_in value = option_map data_of (as_array value)
 abbrev pub are_between : {X : Type 0} → ℕ → ℕ → List X → Bool
 are_between from to xs = nat_le from (length xs) && nat_le (length xs) to
 
+abbrev pub some_between : ℕ → ℕ → Option (List Data) → Option (List Data)
+some_between from to None = None
+some_between from to (Some ds) = if are_between from to ds then Some ds else None
+
+-- the items of a list of `from` to `to` items; if `from` is 0 it may be absent
+abbrev pub items_between : ℕ → ℕ → Option Data → Option (List Data)
+items_between from to None = if from == 0 then Some [] else None
+items_between from to (Some value) = some_between from to (items_in value)
+
 -- the result of a table, with its number in a list
 abbrev pub at_place : {X M : Type 0} → ℕ → Result X M → Result X (InList M)
 at_place n (Ok x) = Ok x
@@ -43,12 +52,10 @@ module _ {X M : Type 0} (row_of : Members → Result X M) where
   items_from n [] = Ok []
   items_from n (d ∷ ds) = with_first (item_of n d) (items_from (n + 1) ds)
 
-  abbrev pub some_rows : ℕ → ℕ → Option (List Data) → Result (List X) (InList M)
-  some_rows from to None = Err Count
-  some_rows from to (Some ds) =
-      if are_between from to ds then items_from 1 ds else Err Count
+  abbrev pub rows_or_count : Option (List Data) → Result (List X) (InList M)
+  rows_or_count None = Err Count
+  rows_or_count (Some ds) = items_from 1 ds
 
-  -- a list of `from` to `to` tables; if `from` is 0 it may be absent
+  -- the rows of a list of `from` to `to` tables
   abbrev pub rows_of : ℕ → ℕ → Option Data → Result (List X) (InList M)
-  rows_of from to None = if from == 0 then Ok [] else Err Count
-  rows_of from to (Some value) = some_rows from to (items_in value)
+  rows_of from to value = rows_or_count (items_between from to value)

@@ -9,10 +9,11 @@ ghost use Rattle.releases.specs.Appid.{is_appid};
 ghost use Rattle.manifest.specs.App as specs;
 
 use crate::kind::{Kind, unknown_member};
-use crate::member::{member, text};
+use crate::member::{member, text_member};
+use crate::quote::Quote;
 use crate::rows::{TableRow, read_rows};
 use crate::schema_error::{AppError, InList, ReleaseError};
-use crate::table_fault::{TableFault, copy, quote};
+use crate::table_fault::{TableFault, copy};
 use attrs::Text;
 use cells::Shape;
 use releases::Release;
@@ -27,6 +28,18 @@ pub enum ProgramSource {
     Program(Text),
     /// A file with the text of a rule.
     Rule(Text),
+}
+
+impl ProgramSource {
+    /// The name of the file, as the manifest has it.
+    pub fn file(&self) -> &str
+        ensures { result.now ≡ specs.file_of self.now }
+    {
+        match self {
+            ProgramSource::Program(file) => file.as_str(),
+            ProgramSource::Rule(file) => file.as_str(),
+        }
+    }
 }
 
 /// An app of a manifest, with an appid of 1 to 1024 bytes and at most 64 releases.
@@ -130,7 +143,7 @@ fn read_app(alloc: Global, table: &Table) -> Result<AppEntry, TableFault<AppErro
     ensures { ReadsAs (specs.app_of (table_view table.now)) result }
 {
     if let Some(key) = unknown_member(Kind::App, table) {
-        let Ok(key) = quote(alloc, key) else {
+        let Ok(key) = Quote::of(alloc, key) else {
             return Err(TableFault::Memory);
         };
         return Err(TableFault::SchemaError(AppError::Unknown(key)));
@@ -164,7 +177,7 @@ fn appid(table: &Table) -> Option<&str>
         ≡ required (text_that is_appid) (codes "appid") (table_view table.now) }
     ensures named { IfSome result (λ text. IsTrue (is_appid text.now)) }
 {
-    match text(table, "appid") {
+    match text_member(table, "appid") {
         Some(text) if releases::is_appid(text) => Some(text),
         _ => None,
     }

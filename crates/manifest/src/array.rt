@@ -9,10 +9,11 @@ ghost use Rattle.manifest.specs.TableFault.{ReadsAs};
 ghost use Rattle.manifest.specs.Array as specs;
 
 use crate::kind::{Kind, unknown_member};
-use crate::member::{member, number, number_of, text};
+use crate::member::{member, number, number_of, text_member};
+use crate::quote::Quote;
 use crate::rows::TableRow;
 use crate::schema_error::ArrayError;
-use crate::table_fault::{TableFault, quote};
+use crate::table_fault::TableFault;
 use cells::{ArrayName, CellArray, CellWidth};
 use declarations::ArrayDeclaration;
 use std::alloc::Global;
@@ -32,7 +33,7 @@ fn read_array(alloc: Global, table: &Table) -> Result<ArrayDeclaration, TableFau
     ensures { ReadsAs (specs.array_of (table_view table.now)) result }
 {
     if let Some(key) = unknown_member(Kind::Array, table) {
-        let Ok(key) = quote(alloc, key) else {
+        let Ok(key) = Quote::of(alloc, key) else {
             return Err(TableFault::Memory);
         };
         return Err(TableFault::SchemaError(ArrayError::Unknown(key)));
@@ -59,7 +60,7 @@ fn name(table: &Table) -> Option<&str>
     ensures { option_copied result
         ≡ required (text_that is_name) (codes "name") (table_view table.now) }
 {
-    match text(table, "name") {
+    match text_member(table, "name") {
         Some(text) if ArrayName::is_name(text) => Some(text),
         _ => None,
     }

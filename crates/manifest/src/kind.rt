@@ -8,8 +8,9 @@ ghost use Rattle.manifest.specs.Kind as specs;
 
 use toml::Table;
 
+/// A kind of table.
 #[derive(Clone, Copy)]
-pub(crate) enum Kind {
+pub enum Kind {
     Manifest,
     Array,
     App,
@@ -18,7 +19,7 @@ pub(crate) enum Kind {
 }
 
 /// The first member, in the order of keys, that isn't allowed in a table of this kind.
-pub(crate) fn unknown_member<'a>(kind: Kind, table: &'a Table) -> Option<&'a str>
+pub fn unknown_member<'a>(kind: Kind, table: &'a Table) -> Option<&'a str>
     ensures { option_copied result ≡ specs.unknown_member kind (table_view table.now) }
 {
     'members: for (key, _value) in table.iter() {

@@ -9,10 +9,11 @@ use crate::app::AppEntry;
 use crate::duplicate::repeated_name;
 use crate::kind::{Kind, unknown_member};
 use crate::manifest_fault::DuplicateName;
-use crate::member::text;
+use crate::member::text_member;
+use crate::quote::Quote;
 use crate::rows::read_rows;
 use crate::schema_error::{AppError, ArrayError, InList, SchemaError};
-use crate::table_fault::{TableFault, copy, quote};
+use crate::table_fault::{TableFault, copy};
 use attrs::Text;
 use declarations::ArrayDeclaration;
 use releases::MOST_APPS;
@@ -20,7 +21,8 @@ use std::alloc::Global;
 use std::marker::Model;
 use toml::Table;
 
-pub(crate) const MAX_ARRAYS: usize = 64;
+/// The most arrays of a manifest.
+pub const MOST_ARRAYS: usize = 64;
 
 /// The data of a manifest: the server's name, its arrays of counters, and its apps.
 pub struct Manifest {
@@ -104,16 +106,16 @@ impl Manifest {
 }
 
 /// The manifest of a table, which may have duplicate names.
-pub(crate) fn read_tables(alloc: Global, table: &Table) -> Result<Manifest, TableFault<SchemaError>>
+pub fn read_tables(alloc: Global, table: &Table) -> Result<Manifest, TableFault<SchemaError>>
     ensures { ReadsAs (specs.tables_of (table_view table.now)) result }
 {
     if let Some(key) = unknown_member(Kind::Manifest, table) {
-        let Ok(key) = quote(alloc, key) else {
+        let Ok(key) = Quote::of(alloc, key) else {
             return Err(TableFault::Memory);
         };
         return Err(TableFault::SchemaError(SchemaError::Unknown(key)));
     }
-    let Some(server) = text(table, "server") else {
+    let Some(server) = text_member(table, "server") else {
         return Err(TableFault::SchemaError(SchemaError::Server));
     };
     let arrays = match read_arrays(alloc, table) {
@@ -146,7 +148,7 @@ fn read_arrays(
 ) -> Result<Vec<ArrayDeclaration>, TableFault<InList<ArrayError>>>
     ensures { ReadsListAs (specs.arrays_of (table_view table.now)) result }
 {
-    read_rows(alloc, table, "array", 0, MAX_ARRAYS)
+    read_rows(alloc, table, "array", 0, MOST_ARRAYS)
 }
 
 fn read_apps(alloc: Global, table: &Table) -> Result<Vec<AppEntry>, TableFault<InList<AppError>>>
@@ -163,13 +165,13 @@ pub(crate) fn without_duplicates(
     ensures { ReadsAs (specs.once manifest) result }
 {
     if let Some(name) = repeated_name(manifest.arrays()) {
-        let Ok(name) = quote(alloc, name) else {
+        let Ok(name) = Quote::of(alloc, name) else {
             return Err(TableFault::Memory);
         };
         return Err(TableFault::SchemaError(DuplicateName::Array(name)));
     }
     if let Some(appid) = repeated_name(manifest.apps()) {
-        let Ok(appid) = quote(alloc, appid) else {
+        let Ok(appid) = Quote::of(alloc, appid) else {
             return Err(TableFault::Memory);
         };
         return Err(TableFault::SchemaError(DuplicateName::App(appid)));

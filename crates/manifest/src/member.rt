@@ -13,7 +13,8 @@ pub(crate) fn member<'a>(table: &'a Table, key: &str) -> Option<&'a Value>
     table.get(key)
 }
 
-pub(crate) fn text<'a>(table: &'a Table, key: &str) -> Option<&'a str>
+/// The text of a member; None for any other value.
+pub fn text_member<'a>(table: &'a Table, key: &str) -> Option<&'a str>
     ensures { option_copied result ≡ required as_str key.now (table_view table.now) }
 {
     match member(table, key) {

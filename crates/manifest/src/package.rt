@@ -8,10 +8,11 @@ ghost use Rattle.manifest.specs.TableFault.{ReadsAs};
 ghost use Rattle.manifest.specs.Package as specs;
 
 use crate::kind::{Kind, unknown_member};
-use crate::member::{number, text, truth};
+use crate::member::{number, text_member, truth};
+use crate::quote::Quote;
 use crate::rows::TableRow;
 use crate::schema_error::PackageError;
-use crate::table_fault::{TableFault, copy, quote};
+use crate::table_fault::{TableFault, copy};
 use releases::Package;
 use std::alloc::Global;
 use toml::Table;
@@ -34,12 +35,12 @@ fn read_package(alloc: Global, table: &Table) -> Result<Package, TableFault<Pack
     ensures { ReadsAs (specs.package_of (table_view table.now)) result }
 {
     if let Some(key) = unknown_member(Kind::Package, table) {
-        let Ok(key) = quote(alloc, key) else {
+        let Ok(key) = Quote::of(alloc, key) else {
             return Err(TableFault::Memory);
         };
         return Err(TableFault::SchemaError(PackageError::Unknown(key)));
     }
-    let Some(name) = text(table, "name") else {
+    let Some(name) = text_member(table, "name") else {
         return Err(TableFault::SchemaError(PackageError::Name));
     };
     let Some(hash) = hash(table) else {
@@ -64,7 +65,7 @@ fn hash(table: &Table) -> Option<&str>
     ensures { option_copied result
         ≡ required (text_that is_hash) (codes "hash_sha256") (table_view table.now) }
 {
-    match text(table, "hash_sha256") {
+    match text_member(table, "hash_sha256") {
         Some(text) if Package::is_hash(text) => Some(text),
         _ => None,
     }

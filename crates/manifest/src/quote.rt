@@ -1,9 +1,10 @@
 //! A text of a manifest that a fault quotes.
 
-ghost use Rattle.std.specs.Prelude.{◌≡◌, string_bytes, Some};
+ghost use Rattle.std.specs.Prelude.{◌≡◌, IfOk, Some};
 ghost use Rattle.printing.specs.Printed.{printed};
 
 use printing::Printed;
+use std::alloc::{AllocError, Global};
 use std::fmt;
 use std::marker::Model;
 
@@ -22,11 +23,12 @@ impl Model for Quote {
 }
 
 impl Quote {
-    /// A quote of this text, without an allocation.
-    pub(crate) fn new(text: String) -> Quote
-        ensures { result ≡ string_bytes text }
+    /// A quote of a copy of this text.
+    pub fn of(alloc: Global, text: &str) -> Result<Quote, AllocError>
+        ensures { IfOk result (λ quote. quote ≡ text.now) }
     {
-        Quote { text }
+        let text = String::from_str(alloc, text)?;
+        Ok(Quote { text })
     }
 
     /// The text.

@@ -34,7 +34,7 @@ pub fn read_manifest(alloc: Global, bytes: &[u8]) -> Result<Manifest, ManifestFa
 }
 
 /// Reads a manifest as `read_manifest` does. If it is refused, also returns what its bytes were
-/// parsed as, from which `all_schema_errors` and `all_duplicates` continue.
+/// parsed as.
 // open: whether an allocation fails (M8); what the error of M1 says.
 pub fn parse_manifest(alloc: Global, bytes: &[u8]) -> Result<Manifest, RefusedManifest>
     ensures manifest { IfOk result (λ manifest. ReadsManifest bytes.now (Ok manifest)) }

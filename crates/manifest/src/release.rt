@@ -7,10 +7,11 @@ ghost use Rattle.manifest.specs.TableFault.{ReadsAs, ReadsListAs};
 ghost use Rattle.manifest.specs.Release as specs;
 
 use crate::kind::{Kind, unknown_member};
-use crate::member::text;
+use crate::member::text_member;
+use crate::quote::Quote;
 use crate::rows::{TableRow, read_rows};
 use crate::schema_error::{InList, PackageError, ReleaseError};
-use crate::table_fault::{TableFault, copy, quote};
+use crate::table_fault::{TableFault, copy};
 use attrs::read_version;
 use releases::{Package, Release};
 use std::alloc::Global;
@@ -32,7 +33,7 @@ fn read_release(alloc: Global, table: &Table) -> Result<Release, TableFault<Rele
     ensures { ReadsAs (specs.release_of (table_view table.now)) result }
 {
     if let Some(key) = unknown_member(Kind::Release, table) {
-        let Ok(key) = quote(alloc, key) else {
+        let Ok(key) = Quote::of(alloc, key) else {
             return Err(TableFault::Memory);
         };
         return Err(TableFault::SchemaError(ReleaseError::Unknown(key)));
@@ -40,7 +41,7 @@ fn read_release(alloc: Global, table: &Table) -> Result<Release, TableFault<Rele
     let Some(version) = version(table) else {
         return Err(TableFault::SchemaError(ReleaseError::Version));
     };
-    let Some(codebase) = text(table, "codebase") else {
+    let Some(codebase) = text_member(table, "codebase") else {
         return Err(TableFault::SchemaError(ReleaseError::Codebase));
     };
     let packages = match read_packages(alloc, table) {
@@ -74,7 +75,7 @@ fn version(table: &Table) -> Option<&str>
     ensures { option_copied result
         ≡ required (text_that specs.is_version_text) (codes "version") (table_view table.now) }
 {
-    match text(table, "version") {
+    match text_member(table, "version") {
         Some(text) if read_version(text).is_some() => Some(text),
         _ => None,
     }

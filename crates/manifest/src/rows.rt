@@ -1,9 +1,11 @@
 //! Lists of tables, which are numbered from 1.
 
-ghost use Rattle.std.specs.Prelude.{◌≡◌, ◌≤◌, map, length, option_map, Result, IfOk, IsTrue};
+ghost use Rattle.std.specs.Prelude.{◌≡◌, ◌≤◌, map, length, option_map, Result};
+ghost use Rattle.std.specs.Prelude.{IfOk, IfSome, IsTrue};
 ghost use Rattle.toml.specs.Data.{Members, get_member};
 ghost use Rattle.toml.specs.View.{view, table_view};
 ghost use Rattle.manifest.specs.Rows.{rows_of, items_in, are_between, items_from, item_of};
+ghost use Rattle.manifest.specs.Rows as specs;
 ghost use Rattle.manifest.specs.TableFault.{ReadsAs, ReadsListAs};
 
 use crate::member::member;
@@ -13,11 +15,12 @@ use std::alloc::Global;
 use toml::{Table, Value};
 
 /// A table of a list, and how it is read.
-pub(crate) trait TableRow: Drop {
+pub trait TableRow: Drop {
     type SchemaError: Drop;
 
     ghost row_of: { Members → Result Self Self.SchemaError };
 
+    /// The row of a table, or its first schema error.
     fn read(alloc: Global, table: &Table) -> Result<Self, TableFault<Self::SchemaError>>
         ensures { ReadsAs (row_of (table_view table.now)) result };
 }
@@ -35,19 +38,30 @@ pub(crate) fn read_rows<R: TableRow>(
     ensures from { IfOk result (λ v. from ≤ length v.items) }
     ensures to { IfOk result (λ v. length v.items ≤ to) }
 {
-    let Some(list) = member(table, key) else {
-        if from == 0 {
-            return Ok(Vec::new(alloc));
-        }
-        return Err(TableFault::SchemaError(InList::Count));
-    };
-    match items_of(list) {
-        Some(items) if has_count(items, from, to) => read_items(alloc, items),
-        _ => Err(TableFault::SchemaError(InList::Count)),
+    match items_between(table, key, from, to) {
+        Some(items) => read_items(alloc, items),
+        None => Err(TableFault::SchemaError(InList::Count)),
     }
 }
 
-pub(crate) fn items_of(list: &Value) -> Option<&[Value]>
+/// The items of a member that is a list of `from` to `to` items; if `from` is 0 it may be absent,
+/// and then has no items. None for any other member.
+pub fn items_between<'a>(table: &'a Table, key: &str, from: usize, to: usize) -> Option<&'a [Value]>
+    ensures items { option_map (λ v. map view v.now) result
+        ≡ specs.items_between from to (get_member key.now (table_view table.now)) }
+    ensures count { IfSome result
+        (λ items. (from ≤ length items.now) × (length items.now ≤ to)) }
+{
+    let Some(list) = member(table, key) else {
+        return if from == 0 { Some(&[]) } else { None };
+    };
+    match items_of(list) {
+        Some(items) if has_count(items, from, to) => Some(items),
+        _ => None,
+    }
+}
+
+fn items_of(list: &Value) -> Option<&[Value]>
     ensures { option_map (λ v. map view v.now) result ≡ items_in (view list.now) }
 {
     match list.as_array() {
@@ -56,8 +70,8 @@ pub(crate) fn items_of(list: &Value) -> Option<&[Value]>
     }
 }
 
-/// Whether there are `from` to `to` items.
-pub(crate) fn has_count(items: &[Value], from: usize, to: usize) -> bool
+// Whether there are `from` to `to` items.
+fn has_count(items: &[Value], from: usize, to: usize) -> bool
     ensures value { result ≡ are_between from to (map view items.now) }
     ensures count { IsTrue result → (from ≤ length items.now) × (length items.now ≤ to) }
 {
@@ -86,7 +100,7 @@ fn read_items<R: TableRow>(
 }
 
 /// The row of the item with this number.
-pub(crate) fn read_item<R: TableRow>(
+pub fn read_item<R: TableRow>(
     alloc: Global,
     number: usize,
     item: &Value,

@@ -1,5 +1,5 @@
 -- All schema errors of a manifest: the first one of each table in its two lists.
-use Rattle.std.specs.Prelude.{ℕ, ◌+◌, ◌==◌, if◌then◌else◌, List, [], ◌∷◌, ◌++◌, map, codes}
+use Rattle.std.specs.Prelude.{ℕ, ◌+◌, List, [], ◌∷◌, ◌++◌, map, codes}
 use Rattle.std.specs.Prelude.{Option, Some, None, option_to_list, Result, Ok, Err}
 use Rattle.toml.specs.Data.{Data, Members, get_member, as_str}
 use Rattle.manifest.specs.declared.kind.Kind.TheVariants as kind
@@ -13,7 +13,7 @@ use Rattle.manifest.specs.App.{app_of}
 use Rattle.manifest.specs.Array.{array_of}
 use Rattle.manifest.specs.Kind.{unknown_member}
 use Rattle.manifest.specs.Member.{required}
-use Rattle.manifest.specs.Rows.{are_between, item_of, items_in}
+use Rattle.manifest.specs.Rows.{item_of, items_between}
 
 -- the schema error, if there is one
 abbrev pub schema_error_in : {X M : Type 0} → Result X M → List M
@@ -27,15 +27,13 @@ module _ {X M : Type 0} (row_of : Members → Result X M) where
   schema_errors_from n (d ∷ ds) = schema_error_in (item_of row_of n d)
       ++ schema_errors_from (n + 1) ds
 
-  abbrev pub schema_errors_between : ℕ → ℕ → Option (List Data) → List (InList M)
-  schema_errors_between from to None = Count ∷ []
-  schema_errors_between from to (Some ds) =
-      if are_between from to ds then schema_errors_from 1 ds else Count ∷ []
+  abbrev pub errors_or_count : Option (List Data) → List (InList M)
+  errors_or_count None = Count ∷ []
+  errors_or_count (Some ds) = schema_errors_from 1 ds
 
-  -- the schema errors of a list of `from` to `to` tables; if `from` is 0 it may be absent
+  -- the schema errors of a list of `from` to `to` tables
   abbrev pub schema_errors_of_rows : ℕ → ℕ → Option Data → List (InList M)
-  schema_errors_of_rows from to None = if from == 0 then [] else Count ∷ []
-  schema_errors_of_rows from to (Some value) = schema_errors_between from to (items_in value)
+  schema_errors_of_rows from to value = errors_or_count (items_between from to value)
 
 abbrev pub server_of : Option (List ℕ) → List SchemaError
 server_of None = schema_error.Server ∷ []

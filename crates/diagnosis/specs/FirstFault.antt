@@ -4,9 +4,9 @@ use Rattle.toml.specs.Data.{Members}
 use Rattle.manifest.specs.declared.manifest_fault.ManifestFault.TheVariants.{Field, Duplicate}
 use Rattle.manifest.specs.declared.manifest_fault.DuplicateName.{DuplicateName}
 use Rattle.manifest.specs.declared.schema_error.SchemaError.{SchemaError}
-use Rattle.manifest.specs.AllDuplicates.{HasAllDuplicates}
+use Rattle.diagnosis.specs.AllDuplicates.{HasAllDuplicates}
 use Rattle.manifest.specs.Manifest.{IsTree, ReadsManifest}
-use Rattle.manifest.specs.SchemaErrors.{schema_errors_of}
+use Rattle.diagnosis.specs.SchemaErrors.{schema_errors_of}
 
 -- the schema error of refused bytes is the first of their document
 abbrev pub HasSchemaErrorFirst : List ℕ → Type 0

@@ -1,12 +1,12 @@
 use Rattle.std.proofs.Common.{rules, arith, ap, ◌≡◌, ◌++◌, ◌∷◌, ◌-◌, length, map, take, drop}
-use Rattle.manifest.specs.DuplicateNames.{duplicate_names}
-use Rattle.manifest.proofs.NewNames.{names_new-none, next_reported}
-use Rattle.manifest.proofs.Walks.{opened, whole_next, within_next}
-use Rattle.manifest.proofs.duplicate.push_duplicate_names.Goals as goal
+use Rattle.diagnosis.specs.AllDuplicates.{duplicate_names}
+use Rattle.diagnosis.proofs.NewNames.{names_new-none, next_reported}
+use Rattle.diagnosis.proofs.Walks.{opened, whole_next, within_next}
+use Rattle.diagnosis.proofs.duplicates.push_duplicate_names.Goals as goal
 
 pub loop-left-init : goal.loop-left-init
 loop-left-init g c = record {
-  so_far = ap (λ names. c.args.duplicates.now.items ++ map g.N.Named.reported_as names)
+  so_far = ap (λ names. c.args.duplicates.now.items ++ map g.N.Unique.reported_as names)
       (names_new-none (duplicate_names (map g.N.Named.name_of c.args.list.now)));
   whole = search rules;
   within = omega arith;
@@ -23,7 +23,7 @@ loop-left-preserved g c =
     opened left item c.in-len1-up.len_at_least c.item-item.is in
     let so = c.loop-left.invariant in
     record {
-      so_far = next_reported g.N.Named.reported_as g.N.Named.name_of c.loop-left.duplicates.items
+      so_far = next_reported g.N.Unique.reported_as g.N.Named.name_of c.loop-left.duplicates.items
           c.push_duplicate.new.duplicates.items _ list left c.split_at.result.0.now place item
           after is
           so.whole so.within c.split_at.ensures.front so.so_far c.in_ok-push_duplicate.ensures;

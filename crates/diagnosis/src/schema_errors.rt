@@ -3,23 +3,19 @@
 ghost use Rattle.std.specs.Prelude.{◌≡◌, ◌++◌, map, IfOk, OnOk};
 ghost use Rattle.toml.specs.Data.{get_member};
 ghost use Rattle.toml.specs.View.{view, table_view};
-ghost use Rattle.manifest.specs.SchemaErrors.{schema_error_in, schema_errors_from};
-ghost use Rattle.manifest.specs.SchemaErrors.{schema_errors_of, schema_errors_of_rows};
-ghost use Rattle.manifest.specs.SchemaErrors.{own_schema_errors};
+ghost use Rattle.diagnosis.specs.SchemaErrors.{schema_error_in, schema_errors_from};
+ghost use Rattle.diagnosis.specs.SchemaErrors.{schema_errors_of, schema_errors_of_rows};
+ghost use Rattle.diagnosis.specs.SchemaErrors.{own_schema_errors};
 ghost use Rattle.manifest.specs.Rows.{item_of};
 ghost use Rattle.manifest.specs.declared.schema_error.InList.{InList};
 ghost use Rattle.manifest.specs.declared.schema_error.SchemaError.{SchemaError};
 ghost use Rattle.manifest.specs.declared.schema_error.SchemaError.TheVariants as schema_error;
 
-use crate::app::AppEntry;
-use crate::kind::{Kind, unknown_member};
-use crate::manifest::MAX_ARRAYS;
-use crate::member::{member, text};
-use crate::quote::Quote;
-use crate::rows::{TableRow, has_count, items_of, read_item};
-use crate::schema_error::{AppError, ArrayError, InList, SchemaError};
-use crate::table_fault::TableFault;
 use declarations::ArrayDeclaration;
+use manifest::{
+    AppEntry, AppError, ArrayError, InList, Kind, MOST_ARRAYS, Quote, SchemaError, TableFault,
+    TableRow, items_between, read_item, text_member, unknown_member,
+};
 use releases::MOST_APPS;
 use std::alloc::{AllocError, Global};
 use toml::{Table, Value};
@@ -27,11 +23,14 @@ use toml::{Table, Value};
 /// All schema errors of a manifest's document: the first unknown member, the server, and then the
 /// first error of each array and each app. So the first is the one that `read_manifest` returns.
 // open: whether an allocation fails.
-pub fn all_schema_errors(alloc: Global, document: &Table) -> Result<Vec<SchemaError>, AllocError>
+pub(crate) fn all_schema_errors(
+    alloc: Global,
+    document: &Table,
+) -> Result<Vec<SchemaError>, AllocError>
     ensures { IfOk result (λ v. v.items ≡ schema_errors_of (table_view document.now)) }
 {
     let mut schema_errors = own(alloc, document)?;
-    push_rows::<ArrayDeclaration>(alloc, &mut schema_errors, document, "array", 0, MAX_ARRAYS)?;
+    push_rows::<ArrayDeclaration>(alloc, &mut schema_errors, document, "array", 0, MOST_ARRAYS)?;
     push_rows::<AppEntry>(alloc, &mut schema_errors, document, "app", 1, MOST_APPS)?;
     Ok(schema_errors)
 }
@@ -41,10 +40,10 @@ fn own(alloc: Global, table: &Table) -> Result<Vec<SchemaError>, AllocError>
 {
     let mut schema_errors = Vec::new(alloc);
     if let Some(key) = unknown_member(Kind::Manifest, table) {
-        let key = Quote::new(String::from_str(alloc, key)?);
+        let key = Quote::of(alloc, key)?;
         schema_errors.push(SchemaError::Unknown(key))?;
     }
-    if text(table, "server").is_none() {
+    if text_member(table, "server").is_none() {
         schema_errors.push(SchemaError::Server)?;
     }
     Ok(schema_errors)
@@ -90,16 +89,9 @@ fn push_rows<R: ManifestRow>(
     ensures { OnOk result (schema_errors.new.items ≡ schema_errors.old.items ++ map R.reported_as
         (schema_errors_of_rows R.row_of from to (get_member key.now (table_view table.now)))) }
 {
-    let Some(list) = member(table, key) else {
-        if from == 0 {
-            return Ok(());
-        }
-        schema_errors.push(R::reported(InList::Count))?;
-        return Ok(());
-    };
-    match items_of(list) {
-        Some(items) if has_count(items, from, to) => push_items::<R>(alloc, schema_errors, items),
-        _ => {
+    match items_between(table, key, from, to) {
+        Some(items) => push_items::<R>(alloc, schema_errors, items),
+        None => {
             schema_errors.push(R::reported(InList::Count))?;
             Ok(())
         }

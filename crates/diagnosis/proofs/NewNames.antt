@@ -9,8 +9,8 @@ use Rattle.std.proofs.lemmas.List.Folds.{list_any-append}
 use Rattle.std.proofs.lemmas.Slice.Eq.{bytes_eq-Decides}
 use Rattle.std.specs.List.{All, filter, list_any}
 use Rattle.std.specs.Str.{bytes_eq}
-use Rattle.manifest.proofs.Walks.{taken, reported_both}
-use Rattle.manifest.specs.DuplicateNames.{duplicate_names, names_without}
+use Rattle.diagnosis.proofs.Walks.{taken, reported_both}
+use Rattle.diagnosis.specs.AllDuplicates.{duplicate_names, names_without}
 
 -- the names that didn't occur before
 abbrev pub names_new : (before names : List (List ℕ)) → List (List ℕ)

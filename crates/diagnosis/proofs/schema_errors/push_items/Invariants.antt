@@ -1,7 +1,7 @@
 use Rattle.std.proofs.Common.{◌≡◌, ◌+◌, ◌++◌, length, map}
 use Rattle.toml.specs.View.{view}
-use Rattle.manifest.specs.SchemaErrors.{schema_errors_from}
-use Rattle.manifest.proofs.schema_errors.push_items.Given as goal
+use Rattle.diagnosis.specs.SchemaErrors.{schema_errors_from}
+use Rattle.diagnosis.proofs.schema_errors.push_items.Given as goal
 
 -- the errors so far, and those of the remaining items, are all errors
 abbrev pub invariant-loop-rest : goal.invariant-loop-rest

@@ -1,12 +1,23 @@
 -- All duplicate names of a manifest: of its arrays, and of its apps.
-use Rattle.std.specs.Prelude.{◌≡◌, List, ◌++◌, map, Ok}
+use Rattle.std.specs.Prelude.{◌≡◌, ℕ, List, [], ◌∷◌, ◌++◌, map, Ok, if◌then◌else◌, not}
+use Rattle.std.specs.List.{filter, list_any}
+use Rattle.std.specs.Str.{bytes_eq}
 use Rattle.toml.specs.Data.{Members}
 use Rattle.cells.specs.Directory.{Declaration}
 use Rattle.manifest.specs.declared.manifest_fault.DuplicateName.{DuplicateName}
 use Rattle.manifest.specs.declared.manifest_fault.DuplicateName.TheVariants as duplicate
 use Rattle.manifest.specs.App.{AppEntry}
 use Rattle.manifest.specs.Manifest.{Manifest, tables_of}
-use Rattle.manifest.specs.DuplicateNames.{duplicate_names}
+
+abbrev pub names_without : List ℕ → List (List ℕ) → List (List ℕ)
+names_without name names = filter (λ other. not (bytes_eq other name)) names
+
+-- each name that occurs again later, once, in the order of first occurrences
+abbrev pub duplicate_names : List (List ℕ) → List (List ℕ)
+duplicate_names [] = []
+duplicate_names (name ∷ rest) =
+    if list_any (bytes_eq name) rest then name ∷ names_without name (duplicate_names rest)
+    else duplicate_names rest
 
 -- in the order in which a manifest is read
 abbrev pub all_duplicates : Manifest → List DuplicateName

@@ -1,5 +1,5 @@
 -- The first of all schema errors, and of all duplicate names, is the reported one.
-use Rattle.std.proofs.Common.{◌≡◌, ℕ, ◌+◌, Bool, true, false, cond, ◌==◌, List, [], ◌∷◌, ◌++◌, map}
+use Rattle.std.proofs.Common.{◌≡◌, ℕ, ◌+◌, Bool, true, false, cond, List, [], ◌∷◌, ◌++◌, map}
 use Rattle.std.proofs.Common.{codes, Option, Some, None, option_map, Result, Ok, Err}
 use Rattle.std.proofs.Common.{refl, sym, ap, ◌∙◌}
 use Rattle.std.proofs.lemmas.Option.{same_Some, none-some}
@@ -17,21 +17,21 @@ use Rattle.manifest.specs.declared.schema_error.AppError.{AppError}
 use Rattle.manifest.specs.declared.schema_error.ArrayError.{ArrayError}
 use Rattle.manifest.specs.declared.schema_error.SchemaError.{SchemaError}
 use Rattle.manifest.specs.declared.schema_error.SchemaError.TheVariants as schema_error
-use Rattle.manifest.specs.AllDuplicates.{all_duplicates}
+use Rattle.diagnosis.specs.AllDuplicates.{all_duplicates, duplicate_names, names_without}
 use Rattle.manifest.specs.App.{AppEntry, app_of}
 use Rattle.manifest.specs.Array.{array_of}
-use Rattle.manifest.specs.FirstFault.{HasSchemaErrorFirst, HasDuplicateFirst}
+use Rattle.diagnosis.specs.FirstFault.{HasSchemaErrorFirst, HasDuplicateFirst}
 use Rattle.manifest.specs.Kind.{only_or, unknown_member}
 use Rattle.manifest.specs.Manifest.{Manifest, IsTree, arrays_of, apps_of, none_of, once}
 use Rattle.manifest.specs.Manifest.{tables_of}
 use Rattle.manifest.specs.Member.{fits, needs, required}
-use Rattle.manifest.specs.SchemaErrors.{schema_error_in, schema_errors_between, schema_errors_from}
-use Rattle.manifest.specs.SchemaErrors.{schema_errors_of}
-use Rattle.manifest.specs.SchemaErrors.{app_schema_errors, array_schema_errors}
-use Rattle.manifest.specs.SchemaErrors.{schema_errors_of_rows, server_of}
-use Rattle.manifest.specs.Rows.{are_between, item_of, items_from, items_in, rows_of, some_rows}
+use Rattle.diagnosis.specs.SchemaErrors.{errors_or_count, schema_error_in, schema_errors_from}
+use Rattle.diagnosis.specs.SchemaErrors.{schema_errors_of}
+use Rattle.diagnosis.specs.SchemaErrors.{app_schema_errors, array_schema_errors}
+use Rattle.diagnosis.specs.SchemaErrors.{schema_errors_of_rows, server_of}
+use Rattle.manifest.specs.Rows.{item_of, items_between, items_from, rows_of, rows_or_count}
 use Rattle.manifest.specs.Rows.{with_first}
-use Rattle.manifest.specs.DuplicateNames.{duplicate_names, names_without, repeated}
+use Rattle.manifest.specs.DuplicateNames.{repeated}
 
 abbrev first : {X : Type 0} → List X → Option X
 first [] = None
@@ -76,23 +76,14 @@ module _ {X M : Type 0} (row_of : Members → Result X M) where
       first_of_two (item_of row_of n d) (schema_errors_from row_of (n + 1) ds)
       (items_from row_of (n + 1) ds) (first_from (n + 1) ds)
 
-  first_if : (fit : Bool) (ms : List (InList M)) (r : Result (List X) (InList M))
-      → first ms ≡ fault_in r
-      → first (cond fit ms (Count ∷ [])) ≡ fault_in (cond fit r (Err Count))
-  first_if true ms r same = same
-  first_if false ms r same = refl
-
-  first_between : (from to : ℕ) (list : Option (List Data))
-      → first (schema_errors_between row_of from to list) ≡ fault_in (some_rows row_of from to list)
-  first_between from to None = refl
-  first_between from to (Some ds) =
-      first_if (are_between from to ds) (schema_errors_from row_of 1 ds) (items_from row_of 1 ds)
-      (first_from 1 ds)
+  first_or_count : (items : Option (List Data))
+      → first (errors_or_count row_of items) ≡ fault_in (rows_or_count row_of items)
+  first_or_count None = refl
+  first_or_count (Some ds) = first_from 1 ds
 
   first_row : (from to : ℕ) (value : Option Data)
       → first (schema_errors_of_rows row_of from to value) ≡ fault_in (rows_of row_of from to value)
-  first_row from to None = first_if (from == 0) [] (Ok []) refl
-  first_row from to (Some value) = first_between from to (items_in value)
+  first_row from to value = first_or_count (items_between from to value)
 
 -- ---- a manifest
 

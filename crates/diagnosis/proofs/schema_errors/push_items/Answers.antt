@@ -4,10 +4,10 @@ use Rattle.toml.specs.Data.{Members}
 use Rattle.toml.specs.View.{view}
 use Rattle.toml.specs.declared.value.Value.{Value}
 use Rattle.manifest.specs.declared.schema_error.InList.{InList}
-use Rattle.manifest.specs.SchemaErrors.{schema_error_in, schema_errors_from}
+use Rattle.diagnosis.specs.SchemaErrors.{schema_error_in, schema_errors_from}
 use Rattle.manifest.specs.Rows.{item_of}
-use Rattle.manifest.proofs.Walks.{opened, reported_both, within_next}
-use Rattle.manifest.proofs.schema_errors.push_items.Goals as goal
+use Rattle.diagnosis.proofs.Walks.{opened, reported_both, within_next}
+use Rattle.diagnosis.proofs.schema_errors.push_items.Goals as goal
 
 next : {X M Y : Type 0} (reported : InList M → Y) (row_of : Members → Result X M)
     (done new all : List Y)
