@@ -1,3 +1,4 @@
 pub mod Printed
 pub mod Laws
 pub mod Pushed
+pub mod Columns

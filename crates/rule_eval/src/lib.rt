@@ -1,15 +1,20 @@
-//! The evaluator of tests: whether a test of a rule holds for an app, and which value it read.
+//! The tests of a rule, one by one: whether one holds for an app, which value it read, and its text.
 //!
 //! See docs/RULES.md.
 #![tactic(auto)]
 
-// It is for tools that evaluate a rule test by test, without running its program. Each contract is
-// the meaning of rules itself (`rule_lang/specs/Meaning.antt`), so this crate has no definitions.
+// It is for tools that evaluate a rule test by test, without running its program. What a test reads
+// and whether it holds is the meaning of rules itself (`rule_lang/specs/Meaning.antt`). The only
+// definitions here are those of the texts.
 //
 // A take holds by its cell's reply. The caller passes that reply, and updates the cell itself.
 
 mod comparing;
 mod holding;
+mod test_text;
+mod words;
 
 pub use comparing::{allows, compare_versions, compares_so};
 pub use holding::{bucket_tested, quota_named, test_holds};
+pub use test_text::push_test;
+pub use words::push_numbers;
