@@ -3,7 +3,7 @@ use Rattle.std.specs.Prelude.{ℕ, ◌+◌, List, [], ◌∷◌, ◌++◌, codes
 use Rattle.std.specs.Prelude.{Option, Some, None, nat_lt, if◌then◌else◌}
 use Rattle.moments.specs.Calendar.{date_of}
 use Rattle.moments.specs.declared.calendar.CivilDate.{CivilDate}
-use Rattle.simulate.specs.Columns.{at_left, widest, width_of}
+use Rattle.printing.specs.Columns.{column, widest, width_of}
 use Rattle.diff_text.specs.declared.row_lines.LineWidths.{LineWidths}
 use Rattle.diff_text.specs.declared.shown.AppRows.{AppRows}
 use Rattle.diff_text.specs.Conditions.{joined}
@@ -31,10 +31,6 @@ widths_of title rows = record {
   current = widest_current rows;
   next = widest_next rows;
 }
-
--- a column, and two blanks
-abbrev pub column : (width : ℕ) → List ℕ → List ℕ
-column width text = at_left width text ++ codes "  "
 
 abbrev pub columns : LineWidths → (title current next : List ℕ) → List ℕ
 columns w title current next =

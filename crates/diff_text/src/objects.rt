@@ -6,9 +6,8 @@ ghost use Rattle.serde_json.specs.Written.{items_have_float};
 ghost use Rattle.diff_text.specs.Objects as specs;
 
 use crate::shown::{AppRows, ShownRelease, ShownRow};
-use json_value::ObjectBuilder;
+use json_value::{ObjectBuilder, push_value};
 use serde_json::Value;
-use simulate::push_value;
 use std::alloc::{AllocError, Global};
 
 fn release_object(alloc: Global, release: &Option<ShownRelease>) -> Result<Value, AllocError>

@@ -9,7 +9,7 @@ use crate::condition::push_and_texts;
 use crate::shown::{AppRows, ShownRelease, ShownRow};
 use attrs::Elapsed;
 use moments::CivilDate;
-use simulate::{push_left, width_of};
+use printing::{push_column, width_of};
 use std::alloc::AllocError;
 use std::fmt::Write;
 
@@ -64,13 +64,6 @@ fn widths_of(title: &str, rows: &[ShownRow]) -> LineWidths
         current: widest_current(rows),
         next: widest_next(rows),
     }
-}
-
-fn push_column(text: &mut String, width: usize, more: &str) -> Result<(), AllocError>
-    ensures { OnOk result (Puts text.old text.new (specs.column width more.now)) }
-{
-    push_left(text, width, more)?;
-    text.push_str("  ")
 }
 
 fn push_columns(

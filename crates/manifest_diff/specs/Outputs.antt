@@ -4,7 +4,7 @@ use Rattle.std.specs.Prelude.{Bool, true, false, not, is_some, if◌then◌else�
 use Rattle.std.specs.String.{string_bytes}
 use Rattle.bounded_files.specs.declared.resource_fault.ResourceFault.TheVariants as resource
 use Rattle.rule_space.specs.declared.bounds.CellBound.{CellBound}
-use Rattle.simulate.specs.Objects.{json_line}
+use Rattle.json_value.specs.Bytes.{json_line}
 use Rattle.cell_assignments.specs.Assignments.{Assignment}
 use Rattle.manifest_diff.specs.Arrays.{ArrayChange, array_changes}
 use Rattle.manifest_diff.specs.Counters.{are_declared, arrays_in, used_in}

@@ -11,9 +11,8 @@ use crate::lines::is_silent;
 use crate::outcome::{AppChange, AppOutcome, WhyNot};
 use declarations::ArrayDeclaration;
 use diff_text::row_objects;
-use json_value::ObjectBuilder;
+use json_value::{ObjectBuilder, push_value};
 use serde_json::Value;
-use simulate::push_value;
 use std::alloc::{AllocError, Global};
 
 // ---- an app

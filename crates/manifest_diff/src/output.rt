@@ -15,8 +15,8 @@ use crate::objects::diff_object;
 use crate::opened::OpenedBoth;
 use bounded_files::ResourceFault;
 use cell_assignments::CellAssignment;
+use json_value::json_line;
 use rule_space::CellBound;
-use simulate::json_line;
 use std::alloc::{AllocError, Global};
 
 /// What is compared, and how it is printed: all apps or `only` one, requests from a day on, and

@@ -24,7 +24,7 @@ use Rattle.ruleset.specs.Rules.{AppRule}
 use Rattle.serde_json.specs.Data.{Data, null, boolean, number, string, array, object, unsigned}
 use Rattle.serde_json.specs.Data.{no_members, member}
 use Rattle.serde_json.specs.View.{items_of}
-use Rattle.simulate.specs.Objects.{json_line}
+use Rattle.json_value.specs.Bytes.{json_line}
 use Rattle.warnings.specs.Names.{some_counts}
 use Rattle.warnings.specs.Warnings.{name_of, warning_text}
 use Rattle.warnings.specs.declared.warning.Warning.{Warning}

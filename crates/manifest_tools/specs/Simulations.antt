@@ -4,7 +4,8 @@ use Rattle.std.specs.Prelude.{◌≡◌, ◌++◌, ℕ, List, [], Option, Some, 
 use Rattle.std.specs.Prelude.{Bool, true, false, is_some}
 use Rattle.std.specs.String.{string_bytes}
 use Rattle.simulate.specs.Moving.{is_lossy}
-use Rattle.simulate.specs.Objects.{comparison_object, json_line, simulation_object}
+use Rattle.json_value.specs.Bytes.{json_line}
+use Rattle.simulate.specs.Objects.{comparison_object, simulation_object}
 use Rattle.simulate.specs.Picked.{HasPicked}
 use Rattle.simulate.specs.Shown.{Simulation}
 use Rattle.simulate.specs.Course.{IsSimulated}

@@ -11,10 +11,9 @@ use bpf_verify::Verified;
 use cells::CellWidth;
 use declarations::ArrayDeclaration;
 use diagnosis::{CheckedManifest, FaultReport, Refused};
-use json_value::ObjectBuilder;
+use json_value::{ObjectBuilder, push_value};
 use ruleset::App;
 use serde_json::Value;
-use simulate::push_value;
 use std::alloc::{AllocError, Global};
 use warnings::{Warning, push_warning_text, some_counts};
 

@@ -1,7 +1,6 @@
 pub mod Clients
 pub mod Course
 pub mod Counts
-pub mod Columns
 pub mod Shown
 pub mod Picked
 pub mod Moving

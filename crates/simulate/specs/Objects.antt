@@ -7,7 +7,6 @@ use Rattle.ruleset.specs.Rules.{AppRule}
 use Rattle.serde_json.specs.Data.{Data, null, boolean, number, string, array, object, unsigned}
 use Rattle.serde_json.specs.Data.{no_members, member}
 use Rattle.serde_json.specs.View.{items_of}
-use Rattle.serde_json.specs.Written.{compact_text}
 use Rattle.simulate.specs.Counts.{buckets_moving, buckets_with}
 use Rattle.simulate.specs.Moving.{is_lossy, loses}
 use Rattle.simulate.specs.Shown.{Offer, Simulation, apps_gone, choices_among, offer_of}
@@ -117,7 +116,3 @@ comparison_object now next = object (
     member (codes "lost") (boolean (is_lossy now next)) (
     member (codes "moves") (array (items_of (moving_objects now next)))
     no_members)))
-
--- a value without blanks, and the end of its line
-unfoldable pub json_line : Data → List ℕ
-json_line value = compact_text value ++ codes "\n"

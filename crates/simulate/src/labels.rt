@@ -3,8 +3,8 @@
 ghost use Rattle.std.specs.Prelude.{◌≡◌, ◌<◌, ◌≤◌, length, option_copied};
 ghost use Rattle.simulate.specs.Shown as specs;
 
-use crate::columns::width_of;
 use bpf_verify::Verified;
+use printing::width_of;
 use ruleset::App;
 use std::fmt;
 use std::fmt::{Display, Formatter, Write};

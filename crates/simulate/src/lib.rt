@@ -15,7 +15,6 @@
 mod bucket_square;
 mod choices;
 mod client;
-mod columns;
 mod counts;
 mod course;
 mod labels;
@@ -32,13 +31,11 @@ mod simulated;
 
 pub use choices::Choices;
 pub use client::Client;
-pub use columns::{push_left, width_of};
 pub use counts::{count_buckets, count_moves};
 pub use course::{Onlooker, simulate};
 pub use lost::is_lossy;
 pub use moves::push_moves;
-pub use objects::{json_line, moves_json, shares_json};
+pub use objects::{moves_json, shares_json};
 pub use picturing::draw;
-pub use share_objects::push_value;
 pub use shares::push_shares;
 pub use simulated::Simulated;

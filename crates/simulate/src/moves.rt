@@ -6,12 +6,12 @@ ghost use Rattle.printing.specs.Pushed.{Puts};
 ghost use Rattle.simulate.specs.Counts.{choices_or_none};
 
 use crate::choices::Choices;
-use crate::columns::{Padded, width_of};
 use crate::counts::count_moves;
 use crate::labels::{release_count, version_at, widest_version};
 use crate::lost::loses;
 use crate::shares::push_title;
 use crate::simulated::Simulated;
+use printing::{push_column, width_of};
 use ruleset::App;
 use std::alloc::{AllocError, Global};
 use std::fmt::Write;
@@ -139,17 +139,7 @@ fn push_columns(
     now: &str,
     next: &str,
 ) -> Result<(), AllocError> {
-    let app = Padded {
-        text: app,
-        width: widths.app,
-    };
-    let now = Padded {
-        text: now,
-        width: widths.now,
-    };
-    let next = Padded {
-        text: next,
-        width: widths.next,
-    };
-    write!(text, "{app}  {now}  {next}  ")
+    push_column(text, widths.app, app)?;
+    push_column(text, widths.now, now)?;
+    push_column(text, widths.next, next)
 }

@@ -1,15 +1,15 @@
 //! A simulation as a line of JSON.
 
-ghost use Rattle.std.specs.Prelude.{◌≡◌, false, IfOk, string_bytes};
+ghost use Rattle.std.specs.Prelude.{◌≡◌, IfOk, string_bytes};
 ghost use Rattle.serde_json.specs.View.{view};
-ghost use Rattle.serde_json.specs.Written.{has_float};
+ghost use Rattle.json_value.specs.Bytes.{json_line};
 ghost use Rattle.simulate.specs.Objects as specs;
 
 use crate::lost::is_lossy;
 use crate::move_objects::moving_objects;
 use crate::share_objects::app_objects;
 use crate::simulated::Simulated;
-use json_value::ObjectBuilder;
+use json_value::{ObjectBuilder, json_line};
 use serde_json::Value;
 use std::alloc::{AllocError, Global};
 
@@ -20,7 +20,7 @@ use std::alloc::{AllocError, Global};
 // open: whether an allocation fails.
 pub fn shares_json(alloc: Global, simulated: &Simulated) -> Result<String, AllocError>
     ensures { IfOk result (λ text. string_bytes text
-        ≡ specs.json_line (specs.simulation_object simulated.now)) }
+        ≡ json_line (specs.simulation_object simulated.now)) }
 {
     let value = simulation_object(alloc, simulated)?;
     json_line(alloc, &value)
@@ -41,7 +41,7 @@ fn simulation_object(alloc: Global, simulated: &Simulated) -> Result<Value, Allo
 // open: whether an allocation fails.
 pub fn moves_json(alloc: Global, now: &Simulated, next: &Simulated) -> Result<String, AllocError>
     ensures { IfOk result (λ text. string_bytes text
-        ≡ specs.json_line (specs.comparison_object now.now next.now)) }
+        ≡ json_line (specs.comparison_object now.now next.now)) }
 {
     let value = comparison_object(alloc, now, next)?;
     json_line(alloc, &value)
@@ -56,16 +56,4 @@ fn comparison_object(alloc: Global, now: &Simulated, next: &Simulated) -> Result
     object.put_bool("lost", lost);
     object.put_list("moves", moving_objects(alloc, now, next));
     object.finish()
-}
-
-/// A value without blanks, ended by a line feed; it has no float, whose text no contract specifies.
-// open: whether an allocation fails.
-#[tactic(auto, unfolding(crate::specs::Objects::json_line))]
-pub fn json_line(alloc: Global, value: &Value) -> Result<String, AllocError>
-    requires { has_float (view value.now) ≡ false }
-    ensures { IfOk result (λ text. string_bytes text ≡ specs.json_line (view value.now)) }
-{
-    let mut text = value.to_string(alloc)?;
-    text.push_str("\n")?;
-    Ok(text)
 }

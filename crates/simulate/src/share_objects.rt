@@ -9,19 +9,10 @@ use crate::choices::Choices;
 use crate::counts::count_buckets;
 use crate::labels::{release_count, version_at};
 use crate::simulated::Simulated;
-use json_value::ObjectBuilder;
+use json_value::{ObjectBuilder, push_value};
 use ruleset::App;
 use serde_json::Value;
 use std::alloc::{AllocError, Global};
-
-/// Appends a value to a list of JSON.
-// open: whether an allocation fails.
-pub fn push_value(values: &mut Vec<Value>, value: Value) -> Result<(), AllocError>
-    ensures { OnOk result
-        (map view values.new.items ≡ map view values.old.items ++ view value ∷ []) }
-{
-    Ok(values.push(value)?)
-}
 
 /// The release of an app that a choice names, with its number and version; null is none.
 pub fn release_object(alloc: Global, app: Option<&App>, choice: usize) -> Result<Value, AllocError>

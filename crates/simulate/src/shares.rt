@@ -5,11 +5,10 @@ ghost use Rattle.std.specs.Prelude.{ℕ, List, OnOk};
 ghost use Rattle.printing.specs.Pushed.{Puts};
 
 use crate::choices::Choices;
-use crate::columns::Padded;
 use crate::counts::count_buckets;
 use crate::labels::{ChoiceLabel, release_count, widest_version};
 use crate::simulated::Simulated;
-use printing::Printed;
+use printing::{Printed, push_blanks};
 use ruleset::App;
 use std::alloc::AllocError;
 use std::fmt::Write;
@@ -55,16 +54,11 @@ fn push_row(
     count: u32,
 ) -> Result<(), AllocError> {
     let label = ChoiceLabel { app, choice };
-    let blanks = Padded {
-        text: "",
-        width: width.saturating_sub(label.width()),
-    };
     let whole = count / 100;
     let hundredths = count % 100;
-    write!(
-        text,
-        "  {label}{blanks}  {count:>5}  {whole:>3}.{hundredths:02} %  "
-    )?;
+    write!(text, "  {label}")?;
+    push_blanks(text, width.saturating_sub(label.width()))?;
+    write!(text, "  {count:>5}  {whole:>3}.{hundredths:02} %  ")?;
     for _mark in 0..(count.saturating_add(125) / 250).max(1) {
         text.push_str("#")?;
     }

@@ -1,5 +1,5 @@
 use Rattle.std.proofs.Common.{◌≡◌, length, map}
-use Rattle.simulate.specs.Columns.{widest}
+use Rattle.printing.specs.Columns.{widest}
 use Rattle.diff_text.specs.Lines.{version_of}
 use Rattle.diff_text.proofs.row_lines.widest_current.Given as goal
 
