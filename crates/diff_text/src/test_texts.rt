@@ -2,7 +2,7 @@
 //! condition is read back.
 
 use attrs::{Attribute, Elapsed};
-use reasons::push_test;
+use rule_eval::push_test;
 use rule_lang::{Literal, Test};
 use std::alloc::{AllocError, Global};
 use std::mem;

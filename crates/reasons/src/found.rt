@@ -5,11 +5,9 @@ ghost use Rattle.printing.specs.Pushed.{Puts};
 ghost use Rattle.reasons.specs.Texts as texts;
 
 use crate::quoted::push_quoted;
-use crate::test_text::push_test;
-use crate::words::push_numbers;
 use attrs::{Attribute, Attrs, Context};
 use cells::Shape;
-use rule_eval::{bucket_tested, quota_named};
+use rule_eval::{bucket_tested, push_numbers, push_test, quota_named};
 use rule_lang::Test;
 use std::alloc::AllocError;
 use std::fmt::Write;

@@ -21,8 +21,6 @@ mod part;
 mod quoted;
 mod rule_lines;
 mod rule_report;
-mod test_text;
-mod words;
 
 pub use laws::{
     conditions_are_so, endings_are_meant, last_line_chooses, quotes_end_texts, truths_are_so,
@@ -30,4 +28,3 @@ pub use laws::{
 };
 pub use quoted::push_quoted;
 pub use rule_report::explain_rule;
-pub use test_text::push_test;
