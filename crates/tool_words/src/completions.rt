@@ -12,15 +12,14 @@ mod escaping;
 mod fish;
 mod manual;
 mod parts;
-mod text_buffer;
 mod zsh;
 
 use crate::args::Shell;
 use crate::completions::bash::push_bash;
 use crate::completions::fish::push_fish;
 use crate::completions::manual::push_manual;
-use crate::completions::text_buffer::TextBuffer;
 use crate::completions::zsh::push_zsh;
+use printing::TextBuffer;
 use std::alloc::{AllocError, Global};
 
 /// What `completion` prints: a script that the shell reads, or for `man` the page rollout.1. Only

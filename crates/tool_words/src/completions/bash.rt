@@ -1,10 +1,10 @@
 //! The completions of bash: a function that finds the words by the command.
 
 use crate::completions::parts::ArgumentParts;
-use crate::completions::text_buffer::TextBuffer;
 use crate::rows::tool_rows;
 use command_line::{CommandArgument, CommandRow};
 use command_words::command_rows;
+use printing::TextBuffer;
 
 const HEAD: &str = "\
 # Completions of rollout for bash. To use them: source <(rollout completion bash)

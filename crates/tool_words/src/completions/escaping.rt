@@ -1,5 +1,7 @@
 //! Texts as the shells and the manual quote them.
 
+use printing::TextBuffer;
+
 /// Between apostrophes in zsh, there also between brackets, or between apostrophes in fish; or in
 /// roff.
 #[derive(Clone, Copy)]
@@ -22,6 +24,16 @@ impl Escaping {
             },
             Escaping::Fish => fish_escaped(c),
             Escaping::Roff => roff_escaped(c),
+        }
+    }
+}
+
+/// Appends a piece, escaped.
+pub(crate) fn push_escaped(text: &mut TextBuffer, escaping: Escaping, piece: &str) {
+    for c in piece.chars() {
+        match escaping.escaped(c) {
+            Some(escaped) => text.push(escaped),
+            None => text.push_char(c),
         }
     }
 }

@@ -1,11 +1,11 @@
 //! The completions of fish: a line for each command, and for each of its arguments.
 
-use crate::completions::escaping::Escaping;
+use crate::completions::escaping::{Escaping, push_escaped};
 use crate::completions::parts::{ArgumentKind, ArgumentParts};
-use crate::completions::text_buffer::TextBuffer;
 use crate::rows::tool_rows;
 use command_line::CommandRow;
 use command_words::command_rows;
+use printing::TextBuffer;
 
 const HEAD: &str = "\
 # Completions of rollout for fish: a file named rollout.fish in a folder of fish_complete_path.
@@ -60,6 +60,6 @@ fn push_words(text: &mut TextBuffer, parts: &ArgumentParts) {
 
 fn push_help(text: &mut TextBuffer, help: &str) {
     text.push(" -d '");
-    text.push_escaped(Escaping::Fish, help);
+    push_escaped(text, Escaping::Fish, help);
     text.push("'\n");
 }

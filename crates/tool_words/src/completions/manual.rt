@@ -1,11 +1,11 @@
 //! The page of the manual, in roff with the macros of `man`.
 
-use crate::completions::escaping::Escaping;
+use crate::completions::escaping::{Escaping, push_escaped};
 use crate::completions::parts::{ArgumentKind, ArgumentParts};
-use crate::completions::text_buffer::TextBuffer;
 use crate::rows::tool_rows;
 use command_line::CommandRow;
 use command_words::command_rows;
+use printing::TextBuffer;
 
 const HEAD: &str = "\
 .TH ROLLOUT 1 \"\" \"rollout\" \"User Commands\"
@@ -76,7 +76,7 @@ fn push_argument(text: &mut TextBuffer, parts: &ArgumentParts) {
         }
         ArgumentKind::Valued => {
             text.push(".TP\n.BI \\-\\-");
-            text.push_escaped(Escaping::Roff, parts.name);
+            push_escaped(text, Escaping::Roff, parts.name);
             text.push_all(&[" \" ", parts.value, "\"\n"]);
         }
     }
@@ -93,6 +93,6 @@ fn push_end(text: &mut TextBuffer, end: Option<&'static str>) {
 
 // Escaped lines. The first begins with what no macro begins with.
 fn push_lines(text: &mut TextBuffer, lines: &str) {
-    text.push_escaped(Escaping::Roff, lines);
+    push_escaped(text, Escaping::Roff, lines);
     text.push("\n");
 }

@@ -1,11 +1,11 @@
 //! The completions of zsh: a function with a list of commands, and the arguments of each.
 
-use crate::completions::escaping::Escaping;
+use crate::completions::escaping::{Escaping, push_escaped};
 use crate::completions::parts::{ArgumentKind, ArgumentParts};
-use crate::completions::text_buffer::TextBuffer;
 use crate::rows::tool_rows;
 use command_line::CommandRow;
 use command_words::command_rows;
+use printing::TextBuffer;
 
 const HEAD: &str = "\
 #compdef rollout
@@ -48,7 +48,7 @@ pub(crate) fn push_zsh(text: &mut TextBuffer) {
 fn push_commands<V>(text: &mut TextBuffer, rows: &[CommandRow<V>]) {
     for row in rows {
         text.push_all(&["        '", row.name, ":"]);
-        text.push_escaped(Escaping::Zsh, row.about);
+        push_escaped(text, Escaping::Zsh, row.about);
         text.push("'\n");
     }
 }
@@ -73,12 +73,12 @@ fn push_argument(text: &mut TextBuffer, parts: &ArgumentParts) {
         }
         ArgumentKind::Flag => {
             text.push_all(&["'--", parts.name, "["]);
-            text.push_escaped(Escaping::ZshOption, parts.help);
+            push_escaped(text, Escaping::ZshOption, parts.help);
             text.push("]'");
         }
         ArgumentKind::Valued => {
             text.push_all(&["'*--", parts.name, "=["]);
-            text.push_escaped(Escaping::ZshOption, parts.help);
+            push_escaped(text, Escaping::ZshOption, parts.help);
             push_values(text, "]:", parts);
         }
     }
