@@ -8,6 +8,8 @@ file of its link, and its figures are no more than a tenth off. README is short,
 of the installed toolchain; VERSION, README and CHANGELOG name one version. The pages by hand have
 few long sentences. Each wrong body can be put in place: what it replaces is in its file once.
 `plain.txt` and `weight.txt` bound the words of this house in comments, and the words of each page.
+Each crate of a line of crates.txt is named there, and `edges.txt` has a reason for each that is
+named for little and drags much.
 Each file of rows is run. The page of help that the launcher prints is that of the programs, and has
 each of their commands, as has each list of the commands of one program. CONTRIBUTING's recipes
 name each file that their searches find, and ERRORS has each code of the sources.
@@ -24,7 +26,8 @@ import sys
 from pathlib import Path
 
 from checking import (
-    codes, commands, crates_page, left_open, plain, quotes, recipes, reference, rows, weight
+    codes, commands, crates_page, edges, left_open, plain, quotes, recipes, reference, rows,
+    weight
 )
 from checking.edits import lost_edits
 from checking.exports import lost_comments
@@ -70,6 +73,7 @@ def faults():
     yield from too_many_long()
     yield from plain.too_many()
     yield from weight.too_heavy()
+    yield from edges.faults()
     yield from rows.left_out()
     yield from commands.other_lists()
     yield from recipes.lost_files()

@@ -1,5 +1,6 @@
 """The paths of the pages and the crates, and the layers of crates.txt."""
 import re
+from functools import cache
 from pathlib import Path
 
 ROOT = Path(__file__).resolve().parent.parent.parent
@@ -37,13 +38,21 @@ def crates():
     return names_in((ROOT / "crates.txt").read_text())
 
 
+@cache
+def named():
+    """Each crate with the crates that its line of crates.txt names."""
+    lines = (ROOT / "crates.txt").read_text().splitlines()
+    known = {*crates()}
+    return {
+        name: known.intersection(re.findall(r"\w+", it.partition(":")[2]))
+        for it in lines for name in names_in(it)
+    }
+
+
+@cache
 def with_all_below(top):
     """A crate and all crates below it."""
-    found = {top}
-    for line in reversed((ROOT / "crates.txt").read_text().splitlines()):
-        name, *named = re.split("[ :]+", line)
-        found |= {*named} if name in found else {*()}
-    return found & {*crates()}
+    return {top}.union(*map(with_all_below, named()[top]))
 
 
 def storeys():
