@@ -7,12 +7,12 @@ use crate::options::{StageCall, StageOptions};
 use crate::outcome::{Lines, Stop};
 use crate::quota_lines::push_quotas;
 use crate::stop_texts::{LOSES, not_compared, refused};
-use crate::text_buffer::TextBuffer;
 use attrs::Elapsed;
 use cell_assignments::{CellAssignment, read_assignments};
 use manifest_diff::{DiffOptions, DiffOutput, OpenedBoth, OpenedManifest, diff_manifests};
 use operator::ask_server;
 use operator_request::OperatorRequest;
+use printing::TextBuffer;
 use std::net::{Net, TcpStream};
 use std::time::{Clock, SystemTime, UNIX_EPOCH};
 

@@ -39,7 +39,6 @@ mod status;
 mod step_lines;
 mod steps;
 mod stop_texts;
-mod text_buffer;
 
 pub use actions::{stage, stage_in};
 pub use options::{StageAction, StageOptions};

@@ -6,7 +6,7 @@
 //
 // No contract says what is noted: bench/outside tests it.
 
-use crate::text_buffer::TextBuffer;
+use printing::TextBuffer;
 use stage_folder::StageFolder;
 use std::alloc::{AllocError, Global};
 use std::str;

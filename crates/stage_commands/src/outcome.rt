@@ -3,7 +3,7 @@
 ghost use Rattle.std.specs.Prelude.{◌≡◌, IfOk, OnOk, false, true};
 ghost use Rattle.stage_commands.specs.declared.outcome.Stop.TheVariants.{Memory};
 
-use crate::text_buffer::TextBuffer;
+use printing::TextBuffer;
 use std::alloc::{AllocError, Global};
 
 /// The lines for standard output and for standard error, each ended by LF, and whether everything

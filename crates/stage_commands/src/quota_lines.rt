@@ -1,8 +1,8 @@
 //! The quotas of a manifest that a server's counters have used.
 
-use crate::text_buffer::TextBuffer;
 use cell_assignments::CellAssignment;
 use declarations::ArrayDeclaration;
+use printing::TextBuffer;
 
 // The quota of a cell, if a manifest's array has one.
 fn quota_of(arrays: &[ArrayDeclaration], cell: &CellAssignment<'_>) -> Option<u64> {

@@ -3,10 +3,10 @@
 // No contract says what is printed: bench/outside tests it.
 
 use crate::collected::app_named;
-use crate::text_buffer::TextBuffer;
 use load::AppSources;
 use operator::ask_server;
 use operator_request::OperatorRequest;
+use printing::TextBuffer;
 use std::net::{Net, TcpStream};
 
 /// The apps of a server before a load, in its lines; empty if it doesn't reply.

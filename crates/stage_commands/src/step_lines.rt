@@ -2,9 +2,9 @@
 
 // No contract says what they are: bench/outside tests them.
 
-use crate::text_buffer::TextBuffer;
 use jiff_core::Timestamp;
 use moments::{NamedTime, time_text};
+use printing::TextBuffer;
 use stage_records::{StagingStep, StepAction};
 use std::alloc::{AllocError, Global};
 

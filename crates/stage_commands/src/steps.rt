@@ -9,8 +9,8 @@ use crate::comparison::now_of;
 use crate::options::StageCall;
 use crate::outcome::{Lines, Stop};
 use crate::stop_texts::{NO_NUMBER, in_folder, refused, stopped_at};
-use crate::text_buffer::TextBuffer;
 use attrs::Text;
+use printing::TextBuffer;
 use stage_folder::{
     FolderFault, RecordedSteps, StageFolder, StepFault, perform, recorded_steps, write_record,
 };

@@ -3,9 +3,9 @@
 // No contract says what they are: bench/outside tests them.
 
 use crate::outcome::Stop;
-use crate::text_buffer::TextBuffer;
 use load::{AppSources, LoadFault, PathFault};
 use manifest_diff::DiffFault;
+use printing::TextBuffer;
 use rule_lang::RuleFault;
 use stage_folder::FolderFault;
 use staging::RaiseFault;
