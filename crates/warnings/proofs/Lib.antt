@@ -1,5 +1,4 @@
 pub mod Found
-pub mod Stacks
 pub mod Buckets
 pub mod Each
 pub mod Marked

@@ -3,7 +3,6 @@ pub mod Names
 pub mod Releases
 pub mod Spots
 pub mod Possible
-pub mod Stack
 pub mod Course
 pub mod Evaluation
 pub mod Marks

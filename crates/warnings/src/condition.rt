@@ -1,128 +1,73 @@
-//! Three-valued evaluation of a condition, step by step.
+//! Three-valued evaluation of a condition.
 
-ghost use Rattle.std.specs.Prelude.{◌≡◌, ◌∷◌, [], Some, None, IfOk, if◌then◌else◌, reverse};
-ghost use Rattle.warnings.specs.Possible.{steps_possible, test_possible};
-ghost use Rattle.warnings.specs.Possible as possible;
-ghost use Rattle.warnings.specs.Stack as specs;
+ghost use Rattle.std.specs.Prelude.{◌≡◌, IfOk};
+ghost use Rattle.warnings.specs.Possible.{steps_possible, test_possible, tree_possible};
 
 use crate::holding::test_possible;
 use crate::possible::{Clients, Possible};
 use attrs::Attrs;
 use cells::Shape;
-use rule_lang::Step;
+use rule_eval::{ConditionFold, fold};
+use rule_lang::{RuleCondition, Test};
 use std::alloc::AllocError;
 
-// Negates the newest element, if there is one.
-fn negate(stack: &mut Vec<Possible>) -> Result<bool, AllocError>
-    ensures { IfOk result (λ done. specs.not_newest (reverse stack.old.items)
-        ≡ (if done then Some (reverse stack.new.items) else None)) }
-{
-    let Some(newest) = stack.pop() else {
-        return Ok(false);
-    };
-    stack.push(newest.negated())?;
-    Ok(true)
-}
-
-// Joins the two newest elements by `and`, if there are two.
-fn join_both(stack: &mut Vec<Possible>) -> Result<bool, AllocError>
-    ensures { IfOk result (λ done. specs.join_two possible.both (reverse stack.old.items)
-        ≡ (if done then Some (reverse stack.new.items) else None)) }
-{
-    let Some(newest) = stack.pop() else {
-        return Ok(false);
-    };
-    let Some(before) = stack.pop() else {
-        return Ok(false);
-    };
-    stack.push(before.both(newest))?;
-    Ok(true)
-}
-
-// Joins the two newest elements by `or`, if there are two.
-fn join_either(stack: &mut Vec<Possible>) -> Result<bool, AllocError>
-    ensures { IfOk result (λ done. specs.join_two possible.either (reverse stack.old.items)
-        ≡ (if done then Some (reverse stack.new.items) else None)) }
-{
-    let Some(newest) = stack.pop() else {
-        return Ok(false);
-    };
-    let Some(before) = stack.pop() else {
-        return Ok(false);
-    };
-    stack.push(before.either(newest))?;
-    Ok(true)
-}
-
-fn add_test(stack: &mut Vec<Possible>, test: Possible) -> Result<bool, AllocError>
-    ensures { IfOk result (λ done. Some (test ∷ reverse stack.old.items)
-        ≡ (if done then Some (reverse stack.new.items) else None)) }
-{
-    stack.push(test)?;
-    Ok(true)
-}
-
-fn take_step(
-    stack: &mut Vec<Possible>,
+#[derive(Clone, Copy)]
+struct Evaluation<'a> {
     clients: Clients,
-    attrs: &Attrs,
-    shape: &Shape,
-    step: &Step,
-) -> Result<bool, AllocError>
-    ensures { IfOk result
-        (λ done. specs.stepped (test_possible clients attrs.now shape.now) step.now
-        (reverse stack.old.items) ≡ (if done then Some (reverse stack.new.items) else None)) }
-{
-    match step {
-        Step::Test { test, .. } => add_test(stack, test_possible(clients, attrs, shape, test)),
-        Step::Not => negate(stack),
-        Step::And => join_both(stack),
-        Step::Or => join_either(stack),
+    attrs: &'a Attrs,
+    shape: &'a Shape,
+}
+
+impl ConditionFold for Evaluation<'_> {
+    type State = ();
+
+    type Part = Possible;
+
+    ghost evaluates = { λ by _ c p _.
+        p ≡ tree_possible (test_possible by.clients by.attrs.now by.shape.now) c };
+
+    fn test(&self, _state: &mut (), test: &Test) -> Result<Possible, AllocError> {
+        Ok(test_possible(self.clients, self.attrs, self.shape, test))
+    }
+
+    fn not(&self, part: Possible) -> Result<Possible, AllocError> {
+        Ok(part.negated())
+    }
+
+    fn and(
+        &self,
+        _state: &mut (),
+        first: Possible,
+        second: Possible,
+    ) -> Result<Possible, AllocError> {
+        Ok(first.both(second))
+    }
+
+    fn or(
+        &self,
+        _state: &mut (),
+        first: Possible,
+        second: Possible,
+    ) -> Result<Possible, AllocError> {
+        Ok(first.either(second))
     }
 }
 
-fn one_left(stack: &[Possible]) -> Possible
-    ensures { result ≡ specs.one_left (Some (reverse stack.now)) }
-{
-    if stack.len() == 1 {
-        stack[0]
-    } else {
-        Possible::decided(false)
-    }
-}
-
-fn run_steps(
-    stack: &mut Vec<Possible>,
-    clients: Clients,
-    attrs: &Attrs,
-    shape: &Shape,
-    steps: &[Step],
-) -> Result<Possible, AllocError>
-    ensures { IfOk result (λ p. p ≡ specs.one_left
-        (specs.after_steps (test_possible clients attrs.now shape.now) [] steps.now)) }
-{
-    stack.clear();
-    let mut left = steps;
-    while let [step, others @ ..] = left {
-        if !take_step(stack, clients, attrs, shape, step)? {
-            return Ok(Possible::decided(false));
-        }
-        left = others;
-    }
-    Ok(one_left(stack.as_slice()))
-}
-
-/// The possible results of a condition. `stack` is a reused buffer, with any content afterwards.
-#[tactic(auto, using(crate::proofs::Stacks::condition))]
+/// The possible results of a condition. `parts` is a reused buffer, with any content afterwards.
 pub(crate) fn condition_possible(
-    stack: &mut Vec<Possible>,
+    parts: &mut Vec<Possible>,
     clients: Clients,
     attrs: &Attrs,
     shape: &Shape,
-    steps: &[Step],
+    condition: &RuleCondition,
 ) -> Result<Possible, AllocError>
     ensures { IfOk result (λ p.
-        p ≡ steps_possible (test_possible clients attrs.now shape.now) steps.now) }
+        p ≡ steps_possible (test_possible clients attrs.now shape.now) condition.now) }
 {
-    run_steps(stack, clients, attrs, shape, steps)
+    let by = Evaluation {
+        clients,
+        attrs,
+        shape,
+    };
+    fold(&by, &mut (), parts, condition)
 }

@@ -25,7 +25,7 @@ pub(crate) fn statement_possible(
     match statement {
         Statement::Count { .. } => Ok(Possible::decided(false)),
         Statement::When { condition, .. } => {
-            condition_possible(stack, clients, attrs, shape, condition.steps())
+            condition_possible(stack, clients, attrs, shape, condition)
         }
     }
 }
