@@ -1,21 +1,13 @@
 -- Undone takes leave the counters unchanged.
-use Rattle.std.proofs.Common.{◌≡◌, ◌∙◌, ℕ, List, [], ◌∷◌, ◌++◌, refl, ap}
-use Rattle.std.specs.Prelude.{Option, Some, None, slice_index, slice_set}
-use Rattle.std.proofs.lemmas.List.{set-set, set-get_or}
-use Rattle.reasons.specs.Ending.{left_at}
-use Rattle.reasons.specs.Stack.{CellTake, given_back, taken_at}
+use Rattle.std.proofs.Common.{◌≡◌, ℕ, List, [], ◌∷◌, ◌++◌, refl, ap}
+use Rattle.std.specs.Prelude.{slice_set}
+use Rattle.reasons.specs.Parts.{CellTake, given_back}
 
 pub back_by_parts : (ts us : List CellTake) (counters : List ℕ)
     → given_back (ts ++ us) counters ≡ given_back ts (given_back us counters)
 back_by_parts [] us counters = refl
 back_by_parts (t ∷ ts) us counters =
     ap (λ cs. slice_set cs t.cell t.value) (back_by_parts ts us counters)
-
-pub test_is_back : (counters : List ℕ) (cell : Option ℕ)
-    → given_back (taken_at counters cell) (left_at counters cell) ≡ counters
-test_is_back counters None = refl
-test_is_back counters (Some cell) =
-    set-set counters cell _ (slice_index counters cell) ∙ set-get_or counters cell 0
 
 -- the last take is undone first
 pub last_goes_first : (before : List CellTake) (one : CellTake) (all : List CellTake)

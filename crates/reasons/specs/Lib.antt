@@ -3,4 +3,4 @@ pub mod Quoted
 pub mod Texts
 pub mod Reading
 pub mod RuleLines
-pub mod Stack
+pub mod Parts

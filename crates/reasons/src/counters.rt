@@ -20,7 +20,7 @@ pub(crate) struct CellTake {
 impl Model for CellTake {
     ghost use Rattle.std.specs.Prelude.{◌<◌};
     ghost use Rattle.cells.specs.Events.{limit};
-    ghost use Rattle.reasons.specs.Stack as specs;
+    ghost use Rattle.reasons.specs.Parts as specs;
 
     ghost Value = { specs.CellTake };
 

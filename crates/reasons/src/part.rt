@@ -3,7 +3,7 @@
 ghost use Rattle.std.specs.Prelude.{◌≡◌, ◌++◌, IfOk, OnOk, string_bytes};
 ghost use Rattle.printing.specs.Pushed.{Puts};
 ghost use Rattle.reasons.specs.Ending.{left_at, value_at};
-ghost use Rattle.reasons.specs.Stack as specs;
+ghost use Rattle.reasons.specs.Parts as specs;
 ghost use Rattle.reasons.specs.Texts as texts;
 ghost use Rattle.rule_lang.specs.Meaning as meaning;
 
@@ -27,7 +27,7 @@ pub(crate) struct Part {
 
 impl Model for Part {
     ghost use Rattle.std.specs.Prelude.{string_bytes};
-    ghost use Rattle.reasons.specs.Stack as specs;
+    ghost use Rattle.reasons.specs.Parts as specs;
 
     ghost Value = { specs.Part };
 

@@ -86,8 +86,7 @@ fn explain_when(
         (λ holds. specs.ExplainsWhen attrs.now shape.now condition.now counters.old
         (string_bytes text.old) (string_bytes text.new) holds counters.new) }
 {
-    let steps = condition.steps();
-    let part = read_condition(alloc, attrs, shape, counters, steps)?;
-    push_when(text, steps, part.text.as_str())?;
+    let part = read_condition(alloc, attrs, shape, counters, condition)?;
+    push_when(text, condition.steps(), part.text.as_str())?;
     Ok(part.holds)
 }

@@ -1,5 +1,5 @@
 use Rattle.std.proofs.Common.{◌∙◌, ap}
-use Rattle.reasons.specs.Stack.{given_back}
+use Rattle.reasons.specs.Parts.{given_back}
 use Rattle.reasons.proofs.Back.{last_goes_first}
 use Rattle.reasons.proofs.part.give_back.Goals as goal
 

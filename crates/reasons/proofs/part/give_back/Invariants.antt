@@ -1,5 +1,5 @@
 use Rattle.std.proofs.Common.{◌≡◌, length}
-use Rattle.reasons.specs.Stack.{given_back}
+use Rattle.reasons.specs.Parts.{given_back}
 use Rattle.reasons.proofs.part.give_back.Given as goal
 
 -- undoing the remaining takes completes the undoing
