@@ -1,19 +1,19 @@
 -- Truth tables: how a condition is read back. A table says for each segment of a dimension whether
 -- a part of the condition holds. No public clause uses this: the promise is in Conditions.antt.
-use Rattle.std.specs.Prelude.{◌≡◌, ℕ, ◌+◌, ◌<◌, List, [], ◌∷◌, Option, Some, None, map, length, All}
+use Rattle.std.specs.Prelude.{◌≡◌, ℕ, ◌+◌, ◌<◌, List, [], ◌∷◌, Option, Some, map, length, All}
 use Rattle.std.specs.Prelude.{Bool, true, false, not, ◌==◌, ◌&&◌, ◌||◌, slice_get, slice_index}
-use Rattle.std.specs.Prelude.{slice_index_or, if◌then◌else◌}
-use Rattle.std.specs.List.{AllZip, list_all}
+use Rattle.std.specs.Prelude.{slice_index_or, if◌then◌else◌, IfSome}
+use Rattle.std.specs.List.{list_all}
 use Rattle.std.specs.Ordering.{nat_cmp}
 use Rattle.attrs.specs.Attributes.{Attributes}
 use Rattle.cells.specs.Arrays.{AppShape}
 use Rattle.rule_lang.specs.Meaning.{Behaviour, allows, decide, decide_steps}
-use Rattle.rule_lang.specs.Trees.{Tree, trees_from}
+use Rattle.rule_lang.specs.Trees.{Tree, Both, Either}
 use Rattle.rule_lang.specs.declared.condition.Step.{Step}
-use Rattle.rule_lang.specs.declared.condition.Step.TheVariants as step
 use Rattle.rule_lang.specs.declared.test.Comparison.TheVariants.{Ge, Le}
 use Rattle.rule_lang.specs.declared.test.Test.{Test}
 use Rattle.rule_space.specs.Coordinates.{Dimension, place_of}
+use Rattle.rule_space.specs.Lines.{IsLine}
 use Rattle.rule_space.specs.Machines.{State}
 use Rattle.rule_space.specs.Numbers.{decides}
 use Rattle.rule_space.specs.Scopes.{IsWithin, Scope}
@@ -93,12 +93,6 @@ module _ (x : Scope) (ds : List Dimension) where
         → (met unmet : Behaviour) → decide a s c met unmet
         ≡ (if all_hold tables (place_of ds a g) then met else unmet)
 
-  -- the steps up to those that are left make trees, the newest first, and the parts are theirs
-  pub record HaveMade (all left : List Step) (parts : List (List Table)) : Type 0 where
-    pub trees : List Tree
-    pub same : trees_from trees left ≡ trees_from [] all
-    pub each : AllZip IsPartOf trees parts
-
   -- the steps are a condition that holds exactly if the tables do
   pub record IsWhole (steps : List Step) (tables : List Table) : Type 0 where
     pub tables_are : All (IsTable ds) tables
@@ -106,14 +100,13 @@ module _ (x : Scope) (ds : List Dimension) where
         → (met unmet : Behaviour) → decide_steps a s steps met unmet
         ≡ (if all_hold tables (place_of ds a g) then met else unmet)
 
--- a part, if one was made, is pushed
-abbrev pub IsPushed : Option (List Table) → (old new : List (List Table)) → Type 0
-IsPushed (Some part) old new = new ≡ part ∷ old
-IsPushed None old new = ⊥
+-- the part, if one was made, is that of the tree in any scope of the dimensions
+abbrev pub IsMade : List Dimension → Tree → Option (List Table) → Type 0
+IsMade ds c made = (x : Scope) → All (IsLine x) ds → IfSome made (IsPartOf x ds c)
 
-abbrev pub join_step : (is_and : Bool) → Step
-join_step true = step.And
-join_step false = step.Or
+abbrev pub tree_by : (is_and : Bool) → Tree → Tree → Tree
+tree_by true b c = Both b c
+tree_by false b c = Either b c
 
 -- ---- comparing ranges and tables with sets
 

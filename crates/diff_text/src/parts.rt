@@ -1,9 +1,7 @@
 //! Parts of a condition, as tables that all hold.
 
 ghost use Rattle.std.specs.Prelude.{◌≡◌, ◌∷◌, [], All, IfOk, IfSome, map, not, true, false};
-ghost use Rattle.rule_lang.specs.Trees.{Leaf};
-ghost use Rattle.rule_space.specs.Lines.{IsLine};
-ghost use Rattle.rule_space.specs.Scopes.{Scope};
+ghost use Rattle.rule_lang.specs.Trees.{Leaf, Tree};
 ghost use Rattle.diff_text.specs.Tables as specs;
 
 use crate::truth_table::{Table, joined_truths, negated_truths, table_of};
@@ -57,8 +55,7 @@ pub(crate) fn tested(
     dimensions: &[Dimension],
     test: &Test,
 ) -> Result<Option<Part>, AllocError>
-    ensures { (x : Scope) (line : _) → All (IsLine x) dimensions.now → IfOk result
-        (λ o. IfSome o (specs.IsPartOf x dimensions.now (Leaf line test.now))) }
+    ensures { (line : _) → IfOk result (specs.IsMade dimensions.now (Leaf line test.now)) }
 {
     let Some(table) = table_of(alloc, dimensions, test)? else {
         return Ok(None);
@@ -182,12 +179,18 @@ fn both(alloc: Global, first: Part, second: Part) -> Result<Option<Part>, AllocE
 pub(crate) fn joined(
     alloc: Global,
     is_and: bool,
-    first: Part,
-    second: Part,
+    first: Option<Part>,
+    second: Option<Part>,
 ) -> Result<Option<Part>, AllocError>
-    ensures { (ds : _) → All (specs.IsTable ds) first → All (specs.IsTable ds) second
-        → IfOk result (λ o. IfSome o (specs.IsJoined ds (specs.join_by is_and) first second)) }
+    ensures { (ds : _) (b c : Tree) → specs.IsMade ds b first → specs.IsMade ds c second
+        → IfOk result (specs.IsMade ds (specs.tree_by is_and b c)) }
 {
+    let Some(first) = first else {
+        return Ok(None);
+    };
+    let Some(second) = second else {
+        return Ok(None);
+    };
     if is_and {
         both(alloc, first, second)
     } else {

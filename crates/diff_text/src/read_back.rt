@@ -11,13 +11,13 @@ use crate::matching::are_tables_of;
 use crate::steps::tables_of;
 use cells::Shape;
 use rule_diff::SegmentSet;
-use rule_lang::{Rule, RuleFault, Statement, Step, parse};
+use rule_lang::{Rule, RuleCondition, RuleFault, Statement, parse};
 use rule_space::Dimension;
 use std::alloc::{AllocError, Global};
 
-// The steps of the condition, if there is one `when` that offers release 1.
-fn steps_of(statements: &[Statement]) -> Option<&[Step]>
-    ensures { IfSome result (λ steps. statements.now ≡ Statement.When steps.now 1 ∷ []) }
+// The condition, if there is one `when` that offers release 1.
+fn condition_of(statements: &[Statement]) -> Option<&RuleCondition>
+    ensures { IfSome result (λ condition. statements.now ≡ Statement.When condition.now 1 ∷ []) }
 {
     let [statement] = statements else {
         return None;
@@ -27,15 +27,15 @@ fn steps_of(statements: &[Statement]) -> Option<&[Step]>
             if *release != 1 {
                 return None;
             }
-            Some(condition.steps())
+            Some(condition)
         }
         Statement::Count { .. } => None,
     }
 }
 
 // Whether the statement offers release 1 exactly to the machines in states that are in these sets,
-// apart from sets of cells that grant takes. If its steps aren't of the form that is printed, the
-// result is no.
+// apart from sets of cells that grant takes. If it isn't of the form that is printed, the result
+// is no.
 fn is_meant(
     alloc: Global,
     dimensions: &[Dimension],
@@ -46,10 +46,10 @@ fn is_meant(
         → specs.IsMeant x dimensions.now (specs.tested_sets dimensions.now sets.now)
         statements.now) }
 {
-    let Some(steps) = steps_of(statements) else {
+    let Some(condition) = condition_of(statements) else {
         return Ok(false);
     };
-    match tables_of(alloc, dimensions, steps)? {
+    match tables_of(alloc, dimensions, condition)? {
         Some(whole) => Ok(are_tables_of(dimensions, sets, &whole.tables)),
         None => Ok(false),
     }

@@ -7,7 +7,7 @@ pub returns-in-Some-2 : goal.returns-in-Some-2
 returns-in-Some-2 c = λ x lines is.
     let ds = c.args.dimensions.now in
     let sets = c.args.sets.now in
-    let steps = c.in-Some.steps.now in
+    let steps = c.in-Some.condition.now in
     record {
       steps = steps;
       one = c.in-Some.ensures;
