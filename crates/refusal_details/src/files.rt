@@ -1,6 +1,5 @@
 //! Files that can't be read or written: the path, and the reason that the system gives.
 
-use bounded_files::may_write_over;
 use printing::Printed;
 use std::fs::{self, OpenOptions};
 use std::io::{Error, ErrorKind, Write};
@@ -29,21 +28,6 @@ pub fn print_write_fault<R: Files, E: Write>(rt: &R, path: &str, err: &mut E) ->
             "the disk is full, or its folder takes no new file",
             err,
         ),
-    }
-}
-
-/// Prints why no picture can be written at a path, if that shows: the file there isn't empty and
-/// isn't a picture in SVG, or what `print_write_fault` prints.
-// open: the line, and when there is one: rows.
-pub fn print_picture_fault<R: Files, E: Write>(rt: &R, path: &str, err: &mut E) -> bool {
-    if may_write_over(rt, path, b"<svg") {
-        print_write_fault(rt, path, err)
-    } else {
-        print_line(
-            path,
-            "a file that isn't empty and isn't a picture in SVG",
-            err,
-        )
     }
 }
 

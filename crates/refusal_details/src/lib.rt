@@ -1,5 +1,4 @@
-//! The second line of a refusal: why the command's file or port is refused, and which names exist
-//! instead.
+//! The second line of a refusal: why the command's file or port is refused.
 //!
 //! See docs/PROGRAM.md, "Refusals".
 #![tactic(auto)]
@@ -13,10 +12,9 @@ mod manifests;
 mod ports;
 mod programs;
 
-pub use files::{print_picture_fault, print_read_fault, print_write_fault};
+pub use files::{print_read_fault, print_write_fault};
 pub use manifests::{
-    print_app_names, print_arrays, print_cause, print_load_hint, print_manifest_hint,
-    print_unread_manifest,
+    manifest_at, print_cause, print_check_hint, print_load_hint, print_unread_manifest,
 };
 pub use ports::{print_bind_fault, print_connect_fault};
 pub use programs::print_program_fault;

@@ -1,14 +1,16 @@
 //! The second line of a refusal: the path or the port that it is about, and why, or what exists
 //! instead of what the words name.
 
+use crate::manifest_names::{print_app_names, print_arrays};
 use crate::subject::{Subject, subject_of};
 use crate::tool_fault::Fault;
-use bounded_files::{Disk, ResourceFault};
+use bounded_files::{Disk, ResourceFault, may_write_over};
 use log_tools::ReportFault;
 use operator::RequestFault;
+use printing::Printed;
 use refusal_details::{
-    print_app_names, print_arrays, print_connect_fault, print_manifest_hint, print_picture_fault,
-    print_program_fault, print_read_fault, print_unread_manifest, print_write_fault,
+    print_check_hint, print_connect_fault, print_program_fault, print_read_fault,
+    print_unread_manifest, print_write_fault,
 };
 use std::io::Write;
 use std::net::{Net, TcpStream};
@@ -34,7 +36,9 @@ where
         return;
     }
     let _printed = match subject_of(command, fault) {
-        Subject::Manifest(Some(path)) => print_manifest_hint(rt, disk, path, err),
+        Subject::Manifest(Some(path)) => {
+            print_unread_manifest(rt, disk, path, err) || print_check_hint(path, err)
+        }
         Subject::Arrays(old, new) => {
             print_arrays(rt.alloc(), disk, old, err)
                 && (old == new || print_arrays(rt.alloc(), disk, new, err))
@@ -77,6 +81,20 @@ where
     for path in args.manifests.as_slice() {
         let _printed = print_unread_manifest(rt, disk, *path, err);
     }
+}
+
+// Why no picture can be written at a path, if that shows: the file there isn't empty and isn't a
+// picture in SVG, or what `print_write_fault` prints.
+fn print_picture_fault<R: Files, E: Write>(rt: &R, path: &str, err: &mut E) -> bool {
+    if may_write_over(rt, path, b"<svg") {
+        return print_write_fault(rt, path, err);
+    }
+    let path = Printed(path);
+    writeln!(
+        err,
+        "{path}: a file that isn't empty and isn't a picture in SVG"
+    )
+    .is_ok()
 }
 
 // A server whose counters are requested and that doesn't reply.
