@@ -1,6 +1,8 @@
 -- What is appended to a line in several steps.
 use Rattle.std.proofs.Common.{◌≡◌, ℕ, List, [], ◌∷◌, ◌++◌, Bool, true, false, refl, sym, ap, ◌∙◌}
-use Rattle.std.proofs.Common.{append_assoc, append-nil, codes}
+use Rattle.std.proofs.Common.{append_assoc, append-nil, codes, ◌+◌, ◌-◌, length, arith}
+use Rattle.std.proofs.Common.{length-append}
+use Rattle.std.specs.Prelude.{decimal}
 use Rattle.std.specs.Str.{chars}
 use Rattle.json.specs.Print.{escape_byte, separator, ends}
 use Rattle.json.specs.Token.{Token, begin_object, end_object, key, string, number, boolean}
@@ -8,11 +10,13 @@ use Rattle.access_log.specs.Line.{begun_at, object_with, line_with}
 use Rattle.access_log.specs.Members.{text_member, number_member, flag_member}
 use Rattle.access_log.specs.Plain.{is_plain_text, named}
 use Rattle.access_log.specs.Spelled.{spelled, spelled_from, spelled_quoted, spelled_token}
-use Rattle.access_log.specs.Tokens.{AddsTokens, AddsMembers, ends_after}
+use Rattle.access_log.specs.Spelled.{size_of}
+use Rattle.access_log.specs.Tokens.{AddsTokens, AddsMembers, IsHarmlessToken, ends_after}
 use Rattle.access_log.specs.Utc.{utc_text}
 use Rattle.access_log.specs.declared.log_event.LineHeader.{LineHeader}
 use Rattle.access_log.specs.declared.utc.Utc.{Utc}
 use Rattle.access_log.proofs.Escaped.{plain_spelled, time_stands}
+use Rattle.access_log.proofs.Harmless.{all_harmless, decimal_is_harmless}
 
 pub spelled_from-append : (before : Bool) (ts us : List Token)
     → spelled_from before (ts ++ us)
@@ -26,7 +30,11 @@ spelled_from-append before (t ∷ ts) us =
 
 pub adds_nothing : (before : Bool) (line : List ℕ) → AddsTokens before before line line []
 unfolding spelled_from
-adds_nothing before line = record { text = sym (append-nil line); ended = refl }
+adds_nothing before line = record {
+  text = sym (append-nil line);
+  ended = refl;
+  harmless = tt;
+}
 
 -- whether two lists, one after the other, end with the end of a value
 pub ends_joined : (before : Bool) (xs ys : List Token)
@@ -43,6 +51,7 @@ then_adds {p} {q} {r} {a} {b} {c} {xs} {ys} first last = record {
       ∙ ap (λ s. a ++ (spelled_from p xs ++ spelled_from s ys)) (sym first.ended)
       ∙ ap (λ l. a ++ l) (sym (spelled_from-append p xs ys));
   ended = ends_joined p xs ys ∙ ap (λ s. ends_after s ys) first.ended ∙ last.ended;
+  harmless = all_harmless xs ys first.harmless last.harmless;
 }
 
 -- ---- members
@@ -58,29 +67,32 @@ member_text line name value =
     (sym (append_assoc name (34 ∷ []) (58 ∷ [])))
 
 adds_member : {a b c name : List ℕ} (t : Token) → is_plain_text name ≡ true → ends t ≡ true
-    → b ≡ a ++ named name → c ≡ b ++ spelled_token t → AddsTokens true true a c (key name ∷ t ∷ [])
+    → IsHarmlessToken t → b ≡ a ++ named name → c ≡ b ++ spelled_token t
+    → AddsTokens true true a c (key name ∷ t ∷ [])
 unfolding spelled_from
-adds_member {a} {b} {c} {name} t plain end first last = record {
+adds_member {a} {b} {c} {name} t plain end harmless first last = record {
   text =
       last ∙ ap (λ l. l ++ spelled_token t) first ∙ member_text a name (spelled_token t)
       ∙ ap (λ n. a ++ (44 ∷ ((34 ∷ (n ++ 34 ∷ [])) ++ 58 ∷ []) ++ (spelled_token t ++ [])))
       (sym (plain_spelled name plain));
   ended = end;
+  harmless = (tt, (harmless, tt));
 }
 
 pub adds_text : {a b c name text : List ℕ} → is_plain_text name ≡ true → b ≡ a ++ named name
     → c ≡ b ++ spelled_quoted text → AddsTokens true true a c (text_member name text)
-adds_text {a} {b} {c} {name} {text} plain = adds_member (string text) plain refl
+adds_text {a} {b} {c} {name} {text} plain = adds_member (string text) plain refl tt
 
-pub adds_number : {a b c name digits : List ℕ} → is_plain_text name ≡ true
-    → b ≡ a ++ named name → c ≡ b ++ digits
-    → AddsTokens true true a c (key name ∷ number digits ∷ [])
-adds_number {a} {b} {c} {name} {digits} plain = adds_member (number digits) plain refl
+pub adds_number : {a b c name : List ℕ} (n : ℕ) → is_plain_text name ≡ true
+    → b ≡ a ++ named name → c ≡ b ++ decimal n
+    → AddsTokens true true a c (number_member name n)
+adds_number {a} {b} {c} {name} n plain =
+    adds_member (number (decimal n)) plain refl (decimal_is_harmless n)
 
 pub adds_flag : {a b c name : List ℕ} {holds : Bool} → is_plain_text name ≡ true
     → b ≡ a ++ named name → c ≡ b ++ spelled_token (boolean holds)
     → AddsTokens true true a c (flag_member name holds)
-adds_flag {a} {b} {c} {name} {holds} plain = adds_member (boolean holds) plain refl
+adds_flag {a} {b} {c} {name} {holds} plain = adds_member (boolean holds) plain refl tt
 
 -- ---- the line
 
@@ -128,3 +140,11 @@ adds_line {begun} {members_of} {line} h members first adds last =
     ∙ ap (λ l. l ++ 125 ∷ 10 ∷ []) (adds.text ∙ ap (λ l. l ++ spelled_from true members) first)
     ∙ sym (append_assoc before (125 ∷ []) (10 ∷ []))
     ∙ ap (λ l. l ++ 10 ∷ []) (sym (whole h members adds.ended))
+
+-- what is appended has its size
+pub measured : {a b : List ℕ} {ts : List Token} {before n : ℕ} → before ≡ length a
+    → AddsMembers a b ts → n ≡ length b - before → n ≡ size_of ts
+measured {a} {b} {ts} {before} {n} at adds is =
+    let all : length b ≡ length a + size_of ts =
+    ap length adds.text ∙ length-append a (spelled_from true ts) in
+    omega (arith, at, is, all)

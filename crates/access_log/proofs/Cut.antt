@@ -3,7 +3,7 @@ use Rattle.std.proofs.Common.{◌≡◌, ℕ, ◌-◌, ◌<◌, ◌≤◌, ◌�
 use Rattle.std.proofs.Common.{ap, ◌∙◌, slice_range}
 use Rattle.std.specs.Str.{IsCharBoundary}
 use Rattle.std.proofs.lemmas.Bool.{cases_order}
-use Rattle.access_log.specs.Sizes.{text_size}
+use Rattle.access_log.specs.TextSize.{text_size}
 
 -- after `end`, no boundary up to `most` gives a brief text
 abbrev pub IsTooLong : ℕ → List ℕ → ℕ → Type 0

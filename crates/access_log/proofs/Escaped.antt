@@ -10,7 +10,7 @@ use Rattle.std.proofs.lemmas.Bool.Decides.{nat_tests}
 use Rattle.std.proofs.lemmas.Str.{chars-IsAscii, chars-nil}
 use Rattle.json.specs.Print.{escape_byte}
 use Rattle.access_log.specs.Plain.{is_escaped, is_plain_text}
-use Rattle.access_log.specs.Sizes.{char_size, chars_size}
+use Rattle.access_log.specs.TextSize.{char_size, chars_size}
 use Rattle.access_log.specs.Spelled.{spelled_char, spelled_text, spelled_quoted}
 use Rattle.access_log.specs.Utc.{digit, two_digits, date_text, clock_text, utc_text}
 use Rattle.access_log.specs.declared.utc.Utc.{Utc}

@@ -9,7 +9,7 @@ use Rattle.std.proofs.lemmas.Bool.Decides.{nat_tests}
 use Rattle.std.proofs.lemmas.Str.{length-encode}
 use Rattle.json.specs.Print.{escape_letter, escape_byte}
 use Rattle.printing.specs.Printed.{is_control}
-use Rattle.access_log.specs.Sizes.{char_size, chars_size, text_size}
+use Rattle.access_log.specs.TextSize.{char_size, chars_size, text_size}
 use Rattle.access_log.specs.Spelled.{spelled_char, spelled_text}
 
 either : {A : Type 0} (P : A → Type 0) (b : Bool) (x y : A)
@@ -65,9 +65,9 @@ chars_fit (c ∷ cs) =
       chars_fit cs,
     )
 
--- for a text of at most 64 bytes
-pub brief_fits : (text : List ℕ) → text_size text ≤ 64 → length (spelled_text text) ≤ 64
-brief_fits text few =
-    either (λ (n : ℕ). n ≤ 64 → length (spelled_text text) ≤ 64) (nat_lt 4096 (length text)) _ _
-    (λ e much. absurd (omega (arith, much)))
+pub brief_fits : (n : ℕ) (text : List ℕ) → n ≤ 4096 → text_size text ≤ n
+    → length (spelled_text text) ≤ n
+brief_fits n text within few =
+    either (λ (k : ℕ). k ≤ n → length (spelled_text text) ≤ n) (nat_lt 4096 (length text)) _ _
+    (λ e much. absurd (omega (arith, much, within)))
     (λ e room. omega (arith, room, chars_fit (chars text))) few

@@ -13,8 +13,11 @@ use Rattle.json.specs.Print.{escape_letter, escape_byte, separator, begins, ends
 use Rattle.json.specs.Token.{Token, begin_object, end_object, begin_array, end_array, key, string}
 use Rattle.json.specs.Token.{number, boolean, null, bad}
 use Rattle.printing.specs.Printed.{is_control}
+use Rattle.access_log.specs.Line.{IsOneLine, begun_at, object_with, line_with}
 use Rattle.access_log.specs.Spelled.{spelled_char, spelled_text}
 use Rattle.access_log.specs.Spelled.{spelled_quoted, spelled_token, spelled_from, spelled}
+use Rattle.access_log.specs.Tokens.{IsHarmlessToken, AreHarmless}
+use Rattle.access_log.specs.declared.log_event.LineHeader.{LineHeader}
 
 -- a text without a control
 abbrev pub IsHarmless : List ℕ → Type 0
@@ -145,25 +148,8 @@ quoted_is text =
 
 -- ---- tokens
 
--- the digits of a number are harmless
-abbrev HasHarmlessNumber : Token → Type 0
-HasHarmlessNumber begin_object = Unit {0}
-HasHarmlessNumber end_object = Unit {0}
-HasHarmlessNumber begin_array = Unit {0}
-HasHarmlessNumber end_array = Unit {0}
-HasHarmlessNumber (key s) = Unit {0}
-HasHarmlessNumber (string s) = Unit {0}
-HasHarmlessNumber (number s) = IsHarmless s
-HasHarmlessNumber (boolean b) = Unit {0}
-HasHarmlessNumber null = Unit {0}
-HasHarmlessNumber bad = Unit {0}
-
-abbrev pub HaveHarmlessNumbers : List Token → Type 0
-HaveHarmlessNumbers [] = Unit {0}
-HaveHarmlessNumbers (t ∷ ts) = HasHarmlessNumber t × HaveHarmlessNumbers ts
-
-pub all_harmless : (ts us : List Token) → HaveHarmlessNumbers ts → HaveHarmlessNumbers us
-    → HaveHarmlessNumbers (ts ++ us)
+pub all_harmless : (ts us : List Token) → AreHarmless ts → AreHarmless us
+    → AreHarmless (ts ++ us)
 all_harmless [] us first last = last
 all_harmless (t ∷ ts) us first last = (first.0, all_harmless ts us first.1 last)
 
@@ -175,7 +161,7 @@ letters a b c d rest p q r s t =
     (one_byte b (c ∷ d ∷ rest) q.0 q.1
     (one_byte c (d ∷ rest) r.0 r.1 (one_byte d rest s.0 s.1 t)))
 
-token_is : (t : Token) → HasHarmlessNumber t → IsHarmless (spelled_token t)
+token_is : (t : Token) → IsHarmlessToken t → IsHarmless (spelled_token t)
 token_is begin_object is = mark 123 (omega arith) (omega arith)
 token_is end_object is = mark 125 (omega arith) (omega arith)
 token_is begin_array is = mark 91 (omega arith) (omega arith)
@@ -196,7 +182,7 @@ token_is null is =
     (omega arith, omega arith) (omega arith, omega arith) no_byte
 token_is bad is = no_byte
 
-spelled_is : (after : Bool) (ts : List Token) → HaveHarmlessNumbers ts
+spelled_is : (after : Bool) (ts : List Token) → AreHarmless ts
     → IsHarmless (spelled_from after ts)
 unfolding spelled_from
 spelled_is after [] are = no_byte
@@ -207,5 +193,16 @@ spelled_is after (t ∷ ts) are =
     (λ e. mark 44 (omega arith) (omega arith)) (λ e. no_byte))
     (both (spelled_token t) rest (token_is t are.0) (spelled_is (ends t) ts are.1))
 
-pub print_is_harmless : (ts : List Token) → HaveHarmlessNumbers ts → IsHarmless (spelled ts)
+pub print_is_harmless : (ts : List Token) → AreHarmless ts → IsHarmless (spelled ts)
 print_is_harmless ts are = spelled_is false ts are
+
+-- ---- lines
+
+pub is_one : (h : LineHeader) (members : List Token) {line : List ℕ} → AreHarmless members
+    → line ≡ line_with h members → IsOneLine line
+is_one h members {line} are is =
+    let begun : AreHarmless (begun_at h.time h.port) =
+    (tt, (tt, (tt, (tt, (decimal_is_harmless h.port, tt))))) in
+    let all = all_harmless (begun_at h.time h.port ++ members) (end_object ∷ [])
+    (all_harmless (begun_at h.time h.port) members begun are) (tt, tt) in
+    (spelled (object_with h members), is, print_is_harmless (object_with h members) all)

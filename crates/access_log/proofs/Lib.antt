@@ -1,5 +1,7 @@
 pub mod Added
 pub mod AddedApps
+pub mod AppsFrom
+pub mod CharsFrom
 pub mod Cut
 pub mod Enough
 pub mod Escaped
@@ -7,8 +9,5 @@ pub mod Fits
 pub mod Harmless
 pub mod Lanes
 pub mod ReadBack
-pub mod SizesFrom
-pub mod MembersAdded
 pub mod Short
-pub mod Listed
 pub mod Years

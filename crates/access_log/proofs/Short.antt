@@ -47,7 +47,7 @@ quoted_length text is =
     let same : length (spelled_text text) ≡ length text = ap length (plain_spelled text is) in
     omega (arith, same, length-append (spelled_text text) (34 ∷ []))
 
-named_length : (text : List ℕ) → is_plain_text text ≡ true
+pub named_length : (text : List ℕ) → is_plain_text text ≡ true
     → length (spelled_quoted text ++ 58 ∷ []) ≡ length text + 3
 named_length text is =
     omega (arith, quoted_length text is, length-append (spelled_quoted text) (58 ∷ []))

@@ -1,17 +1,20 @@
--- What a line logs of the apps of a request.
-use Rattle.std.specs.Prelude.{ℕ, ◌+◌, List, [], ◌∷◌, ◌++◌, codes, length, take, drop, true}
-use Rattle.std.specs.Prelude.{nat_lt, ◌==◌, if◌then◌else◌, Option, Some, None}
+-- What a line logs of the apps of a request. All apps have 3641 bytes, and the rest of the line has
+-- the others.
+use Rattle.std.specs.Prelude.{ℕ, ◌+◌, ◌-◌, List, [], ◌∷◌, ◌++◌, codes, length, take, drop}
+use Rattle.std.specs.Prelude.{Bool, true, nat_le, nat_lt, ◌==◌, if◌then◌else◌, Option, Some, None}
 use Rattle.json.specs.Token.{Token, begin_object, end_object, begin_array, end_array, key}
 use Rattle.access_log.specs.Members.{text_member, number_member, flag_member, count_member}
-use Rattle.access_log.specs.Members.{left_out, excerpt_members, optional_excerpt}
-use Rattle.access_log.specs.Sizes.{listed_apps, left_for_events, event_size, left_after_event}
-use Rattle.access_log.specs.Sizes.{left_after_events}
-use Rattle.access_log.specs.More.{fitted_more, more_size, left_after_more, without_more}
+use Rattle.access_log.specs.Members.{left_out, optional_excerpt}
+use Rattle.access_log.specs.More.{more_members}
+use Rattle.access_log.specs.Spelled.{size_of}
+use Rattle.access_log.specs.declared.apps.Listed.{Listed}
 use Rattle.access_log.specs.declared.logged_app.LoggedApp.{LoggedApp}
 use Rattle.access_log.specs.declared.logged_app.Outcome.{Outcome}
 use Rattle.access_log.specs.declared.logged_app.Outcome.TheVariants.{Unknown, NotRequested}
 use Rattle.access_log.specs.declared.logged_app.Outcome.TheVariants.{NoUpdate, Offered}
 use Rattle.access_log.specs.declared.excerpt.Excerpt.{Excerpt}
+
+-- ---- an app
 
 -- a release, by its number and its version
 abbrev pub offer_members : ℕ → List ℕ → List Token
@@ -25,48 +28,98 @@ outcome_members NotRequested = []
 outcome_members NoUpdate = number_member (codes "choice") 0
 outcome_members (Offered choice version) = offer_members choice version.now
 
--- an event of `size` bytes; if it doesn't fit in `room` bytes, it is left out whole
-abbrev pub fitted_event : ℕ → ℕ → Excerpt → List Token
-fitted_event room size e =
-    if nat_lt room size then count_member (codes "event_left_out") e.length
-    else excerpt_members (codes "event") (codes "event_left_out") e
-
-abbrev pub event_members : ℕ → Option Excerpt → List Token
-event_members room (Some e) = fitted_event room (event_size e) e
-event_members room None = []
-
 -- an app's object begins with its id
 abbrev pub head_of : List ℕ → List Token
 head_of appid = (begin_object ∷ []) ++ text_member (codes "appid") appid
 
--- an app, with `room` bytes for its event and `more` for its further members
-abbrev pub app_object : ℕ → ℕ → LoggedApp → List Token
-app_object room more app =
+-- what is logged of each app that is listed
+abbrev pub app_members : LoggedApp → List Token
+app_members app =
     head_of app.appid.text.now
     ++ count_member (codes "appid_left_out") (left_out app.appid)
     ++ optional_excerpt (codes "version") (codes "version_left_out") app.version
     ++ number_member (codes "bucket") app.bucket
     ++ flag_member (codes "named") app.named
     ++ outcome_members app.outcome
-    ++ fitted_more more (more_size app.more) app.more
-    ++ event_members room app.event
-    ++ (end_object ∷ [])
 
--- apps, which share `room` bytes for their events and `more` for their further members
-unfoldable pub app_objects : ℕ → ℕ → List LoggedApp → List Token
-app_objects room more [] = []
-app_objects room more (app ∷ apps) =
-    app_object room more app
-    ++ app_objects (left_after_event room app.event) (left_after_more more app.more) apps
+-- its details: the further members, and the event
+abbrev pub details_of : LoggedApp → List Token
+details_of app =
+    more_members app.more
+    ++ optional_excerpt (codes "event") (codes "event_left_out") app.event
 
--- the further members get the bytes that the events leave
+abbrev pub event_length : Option Excerpt → ℕ
+event_length (Some e) = e.length
+event_length None = 0
+
+-- what replaces the details: how many bytes the event has
+abbrev pub no_details_of : LoggedApp → List Token
+no_details_of app = count_member (codes "event_left_out") (event_length app.event)
+
+abbrev pub object_with : LoggedApp → List Token → List Token
+object_with app members = app_members app ++ members ++ (end_object ∷ [])
+
+-- ---- what fits
+
+-- the bytes of an app without its details
+abbrev pub brief_size : LoggedApp → ℕ
+brief_size app = size_of (object_with app (no_details_of app))
+
+abbrev pub no_details_size : LoggedApp → ℕ
+no_details_size app = size_of (no_details_of app)
+
+-- the bytes by which its details are longer than what replaces them
+abbrev pub details_size : LoggedApp → ℕ
+details_size app = size_of (details_of app) - no_details_size app
+
+abbrev pub first_of : (count room : ℕ) → Listed
+first_of count room = record { count = count; room = room }
+
+-- The first apps that fit in `room` bytes without their details, after `count` ones: how many there
+-- are then, and the bytes of `room` that they leave.
+unfoldable pub fitting : (count room : ℕ) → List LoggedApp → Listed
+fitting count room [] = first_of count room
+fitting count room (app ∷ apps) =
+    if nat_lt room (brief_size app) then first_of count room
+    else fitting (count + 1) (room - brief_size app) apps
+
+-- ---- apps that share `room` bytes for their details
+
+-- the details if they fit, otherwise what replaces them
+abbrev pub fitted_details : ℕ → LoggedApp → List Token
+fitted_details room app =
+    if nat_lt room (details_size app) then no_details_of app else details_of app
+
+-- the bytes of `room` that are left for later apps
+abbrev pub left_after : ℕ → LoggedApp → ℕ
+left_after room app = if nat_lt room (details_size app) then room else room - details_size app
+
+-- the bytes of its further members
+abbrev pub more_size : LoggedApp → ℕ
+more_size app = size_of (more_members app.more)
+
+-- 1 if further members are left out, otherwise 0
+abbrev pub without_more : ℕ → LoggedApp → ℕ
+without_more room app =
+    if nat_lt room (details_size app) then (if more_size app == 0 then 0 else 1) else 0
+
+unfoldable pub app_objects : ℕ → List LoggedApp → List Token
+app_objects room [] = []
+app_objects room (app ∷ apps) =
+    object_with app (fitted_details room app) ++ app_objects (left_after room app) apps
+
+-- how many apps are listed without their further members
+unfoldable pub more_left_out : ℕ → List LoggedApp → ℕ
+more_left_out room [] = 0
+more_left_out room (app ∷ apps) =
+    without_more room app + more_left_out (left_after room app) apps
+
 abbrev pub list_of : ℕ → List LoggedApp → List Token
 list_of room apps =
-    (key (codes "apps") ∷ []) ++ (begin_array ∷ [])
-    ++ app_objects room (left_after_events room apps) apps
+    (key (codes "apps") ∷ []) ++ (begin_array ∷ []) ++ app_objects room apps
     ++ (end_array ∷ [])
 
--- ---- what is left out
+-- ---- apps that aren't listed
 
 -- 1 if the app was offered a release, otherwise 0
 abbrev pub offers_of : Outcome → ℕ
@@ -86,17 +139,6 @@ unfoldable pub unknown_in : List LoggedApp → ℕ
 unknown_in [] = 0
 unknown_in (app ∷ apps) = unknown_of app.outcome + unknown_in apps
 
--- how many of these apps are logged without their further members, which share `room` bytes
-unfoldable pub more_left_out : ℕ → List LoggedApp → ℕ
-more_left_out room [] = 0
-more_left_out room (app ∷ apps) =
-    without_more room (more_size app.more) + more_left_out (left_after_more room app.more) apps
-
--- the member with this number, if the events and the further members share `room` bytes
-abbrev pub more_left_out_member : ℕ → List LoggedApp → List Token
-more_left_out_member room apps =
-    count_member (codes "more_left_out") (more_left_out (left_after_events room apps) apps)
-
 -- how many apps these are, and how many of them have offers or are unknown
 abbrev pub left_out_members : List LoggedApp → List Token
 left_out_members apps =
@@ -104,14 +146,29 @@ left_out_members apps =
     ++ count_member (codes "offers_left_out") (offers_in apps)
     ++ count_member (codes "unknown_left_out") (unknown_in apps)
 
--- the first n apps, what is left out of them, and counts of the apps after them
-abbrev pub first_apps : ℕ → ℕ → List LoggedApp → List Token
-first_apps n room apps =
-    list_of room (take n apps) ++ more_left_out_member room (take n apps)
-    ++ left_out_members (drop n apps)
+-- ---- the apps of a request
+
+-- the first apps, what is left out of them, and counts of the apps after them
+abbrev pub first_apps : Listed → List LoggedApp → List Token
+first_apps listed apps =
+    list_of listed.room (take listed.count apps)
+    ++ count_member (codes "more_left_out") (more_left_out listed.room (take listed.count apps))
+    ++ left_out_members (drop listed.count apps)
+
+abbrev pub all_of : List LoggedApp → Listed
+all_of apps = first_of (length apps) 3641
+
+-- with `,"apps":[` and `]`, and without the first comma, a list has 9 bytes more than its apps
+abbrev pub all_fit : List LoggedApp → Bool
+all_fit apps = nat_le (size_of (first_apps (all_of apps) apps)) 3650
+
+-- all apps if they fit, otherwise as many as fit without their details
+abbrev pub listed_of : List LoggedApp → Listed
+listed_of apps = if all_fit apps then all_of apps else fitting 0 3641 apps
+
+abbrev pub fitting_members : List LoggedApp → List Token
+fitting_members apps = first_apps (listed_of apps) apps
 
 -- nothing if the request has no apps
 abbrev pub apps_members : List LoggedApp → List Token
-apps_members apps =
-    if length apps == 0 then []
-    else first_apps (listed_apps apps) (left_for_events apps) apps
+apps_members apps = if length apps == 0 then [] else fitting_members apps

@@ -1,7 +1,7 @@
 -- How much of a long text a line logs.
 use Rattle.std.specs.Prelude.{◌≡◌, ℕ, ◌<◌, ◌≤◌, List, length, take}
 use Rattle.std.specs.Str.{IsCharBoundary}
-use Rattle.access_log.specs.Sizes.{text_size}
+use Rattle.access_log.specs.TextSize.{text_size}
 use Rattle.access_log.specs.declared.excerpt.Excerpt.{Excerpt}
 
 -- the longest prefix of whole characters that has at most 512 bytes, and the text's length

@@ -4,7 +4,8 @@ pub mod More
 pub mod Plain
 pub mod Tokens
 pub mod Utc
-pub mod Sizes
+pub mod TextSize
 pub mod Excerpt
 pub mod Apps
+pub mod Brief
 pub mod Line

@@ -7,9 +7,9 @@ use Rattle.std.specs.Str.{NoCharPasses}
 use Rattle.json.specs.Token.{Token, begin_object, end_object}
 use Rattle.printing.specs.Printed.{is_control}
 use Rattle.access_log.specs.Apps.{apps_members}
+use Rattle.access_log.specs.Brief.{ListsEnough}
 use Rattle.access_log.specs.Members.{text_member, number_member, flag_member, optional_member}
 use Rattle.access_log.specs.Members.{count_member, excerpt_members, optional_excerpt}
-use Rattle.access_log.specs.Sizes.{ListsEnough}
 use Rattle.access_log.specs.Spelled.{spelled}
 use Rattle.access_log.specs.Utc.{utc_text}
 use Rattle.access_log.specs.declared.log_event.Connection.{Connection}

@@ -1,7 +1,7 @@
 -- How a text is printed in a line: a string of JSON (RFC 8259, section 7), in which each control
 -- that a terminal may obey is also escaped. And how tokens with such strings are printed.
-use Rattle.std.specs.Prelude.{◌≡◌, ℕ, ◌/◌, ◌%◌, List, [], ◌∷◌, ◌++◌, Bool, false, nat_lt}
-use Rattle.std.specs.Prelude.{if◌then◌else◌, encode_utf8, Some}
+use Rattle.std.specs.Prelude.{◌≡◌, ℕ, ◌/◌, ◌%◌, List, [], ◌∷◌, ◌++◌, Bool, true, false}
+use Rattle.std.specs.Prelude.{length, nat_lt, if◌then◌else◌, encode_utf8, Some}
 use Rattle.std.specs.Char.{digit_char}
 use Rattle.std.specs.List.{flat_map}
 use Rattle.std.specs.Str.{chars, IsUtf8}
@@ -48,3 +48,7 @@ spelled_from after (t ∷ ts) = separator after t ++ (spelled_token t ++ spelled
 
 abbrev pub spelled : List Token → List ℕ
 spelled = spelled_from false
+
+-- the bytes of tokens that follow a value, with the comma between them
+abbrev pub size_of : List Token → ℕ
+size_of tokens = length (spelled_from true tokens)

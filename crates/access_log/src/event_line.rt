@@ -9,7 +9,7 @@ use crate::events::{write_kind, write_members};
 use crate::line_buffer::LineBuffer;
 use crate::log_event::{LineHeader, LogEvent};
 use crate::member::write_number;
-use crate::sizes::LINE_LIMIT;
+use crate::text_size::LINE_LIMIT;
 use crate::utc::Utc;
 use std::alloc::{AllocError, Global};
 
@@ -60,7 +60,9 @@ fn whole_line(
     header: &LineHeader,
     event: &LogEvent<'_>,
 ) -> Result<(), AllocError>
-    ensures { OnOk result (room.new ≡ specs.line_with header.now (specs.members_of event.now)) }
+    ensures text { OnOk result
+        (room.new ≡ specs.line_with header.now (specs.members_of event.now)) }
+    ensures whole { OnOk result (specs.IsOneLine room.new) }
 {
     begin_line(room, &header.time, header.port)?;
     write_members(room, event)?;
@@ -73,6 +75,7 @@ fn too_long_line(room: &mut LineBuffer, header: &LineHeader, bytes: usize) -> Re
     ensures text { OnOk result
         (room.new ≡ specs.line_with header.now (specs.too_long_members bytes)) }
     ensures limit { OnOk result (length room.new ≤ 4096) }
+    ensures whole { OnOk result (specs.IsOneLine room.new) }
 {
     begin_line(room, &header.time, header.port)?;
     write_too_long(room, bytes as u64)?;

@@ -4,9 +4,9 @@ ghost use Rattle.std.specs.Prelude.{◌≡◌, ◌≤◌, ◌<◌, ℕ, take};
 ghost use Rattle.std.specs.Str.{IsCharBoundary};
 ghost use Rattle.access_log.specs.Excerpt.{IsExcerpt, IsBriefExcerpt};
 ghost use Rattle.access_log.specs.Members as members;
-ghost use Rattle.access_log.specs.Sizes.{text_size};
+ghost use Rattle.access_log.specs.TextSize.{text_size};
 
-use crate::sizes::text_size;
+use crate::text_size::text_size;
 
 /// The most bytes of a text that a line logs.
 const EXCERPT_LIMIT: usize = 512;

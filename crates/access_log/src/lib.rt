@@ -10,6 +10,7 @@
 //! See docs/OPERATING.md, "The log".
 #![tactic(auto)]
 
+mod app;
 mod apps;
 mod event_line;
 mod events;
@@ -21,7 +22,7 @@ mod line_buffer;
 mod log_event;
 mod logged_app;
 mod member;
-mod sizes;
+mod text_size;
 mod unescaped;
 mod utc;
 

@@ -1,7 +1,7 @@
 //! The buffer of a line, which is reused from line to line. It keeps spare bytes after those that
 //! are written, so that a piece of a line is stored with one test.
 
-ghost use Rattle.std.specs.Prelude.{◌≡◌, ◌++◌, ◌+◌, ◌≤◌, [], length, OnOk};
+ghost use Rattle.std.specs.Prelude.{◌≡◌, ◌++◌, ◌+◌, ◌-◌, ◌≤◌, [], length, take, OnOk};
 ghost use Rattle.json.specs.Filled.{Placed};
 
 use std::alloc::{AllocError, Global};
@@ -43,6 +43,31 @@ impl LineBuffer {
         ensures { result.now ≡ self.now }
     {
         &self.bytes.as_slice()[..self.len]
+    }
+
+    /// How many bytes are written.
+    #[inline(always)]
+    pub(crate) fn len(&self) -> usize
+        ensures { result ≡ length self.now }
+    {
+        self.len
+    }
+
+    /// How many bytes are written after the first `before`.
+    #[inline(always)]
+    pub(crate) fn added_since(&self, before: usize) -> usize
+        ensures { result ≡ length self.now - before }
+    {
+        self.len.saturating_sub(before)
+    }
+
+    /// Removes all bytes but the first `len`.
+    #[inline(always)]
+    pub(crate) fn cut_back(&mut self, len: usize)
+        requires { len ≤ length self.old }
+        ensures { self.new ≡ take len self.old }
+    {
+        self.len = len;
     }
 
     /// Removes the bytes, and keeps the buffer's memory.

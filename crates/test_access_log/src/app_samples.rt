@@ -29,7 +29,7 @@ pub(crate) const CUT_EVENT: Option<Excerpt<'static>> = Some(Excerpt {
     length: 1000,
 });
 
-/// The further members of an app, which take 145 bytes.
+/// The further members of an app, which take 115 bytes.
 pub(crate) const FURTHER_MEMBERS: FurtherMembers<'static> = FurtherMembers {
     ap: Some(Excerpt {
         text: SHORT,

@@ -1,10 +1,12 @@
-use Rattle.std.proofs.Common.{◌≡◌, ◌++◌, drop, false}
-use Rattle.access_log.specs.Apps.{app_objects}
-use Rattle.access_log.specs.Spelled.{spelled_from}
+use Rattle.std.proofs.Common.{◌≡◌, ◌+◌, ◌≤◌, drop}
+use Rattle.access_log.proofs.AddedApps.{Completes}
+use Rattle.access_log.specs.Apps.{more_left_out}
 use Rattle.access_log.proofs.apps.write_each.Given as goal
 
--- what is written, followed by the apps that are left, is all
+-- the apps from here on complete the list, and the count
 abbrev pub invariant-loop-app : goal.invariant-loop-app
 invariant-loop-app l =
-    l.line ++ spelled_from l.comma (app_objects l.left l.beside (drop l.app-index l.apps))
-    ≡ l.initial.line ++ spelled_from false (app_objects l.fn.room l.fn.more l.apps)
+    Completes l.comma l.initial.line l.line l.fn.room l.room l.app-index l.apps
+    × (l.more_left_out + more_left_out l.room (drop l.app-index l.apps)
+    ≡ more_left_out l.fn.room l.apps)
+    × (l.more_left_out ≤ l.app-index)

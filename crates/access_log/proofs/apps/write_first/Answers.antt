@@ -3,7 +3,6 @@ use Rattle.access_log.proofs.apps.write_first.Goals as goal
 
 pub returns : goal.returns
 returns c =
-    adds_first c.args.listed_before.count c.args.listed_before.room c.args.apps.now
-    c.split_at.ensures.front
-    c.split_at.ensures.back c.in_ok-write_list.ensures c.in_ok-write_more_left_out.ensures
-    c.in_ok-write_left_out.ensures
+    adds_first c.args.listed c.args.apps.now c.split_at.ensures.front
+    c.split_at.ensures.back c.in_ok-more_left_out.ensures.more c.in_ok-more_left_out.ensures.text
+    c.in_ok-write_count.ensures c.in_ok-write_left_out.ensures

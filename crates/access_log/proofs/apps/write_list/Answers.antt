@@ -1,7 +1,8 @@
-use Rattle.access_log.proofs.AddedApps.{adds_list}
+use Rattle.access_log.proofs.Added.{then_adds}
+use Rattle.access_log.proofs.AddedApps.{adds_open, adds_close}
 use Rattle.access_log.proofs.apps.write_list.Goals as goal
 
-pub returns : goal.returns
-returns c =
-    adds_list c.args.room _ c.args.apps.now c.left_after_events.ensures c.in_ok-put.ensures
-    c.in_ok-write_each.ensures c.in_ok-put-2.ensures
+pub returns-clause-text : goal.returns-clause-text
+returns-clause-text c =
+    then_adds (then_adds (adds_open c.in_ok-put.ensures) c.in_ok-more_left_out.ensures.text)
+    (adds_close _ c.in_ok-put-2.ensures)
