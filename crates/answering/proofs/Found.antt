@@ -1,28 +1,26 @@
 -- What a ruleset has for the apps of a request: for an app, for one app more, and for all.
-use Rattle.std.proofs.Common.{◌≡◌, ◌∙◌, ℕ, suc, ◌+◌, ◌<◌, List, [], ◌∷◌, ◌++◌, length, take, get_or}
-use Rattle.std.proofs.Common.{Option, Some, option_map, refl, ap, ap₂, sym, arith}
+use Rattle.std.proofs.Common.{◌≡◌, ◌∙◌, ℕ, suc, ◌+◌, ◌<◌, ◌≤◌, List, [], ◌∷◌, ◌++◌, length}
+use Rattle.std.proofs.Common.{take, get_or, Option, Some, option_map, refl, ap, ap₂, sym, arith}
 use Rattle.std.proofs.lemmas.List.{length-take-le, take_all, take_more}
 use Rattle.std.specs.Prelude.{unwrap_or}
 use Rattle.attrs.specs.Bucket.{app_bucket, hashed_bucket, named_bucket}
 use Rattle.attrs.specs.declared.facts.AppFacts.{AppFacts}
 use Rattle.attrs.specs.declared.facts.RequestFacts.{RequestFacts}
-use Rattle.releases.specs.Release.{Release}
 use Rattle.ruleset.specs.Rules.{AppRule, Rules, app_of}
 use Rattle.omaha_json.specs.Found.{FoundApp, found_with}
 use Rattle.answering.specs.Found.{found_app, found_apps, listed_app}
 
 -- an app of the ruleset, whose bucket is that of these facts, or else the hashed one
-pub listed_is : (facts : RequestFacts) (app facts' : AppFacts) (choice : Option ℕ)
-    (known : AppRule) (releases : List Release) (hashed bucket : ℕ) (found : FoundApp)
-    → hashed ≡ hashed_bucket facts → facts' ≡ app
-    → bucket ≡ unwrap_or (named_bucket facts') hashed → releases ≡ known.releases
-    → found ≡ found_with releases choice bucket → found ≡ listed_app facts app choice known
-listed_is facts app facts' choice known releases hashed bucket found is same named lent found_is =
-    let B : bucket ≡ app_bucket app facts =
+pub listed_is : (facts : RequestFacts) (app lent : AppFacts) (choice : Option ℕ)
+    (known : AppRule) (hashed bucket : ℕ) (found : FoundApp)
+    → hashed ≡ hashed_bucket facts → lent ≡ app
+    → bucket ≡ unwrap_or (named_bucket lent) hashed
+    → found ≡ found_with known.releases choice bucket → found ≡ listed_app facts app choice known
+listed_is facts app lent choice known hashed bucket found hashes same named is =
+    let in_bucket : bucket ≡ app_bucket app facts =
     named ∙ ap (λ (f : AppFacts). unwrap_or (named_bucket f) hashed) same
-    ∙ ap (unwrap_or (named_bucket app)) is in
-    found_is ∙ ap (λ (rs : List Release). found_with rs choice bucket) lent
-    ∙ ap (found_with known.releases choice) B
+    ∙ ap (unwrap_or (named_bucket app)) hashes in
+    is ∙ ap (found_with known.releases choice) in_bucket
 
 module _ (rules : Rules) (facts : RequestFacts) where
   -- an app that is in the ruleset
@@ -78,8 +76,8 @@ module _ (rules : Rules) (facts : RequestFacts) where
         ∙ found_snoc (take i apps) (take i choices) app choice (b ∙ sym a))
 
     -- all apps
-    pub found_last : (i : ℕ) (found : List (Option FoundApp)) → length apps ≡ i
+    pub found_last : (i : ℕ) (found : List (Option FoundApp)) → length apps ≤ i
         → found ≡ found_first i apps choices → found ≡ found_apps rules facts apps choices
     found_last i found all is =
-        is ∙ ap₂ (found_apps rules facts) (take_all i apps (omega (arith, all)))
+        is ∙ ap₂ (found_apps rules facts) (take_all i apps all)
         (take_all i choices (omega (arith, all, each)))

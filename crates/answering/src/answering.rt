@@ -19,7 +19,7 @@ use std::fmt::{self, Display};
 use std::io::{Read, Write};
 
 /// Why no whole reply was written.
-#[derive(Clone, Copy, Debug, Drop, PartialEq, Eq)]
+#[derive(Clone, Copy, Debug, Drop)]
 pub enum AnswerFault {
     /// P7: the input ended before the request did. Nothing was written.
     Ended,
@@ -41,7 +41,8 @@ impl Display for AnswerFault {
 
 impl Error for AnswerFault {}
 
-/// Reads a request, writes its reply, and returns the reply that was sent.
+/// Reads a request, writes its reply, and returns the reply that was sent. This is the
+/// specification's call; servers take `answer_in`, which reuses their buffers.
 // open: what `answer_in` leaves open.
 pub fn answer<R: Read, W: Write, C: CellSteps>(
     alloc: Global,

@@ -14,7 +14,11 @@ loop-i-preserved c =
     c.loop-i.invariant
 
 pub returns-clause-found : goal.returns-clause-found
-returns-clause-found c = ?
+returns-clause-found c =
+    found_last c.args.rules.now c.args.facts.now c.args.apps.now c.args.choices.now c.requires
+    c.loop-i.i c.loop-i.found.items c.loop-i-test.false c.loop-i.invariant
 
 pub returns-clause-each : goal.returns-clause-each
-returns-clause-each c = ?
+returns-clause-each c =
+    ap length (returns-clause-found c)
+    ∙ found_length c.args.rules.now c.args.facts.now c.args.apps.now c.args.choices.now c.requires
