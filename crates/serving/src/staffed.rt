@@ -27,7 +27,7 @@ use std::sync::{Arc, Wait};
 use std::thread::Threads;
 use std::time::Clock;
 use thread_laws::{threads_are_one_world, threads_grant_quotas};
-use workers::{NoGate, OperatorSeat, Ports, ServeOptions, answers_are_runs, run};
+use workers::{Ports, ServeOptions, ServerParts, answers_are_runs, run};
 
 /// A server that has its counters, its publisher and its workers. `serve` or `close` ends it; it
 /// isn't dropped otherwise.
@@ -158,21 +158,12 @@ impl StaffedServer {
             workers,
             room,
         } = self;
-        let seat = OperatorSeat {
+        let parts = ServerParts {
             loader,
             cells: &cells,
-            pass,
-        };
-        let back = match run(
-            rt,
-            &NoGate,
-            ports,
-            seat,
-            &mut control,
-            workers,
             service,
-            out,
-        ) {
+        };
+        let back = match run(rt, ports, &parts, pass, &mut control, workers, out) {
             Ok(back) => back,
             Err(fault) => {
                 control.close(rt);

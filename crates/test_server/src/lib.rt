@@ -5,6 +5,8 @@
 #[cfg(test)]
 mod ending;
 #[cfg(test)]
+mod gated;
+#[cfg(test)]
 mod impaired;
 #[cfg(test)]
 mod log_lines;

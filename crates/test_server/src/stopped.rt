@@ -13,31 +13,30 @@ use std::net::TcpListener;
 use std::process::Abort;
 use std::sync::atomic::AtomicBool;
 use std::sync::{Arc, Wait};
-use workers::{OperatorSeat, operate};
+use workers::{ServerParts, operate};
 
-/// A publisher of a ruleset without apps. It is ended by `close`.
-fn publisher_of<T: Abort + Wait>(own: &Impaired<'_, T>) -> Publisher {
+/// A publisher of a ruleset without apps, with places for three watchers. It is ended by `close`.
+pub(crate) fn publisher_of<T: Abort + Wait>(own: &Impaired<'_, T>) -> Publisher {
     let alloc = own.rt.alloc();
     let rules = Ruleset::new(String::new(alloc), Vec::new(alloc));
     let rules = Arc::new(alloc, rules.expect(own.handles, "a ruleset"));
-    let publisher = Publisher::new(own, alloc, rules.expect(own.handles, "memory"), 1);
+    let publisher = Publisher::new(own, alloc, rules.expect(own.handles, "memory"), 3);
     publisher.expect(own.handles, "a publisher")
 }
 
 /// Serves the operator's port of a stopped server. Returns whether a line ended it.
 fn is_ended_by_line<T: Abort + Wait>(own: &Impaired<'_, T>, listener: &TcpListener) -> bool {
     let alloc = own.rt.alloc();
-    let (cells, pass) = PlainCells::new(alloc).expect(own.handles, "cells");
+    let (cells, mut pass) = PlainCells::new(alloc).expect(own.handles, "cells");
     let mut control = Control::new(publisher_of(own), Directory::new(alloc));
     let disk = Device::new(own.rt);
-    let mut seat = OperatorSeat {
+    let parts = ServerParts {
         loader: &Manifests::of(&disk),
         cells: &cells,
-        pass,
+        service: service_of(30),
     };
     let stop = AtomicBool::new(true);
-    let service = service_of(30);
-    let end = operate(own, listener, &mut seat, &mut control, &stop, service);
+    let end = operate(own, listener, &parts, &mut pass, &mut control, &stop);
     control.close(own);
     end.is_requested()
 }

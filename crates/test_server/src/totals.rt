@@ -1,8 +1,8 @@
 //! The totals of connections, as the log counts them.
 
 use access_log::Totals;
+use answering::{AnswerFault, Sent};
 use server_log::{LogQueue, count_begun, count_ended};
-use workers::{AnswerFault, Sent};
 
 const STATUSES: [u16; 8] = [200, 400, 404, 405, 411, 413, 431, 500];
 

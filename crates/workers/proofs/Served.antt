@@ -4,8 +4,7 @@ use Rattle.std.proofs.Common.{◌≡◌, ℕ, ◌+◌, ◌-◌, ◌^◌, min, Li
 use Rattle.std.proofs.Common.{length, refl, sym, subst, append-nil, arith, length-append}
 use Rattle.std.proofs.lemmas.List.Elements.{All-cons, All-nil}
 use Rattle.std.specs.List.{AllZip}
-use Rattle.std.specs.Prelude.{ℤ, Option, None, Result, Ok, Err, IfOk, IfErr, Vec}
-use Rattle.std.specs.declared.alloc.Global.{Global}
+use Rattle.std.specs.Prelude.{ℤ, Option, None, Result, Ok, Err, IfOk, IfErr}
 use Rattle.std.specs.declared.thread.PromisedHandle.{PromisedHandle}
 use Rattle.std.proofs.lemmas.Grind.{flat_map-append}
 use Rattle.answering.specs.Answer.{RepliesByRuns, RepliesTo, WritesNothing, taken, rejected}
@@ -22,9 +21,8 @@ use Rattle.workers.proofs.Turns.{turns_join}
 use Rattle.workers.specs.Answers.{WorkerAnswer, made_in_turn}
 use Rattle.workers.specs.Back.{WorkerBack, ConnectionBack, ConnectionsBack, MomentBack}
 use Rattle.workers.specs.Back.{WorkersBack}
-use Rattle.workers.specs.Promised.{IsPromiseOf, ArePromised}
+use Rattle.workers.specs.Promised.{IsPromiseOf}
 use Rattle.workers.specs.declared.promise.WorkerPromise.{WorkerPromise}
-use Rattle.workers.specs.declared.promise.WorkerPromises.{WorkerPromises}
 
 -- ---- one connection
 
@@ -192,13 +190,3 @@ module _ {X P : Type 0} (belongs : X → P → Type 0) (grew : P → CellEvent �
       WorkerBack (belongs thread.promise.cells.value) grew thread.promise.given.value new)
       (WorkerBack (belongs cells) grew)
       (λ worker thread new is kept. is_back worker thread.promise new is kept)
-
-  -- all workers of the thread that serves clients
-  pub are_back : (workers : Vec (P × KnownPrefix) Global) (promise : WorkerPromises X P)
-      (back : List (P × KnownPrefix)) → ArePromised cells workers promise
-      → WorkersBack (belongs promise.cells.value) grew promise.given.value.items back
-      → WorkersBack (belongs cells) grew workers.items back
-  are_back workers promise back are =
-      kept_of (λ (x : X) (ws : Vec (P × KnownPrefix) Global).
-      WorkersBack (belongs x) grew ws.items back)
-      cells promise.cells.value workers promise.given.value are.cells_are are.workers_are

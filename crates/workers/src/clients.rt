@@ -1,38 +1,37 @@
-//! The clients' side of a server: its queue, the workers that answer the queued connections, and
-//! the caller's thread, which accepts connections. The program runs it in a thread
-//! (`serving_thread`).
+//! The clients' side of a server: one thread accepts connections, and the workers answer them.
 
-ghost use Rattle.std.specs.Prelude.{◌≤◌, All, IfOk, length};
-ghost use Rattle.workers.specs.Back.{WorkersBack};
+ghost use Rattle.std.specs.Prelude.{◌≤◌, All, length};
 
 use crate::accept::Call;
-use crate::crew::{joined, start_workers};
+use crate::crew::start_workers;
 use crate::gate::Gate;
+use crate::parts::{Crew, ServeOptions};
 use crate::queue::{WAITING, fill};
 use crate::serve_fault::ServeFault;
-use crate::worker::ServeOptions;
 use cells::CellSteps;
 use crossbeam_channel::Sender;
 use hot_swap::Watcher;
+use server_log::LogQueue;
 use std::net::TcpListener;
 use std::sync::Wait;
 use std::sync::atomic::AtomicBool;
-use std::thread::{self, Threads};
+use std::thread::{self, Scope, Threads};
 use std::time::Clock;
 
 /// Answers each connection within the time limit, until `stop` is set and one more connection is
 /// accepted, which isn't answered. The port is then closed, and the connections in the queue are
 /// still answered. Each pair of a pass (a ghost token) and a watcher is a worker thread, and there
-/// are 1 to 64. B4 is returned before any connection is accepted.
-// open: what `run` leaves open; that the gate is called around each answer.
-pub fn serve<H, G, C>(
+/// are 1 to 64. B4 is returned before any connection is accepted. This is the specification's call,
+/// whose gate a test uses; a server with an operator is `run`, without a gate.
+// open: what `run` leaves open; that the gate is called around each answer: a test.
+pub fn serve<'x, H, G, C>(
     rt: &H,
-    gate: &G,
+    gate: &'x G,
     listener: TcpListener,
     cells: &C,
     workers: Vec<(C::Pass, Watcher)>,
     stop: &AtomicBool,
-    service: ServeOptions<'_>,
+    service: ServeOptions<'x>,
 ) -> Result<(), ServeFault>
 where
     H: Threads + Wait + AllocGlobal + Clock + Sync,
@@ -43,65 +42,41 @@ where
     requires some { 1 ≤ length workers.items }
     requires few { length workers.items ≤ 64 }
 {
-    match serve_returning(rt, gate, listener, cells, workers, stop, service, None) {
-        Ok(_) => Ok(()),
-        Err(fault) => Err(fault),
-    }
-}
-
-/// As `serve`, but returns the workers, in their order. The memory for them is allocated before the
-/// first thread is started. Once all threads exist, and before the first connection is accepted,
-/// `started` gets a message; if a thread fails it gets none.
-// open: what `run` leaves open; that the gate is called around each answer.
-pub fn serve_returning<H, G, C>(
-    rt: &H,
-    gate: &G,
-    listener: TcpListener,
-    cells: &C,
-    workers: Vec<(C::Pass, Watcher)>,
-    stop: &AtomicBool,
-    service: ServeOptions<'_>,
-    started: Option<Sender<()>>,
-) -> Result<Vec<(C::Pass, Watcher)>, ServeFault>
-where
-    H: Threads + Wait + AllocGlobal + Clock + Sync,
-    G: Gate + Sync,
-    C: CellSteps + Sync,
-    C::Pass: Send + Drop,
-    requires belongs { All (λ worker. C.belongs cells.now worker.0) workers.items }
-    requires some { 1 ≤ length workers.items }
-    requires few { length workers.items ≤ 64 }
-    ensures { IfOk result
-        (λ back. WorkersBack (C.belongs cells.now) C.grew workers.items back.items) }
-{
+    let ended = AtomicBool::new(false);
+    let crew = Crew::new(gate, service, workers.len(), &ended);
     let Ok((queue, from)) = crossbeam_channel::bounded::<Call, _>(rt.alloc(), WAITING) else {
         return Err(ServeFault::Memory);
     };
     thread::scope(
         thread::scope_env(),
         rt,
-        |scope| -> Result<Vec<(C::Pass, Watcher)>, ServeFault>
+        |scope| -> Result<(), ServeFault>
             requires { All (λ worker. C.belongs cells.now worker.0) workers.items }
-            ensures { IfOk result (λ back.
-                WorkersBack (C.belongs cells.entry.now) C.grew workers.items back.items) }
         {
-            let Ok(room) = Vec::with_capacity(rt.alloc(), workers.len()) else {
+            let Ok(_threads) = start_workers(rt, scope, &crew, from, cells, workers) else {
                 return Err(ServeFault::Memory);
             };
-            let Ok(threads) = start_workers(rt, gate, scope, from, cells, workers, service) else {
-                return Err(ServeFault::Memory);
-            };
-            send_started(rt, started);
-            fill(rt, listener, &queue, stop, service.log);
-            drop(queue);
-            Ok(joined(rt, threads, room))
+            fill(rt, listener, queue, stop, service.log);
+            Ok(())
         },
     )
 }
 
-// Sends the message that all threads exist.
-fn send_started<H: Wait>(rt: &H, started: Option<Sender<()>>) {
-    if let Some(started) = started {
-        let _sent = started.send(rt, ());
+/// Starts the thread that accepts connections until `stop` is set and one more is accepted. Returns
+/// B4 if it can't be started.
+pub(crate) fn start_accepting<'s, E, H>(
+    rt: &'s H,
+    scope: &Scope<'s, E>,
+    listener: TcpListener,
+    queue: Sender<Call>,
+    stop: &'s AtomicBool,
+    log: Option<&'s LogQueue>,
+) -> Result<(), ServeFault>
+where
+    H: Wait + AllocGlobal + Clock + Sync,
+{
+    match scope.spawn(move || fill(rt, listener, queue, stop, log)) {
+        Ok(_) => Ok(()),
+        Err(_) => Err(ServeFault::Memory),
     }
 }

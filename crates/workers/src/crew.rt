@@ -7,9 +7,10 @@ ghost use Rattle.workers.specs.Promised.{IsPromiseOf};
 
 use crate::accept::Call;
 use crate::gate::Gate;
+use crate::parts::Crew;
 use crate::promise::WorkerPromise;
 use crate::serve_fault::ServeFault;
-use crate::worker::{ServeOptions, work};
+use crate::worker::work;
 use cells::CellSteps;
 use core::thread::Stack;
 use crossbeam_channel::Receiver;
@@ -27,12 +28,11 @@ const STACK_BYTES: usize = 2097152;
 /// others end once the queue is closed.
 pub(crate) fn start_workers<'s, E, H, G, C>(
     rt: &'s H,
-    gate: &'s G,
     scope: &Scope<'s, E>,
+    crew: &'s Crew<'s, G>,
     queue: Receiver<Call>,
     cells: &'s C,
     workers: Vec<(C::Pass, Watcher)>,
-    service: ServeOptions<'s>,
 ) -> Result<Vec<PromisedHandle<(C::Pass, Watcher), WorkerPromise<C>>>, ServeFault>
 where
     H: Wait + AllocGlobal + Clock + Sync,
@@ -49,7 +49,7 @@ where
         let Ok(mine) = queue.clone() else {
             return Err(ServeFault::Memory);
         };
-        let Ok(thread) = start_worker(rt, gate, scope, mine, cells, worker, service) else {
+        let Ok(thread) = start_worker(rt, scope, crew, mine, cells, worker) else {
             return Err(ServeFault::Memory);
         };
         let Ok(()) = threads.push(thread) else {
@@ -61,12 +61,11 @@ where
 
 fn start_worker<'s, E, H, G, C>(
     rt: &'s H,
-    gate: &'s G,
     scope: &Scope<'s, E>,
+    crew: &'s Crew<'s, G>,
     queue: Receiver<Call>,
     cells: &'s C,
     worker: (C::Pass, Watcher),
-    service: ServeOptions<'s>,
 ) -> Result<PromisedHandle<(C::Pass, Watcher), WorkerPromise<C>>, ServeFault>
 where
     H: Wait + AllocGlobal + Clock + Sync,
@@ -80,7 +79,7 @@ where
         cells: Snapshot::of(cells),
         given: Snapshot::of(&worker),
     };
-    let job = move || work(rt, gate, queue, cells, worker, service);
+    let job = move || work(rt, crew, queue, cells, worker);
     let stack = Stack::new().stack_size(STACK_BYTES);
     match stack.spawn_scoped_with(scope, promise, job) {
         Ok(thread) => Ok(thread),

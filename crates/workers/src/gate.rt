@@ -10,9 +10,9 @@ pub trait Gate {
     fn after(&self, call: u64);
 }
 
-/// The program's gate, which does nothing.
-#[derive(Clone, Copy, PartialEq, Eq)]
-pub struct NoGate;
+/// The gate of a server with an operator, which does nothing.
+#[derive(Clone, Copy)]
+pub(crate) struct NoGate;
 
 impl Gate for NoGate {
     fn before(&self, _call: u64) {}

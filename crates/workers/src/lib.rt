@@ -7,13 +7,13 @@
 //!
 //! What the threads do is logged (`server_log`).
 //!
-//! The answer to a connection is proved for `answer` here and for `answer` in `operator`. All
-//! threads return what they were given once the server ends. A worker gave its answers one after
-//! the other, at most one a connection, under rulesets that never went back. Its pass, a ghost
-//! token, made only the events of their runs. The operator's thread answered its lines one after
-//! the other, at most one a connection. Only these lines loaded rulesets, and its pass only read
-//! counters by them. A server prints that it serves once its threads exist. Nothing says
-//! which bytes a socket carried, and nothing is proved about clocks. Nor is anything proved about a
+//! The answer to a connection is proved for `answer_in` in `answering` and `answer` in `operator`.
+//! All threads return what they were given once the server ends. A worker gave its answers one
+//! after the other, at most one a connection, under rulesets that never went back. Its pass, a
+//! ghost token, made only the events of their runs. The operator's thread answered its lines one
+//! after the other, at most one a connection. Only these lines loaded rulesets, and its pass only
+//! read counters by them. A server prints that it serves once its threads exist. Nothing says which
+//! bytes a socket carried, and nothing is proved about clocks. Nor is anything proved about a
 //! server that gives up, since memory or a thread failed or its line couldn't be written.
 //!
 //! See docs/DECISIONS.md, "The server".
@@ -26,6 +26,7 @@ mod crew;
 mod gate;
 mod laws;
 mod operating;
+mod parts;
 mod ports;
 mod promise;
 mod queue;
@@ -33,20 +34,16 @@ mod ready;
 mod returned;
 mod running;
 mod serve_fault;
-mod serving_thread;
 mod stopping;
 mod worker;
 
 pub use accept::OperatorEnd;
-pub use clients::{serve, serve_returning};
-pub use gate::{Gate, NoGate};
+pub use clients::serve;
+pub use gate::Gate;
 pub use laws::answers_are_runs;
-pub use operating::{OperatorSeat, operate};
+pub use operating::operate;
+pub use parts::{ServeOptions, ServerParts};
 pub use ports::{Ports, bind};
 pub use returned::Returned;
 pub use running::run;
 pub use serve_fault::ServeFault;
-pub use worker::ServeOptions;
-
-// The names in the contracts here are exported with them.
-pub use answering::{AnswerFault, Sent, answer};

@@ -8,7 +8,7 @@ ghost use Rattle.workers.specs.Back.{OperatorBack};
 
 use crate::accept::{OperatorEnd, Port};
 use crate::clock::Limits;
-use crate::worker::ServeOptions;
+use crate::parts::ServerParts;
 use cells::{CellSteps, growth};
 use net_io::{Counted, Timed, drain};
 use operator::{Control, Loader, OperatorReply, answer, write_reply};
@@ -24,57 +24,40 @@ use std::time::{Clock, Duration};
 /// client would delay the next one, which may need to halt a release.
 const OPERATOR_SECONDS: u64 = 5;
 
-/// What the operator's port works with: the loader of rulesets, and the cells with the operator's
-/// own pass to them, a ghost token.
-#[derive(Drop)]
-pub struct OperatorSeat<'a, L, C: CellSteps>
-where
-    C::Pass: Drop,
-{
-    pub loader: &'a L,
-    pub cells: &'a C,
-    pub pass: C::Pass,
-}
-
 /// Answers connections until one requests a stop, or until `stop` is set and one more is accepted,
 /// which isn't answered. Loads change the control. The caller has to end the server. The line of a
 /// connection has to arrive within 5 seconds. Its reply has to be read within 5 seconds of being
-/// ready, since a load may take long. If the time limit of `service` is shorter, it holds instead.
+/// ready, since a load may take long. If the server's time limit is shorter, it holds instead.
 /// A connection that fails, or can't be accepted, is skipped.
 // open: which bytes a socket carries; that requests are answered one after another, and that it
 // returns only after a requested stop, or if the flag was set: tests.
 pub fn operate<'x, H, L, C>(
     rt: &H,
     listener: &'x TcpListener,
-    seat: &mut OperatorSeat<'_, L, C>,
+    parts: &ServerParts<'_, L, C>,
+    pass: &mut C::Pass,
     control: &mut Control,
     stop: &'x AtomicBool,
-    service: ServeOptions<'_>,
 ) -> OperatorEnd
 where
     H: Wait + AllocGlobal + Clock,
     L: Loader,
     C: CellSteps,
-    C::Pass: Drop,
-    requires { C.belongs seat.old.cells.now seat.old.pass }
-    ensures { OperatorBack (C.belongs seat.old.cells.now) C.grew (L.loads seat.old.loader.now)
-        result (seat.old.pass, control.old) (seat.new.pass, control.new) }
+    requires { C.belongs parts.now.cells.now pass.old }
+    ensures { OperatorBack (C.belongs parts.now.cells.now) C.grew (L.loads parts.now.loader.now)
+        result (pass.old, control.old) (pass.new, control.new) }
 {
     growth::<C>();
-    let limit = service.timeout.min(Duration::from_secs(OPERATOR_SECONDS));
-    let service = ServeOptions {
-        timeout: limit,
-        log: service.log,
-    };
-    let loader = seat.loader;
-    let cells = seat.cells;
+    let limit = parts
+        .service
+        .timeout
+        .min(Duration::from_secs(OPERATOR_SECONDS));
     let mut port = Port::new(listener, stop, None);
     for _ in rt.forever() {
         let Some(call) = port.accept(rt) else {
             return port.ended(control.is_stopping());
         };
-        let pass = &mut seat.pass;
-        let _reply = attend(rt, &call.stream, loader, control, cells, pass, service);
+        let _reply = attend(rt, &call.stream, limit, parts, pass, control);
         let is_stopping = control.is_stopping();
         if is_stopping {
             return port.ended(is_stopping);
@@ -87,41 +70,43 @@ where
 fn attend<'x, H, L, C>(
     rt: &'x H,
     stream: &'x TcpStream,
-    loader: &L,
-    control: &mut Control,
-    cells: &C,
+    limit: Duration,
+    parts: &ServerParts<'_, L, C>,
     pass: &mut C::Pass,
-    service: ServeOptions<'_>,
+    control: &mut Control,
 ) -> Option<OperatorReply<L::Fault>>
 where
     H: Wait + AllocGlobal + Clock,
     L: Loader,
     C: CellSteps,
-    requires { C.belongs cells.now pass.old }
-    ensures belongs { C.belongs cells.now pass.new }
+    requires { C.belongs parts.now.cells.now pass.old }
+    ensures belongs { C.belongs parts.now.cells.now pass.new }
     // The reply is that to a line,
     ensures answers { IfSome result (λ reply. Grows C.grew pass.old pass.new (λ events.
-        AnswersLine (L.loads loader.now) None control.old events reply control.new)) }
+        AnswersLine (L.loads parts.now.loader.now) None control.old events reply control.new)) }
     // and without one nothing happens.
     ensures unread { IfNone result ((control.new ≡ control.old) × (pass.new ≡ pass.old)) }
 {
-    let Some(limits) = Limits::begin(rt, service.timeout) else {
+    let Some(limits) = Limits::begin(rt, limit) else {
         return None;
     };
+    let loader = parts.loader;
+    let log = parts.service.log;
     let timed = Timed::new(stream, rt, limits.until());
-    let mut reader = Counted::new(Recorder::new(rt.alloc(), timed, service.log.is_some()));
-    let Some(reply) = answer(rt, rt.alloc(), &mut reader, loader, control, cells, pass) else {
-        return None;
-    };
-    let _sent = send(rt, stream, &reply, service.timeout);
-    note_load(
+    let mut reader = Counted::new(Recorder::new(rt.alloc(), timed, log.is_some()));
+    let Some(reply) = answer(
         rt,
-        service.log,
-        reader.into_inner(),
+        rt.alloc(),
+        &mut reader,
         loader,
         control,
-        &reply,
-    );
+        parts.cells,
+        pass,
+    ) else {
+        return None;
+    };
+    let _sent = send(rt, stream, &reply, limit);
+    note_load(rt, log, reader.into_inner(), loader, control, &reply);
     Some(reply)
 }
 

@@ -1,7 +1,5 @@
-//! The promises of a server's threads: to return the workers that they were given, with what these
-//! did.
+//! The promise of a worker's thread: to return the worker that it was given, with what this did.
 
-use crate::serve_fault::ServeFault;
 use cells::CellSteps;
 use hot_swap::Watcher;
 use std::snapshot::Snapshot;
@@ -18,20 +16,4 @@ impl<C: CellSteps> Promise<(C::Pass, Watcher)> for WorkerPromise<C> {
     ghost use Rattle.workers.specs.Back.{WorkerBack};
 
     ghost kept_by = { λ p back. WorkerBack (C.belongs p.cells.value) C.grew p.given.value back };
-}
-
-/// The promise of the thread that serves clients with these workers over these cells: if nothing
-/// fails it returns all workers.
-#[derive(Drop)]
-pub(crate) struct WorkerPromises<C: CellSteps> {
-    pub(crate) cells: Snapshot<C>,
-    pub(crate) given: Snapshot<Vec<(C::Pass, Watcher)>>,
-}
-
-impl<C: CellSteps> Promise<Result<Vec<(C::Pass, Watcher)>, ServeFault>> for WorkerPromises<C> {
-    ghost use Rattle.std.specs.Prelude.{IfOk};
-    ghost use Rattle.workers.specs.Back.{WorkersBack};
-
-    ghost kept_by = { λ p result. IfOk result (λ back.
-        WorkersBack (C.belongs p.cells.value) C.grew p.given.value.items back.items) };
 }

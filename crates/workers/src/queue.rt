@@ -14,11 +14,11 @@ use std::time::Clock;
 /// How many accepted connections may wait for a worker.
 pub(crate) const WAITING: usize = 64;
 
-/// Puts each connection of a port into the queue, and closes the port at the end.
+/// Puts each connection of a port into the queue, and closes both at the end.
 pub(crate) fn fill<'x, H>(
     rt: &H,
     listener: TcpListener,
-    queue: &Sender<Call>,
+    queue: Sender<Call>,
     stop: &'x AtomicBool,
     log: Option<&'x LogQueue>,
 )

@@ -1,8 +1,8 @@
-//! A server from its start to its end. Its clients' side is `serve_returning`, in a thread of its
-//! own (`serving_thread`); this thread answers the operator's port. All threads exist before the
-//! server prints that it serves. Once the operator has requested a stop, the clients' port is ended
+//! A server from its start to its end. One thread accepts the clients' connections, each worker has
+//! a thread, and this thread answers the operator's port. All threads exist before the server
+//! prints that it serves. Once the operator has requested a stop, the clients' port is ended
 //! (`ports`), then their queue, and the workers end. The operator's port stays open until they have
-//! ended (`stopping`). The threads return what they were given (`promise`), so all is returned at
+//! ended (`stopping`). Each worker's thread returns the worker (`promise`), so all is returned at
 //! the end.
 
 ghost use Rattle.std.specs.Io.KnownBytes.{Appends};
@@ -11,15 +11,17 @@ ghost use Rattle.cells.specs.Directory.{IsDirectory};
 ghost use Rattle.workers.specs.Back.{IsPublished, OperatorBack, ServerBack};
 ghost use Rattle.workers.specs.Texts.{serving_line};
 
-use crate::accept::OperatorEnd;
-use crate::gate::Gate;
-use crate::operating::{OperatorSeat, operate};
+use crate::accept::{Call, OperatorEnd};
+use crate::clients::start_accepting;
+use crate::crew::{joined, start_workers};
+use crate::gate::NoGate;
+use crate::operating::operate;
+use crate::parts::{Crew, ServerParts};
 use crate::ports::{PortEnd, Ports};
+use crate::queue::WAITING;
 use crate::ready::{Ready, ReadyLine, take_back};
 use crate::returned::Returned;
-use crate::serving_thread::{StopFlags, start_serving};
-use crate::stopping::reply_stopping;
-use crate::worker::ServeOptions;
+use crate::stopping::{StopFlags, reply_stopping};
 use bounded_files::ResourceFault;
 use cells::CellSteps;
 use hot_swap::Watcher;
@@ -37,11 +39,11 @@ use std::time::Clock;
 fn operate_then_end<H, L, C>(
     rt: &H,
     listener: &TcpListener,
-    mut seat: OperatorSeat<'_, L, C>,
+    parts: &ServerParts<'_, L, C>,
+    mut pass: C::Pass,
     control: &mut Control,
     clients: PortEnd,
     ends: &StopFlags,
-    service: ServeOptions<'_>,
 ) -> (C::Pass, OperatorEnd)
 where
     H: Wait + AllocGlobal + Clock,
@@ -49,18 +51,13 @@ where
     L: Loader,
     C: CellSteps,
     C::Pass: Drop,
-    requires { C.belongs seat.cells.now seat.pass }
-    ensures { OperatorBack (C.belongs seat.entry.cells.now) C.grew (L.loads seat.entry.loader.now)
-        result.1 (seat.entry.pass, control.old) (result.0, control.new) }
+    requires { C.belongs parts.now.cells.now pass }
+    ensures { OperatorBack (C.belongs parts.now.cells.now) C.grew (L.loads parts.now.loader.now)
+        result.1 (pass, control.old) (result.0, control.new) }
 {
-    let end = operate(rt, listener, &mut seat, control, &ends.operator, service);
+    let end = operate(rt, listener, parts, &mut pass, control, &ends.operator);
     clients.end(rt, &ends.clients);
     reply_stopping(rt, listener, &ends.operator);
-    let OperatorSeat {
-        loader: _loader,
-        cells: _cells,
-        pass,
-    } = seat;
     (pass, end)
 }
 
@@ -89,56 +86,60 @@ fn returned<P: Drop>(
 }
 
 // Serves as `run` does, and also returns what `ready` returns.
-fn run_and_print<H, G, L, C, S>(
+fn run_and_print<H, L, C, S>(
     rt: &H,
-    gate: &G,
     ports: Ports,
-    seat: OperatorSeat<'_, L, C>,
+    parts: &ServerParts<'_, L, C>,
+    pass: C::Pass,
     control: &mut Control,
     workers: Vec<(C::Pass, Watcher)>,
-    service: ServeOptions<'_>,
     ready: S,
 ) -> Result<(Returned<C::Pass>, S::Out), ResourceFault>
 where
     H: Threads + Wait + AllocGlobal + Clock + Sync,
     H: Net<Listener = TcpListener, Stream = TcpStream>,
-    G: Gate + Sync,
     L: Loader,
     C: CellSteps + Sync,
     C::Pass: Send + Drop,
     S: Ready + Drop,
-    requires pass { C.belongs seat.cells.now seat.pass }
-    requires workers { All (λ worker. C.belongs seat.cells.now worker.0) workers.items }
+    requires pass { C.belongs parts.now.cells.now pass }
+    requires workers { All (λ worker. C.belongs parts.now.cells.now worker.0) workers.items }
     requires some { 1 ≤ length workers.items }
     requires few { length workers.items ≤ 64 }
-    ensures back { IfOk result (λ r. ServerBack (C.belongs seat.entry.cells.now) C.grew
-        (L.loads seat.entry.loader.now) seat.entry.pass workers.items control.old r.0) }
+    ensures back { IfOk result (λ r. ServerBack (C.belongs parts.now.cells.now) C.grew
+        (L.loads parts.now.loader.now) pass workers.items control.old r.0) }
     ensures printed { IfOk result
         (λ r. S.prints ready control.old.publishing.latest.generation r.1) }
 {
     let ends = StopFlags::new();
-    let OperatorSeat {
-        loader,
-        cells,
-        pass,
-    } = seat;
+    let service = parts.service;
+    let gate = NoGate;
+    let crew = Crew::new(&gate, service, workers.len(), &ends.operator);
+    let Ok((queue, from)) = crossbeam_channel::bounded::<Call, _>(rt.alloc(), WAITING) else {
+        return Err(ResourceFault::Memory);
+    };
     let (listener, clients, operator) = ports.parts();
     thread::scope(
         thread::scope_env(),
         rt,
         |scope| -> Result<(Returned<C::Pass>, S::Out), ResourceFault>
-            requires pass { C.belongs cells.now pass }
-            requires workers { All (λ worker. C.belongs cells.now worker.0) workers.items }
+            requires pass { C.belongs parts.now.cells.now pass }
+            requires workers { All (λ each. C.belongs parts.now.cells.now each.0) workers.items }
             requires some { 1 ≤ length workers.items }
             requires few { length workers.items ≤ 64 }
-            ensures back { IfOk result (λ r. ServerBack (C.belongs cells.entry.now) C.grew
-                (L.loads loader.entry.now) pass workers.items control.entry.now r.0) }
+            ensures back { IfOk result (λ r. ServerBack (C.belongs parts.entry.now.cells.now) C.grew
+                (L.loads parts.entry.now.loader.now) pass workers.items control.entry.now r.0) }
             ensures printed { IfOk result
                 (λ r. S.prints ready control.entry.now.publishing.latest.generation r.1) }
         {
-            let Ok(serving) = start_serving(
-                rt, gate, scope, listener, cells, workers, &ends, service,
-            ) else {
+            let Ok(room) = Vec::with_capacity(rt.alloc(), workers.len()) else {
+                return Err(ResourceFault::Memory);
+            };
+            let Ok(threads) = start_workers(rt, scope, &crew, from, parts.cells, workers) else {
+                return Err(ResourceFault::Memory);
+            };
+            let stop = &ends.clients;
+            let Ok(()) = start_accepting(rt, scope, listener, queue, stop, service.log) else {
                 return Err(ResourceFault::Memory);
             };
             let Ok(printed) = ready.print(control.generation()) else {
@@ -146,61 +147,50 @@ where
                 return Err(ResourceFault::File);
             };
             note_serving(rt, service.log, control.generation());
-            let seat = OperatorSeat {
-                loader,
-                cells,
-                pass,
-            };
-            let ended = operate_then_end(rt, &operator, seat, control, clients, &ends, service);
-            let Ok(workers) = serving.join(rt) else {
-                return Err(ResourceFault::Memory);
-            };
-            let back = returned(ended, workers, control);
+            let ended = operate_then_end(rt, &operator, parts, pass, control, clients, &ends);
+            let back = returned(ended, joined(rt, threads, room), control);
             Ok((back, printed))
         },
     )
 }
 
 /// Serves clients with these 1 to 64 workers, as `serve` does, and also the operator's port, until
-/// the operator has requested a stop. This thread answers the operator. Once all threads exist, the
-/// generation that is served is written to `out`, by one write of the whole line. If nothing fails,
-/// all passes and watchers are returned. Returns B4 if an allocation or a thread fails, before any
-/// client is answered and before anything is written; B3 if `out` can't be written.
-// open: when B4 and when B3 is returned: `bench/refused`, and a test. If the clients' side failed
-// after its start, B4 would be returned; only reading the code shows that it doesn't fail then.
-// Nothing shows which bytes a socket carries, and which moment a clock gives. Tests show that
+/// the operator has requested a stop. This thread answers the operator, and reads counters by
+/// `pass`. Once all threads exist, the generation that is served is written to `out`, by one write
+/// of the whole line. If nothing fails, all passes and watchers are returned. Returns B4 if an
+/// allocation or a thread fails, before any client is answered and before anything is written; B3
+/// if `out` can't be written.
+// open: when B4 and when B3 is returned: `bench/refused`, and a test. Nothing shows which bytes a socket carries, and which moment a clock gives. Tests show that
 // connections are answered in parallel, and the operator's one after another; their time limits,
 // and the log; that all threads end after a stop, even if the server can't connect to its own port;
 // and that the line takes one write (std says nothing about the number of writes).
-pub fn run<H, G, L, C, O>(
+pub fn run<H, L, C, O>(
     rt: &H,
-    gate: &G,
     ports: Ports,
-    seat: OperatorSeat<'_, L, C>,
+    parts: &ServerParts<'_, L, C>,
+    pass: C::Pass,
     control: &mut Control,
     workers: Vec<(C::Pass, Watcher)>,
-    service: ServeOptions<'_>,
     out: &mut O,
 ) -> Result<Returned<C::Pass>, ResourceFault>
 where
     H: Threads + Wait + AllocGlobal + Clock + Sync,
     H: Net<Listener = TcpListener, Stream = TcpStream>,
-    G: Gate + Sync,
     L: Loader,
     C: CellSteps + Sync,
     C::Pass: Send + Drop,
     O: Write,
-    requires pass { C.belongs seat.cells.now seat.pass }
-    requires workers { All (λ worker. C.belongs seat.cells.now worker.0) workers.items }
+    requires pass { C.belongs parts.now.cells.now pass }
+    requires workers { All (λ worker. C.belongs parts.now.cells.now worker.0) workers.items }
     requires some { 1 ≤ length workers.items }
     requires few { length workers.items ≤ 64 }
-    ensures back { IfOk result (ServerBack (C.belongs seat.entry.cells.now) C.grew
-        (L.loads seat.entry.loader.now) seat.entry.pass workers.items control.old) }
+    ensures back { IfOk result (ServerBack (C.belongs parts.now.cells.now) C.grew
+        (L.loads parts.now.loader.now) pass workers.items control.old) }
     ensures printed { OnOk result (Appends (O.contents out.old) (O.contents out.new)
         (serving_line control.old.publishing.latest.generation)) }
 {
     let ready = ReadyLine { out };
-    match run_and_print(rt, gate, ports, seat, control, workers, service, ready) {
+    match run_and_print(rt, ports, parts, pass, control, workers, ready) {
         Ok((back, out)) => {
             take_back(out);
             Ok(back)

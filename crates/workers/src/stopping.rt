@@ -9,6 +9,23 @@ use std::sync::Wait;
 use std::sync::atomic::AtomicBool;
 use std::time::{Clock, Duration};
 
+/// The flags that end the two sides of a server. The operator's side sets the clients' flag. The
+/// last worker that ends sets the operator's.
+#[derive(Drop)]
+pub(crate) struct StopFlags {
+    pub(crate) clients: AtomicBool,
+    pub(crate) operator: AtomicBool,
+}
+
+impl StopFlags {
+    pub(crate) fn new() -> StopFlags {
+        StopFlags {
+            clients: AtomicBool::new(false),
+            operator: AtomicBool::new(false),
+        }
+    }
+}
+
 /// How many seconds a client has to read the reply. The server's end may wait for it that long, and
 /// one second to close.
 const REPLY_SECONDS: u64 = 1;

@@ -6,28 +6,18 @@ ghost use Rattle.workers.specs.Back.{ConnectionBack, ConnectionsBack, MomentBack
 use crate::accept::Call;
 use crate::clock::{Limits, begun, micros_between, unix_second};
 use crate::gate::Gate;
+use crate::parts::{Crew, ServeOptions};
 use crate::queue::Calls;
 use answering::{AnswerBuffers, AnswerFault, Sent, Turn, answer_in};
 use cells::{CellSteps, growth};
 use crossbeam_channel::Receiver;
 use hot_swap::Watcher;
 use net_io::{Counted, Timed, drain, take_rest};
-use server_log::{ConnectionRecord, Log, LogQueue, Recorder, count_begun, count_ended};
+use server_log::{ConnectionRecord, Log, Recorder, count_begun, count_ended};
 use std::io;
 use std::net::TcpStream;
 use std::sync::Wait;
-use std::time::{Clock, Duration};
-
-/// How a server serves: its time limit and its log.
-#[derive(Clone, Copy)]
-pub struct ServeOptions<'a> {
-    /// How long a connection may last.
-    pub timeout: Duration,
-    /// The log, with a line for each connection, even if it couldn't be accepted, and for each
-    /// load. If connections wait for a worker, their lines are queued together, late by at most a
-    /// second and a connection's time.
-    pub log: Option<&'a LogQueue>,
-}
+use std::time::Clock;
 
 /// What a worker answers with, and the buffers that it reuses.
 #[derive(Drop)]
@@ -44,11 +34,10 @@ where
 /// Answers until the queue is closed, and returns the pass and the watcher.
 pub(crate) fn work<H, G, C>(
     rt: &H,
-    gate: &G,
+    crew: &Crew<'_, G>,
     queue: Receiver<Call>,
     cells: &C,
     worker: (C::Pass, Watcher),
-    service: ServeOptions<'_>,
 ) -> (C::Pass, Watcher)
 where
     H: Wait + AllocGlobal + Clock,
@@ -66,7 +55,8 @@ where
         buffers: AnswerBuffers::new(rt.alloc()),
     };
     let mut calls = Calls::of(queue);
-    attend_all(rt, gate, &mut calls, &mut seat, service);
+    attend_all(rt, crew, &mut calls, &mut seat);
+    crew.leave();
     let WorkerSeat {
         cells: _cells,
         pass,
@@ -77,13 +67,7 @@ where
 }
 
 // Answers connections, one after another, until the queue is closed.
-fn attend_all<H, G, C>(
-    rt: &H,
-    gate: &G,
-    calls: &mut Calls,
-    seat: &mut WorkerSeat<'_, C>,
-    service: ServeOptions<'_>,
-)
+fn attend_all<H, G, C>(rt: &H, crew: &Crew<'_, G>, calls: &mut Calls, seat: &mut WorkerSeat<'_, C>)
 where
     H: Wait + AllocGlobal + Clock,
     G: Gate,
@@ -96,15 +80,16 @@ where
         (seat.old.pass, seat.old.watcher) (seat.new.pass, seat.new.watcher) }
 {
     growth::<C>();
+    let service = crew.service;
     let mut log = Log::new(rt.alloc(), service.log);
     let mut recorded = ConnectionRecord::new(rt.alloc(), log.is_kept());
     for _ in rt.forever() {
         let Some(call) = calls.take(rt, &mut log) else {
             return;
         };
-        gate.before(call.number);
+        crew.gate.before(call.number);
         let _attended = attend(rt, &call, seat, service, &mut log, &mut recorded);
-        gate.after(call.number);
+        crew.gate.after(call.number);
     }
 }
 

@@ -6,6 +6,6 @@ use Rattle.workers.proofs.operating.operate.Given as goal
 -- they read
 abbrev pub invariant-loop : goal.invariant-loop
 invariant-loop g l =
-    OperatorBack (g.C.CellSteps.belongs l.initial.seat.cells.now) (g.C.CellSteps.grew)
-    (g.L.Loader.loads l.initial.seat.loader.now) (end_now l.port.accepted l.control)
-    (l.initial.seat.pass, l.initial.control) (l.seat.pass, l.control)
+    OperatorBack (g.C.CellSteps.belongs l.parts.cells.now) (g.C.CellSteps.grew)
+    (g.L.Loader.loads l.parts.loader.now) (end_now l.port.accepted l.control)
+    (l.initial.pass, l.initial.control) (l.pass, l.control)

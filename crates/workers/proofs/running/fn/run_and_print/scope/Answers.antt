@@ -1,18 +1,32 @@
-use Rattle.std.proofs.Common.{ℕ, sym, ap, subst}
+use Rattle.std.proofs.Common.{◌≡◌, ℕ, length, sym, ap, subst, arith}
+use Rattle.std.proofs.lemmas.Slice.Zip.{AllZip-long}
 use Rattle.std.specs.Prelude.{Vec}
 use Rattle.std.specs.declared.alloc.Global.{Global}
 use Rattle.hot_swap.specs.Published.{KnownPrefix}
 use Rattle.workers.specs.Back.{WorkersBack}
 use Rattle.workers.proofs.Lines.{returned_by}
-use Rattle.workers.proofs.Served.{are_back}
+use Rattle.workers.proofs.Served.{all_back}
 use Rattle.workers.proofs.running.fn.run_and_print.scope.Goals as goal
+
+pub joined-requires : goal.joined-requires
+joined-requires g c =
+    let many : length c.in-Ok-start_workers.threads.items ≡ length c.captures.workers.items =
+    AllZip-long _ c.captures.workers.items c.in-Ok-start_workers.threads.items
+    c.in-Ok-start_workers.ensures in
+    let workers = c.captures.workers.ok.0 in
+    let threads = c.in-Ok-start_workers.threads.ok.0 in
+    let room = c.in-Ok.ensures.capacity in
+    record {
+      empty = c.in-Ok.ensures.items;
+      enough = omega (arith, many, workers, threads, room);
+    }
 
 pub returns : goal.returns
 returns g c =
     let P = g.row.C-Pass.Denot in
     let belongs = g.C.CellSteps.belongs in
     let grew = g.C.CellSteps.grew in
-    let cells = c.captures.cells.now in
+    let cells = c.captures.parts.now.cells.now in
     let old = c.captures.workers.items in
     let back = c.returned-back.ensures in
     record {
@@ -22,8 +36,8 @@ returns g c =
             c.operate_then_end-ended.ensures;
         workers = subst (WorkersBack (belongs cells) grew old)
             (sym (ap (λ (v : Vec (P × KnownPrefix) Global). v.items) back.workers))
-            (are_back belongs grew cells c.captures.workers c.in-Ok.serving.promise
-            c.in-Ok-join.workers.items c.in-Ok.ensures c.in-Ok-join.ensures);
+            (all_back belongs grew cells old c.in-Ok-start_workers.threads.items
+            c.joined.result.items c.in-Ok-start_workers.ensures c.joined.ensures);
         directory = back.directory;
         published_are = back.known;
         published = back.published;
