@@ -54,7 +54,9 @@ where
 {
     require_drawable(rt, logs, file)?;
     let drawn = file.is_some();
-    let mut report = Report::new(rt.alloc(), drawn);
+    let Ok(mut report) = Report::new(rt.alloc(), drawn) else {
+        return Err(ResourceFault::Memory);
+    };
     let output = output_of_logs(rt, logs, since, until, form, drawn, &mut report);
     drop(report);
     let output = output?;

@@ -59,8 +59,11 @@ pub(crate) fn begun_state(alloc: Global, found: Option<Vec<u8>>) -> Result<Repor
         (λ state. BeginsFrom (option_map (λ bytes. bytes.items) found) state.report) }
 {
     let Some(bytes) = found else {
+        let Ok(report) = Report::new(alloc, false) else {
+            return Err(ReportFault::Resource(ResourceFault::Memory));
+        };
         return Ok(ReportState {
-            report: Report::new(alloc, false),
+            report,
             places: Vec::new(alloc),
         });
     };

@@ -1,20 +1,24 @@
 -- What counting one more line changes.
 use Rattle.std.proofs.Common.{◌≡◌, ℕ, ◌+◌, ◌^◌, ◌-◌, List, [], ◌∷◌, ◌++◌, refl, sym, ap, ◌∙◌, arith}
-use Rattle.std.proofs.Common.{Bool, min, append-nil, subst}
+use Rattle.std.proofs.Common.{Bool, Some, None, min, append-nil, subst}
+use Rattle.std.proofs.Common.{◌<◌, length}
 use Rattle.std.proofs.Common.{sum_by, is_some, is_none}
 use Rattle.std.proofs.lemmas.List.Sums.{sum_by_push}
 use Rattle.std.proofs.lemmas.List.Concat.{flat_map-cons}
 use Rattle.std.proofs.lemmas.Grind.{flat_map-append}
 use Rattle.serde_json.specs.Data.{Data}
-use Rattle.report.specs.Counts.{AddsLine, GoesUp, all_names, one_if}
-use Rattle.report.specs.Courses.{if_drawn, hour_names, minute_names, version_names}
+use Rattle.report.specs.Counts.{AddsLine, GoesUp, NotesEach, all_names, one_if}
 use Rattle.report.specs.Names.{names_if}
+use Rattle.report.specs.Questions.{AreTallies, limit_of, names_of}
 use Rattle.report.specs.Reading.{CountsLines}
-use Rattle.report.specs.Tallies.{RowName, capped, IsTally, Notes}
+use Rattle.report.specs.Tallies.{RowName, capped, IsTally}
 use Rattle.report.specs.LogEvents.{event_in, event_in_window}
 use Rattle.report.specs.declared.counting.Report.{Report}
+use Rattle.report.specs.declared.question.Question.{Question}
+use Rattle.report.specs.declared.question.TheConstants.{QUESTIONS}
 use Rattle.report.specs.declared.tally.Tally.{Tally}
 use Rattle.report.specs.declared.window.Window.{Window}
+use Rattle.report.proofs.Tallied.{notes_none}
 
 pub capped_sum : (n by : ℕ) → GoesUp n (min (n + by) (2 ^ 64 - 1)) by
 capped_sum n by before n_is = rw n_is (capped_both before by)
@@ -43,32 +47,54 @@ module _ (window : Window) (before : List (List ℕ)) (line : List ℕ) where
       (flat_map-cons (λ l. names_if names (event_in_window window l)) line []
       ∙ append-nil (names_if names (event_in_window window line)))
 
-  more_tally : (limit : ℕ) (names : Data → List RowName) (old new : Tally)
-      → Notes old new (names_if names (event_in_window window line))
-      → IsTally limit (all_names window before names) old
-      → IsTally limit (all_names window (before ++ line ∷ []) names) new
-  more_tally limit names old new notes counted =
-      subst (λ (all : List RowName). IsTally limit all new) (sym (more_names names))
-      (notes.extends limit (all_names window before names) counted)
+  more_tallies : (drawn : Bool) (questions : List Question) (old new : List Tally)
+      → NotesEach (λ q. names_if (names_of drawn q) (event_in_window window line)) questions old new
+      → AreTallies (λ q. all_names window before (names_of drawn q)) questions old
+      → AreTallies (λ q. all_names window (before ++ line ∷ []) (names_of drawn q)) questions new
+  more_tallies drawn [] [] new notes counted = rw notes tt
+  more_tallies drawn [] (a ∷ old) new notes counted = absurd counted
+  more_tallies drawn (q ∷ questions) [] new notes counted = absurd counted
+  more_tallies drawn (q ∷ questions) (a ∷ old) [] notes counted = absurd notes
+  more_tallies drawn (q ∷ questions) (a ∷ old) (b ∷ new) notes counted = (
+    subst (λ (all : List RowName). IsTally (limit_of q) all b)
+        (sym (more_names (names_of drawn q)))
+        (notes.0.extends (limit_of q) (all_names window before (names_of drawn q)) counted.0),
+    more_tallies drawn questions old new notes.1 counted.1,
+  )
 
-  -- for a chart, if one is drawn
-  more_course : (drawn : Bool) (limit : ℕ) (names : Data → List RowName) (was : Bool)
-      (old new : Tally) → was ≡ drawn
-      → Notes old new (names_if (if_drawn was names) (event_in_window window line))
-      → IsTally limit (all_names window before (if_drawn drawn names)) old
-      → IsTally limit (all_names window (before ++ line ∷ []) (if_drawn drawn names)) new
-  more_course drawn limit names was old new same notes counted =
-      more_tally limit (if_drawn drawn names) old new
-      (subst (λ (b : Bool). Notes old new
-      (names_if (if_drawn b names) (event_in_window window line))) same
-      notes) counted
+-- each question has its empty table
+pub tables_made : (left questions : List Question) (made : List Tally) → length left < 1
+    → ((last : List Tally) → AreTallies (λ q. []) left last
+    → AreTallies (λ q. []) questions (made ++ last))
+    → AreTallies (λ q. []) questions made
+tables_made [] questions made none so_far =
+    subst (AreTallies (λ q. []) questions) (append-nil made) (so_far [] tt)
+tables_made (q ∷ left) questions made none so_far = absurd (omega (arith, none))
+
+-- no name is counted
+pub each_stays : (questions : List Question) (tallies : List Tally)
+    → NotesEach (λ q. []) questions tallies tallies
+each_stays [] tallies = refl
+each_stays (q ∷ questions) [] = refl
+each_stays (q ∷ questions) (t ∷ tallies) = (notes_none t, each_stays questions tallies)
+
+pub adds_nothing : (event : Data) (r : Report) → AddsLine (Some event) None r r
+adds_nothing event r = record {
+  lines_counted = stays r.lines;
+  foreign = stays r.foreign;
+  lost = stays r.lost;
+  left_out = stays r.left_out;
+  offers_left_out = stays r.offers_left_out;
+  drawn = refl;
+  tallies = each_stays QUESTIONS r.tallies.items;
+}
 
 pub counts_one : (window : Window) (line : List ℕ) (old new : Report)
     → AddsLine (event_in line) (event_in_window window line) old new
     → CountsLines window (line ∷ []) old new
 counts_one window line old new adds = record {
   extends = λ drawn before counted. record {
-    drawn_is = adds.course.drawn ∙ counted.drawn_is;
+    drawn_is = adds.drawn ∙ counted.drawn_is;
     lines_counted = more_sum (λ l. one_if (is_some (event_in_window window l))) before line _ _ _
         adds.lines_counted refl counted.lines_counted;
     foreign = more_sum (λ l. one_if (is_none (event_in l))) before line _ _ _
@@ -77,27 +103,9 @@ counts_one window line old new adds = record {
     left_out = more_sum _ before line _ _ _ adds.left_out refl counted.left_out;
     offers_left_out =
         more_sum _ before line _ _ _ adds.offers_left_out refl counted.offers_left_out;
-    kinds = more_tally window before line 256 _ _ _ adds.kinds counted.kinds;
-    refusals = more_tally window before line 256 _ _ _ adds.refusals counted.refusals;
-    loads = more_tally window before line 256 _ _ _ adds.loads counted.loads;
-    update_checks = more_tally window before line 256 _ _ _ adds.update_checks
-        counted.update_checks;
-    offered = more_tally window before line 256 _ _ _ adds.offered counted.offered;
-    unoffered = more_tally window before line 256 _ _ _ adds.unoffered counted.unoffered;
-    hours = more_tally window before line 4096 _ _ _ adds.hours counted.hours;
-    buckets = more_tally window before line 65536 _ _ _ adds.buckets counted.buckets;
-    unknown = more_tally window before line 256 _ _ _ adds.unknown counted.unknown;
-    without_cohort =
-        more_tally window before line 256 _ _ _ adds.without_cohort counted.without_cohort;
-    without_id = more_tally window before line 256 _ _ _ adds.without_id counted.without_id;
-    cut_events = more_tally window before line 256 _ _ _ adds.cut_events counted.cut_events;
-    ended = more_tally window before line 256 _ _ _ adds.ended counted.ended;
-    results = more_tally window before line 256 _ _ _ adds.results counted.results;
-    versions = more_course window before line drawn 256 version_names _ _ _ counted.drawn_is
-        adds.course.versions counted.versions;
-    by_minute = more_course window before line drawn 65536 minute_names _ _ _ counted.drawn_is
-        adds.course.by_minute counted.by_minute;
-    by_hour = more_course window before line drawn 262144 hour_names _ _ _ counted.drawn_is
-        adds.course.by_hour counted.by_hour;
+    tallies = more_tallies window before line drawn QUESTIONS old.tallies.items new.tallies.items
+        (subst (λ (b : Bool). NotesEach
+        (λ q. names_if (names_of b q) (event_in_window window line)) QUESTIONS old.tallies.items
+        new.tallies.items) counted.drawn_is adds.tallies) counted.tallies;
   };
 }

@@ -1,14 +1,19 @@
 -- Counting the names of a list, element by element.
 use Rattle.std.proofs.Common.{◌≡◌, ◌∙◌, refl, sym, ap, subst, ℕ, ◌-◌, ◌<◌, arith}
-use Rattle.std.proofs.Common.{List, [], ◌∷◌, ◌++◌, length, get_or, take, drop}
-use Rattle.std.proofs.Common.{Bool, if◌then◌else◌}
+use Rattle.std.proofs.Common.{List, [], ◌∷◌, ◌++◌, length, get_or, take, drop, append_assoc}
+use Rattle.std.proofs.Common.{Bool, if◌then◌else◌, ◌+◌, ◌≤◌}
+use Rattle.std.proofs.Math.ListN.{set}
 use Rattle.std.proofs.Math.Seq.{take-length}
+use Rattle.std.proofs.lemmas.List.{drop-set-lt, drop_more, length-drop, take-append-drop}
+use Rattle.std.proofs.lemmas.List.{take_more_set}
 use Rattle.serde_json.specs.Data.{Data}
+use Rattle.report.specs.Counts.{NotesEach}
 use Rattle.report.specs.Events.{NotesByte, closed_names, names_after, object_name}
 use Rattle.report.specs.Names.{listed}
 use Rattle.report.specs.Objects.{JsonPlace, after_byte, closes_object}
 use Rattle.report.specs.Tallies.{RowName, Notes}
 use Rattle.report.specs.declared.question.EventQuestion.{EventQuestion}
+use Rattle.report.specs.declared.question.Question.{Question}
 use Rattle.report.specs.declared.tally.Tally.{Tally}
 use Rattle.report.proofs.Tallied.{notes_none, notes_both}
 
@@ -70,3 +75,43 @@ module _ (question : EventQuestion) (app : Data) (appid : List ℕ) where
   unfolding names_after
   text_noted place [] all begun old so_far none = so_far old (notes_none old)
   text_noted place (b ∷ left) all begun old so_far none = absurd (omega (arith, none))
+
+-- the tables, one after another
+module _ (names : Question → List RowName) (all : List Question) (start : List Tally) where
+  abbrev SoFar : List Question → (now : List Tally) → (place : ℕ) → Type 0
+  SoFar left now place = (last : List Tally) → NotesEach names left (drop place now) last
+      → NotesEach names all start (take place now ++ last)
+
+  pub one_table : (left : List Question) (now : List Tally) (place : ℕ) (q : Question)
+      (old new : Tally) → SoFar left now place → 0 < length left → place < length now
+      → Notes (get_or now place old) new (names (get_or left 0 q))
+      → SoFar (take (length left - 1) (drop 1 left)) (set now place new) (place + 1)
+  one_table [] now place q old new so_far some within noted last others =
+      absurd (omega (arith, some))
+  one_table (first ∷ left) now place q old new so_far some within noted last others =
+      let kept : drop (place + 1) (set now place new) ≡ drop (place + 1) now =
+      drop-set-lt (place + 1) now place new (omega arith) in
+      let rest : take (length (first ∷ left) - 1) left ≡ left =
+      ap (λ (n : ℕ). take n left) (omega arith) ∙ take-length left in
+      let noted_then : NotesEach names left (drop (place + 1) now) last =
+      subst (λ (qs : List Question). NotesEach names qs (drop (place + 1) now) last) rest
+      (subst (λ (ts : List Tally). NotesEach names
+      (take (length (first ∷ left) - 1) left) ts last) kept others) in
+      subst (NotesEach names all start)
+      (sym (append_assoc (take place now) (new ∷ []) last)
+      ∙ ap (λ (ts : List Tally). ts ++ last) (sym (take_more_set now place new within)))
+      (so_far (new ∷ last) (subst (λ (ts : List Tally). NotesEach names (first ∷ left) ts
+      (new ∷ last)) (sym (drop_more now place old within)) (noted, noted_then)))
+
+  no_more : (left : List Question) (tallies : List Tally) → (1 ≤ length left → tallies ≡ [])
+      → NotesEach names left tallies tallies
+  no_more [] tallies none = refl
+  no_more (q ∷ left) tallies none = rw (none (omega arith)) refl
+
+  -- no question is left, or no table
+  pub all_tables : (left : List Question) (now : List Tally) (place : ℕ) → SoFar left now place
+      → (1 ≤ length left → length now ≤ place) → NotesEach names all start now
+  all_tables left now place so_far none =
+      subst (NotesEach names all start) (take-append-drop place now)
+      (so_far (drop place now) (no_more left (drop place now)
+      (λ some. none_left (drop place now) (omega (arith, none some, length-drop place now)))))

@@ -1,6 +1,6 @@
 -- The counters of a server, as they are printed after a report.
-use Rattle.std.specs.Prelude.{ℕ, List, [], ◌++◌, codes, decimal, length}
-use Rattle.std.specs.Prelude.{Bool, ◌==◌, if◌then◌else◌}
+use Rattle.std.specs.Prelude.{ℕ, List, [], ◌∷◌, ◌++◌, codes, decimal}
+use Rattle.std.specs.Prelude.{Bool, length, ◌==◌, if◌then◌else◌}
 use Rattle.std.specs.List.{flat_map}
 use Rattle.cell_assignments.specs.Assignments.{Assignment}
 use Rattle.report.specs.Exposition.{head, label, sample}
@@ -30,7 +30,7 @@ counter_line prometheus c = if prometheus then counter_sample c else counter_row
 abbrev pub counters_head : (prometheus heads : Bool) → List ℕ
 counters_head prometheus heads =
     if prometheus then head Gauge counter_metric (codes "Values of the server's counters.")
-    else title_text heads (codes "counters\n") (codes "number\tcounter\n")
+    else title_text heads (codes "counters") (codes "counter" ∷ [])
 
 abbrev pub counter_lines : (prometheus : Bool) → List Assignment → List ℕ
 counter_lines prometheus counters = flat_map (counter_line prometheus) counters

@@ -1,13 +1,16 @@
 -- A report in the text format of Prometheus: for each metric its help and type, and then its
 -- samples, a line each, with labels.
 use Rattle.std.specs.Prelude.{ℕ, List, [], ◌∷◌, ◌++◌, codes, decimal, encode_utf8, string_bytes}
-use Rattle.std.specs.Prelude.{◌==◌, if◌then◌else◌}
+use Rattle.std.specs.Prelude.{length, ◌==◌, if◌then◌else◌}
 use Rattle.std.specs.List.{after_first, before_first, flat_map}
 use Rattle.std.specs.Str.{chars}
+use Rattle.report.specs.Questions.{help_of, labels_of, metric_of}
 use Rattle.report.specs.Screen.{Rows, is_tab}
 use Rattle.report.specs.declared.counting.Report.{Report}
-use Rattle.report.specs.declared.labels.SampleLabels.{SampleLabels}
-use Rattle.report.specs.declared.labels.SampleLabels.TheVariants.{App, Release, Install, Rule, Kind}
+use Rattle.report.specs.declared.question.LineQuestion.TheVariants.{Kind}
+use Rattle.report.specs.declared.question.Question.{Question}
+use Rattle.report.specs.declared.question.Question.TheVariants.{Line}
+use Rattle.report.specs.declared.question.TheConstants.{QUESTIONS}
 use Rattle.report.specs.declared.metrics.MetricKind.{MetricKind}
 use Rattle.report.specs.declared.metrics.MetricKind.TheVariants.{Counter, Gauge}
 use Rattle.report.specs.declared.tally.Tally.{Tally}
@@ -31,22 +34,12 @@ first name = before_first is_tab name
 abbrev pub rest : List ℕ → List ℕ
 rest name = after_first is_tab name
 
-abbrev pub two_labels : List ℕ → List ℕ → List ℕ → List ℕ
-two_labels one other name = label one (first name) ++ codes "," ++ label other (rest name)
-
-abbrev pub install_labels : List ℕ → List ℕ
-install_labels name =
-    label (codes "app") (first name) ++ codes ","
-    ++ two_labels (codes "from") (codes "to") (rest name)
-
 -- a label for each of a name's texts
-abbrev pub labels_text : SampleLabels → List ℕ → List ℕ
-labels_text App name = label (codes "app") name
-labels_text Release name = two_labels (codes "app") (codes "release") name
-labels_text Install name =
-    label (codes "result") (first name) ++ codes "," ++ install_labels (rest name)
-labels_text Rule name = two_labels (codes "status") (codes "rule") name
-labels_text Kind name = label (codes "kind") name
+abbrev pub labels_text : List (List ℕ) → List ℕ → List ℕ
+labels_text [] name = []
+labels_text (last ∷ []) name = label last name
+labels_text (one ∷ other ∷ more) name =
+    label one (first name) ++ codes "," ++ labels_text (other ∷ more) (rest name)
 
 -- ---- metrics
 
@@ -80,7 +73,7 @@ module _ (kind : MetricKind) where
   sample metric labels n =
       metric_name metric ++ codes "{" ++ labels ++ codes "} " ++ decimal n ++ codes "\n"
 
-  abbrev pub samples : List ℕ → SampleLabels → Rows → List ℕ
+  abbrev pub samples : List ℕ → List (List ℕ) → Rows → List ℕ
   samples metric labels [] = []
   samples metric labels (entry ∷ rows) =
       sample metric (labels_text labels (string_bytes entry.0)) entry.1
@@ -91,41 +84,36 @@ module _ (kind : MetricKind) where
   other_sample metric n =
       if n == 0 then [] else sample metric (label (codes "others") (codes "true")) n
 
-  unfoldable pub metric : List ℕ → List ℕ → SampleLabels → Tally → List ℕ
+  abbrev pub metric : List ℕ → List ℕ → List (List ℕ) → Tally → List ℕ
   metric name help labels t =
       head name help ++ samples name labels t.rows.entries ++ other_sample name t.others
+
+  -- a table's metric, if it has one
+  unfoldable pub metric_text : Question → Tally → List ℕ
+  metric_text question t =
+      if length (metric_of question) == 0 then []
+      else metric (metric_of question) (help_of question) (labels_of question) t
 
   -- ---- the report
 
   abbrev pub numbers : Report → List ℕ
   numbers r =
-      metric (codes "rollout_log_lines") (codes "Lines by kind.") Kind r.kinds
-      ++ number_metric (codes "rollout_log_foreign_lines") (codes "Lines not the server's.")
-      r.foreign
+      number_metric (codes "rollout_log_foreign_lines") (codes "Lines not the server's.") r.foreign
       ++ number_metric (codes "rollout_log_lost_lines") (codes "Lines that the log lost.") r.lost
       ++ number_metric (codes "rollout_apps_left_out") (codes "Apps that lines leave out.")
       r.left_out
       ++ number_metric (codes "rollout_offers_left_out") (codes "Offers among these.")
       r.offers_left_out
 
-  abbrev pub asks : Report → List ℕ
-  asks r =
-      metric (codes "rollout_asks") (codes "Asks for an update.") App r.update_checks
-      ++ metric (codes "rollout_offers") (codes "Asks that were offered a release.") Release
-      r.offered
-      ++ metric (codes "rollout_no_updates") (codes "Asks that got none.") App r.unoffered
-      ++ metric (codes "rollout_installs") (codes "Installs that ended, by result.") Install
-      r.results
+  -- the numbers of lines come after the lines by kind
+  abbrev pub numbers_after : Question → Report → List ℕ
+  numbers_after (Line Kind) r = numbers r
+  numbers_after _ r = []
 
-  abbrev pub faults : Report → List ℕ
-  faults r =
-      metric (codes "rollout_refusals") (codes "Requests that were refused.") Rule r.refusals
-      ++ metric (codes "rollout_unknown_apps") (codes "Asks for unknown apps.") App r.unknown
-      ++ metric (codes "rollout_without_cohort") (codes "Clients without a cohort.") App
-      r.without_cohort
-      ++ metric (codes "rollout_without_request_id") (codes "Clients without a request id.") App
-      r.without_id
-      ++ metric (codes "rollout_cut_events") (codes "Apps whose events are cut.") App r.cut_events
+  abbrev pub metrics : Report → List Question → List Tally → List ℕ
+  metrics r (question ∷ questions) (t ∷ tallies) =
+      metric_text question t ++ numbers_after question r ++ metrics r questions tallies
+  metrics r questions tallies = []
 
   abbrev pub exposition : Report → List ℕ
-  exposition r = numbers r ++ asks r ++ faults r
+  exposition r = metrics r QUESTIONS r.tallies.items

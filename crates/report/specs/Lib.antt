@@ -4,8 +4,9 @@ pub mod LogEvents
 pub mod Names
 pub mod Objects
 pub mod Events
-pub mod Counts
 pub mod Courses
+pub mod Questions
+pub mod Counts
 pub mod Reading
 pub mod Screen
 pub mod Exposition

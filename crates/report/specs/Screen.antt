@@ -1,12 +1,19 @@
 -- The text of a report: lines of a number and what it counts, by question.
 use Rattle.std.specs.Prelude.{ℕ, ◌*◌, ◌/◌, ◌%◌, List, [], ◌∷◌, ◌++◌, codes, decimal, length}
 use Rattle.std.specs.Prelude.{Bool, ◌==◌, if◌then◌else◌, Option, Some, None, count_by}
+use Rattle.std.specs.Prelude.{unwrap_or}
 use Rattle.std.specs.Prelude.{String, string_bytes}
 use Rattle.std.specs.BTreeMap.{get_by_text}
 use Rattle.std.specs.List.{after_first, before_first}
 use Rattle.std.specs.Str.{byte, bytes_eq}
 use Rattle.std.specs.declared.alloc.Global.{Global}
+use Rattle.report.specs.Questions.{columns_of, member_of, tally_named, title_of}
 use Rattle.report.specs.declared.counting.Report.{Report}
+use Rattle.report.specs.declared.question.AppQuestion.TheVariants as of_app
+use Rattle.report.specs.declared.question.EventQuestion.TheVariants as of_event
+use Rattle.report.specs.declared.question.Question.{Question}
+use Rattle.report.specs.declared.question.Question.TheVariants.{App, Event}
+use Rattle.report.specs.declared.question.TheConstants.{QUESTIONS}
 use Rattle.report.specs.declared.tally.Tally.{Tally}
 
 -- the entries of a table
@@ -26,15 +33,14 @@ rows_text (entry ∷ rows) = row entry.1 (string_bytes entry.0) ++ rows_text row
 abbrev pub others_text : ℕ → List ℕ
 others_text n = if n == 0 then [] else row n (codes "\tothers")
 
--- the title of a group of rows, and the heads of its columns if they are requested
-abbrev pub title_text : Bool → (title columns : List ℕ) → List ℕ
-title_text heads title columns = title ++ (if heads then columns else [])
+abbrev pub columns_text : List (List ℕ) → List ℕ
+columns_text [] = codes "\n"
+columns_text (column ∷ columns) = codes "\t" ++ column ++ columns_text columns
 
--- a table with its title, unless it is empty
-abbrev pub table_text : Bool → (title columns : List ℕ) → Tally → List ℕ
-table_text heads title columns t =
-    if length t.rows.entries == 0 then []
-    else title_text heads title columns ++ rows_text t.rows.entries ++ others_text t.others
+-- the title of a group of rows, and the heads of its columns if they are requested
+abbrev pub title_text : Bool → List ℕ → List (List ℕ) → List ℕ
+title_text heads title columns =
+    title ++ codes "\n" ++ (if heads then codes "number" ++ columns_text columns else [])
 
 -- ---- buckets
 
@@ -52,21 +58,21 @@ is_of first name = is_of_text first (string_bytes name)
 abbrev pub buckets_of : List ℕ → Rows → ℕ
 buckets_of app rows = count_by (λ entry. is_of app entry.0) rows
 
-unfoldable pub bucket_row : Rows → List ℕ → List ℕ
-bucket_row buckets app = row (buckets_of app buckets) app
+-- the number in an app's row, or 0
+abbrev pub count_in : Tally → List ℕ → ℕ
+count_in t app = unwrap_or (get_by_text t.rows app) 0
 
-abbrev pub bucket_rows : Rows → Rows → List ℕ
-bucket_rows buckets [] = []
-bucket_rows buckets (entry ∷ rows) =
-    bucket_row buckets (string_bytes entry.0) ++ bucket_rows buckets rows
+-- a row for each app
+abbrev pub app_rows : (List ℕ → ℕ) → Rows → List ℕ
+app_rows count [] = []
+app_rows count (entry ∷ rows) =
+    row (count (string_bytes entry.0)) (string_bytes entry.0) ++ app_rows count rows
 
--- for each app, the number of buckets with update checks
-abbrev pub buckets_text : Bool → Report → List ℕ
-buckets_text heads r =
-    if length r.buckets.rows.entries == 0 then []
-    else title_text heads (codes "buckets\n") (codes "number\tapp\n")
-    ++ bucket_rows r.buckets.rows.entries r.update_checks.rows.entries
-    ++ others_text r.buckets.others
+-- the number of buckets of each app with update checks
+abbrev pub bucket_rows : Rows → Option Tally → List ℕ
+bucket_rows buckets (Some update_checks) =
+    app_rows (λ app. buckets_of app buckets) update_checks.rows.entries
+bucket_rows buckets None = []
 
 -- ---- results of installs
 
@@ -92,21 +98,25 @@ abbrev pub result_row : Tally → ℕ → List ℕ → List ℕ
 result_row ended n name =
     decimal n ++ codes "\t" ++ share_of ended n name ++ codes "\t" ++ name ++ codes "\n"
 
-abbrev pub result_rows : Tally → Rows → List ℕ
-result_rows ended [] = []
-result_rows ended (entry ∷ rows) =
-    result_row ended entry.1 (string_bytes entry.0) ++ result_rows ended rows
+abbrev pub result_rows_of : Tally → Rows → List ℕ
+result_rows_of ended [] = []
+result_rows_of ended (entry ∷ rows) =
+    result_row ended entry.1 (string_bytes entry.0) ++ result_rows_of ended rows
 
-abbrev pub install_columns : List ℕ
-install_columns = codes "number\tshare\tresult\tapp\tfrom\tto\n"
+-- each result with its share in the installs that ended
+abbrev pub result_rows : Option Tally → Rows → List ℕ
+result_rows (Some ended) rows = result_rows_of ended rows
+result_rows None rows = []
 
-abbrev pub results_text : Bool → Report → List ℕ
-results_text heads r =
-    if length r.results.rows.entries == 0 then []
-    else title_text heads (codes "installs\n") install_columns
-    ++ result_rows r.ended r.results.rows.entries ++ others_text r.results.others
+-- ---- a table
 
--- ---- the screen
+abbrev pub tally_of : Question → Report → Option Tally
+tally_of question r = tally_named (member_of question) QUESTIONS r.tallies.items
+
+abbrev pub rows_of : Report → Question → Rows → List ℕ
+rows_of r (App of_app.Bucket) rows = bucket_rows rows (tally_of (App of_app.UpdateCheck) r)
+rows_of r (Event of_event.Result) rows = result_rows (tally_of (Event of_event.Ended) r) rows
+rows_of r _ rows = rows_text rows
 
 abbrev pub left_out_text : Report → List ℕ
 left_out_text r =
@@ -114,37 +124,25 @@ left_out_text r =
 
 -- with the heads of columns or without
 module _ (heads : Bool) where
+  -- a table with its title, unless it is empty or has none
+  unfoldable pub table_text : Report → Question → Tally → List ℕ
+  table_text r question t =
+      if length (title_of question) == 0 then []
+      else if length t.rows.entries == 0 then []
+      else title_text heads (title_of question) (columns_of question)
+      ++ rows_of r question t.rows.entries ++ others_text t.others
+
+  abbrev pub tables_text : Report → List Question → List Tally → List ℕ
+  tables_text r (question ∷ questions) (t ∷ tallies) =
+      table_text r question t ++ tables_text r questions tallies
+  tables_text r questions tallies = []
+
+  -- ---- the screen
+
   abbrev pub lines_text : Report → List ℕ
   lines_text r =
-      title_text heads (codes "lines\n") (codes "number\twhat\n")
-      ++ row r.lines (codes "counted")
+      title_text heads (codes "lines") (codes "what" ∷ []) ++ row r.lines (codes "counted")
       ++ row r.foreign (codes "not the server's") ++ row r.lost (codes "lost")
 
-  unfoldable pub numbers_text : Report → List ℕ
-  numbers_text r =
-      lines_text r ++ left_out_text r
-      ++ table_text heads (codes "kinds of lines\n") (codes "number\tkind\n") r.kinds
-      ++ table_text heads (codes "loads\n") (codes "number\ttime\tgeneration\tpath\n") r.loads
-
-  -- a table whose names are apps
-  abbrev pub apps_text : List ℕ → Tally → List ℕ
-  apps_text title t = table_text heads title (codes "number\tapp\n") t
-
-  abbrev pub update_checks_text : Report → List ℕ
-  update_checks_text r =
-      apps_text (codes "asks\n") r.update_checks
-      ++ table_text heads (codes "offers\n") (codes "number\tapp\trelease\n") r.offered
-      ++ apps_text (codes "no update\n") r.unoffered ++ buckets_text heads r
-      ++ table_text heads (codes "asks by hour and version\n")
-      (codes "number\tapp\thour\tversion\n") r.hours
-
-  abbrev pub faults_text : Report → List ℕ
-  faults_text r =
-      table_text heads (codes "refusals\n") (codes "number\tstatus\trule\n") r.refusals
-      ++ apps_text (codes "unknown apps\n") r.unknown
-      ++ apps_text (codes "without a cohort\n") r.without_cohort
-      ++ apps_text (codes "without a request id\n") r.without_id
-      ++ apps_text (codes "events that are cut\n") r.cut_events
-
   abbrev pub screen : Report → List ℕ
-  screen r = numbers_text r ++ update_checks_text r ++ results_text heads r ++ faults_text r
+  screen r = lines_text r ++ left_out_text r ++ tables_text r QUESTIONS r.tallies.items

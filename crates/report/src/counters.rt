@@ -42,7 +42,7 @@ fn push_counters_head(text: &mut String, prometheus: bool, heads: bool) -> Resul
         let help = "Values of the server's counters.";
         push_head(text, MetricKind::Gauge, METRIC, help)
     } else {
-        push_title(text, heads, "counters\n", "number\tcounter\n")
+        push_title(text, heads, "counters", &["counter"])
     }
 }
 

@@ -1,29 +1,22 @@
 //! All counts of a log, line by line.
 
-ghost use Rattle.std.specs.Prelude.{◌≡◌, [], ◌∷◌, None, Some, OnOk};
-ghost use Rattle.serde_json.specs.Data.{Data};
+ghost use Rattle.std.specs.Prelude.{◌≡◌, [], ◌∷◌, None, Some, IfOk, OnOk, option_map};
 ghost use Rattle.serde_json.specs.View.{view};
 ghost use Rattle.report.specs.Counts as specs;
+ghost use Rattle.report.specs.Questions.{AreTallies, tally_named};
 ghost use Rattle.report.specs.Reading.{CountsLines};
+ghost use Rattle.report.specs.Screen.{tally_of};
 ghost use Rattle.report.specs.LogEvents.{event_in, event_in_window, if_within};
 
-use crate::course::Course;
 use crate::log_events::{event_in, is_kind, is_within, number_in};
-use crate::note::{note_apps, note_ends, note_line};
-use crate::question::{AppQuestion, EventQuestion, LineQuestion};
+use crate::note::note_questions;
+use crate::question::{QUESTIONS, Question};
 use crate::tally::Tally;
 use crate::window::Window;
 use serde_json::Value;
 use std::alloc::{AllocError, Global};
 
-/// The maximum number of rows of a table; then those of the tables of hours and of buckets.
-const NAMES: usize = 256;
-
-const HOURS: usize = 4096;
-
-const BUCKETS: usize = 65536;
-
-/// The table of each question, and the numbers of lines.
+/// The numbers of lines, and the table of each question.
 #[derive(Drop)]
 pub struct Report {
     /// Lines that are counted: the server's, in the window.
@@ -35,61 +28,34 @@ pub struct Report {
     /// Apps that lines leave out, and how many of these were offered a release.
     pub left_out: u64,
     pub offers_left_out: u64,
-    /// Lines by kind.
-    pub kinds: Tally,
-    /// Refusals by status and rule.
-    pub refusals: Tally,
-    /// Loads by time, generation and path.
-    pub loads: Tally,
-    /// Update checks by app.
-    pub update_checks: Tally,
-    /// Offers by app and release, and by app the update checks without an offer.
-    pub offered: Tally,
-    pub unoffered: Tally,
-    /// Update checks by app, hour and version, and by app and bucket.
-    pub hours: Tally,
-    pub buckets: Tally,
-    /// Apps that the server doesn't know.
-    pub unknown: Tally,
-    /// Clients without a cohort, and those without a request id, by app.
-    pub without_cohort: Tally,
-    pub without_id: Tally,
-    /// Events that were cut, by app.
-    pub cut_events: Tally,
-    /// Installs by app, version and next version, and also by the result.
-    pub ended: Tally,
-    pub results: Tally,
-    /// The counts for a chart.
-    pub course: Course,
+    /// Whether a chart will be drawn. If not, nothing is counted for it.
+    pub drawn: bool,
+    /// The tables, in the order of `QUESTIONS`.
+    pub tallies: Vec<Tally>,
 }
 
 impl Report {
     /// A report on no lines; `drawn` says whether a chart will be drawn.
-    pub fn new(alloc: Global, drawn: bool) -> Report
-        ensures { (window : Window) → specs.Counts window [] drawn result }
+    pub fn new(alloc: Global, drawn: bool) -> Result<Report, AllocError>
+        ensures { IfOk result (λ r. (window : Window) → specs.Counts window [] drawn r) }
     {
-        Report {
+        let tallies = empty_tallies(alloc, &QUESTIONS)?;
+        Ok(Report {
             lines: 0,
             foreign: 0,
             lost: 0,
             left_out: 0,
             offers_left_out: 0,
-            kinds: Tally::new(alloc, NAMES),
-            refusals: Tally::new(alloc, NAMES),
-            loads: Tally::new(alloc, NAMES),
-            update_checks: Tally::new(alloc, NAMES),
-            offered: Tally::new(alloc, NAMES),
-            unoffered: Tally::new(alloc, NAMES),
-            hours: Tally::new(alloc, HOURS),
-            buckets: Tally::new(alloc, BUCKETS),
-            unknown: Tally::new(alloc, NAMES),
-            without_cohort: Tally::new(alloc, NAMES),
-            without_id: Tally::new(alloc, NAMES),
-            cut_events: Tally::new(alloc, NAMES),
-            ended: Tally::new(alloc, NAMES),
-            results: Tally::new(alloc, NAMES),
-            course: Course::new(alloc, drawn),
-        }
+            drawn,
+            tallies,
+        })
+    }
+
+    /// The table of a question.
+    pub fn tally(&self, question: Question) -> Option<&Tally>
+        ensures { option_map (λ t. t.now) result ≡ tally_of question self.now }
+    {
+        tally_named(&QUESTIONS, self.tallies.as_slice(), question.member())
     }
 
     /// Counts a line, given without its line feed. If an allocation fails, the line may be partly
@@ -129,7 +95,7 @@ impl Report {
         }
     }
 
-    #[tactic(auto, using(crate::proofs::Counted::stays, crate::proofs::Tallied::notes_none))]
+    #[tactic(auto, using(crate::proofs::Counted::stays, crate::proofs::Counted::each_stays))]
     fn add_foreign(&mut self)
         ensures { specs.AddsLine None None self.old self.new }
     {
@@ -149,14 +115,8 @@ impl Report {
         if is_within(window, event) {
             return self.add(alloc, event);
         }
-        self.add_nothing();
         Ok(())
     }
-
-    #[tactic(auto, using(crate::proofs::Counted::stays, crate::proofs::Tallied::notes_none))]
-    fn add_nothing(&mut self)
-        ensures { (event : Data) → specs.AddsLine (Some event) None self.old self.new }
-    {}
 
     #[tactic(auto, using(crate::proofs::Counted::stays))]
     fn add(&mut self, alloc: Global, event: &Value) -> Result<(), AllocError>
@@ -170,33 +130,43 @@ impl Report {
         self.lost = raised(self.lost, lost);
         self.left_out = raised(self.left_out, left_out);
         self.offers_left_out = raised(self.offers_left_out, offers);
-        note_line(alloc, &mut self.kinds, LineQuestion::Kind, event)?;
-        note_line(alloc, &mut self.refusals, LineQuestion::Refusal, event)?;
-        note_line(alloc, &mut self.loads, LineQuestion::Load, event)?;
-        note_apps(
-            alloc,
-            &mut self.update_checks,
-            AppQuestion::UpdateCheck,
-            event,
-        )?;
-        note_apps(alloc, &mut self.offered, AppQuestion::Offered, event)?;
-        note_apps(alloc, &mut self.unoffered, AppQuestion::Unoffered, event)?;
-        note_apps(alloc, &mut self.hours, AppQuestion::Hour, event)?;
-        note_apps(alloc, &mut self.buckets, AppQuestion::Bucket, event)?;
-        note_apps(alloc, &mut self.unknown, AppQuestion::Unknown, event)?;
-        note_apps(
-            alloc,
-            &mut self.without_cohort,
-            AppQuestion::WithoutCohort,
-            event,
-        )?;
-        note_apps(alloc, &mut self.without_id, AppQuestion::WithoutId, event)?;
-        note_apps(alloc, &mut self.cut_events, AppQuestion::CutEvent, event)?;
-        note_ends(alloc, &mut self.ended, EventQuestion::Ended, event)?;
-        note_ends(alloc, &mut self.results, EventQuestion::Result, event)?;
-        self.course.note(alloc, event)?;
+        let drawn = self.drawn;
+        note_questions(alloc, drawn, &mut self.tallies, event)?;
         Ok(())
     }
+}
+
+// An empty table for each question.
+fn empty_tallies(alloc: Global, questions: &[Question]) -> Result<Vec<Tally>, AllocError>
+    ensures { IfOk result (λ tallies. AreTallies (λ _. []) questions.now tallies.items) }
+{
+    let mut tallies = Vec::with_capacity(alloc, questions.len())?;
+    let mut left = questions;
+    while let [question, rest @ ..] = left {
+        tallies.push(Tally::new(alloc, question.limit()))?;
+        left = rest;
+    }
+    Ok(tallies)
+}
+
+// The table of this name.
+fn tally_named<'a>(questions: &[Question], tallies: &'a [Tally], name: &str) -> Option<&'a Tally>
+    ensures { option_map (λ t. t.now) result
+        ≡ tally_named name.now questions.now tallies.now }
+{
+    let mut asked = questions;
+    let mut left = tallies;
+    while let [question, more @ ..] = asked {
+        let [tally, rest @ ..] = left else {
+            return None;
+        };
+        if question.member() == name {
+            return Some(tally);
+        }
+        asked = more;
+        left = rest;
+    }
+    None
 }
 
 // The sum, up to the greatest number.

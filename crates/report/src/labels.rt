@@ -1,61 +1,30 @@
 //! The labels of a sample, from the texts of its name.
 
-ghost use Rattle.std.specs.Prelude.{◌≡◌, OnOk};
+ghost use Rattle.std.specs.Prelude.{◌≡◌, OnOk, map};
 ghost use Rattle.report.specs.Exposition as specs;
 ghost use Rattle.printing.specs.Pushed.{Puts};
 
 use std::alloc::AllocError;
 use std::fmt::Write;
 
-/// The labels for a name's texts.
-#[derive(Clone, Copy)]
-pub(crate) enum SampleLabels {
-    App,
-    /// App and release.
-    Release,
-    /// Result, app, previous version and next version.
-    Install,
-    /// Status and rule.
-    Rule,
-    Kind,
-}
-
-/// Appends the labels of a name to a text.
-pub(crate) fn push_labels(
-    text: &mut String,
-    labels: SampleLabels,
-    name: &str,
-) -> Result<(), AllocError>
-    ensures { OnOk result (Puts text.old text.new (specs.labels_text labels name.now)) }
+/// Appends a label for each of a name's texts.
+pub(crate) fn push_labels(text: &mut String, labels: &[&str], name: &str) -> Result<(), AllocError>
+    ensures { OnOk result (Puts text.old text.new
+        (specs.labels_text (map (λ c. c.now) labels.now) name.now)) }
 {
-    match labels {
-        SampleLabels::App => push_label(text, "app", name),
-        SampleLabels::Release => push_two(text, "app", "release", name),
-        SampleLabels::Install => {
-            push_label(text, "result", first(name))?;
-            text.push_str(",")?;
-            push_install(text, rest(name))
+    let mut left = labels;
+    let mut texts = name;
+    while let [label, more @ ..] = left {
+        if more.is_empty() {
+            push_label(text, label, texts)?;
+            return Ok(());
         }
-        SampleLabels::Rule => push_two(text, "status", "rule", name),
-        SampleLabels::Kind => push_label(text, "kind", name),
+        push_label(text, label, first(texts))?;
+        text.push_str(",")?;
+        texts = rest(texts);
+        left = more;
     }
-}
-
-// The labels of a name with two texts.
-fn push_two(text: &mut String, one: &str, other: &str, name: &str) -> Result<(), AllocError>
-    ensures { OnOk result (Puts text.old text.new (specs.two_labels one.now other.now name.now)) }
-{
-    push_label(text, one, first(name))?;
-    text.push_str(",")?;
-    push_label(text, other, rest(name))
-}
-
-fn push_install(text: &mut String, name: &str) -> Result<(), AllocError>
-    ensures { OnOk result (Puts text.old text.new (specs.install_labels name.now)) }
-{
-    push_label(text, "app", first(name))?;
-    text.push_str(",")?;
-    push_two(text, "from", "to", rest(name))
+    Ok(())
 }
 
 /// Appends a label with its value.

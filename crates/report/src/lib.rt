@@ -7,9 +7,9 @@
 #![tactic(auto)]
 
 mod app_names;
+mod chart_names;
 mod counters;
 mod counting;
-mod course;
 mod events;
 mod exposition;
 mod labels;
@@ -21,6 +21,7 @@ mod name_text;
 mod note;
 mod objects;
 mod question;
+mod question_texts;
 mod rows;
 mod screen;
 mod tally;
@@ -28,12 +29,11 @@ mod window;
 
 pub use counters::counters_text;
 pub use counting::Report;
-pub use course::Course;
 pub use exposition::exposition_text;
 pub use log_events::{flag_in, list_in, number_in, text_in};
 pub use log_lines::{LogOnlooker, count_log};
 pub use metrics::MetricKind;
-pub use question::{AppQuestion, EventQuestion, LineQuestion};
+pub use question::{AppQuestion, ChartQuestion, EventQuestion, LineQuestion, QUESTIONS, Question};
 pub use screen::report_text;
 pub use tally::Tally;
 pub use window::Window;

@@ -1,7 +1,7 @@
 //! The lines of a log, read in blocks. The bytes after a block's last line feed are kept for the
 //! next block. At most 65537 bytes of a line are kept, which is more than a server's line has.
 
-ghost use Rattle.std.specs.Prelude.{◌≡◌, ◌≢◌, ◌<◌, ◌≤◌, [], ◌∷◌, length, take};
+ghost use Rattle.std.specs.Prelude.{◌≡◌, ◌<◌, ◌≤◌, [], ◌∷◌, length, take};
 ghost use Rattle.std.specs.Prelude.{IfNone, IfOk, IfSome, OnOk};
 ghost use Rattle.std.specs.Io.KnownBytes.{Consumes, IsAtEnd};
 ghost use Rattle.report.specs.Lines.{grown, lines_after};
@@ -114,6 +114,7 @@ fn count_block(
 }
 
 // Counts a line if the byte is a line feed; keeps any other byte.
+#[tactic(auto, using(crate::proofs::Read::line_goes_on))]
 fn count_byte(
     alloc: Global,
     window: &Window<'_>,
@@ -127,21 +128,6 @@ fn count_byte(
     if byte == b'\n' {
         return end_line(alloc, window, report, begun);
     }
-    append_other_byte(window, report, begun, byte)
-}
-
-// Any byte but a line feed.
-#[tactic(auto, using(crate::proofs::Read::line_goes_on))]
-fn append_other_byte(
-    window: &Window<'_>,
-    report: &mut Report,
-    begun: &mut Vec<u8>,
-    byte: u8,
-) -> Result<(), AllocError>
-    requires { byte ≢ 10 }
-    ensures { OnOk result (ReadsBlock window.now (byte ∷ [])
-        begun.old.items report.old begun.new.items report.new) }
-{
     append_byte(begun, byte)
 }
 

@@ -1,10 +1,11 @@
 //! A metric in the text format of Prometheus: its help, its type and its samples.
 
-ghost use Rattle.std.specs.Prelude.{◌≡◌, ◌++◌, OnOk};
+ghost use Rattle.std.specs.Prelude.{◌≡◌, ◌++◌, OnOk, map};
 ghost use Rattle.report.specs.Exposition as specs;
 ghost use Rattle.printing.specs.Pushed.{Puts};
 
-use crate::labels::{SampleLabels, push_label, push_labels};
+use crate::labels::{push_label, push_labels};
+use crate::question::Question;
 use crate::tally::Tally;
 use std::alloc::AllocError;
 use std::collections::BTreeMap;
@@ -19,21 +20,23 @@ pub enum MetricKind {
     Gauge,
 }
 
-/// Appends a metric with a sample for each row of a table.
-#[tactic(auto, unfolding(crate::specs::Exposition::metric))]
+/// Appends a table's metric, if it has one, with a sample for each row.
+#[tactic(auto, unfolding(crate::specs::Exposition::metric_text))]
 pub(crate) fn push_metric(
     text: &mut String,
     kind: MetricKind,
-    metric: &str,
-    help: &str,
-    labels: SampleLabels,
+    question: Question,
     tally: &Tally,
 ) -> Result<(), AllocError>
     ensures { OnOk result (Puts text.old text.new
-        (specs.metric kind metric.now help.now labels tally.now)) }
+        (specs.metric_text kind question tally.now)) }
 {
-    push_head(text, kind, metric, help)?;
-    push_samples(text, kind, metric, labels, &tally.rows)?;
+    let metric = question.metric();
+    if metric.is_empty() {
+        return Ok(());
+    }
+    push_head(text, kind, metric, question.help())?;
+    push_samples(text, kind, metric, question.labels(), &tally.rows)?;
     push_other_sample(text, kind, metric, tally.others)?;
     Ok(())
 }
@@ -109,11 +112,11 @@ fn push_samples(
     text: &mut String,
     kind: MetricKind,
     metric: &str,
-    labels: SampleLabels,
+    labels: &[&str],
     rows: &BTreeMap<String, u64>,
 ) -> Result<(), AllocError>
     ensures { OnOk result (Puts text.old text.new
-        (specs.samples kind metric.now labels rows.now.entries)) }
+        (specs.samples kind metric.now (map (λ c. c.now) labels.now) rows.now.entries)) }
 {
     for (name, n) in rows.iter() {
         push_sample(text, kind, metric, labels, name.as_str(), *n)?;
@@ -125,12 +128,13 @@ fn push_sample(
     text: &mut String,
     kind: MetricKind,
     metric: &str,
-    labels: SampleLabels,
+    labels: &[&str],
     name: &str,
     n: u64,
 ) -> Result<(), AllocError>
     ensures { OnOk result (Puts text.old text.new
-        (specs.sample kind metric.now (specs.labels_text labels name.now) n)) }
+        (specs.sample kind metric.now
+        (specs.labels_text (map (λ c. c.now) labels.now) name.now) n)) }
 {
     push_name(text, kind, metric, "{")?;
     push_labels(text, labels, name)?;

@@ -1,22 +1,83 @@
-//! Counts a line in the table of a question.
+//! Counts a line in the tables.
 
 ghost use Rattle.std.specs.Prelude.{OnOk};
 ghost use Rattle.serde_json.specs.View.{view, items_view};
+ghost use Rattle.report.specs.Counts.{NotesEach};
 ghost use Rattle.report.specs.Events.{event_names};
 ghost use Rattle.report.specs.Names as specs;
+ghost use Rattle.report.specs.Questions.{names_of};
 ghost use Rattle.report.specs.Tallies.{Notes};
+ghost use Rattle.report.specs.declared.question.TheConstants.{QUESTIONS};
 
 use crate::app_names::{app_name_of, is_about_app};
+use crate::chart_names::note_chart;
 use crate::events::note_events;
 use crate::line_names::{is_about_line, line_name_of};
 use crate::log_events::{apps_in, text_in};
-use crate::question::{AppQuestion, EventQuestion, LineQuestion};
+use crate::question::{AppQuestion, EventQuestion, LineQuestion, QUESTIONS, Question};
 use crate::tally::{Tally, note_nothing};
 use serde_json::Value;
 use std::alloc::{AllocError, Global};
 
-/// Counts the line itself.
-pub(crate) fn note_line(
+/// Counts a line in the table of each question.
+pub(crate) fn note_questions(
+    alloc: Global,
+    drawn: bool,
+    tallies: &mut Vec<Tally>,
+    line: &Value,
+) -> Result<(), AllocError>
+    ensures { OnOk result (NotesEach (λ question. names_of drawn question (view line.now))
+        QUESTIONS tallies.old.items tallies.new.items) }
+{
+    note_each(alloc, drawn, &QUESTIONS, tallies.as_mut_slice(), line)
+}
+
+fn note_each(
+    alloc: Global,
+    drawn: bool,
+    questions: &[Question],
+    tallies: &mut [Tally],
+    line: &Value,
+) -> Result<(), AllocError>
+    ensures { OnOk result (NotesEach (λ question. names_of drawn question (view line.now))
+        questions.now tallies.old tallies.new) }
+{
+    let mut left = questions;
+    for place in 0..tallies.len() {
+        let [question, rest @ ..] = left else {
+            return Ok(());
+        };
+        note_question(alloc, drawn, *question, &mut tallies[place], line)?;
+        left = rest;
+    }
+    Ok(())
+}
+
+fn note_question(
+    alloc: Global,
+    drawn: bool,
+    question: Question,
+    tally: &mut Tally,
+    line: &Value,
+) -> Result<(), AllocError>
+    ensures { OnOk result (Notes tally.old tally.new (names_of drawn question (view line.now))) }
+{
+    match question {
+        Question::Line(question) => note_line(alloc, tally, question, line),
+        Question::App(question) => note_apps(alloc, tally, question, line),
+        Question::Event(question) => note_ends(alloc, tally, question, line),
+        Question::Chart(question) => {
+            if drawn {
+                note_chart(alloc, tally, question, line)
+            } else {
+                note_nothing(tally)
+            }
+        }
+    }
+}
+
+// Counts the line itself.
+fn note_line(
     alloc: Global,
     tally: &mut Tally,
     question: LineQuestion,
@@ -42,7 +103,7 @@ pub(crate) fn note_apps(
     ensures { OnOk result (Notes tally.old tally.new (specs.app_names question (view line.now))) }
 {
     match apps_in(line) {
-        Some(apps) => note_each(alloc, tally, question, line, apps),
+        Some(apps) => note_each_app(alloc, tally, question, line, apps),
         None => note_nothing(tally),
     }
 }
@@ -62,7 +123,7 @@ pub(crate) fn note_ends(
     }
 }
 
-fn note_each(
+fn note_each_app(
     alloc: Global,
     tally: &mut Tally,
     question: AppQuestion,

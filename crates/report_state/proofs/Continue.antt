@@ -8,15 +8,18 @@ use Rattle.std.specs.Map.{lookup}
 use Rattle.std.specs.Ordering.{is_eq, nat_cmp}
 use Rattle.std.specs.Prelude.{IsSomeAnd}
 use Rattle.json_value.specs.Bytes.{json_of}
-use Rattle.report.specs.Counts.{Counts}
+use Rattle.report.specs.Counts.{Counts, all_names}
 use Rattle.report.specs.LogEvents.{list_in}
+use Rattle.report.specs.Questions.{AreTallies, limit_of, member_of, names_of}
 use Rattle.report.specs.Screen.{Rows}
 use Rattle.report.specs.Tallies.{RowName, capped, has_no_row, IsTally}
 use Rattle.report.specs.declared.counting.Report.{Report}
+use Rattle.report.specs.declared.question.Question.{Question}
+use Rattle.report.specs.declared.question.TheConstants.{QUESTIONS}
 use Rattle.report.specs.declared.tally.Tally.{Tally}
 use Rattle.report.specs.declared.window.Window.{Window}
 use Rattle.report_state.specs.Laws.{CountsContinue}
-use Rattle.report_state.specs.States.{AreRows, HasCounts, IsReport, IsRow, IsTable}
+use Rattle.report_state.specs.States.{AreRows, HasCounts, HasTables, IsReport, IsRow, IsTable}
 use Rattle.serde_json.specs.Data.{Data, Items, no_items, item}
 use Rattle.serde_json.specs.Find.{get}
 
@@ -96,13 +99,26 @@ module _ (limit : ℕ) (names : List RowName) (a b : Tally) where
       with_rows (list_in (codes "rows") d) one.rows other.rows
       (some_is _ _ _ one.others other.others) (some_is _ _ _ one.limit other.limit)
 
+module _ (d : Data) (names : Question → List RowName) where
+  tables_continue : (questions : List Question) (xs ys : List Tally) → HasTables d questions xs
+      → HasTables d questions ys → AreTallies names questions xs → AreTallies names questions ys
+  tables_continue [] [] [] one other counted = tt
+  tables_continue [] [] (y ∷ ys) one other counted = absurd other
+  tables_continue [] (x ∷ xs) ys one other counted = absurd one
+  tables_continue (q ∷ questions) [] ys one other counted = absurd one
+  tables_continue (q ∷ questions) (x ∷ xs) [] one other counted = absurd other
+  tables_continue (q ∷ questions) (x ∷ xs) (y ∷ ys) one other counted = (
+    table_continues (limit_of q) (names q) x y (get (member_of q) d) one.0 other.0 counted.0,
+    tables_continue questions xs ys one.1 other.1 counted.1,
+  )
+
 -- ---- all counts
 
 module _ (window : Window) (lines : List (List ℕ)) (drawn : Bool) (a b : Report) where
   report_continues : (d : Data) → IsReport a d → IsReport b d → Counts window lines drawn a
       → Counts window lines drawn b
   report_continues d one other c = record {
-    drawn_is = some_is _ _ _ other.course.drawn one.course.drawn ∙ c.drawn_is;
+    drawn_is = some_is _ _ _ other.drawn one.drawn ∙ c.drawn_is;
     lines_counted = some_is _ _ _ other.numbers.lines one.numbers.lines ∙ c.lines_counted;
     foreign = some_is _ _ _ other.numbers.foreign one.numbers.foreign ∙ c.foreign;
     lost = some_is _ _ _ other.numbers.lost one.numbers.lost ∙ c.lost;
@@ -110,27 +126,8 @@ module _ (window : Window) (lines : List (List ℕ)) (drawn : Bool) (a b : Repor
     offers_left_out =
         some_is _ _ _ other.numbers.offers_left_out one.numbers.offers_left_out
         ∙ c.offers_left_out;
-    kinds = table_continues _ _ _ _ _ one.lines.kinds other.lines.kinds c.kinds;
-    refusals = table_continues _ _ _ _ _ one.lines.refusals other.lines.refusals c.refusals;
-    loads = table_continues _ _ _ _ _ one.lines.loads other.lines.loads c.loads;
-    update_checks =
-        table_continues _ _ _ _ _ one.apps.update_checks other.apps.update_checks
-        c.update_checks;
-    offered = table_continues _ _ _ _ _ one.apps.offered other.apps.offered c.offered;
-    unoffered = table_continues _ _ _ _ _ one.apps.unoffered other.apps.unoffered c.unoffered;
-    hours = table_continues _ _ _ _ _ one.apps.hours other.apps.hours c.hours;
-    buckets = table_continues _ _ _ _ _ one.apps.buckets other.apps.buckets c.buckets;
-    unknown = table_continues _ _ _ _ _ one.apps.unknown other.apps.unknown c.unknown;
-    without_cohort =
-        table_continues _ _ _ _ _ one.apps.without_cohort other.apps.without_cohort
-        c.without_cohort;
-    without_id = table_continues _ _ _ _ _ one.apps.without_id other.apps.without_id c.without_id;
-    cut_events = table_continues _ _ _ _ _ one.apps.cut_events other.apps.cut_events c.cut_events;
-    ended = table_continues _ _ _ _ _ one.lines.ended other.lines.ended c.ended;
-    results = table_continues _ _ _ _ _ one.lines.results other.lines.results c.results;
-    versions = table_continues _ _ _ _ _ one.course.versions other.course.versions c.versions;
-    by_minute = table_continues _ _ _ _ _ one.course.by_minute other.course.by_minute c.by_minute;
-    by_hour = table_continues _ _ _ _ _ one.course.by_hour other.course.by_hour c.by_hour;
+    tallies = tables_continue d (λ question. all_names window lines (names_of drawn question))
+        QUESTIONS a.tallies.items b.tallies.items one.tables other.tables c.tallies;
   }
 
   counts_continue : (o : Option Data) → IsSomeAnd o (IsReport a) → IsSomeAnd o (IsReport b)

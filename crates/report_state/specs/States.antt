@@ -1,9 +1,13 @@
 -- The counts of a report as JSON (RFC 8259).
 use Rattle.std.specs.Prelude.{◌≡◌, ℕ, List, [], ◌∷◌, codes, Bool, Some, IsSomeAnd, string_bytes}
+use Rattle.std.specs.List.{AllZip}
 use Rattle.json_value.specs.Bytes.{json_of}
 use Rattle.report.specs.LogEvents.{flag_in, list_in, number_in, text_in}
+use Rattle.report.specs.Questions.{member_of}
 use Rattle.report.specs.Screen.{Rows}
 use Rattle.report.specs.declared.counting.Report.{Report}
+use Rattle.report.specs.declared.question.Question.{Question}
+use Rattle.report.specs.declared.question.TheConstants.{QUESTIONS}
 use Rattle.report.specs.declared.tally.Tally.{Tally}
 use Rattle.serde_json.specs.Data.{Data, Items, no_items, item}
 use Rattle.serde_json.specs.Find.{get}
@@ -45,40 +49,18 @@ pub record HasNumbers (d : Data) (r : Report) : Type 0 where
   pub left_out : HasNumber d (codes "left_out") r.left_out
   pub offers_left_out : HasNumber d (codes "offers_left_out") r.offers_left_out
 
--- the tables of lines, and of ended installs
-pub record HasLineTables (d : Data) (r : Report) : Type 0 where
-  pub kinds : HasTable d (codes "kinds") r.kinds
-  pub refusals : HasTable d (codes "refusals") r.refusals
-  pub loads : HasTable d (codes "loads") r.loads
-  pub ended : HasTable d (codes "ended") r.ended
-  pub results : HasTable d (codes "results") r.results
-
-pub record HasAppTables (d : Data) (r : Report) : Type 0 where
-  pub update_checks : HasTable d (codes "update_checks") r.update_checks
-  pub offered : HasTable d (codes "offered") r.offered
-  pub unoffered : HasTable d (codes "unoffered") r.unoffered
-  pub hours : HasTable d (codes "hours") r.hours
-  pub buckets : HasTable d (codes "buckets") r.buckets
-  pub unknown : HasTable d (codes "unknown") r.unknown
-  pub without_cohort : HasTable d (codes "without_cohort") r.without_cohort
-  pub without_id : HasTable d (codes "without_id") r.without_id
-  pub cut_events : HasTable d (codes "cut_events") r.cut_events
-
 abbrev pub IsDrawn : Data → Bool → Type 0
 IsDrawn d drawn = flag_in (codes "drawn") d ≡ Some drawn
 
--- the counts for a chart
-pub record HasCourse (d : Data) (r : Report) : Type 0 where
-  pub drawn : IsDrawn d r.course.drawn
-  pub versions : HasTable d (codes "versions") r.course.versions
-  pub by_minute : HasTable d (codes "by_minute") r.course.by_minute
-  pub by_hour : HasTable d (codes "by_hour") r.course.by_hour
+-- the table of each question by its name, and no other
+abbrev pub HasTables : Data → List Question → List Tally → Type 0
+HasTables d questions tallies =
+    AllZip (λ question t. HasTable d (member_of question) t) questions tallies
 
 pub record IsReport (r : Report) (d : Data) : Type 0 where
   pub numbers : HasNumbers d r
-  pub lines : HasLineTables d r
-  pub apps : HasAppTables d r
-  pub course : HasCourse d r
+  pub drawn : IsDrawn d r.drawn
+  pub tables : HasTables d QUESTIONS r.tallies.items
 
 -- {"counts":{..},"logs":[..]}
 abbrev pub HasCounts : Report → Data → Type 0

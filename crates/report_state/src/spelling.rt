@@ -4,7 +4,7 @@ ghost use Rattle.std.specs.Prelude.{◌≡◌, IsSomeAnd, true};
 ghost use Rattle.serde_json.specs.View.{items_view, view};
 ghost use Rattle.report_state.specs.States as specs;
 
-use report::{Report, Tally, flag_in, list_in, number_in, text_in};
+use report::{QUESTIONS, Question, Report, Tally, flag_in, list_in, number_in, text_in};
 use serde_json::Value;
 use std::collections::BTreeMap;
 
@@ -74,28 +74,22 @@ fn has_numbers(value: &Value, report: &Report) -> bool
         && is_number(value, "offers_left_out", report.offers_left_out)
 }
 
-fn has_line_tables(value: &Value, report: &Report) -> bool
-    ensures { result ≡ true → specs.HasLineTables (view value.now) report.now }
+fn has_tables(value: &Value, questions: &[Question], tallies: &[Tally]) -> bool
+    ensures { result ≡ true → specs.HasTables (view value.now) questions.now tallies.now }
 {
-    has_table(value, "kinds", &report.kinds)
-        && has_table(value, "refusals", &report.refusals)
-        && has_table(value, "loads", &report.loads)
-        && has_table(value, "ended", &report.ended)
-        && has_table(value, "results", &report.results)
-}
-
-fn has_app_tables(value: &Value, report: &Report) -> bool
-    ensures { result ≡ true → specs.HasAppTables (view value.now) report.now }
-{
-    has_table(value, "update_checks", &report.update_checks)
-        && has_table(value, "offered", &report.offered)
-        && has_table(value, "unoffered", &report.unoffered)
-        && has_table(value, "hours", &report.hours)
-        && has_table(value, "buckets", &report.buckets)
-        && has_table(value, "unknown", &report.unknown)
-        && has_table(value, "without_cohort", &report.without_cohort)
-        && has_table(value, "without_id", &report.without_id)
-        && has_table(value, "cut_events", &report.cut_events)
+    let mut asked = questions;
+    let mut left = tallies;
+    while let [question, more @ ..] = asked {
+        let [tally, rest @ ..] = left else {
+            return false;
+        };
+        if !has_table(value, question.member(), tally) {
+            return false;
+        }
+        asked = more;
+        left = rest;
+    }
+    left.is_empty()
 }
 
 fn is_drawn(value: &Value, drawn: bool) -> bool
@@ -107,22 +101,12 @@ fn is_drawn(value: &Value, drawn: bool) -> bool
     }
 }
 
-fn has_course(value: &Value, report: &Report) -> bool
-    ensures { result ≡ true → specs.HasCourse (view value.now) report.now }
-{
-    is_drawn(value, report.course.drawn)
-        && has_table(value, "versions", &report.course.versions)
-        && has_table(value, "by_minute", &report.course.by_minute)
-        && has_table(value, "by_hour", &report.course.by_hour)
-}
-
 fn is_report(value: &Value, report: &Report) -> bool
     ensures { result ≡ true → specs.IsReport report.now (view value.now) }
 {
     has_numbers(value, report)
-        && has_line_tables(value, report)
-        && has_app_tables(value, report)
-        && has_course(value, report)
+        && is_drawn(value, report.drawn)
+        && has_tables(value, &QUESTIONS, report.tallies.as_slice())
 }
 
 /// Whether a state's member `counts` is these counts.

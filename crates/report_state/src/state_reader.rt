@@ -7,7 +7,7 @@ ghost use Rattle.report_state.specs.States.{HasCounts, SpellsCounts};
 use crate::places::{LogPlace, places_in};
 use crate::spelling::has_counts;
 use json_value::read_json;
-use report::{Report, Tally, flag_in, list_in, number_in, text_in};
+use report::{QUESTIONS, Question, Report, Tally, flag_in, list_in, number_in, text_in};
 use serde_json::Value;
 use std::alloc::{AllocError, Global};
 
@@ -50,53 +50,17 @@ fn fill_numbers(counts: &Value, report: &mut Report) {
     report.offers_left_out = number_in(counts, "offers_left_out").unwrap_or(0);
 }
 
-// Fills tables, and notes whether an allocation has failed.
-#[derive(Drop)]
-struct TableFiller {
-    alloc: Global,
-    failed: bool,
-}
-
-impl TableFiller {
-    fn fill(&mut self, counts: &Value, name: &str, tally: &mut Tally) {
-        if fill(self.alloc, counts, name, tally).is_err() {
-            self.failed = true;
-        }
-    }
-
-    fn fill_all(&mut self, counts: &Value, report: &mut Report) {
-        self.fill(counts, "kinds", &mut report.kinds);
-        self.fill(counts, "refusals", &mut report.refusals);
-        self.fill(counts, "loads", &mut report.loads);
-        self.fill(counts, "ended", &mut report.ended);
-        self.fill(counts, "results", &mut report.results);
-        self.fill(counts, "update_checks", &mut report.update_checks);
-        self.fill(counts, "offered", &mut report.offered);
-        self.fill(counts, "unoffered", &mut report.unoffered);
-        self.fill(counts, "hours", &mut report.hours);
-        self.fill(counts, "buckets", &mut report.buckets);
-        self.fill(counts, "unknown", &mut report.unknown);
-        self.fill(counts, "without_cohort", &mut report.without_cohort);
-        self.fill(counts, "without_id", &mut report.without_id);
-        self.fill(counts, "cut_events", &mut report.cut_events);
-        self.fill(counts, "versions", &mut report.course.versions);
-        self.fill(counts, "by_minute", &mut report.course.by_minute);
-        self.fill(counts, "by_hour", &mut report.course.by_hour);
-    }
-}
-
 fn fill_report(alloc: Global, state: &Value, report: &mut Report) -> Result<(), AllocError> {
     let Some(counts) = state.get("counts") else {
         return Ok(());
     };
     fill_numbers(counts, report);
-    let mut filler = TableFiller {
-        alloc,
-        failed: false,
-    };
-    filler.fill_all(counts, report);
-    if filler.failed {
-        return Err(AllocError);
+    let mut left: &[Question] = &QUESTIONS;
+    for tally in report.tallies.iter_mut() {
+        if let [question, rest @ ..] = left {
+            fill(alloc, counts, question.member(), tally)?;
+            left = rest;
+        }
     }
     Ok(())
 }
@@ -112,7 +76,7 @@ fn is_drawn(state: &Value) -> bool {
 fn report_of(alloc: Global, state: &Value) -> Result<Option<Report>, AllocError>
     ensures { IfOk result (λ o. IfSome o (λ report. HasCounts report (view state.now))) }
 {
-    let mut report = Report::new(alloc, is_drawn(state));
+    let mut report = Report::new(alloc, is_drawn(state))?;
     let filled = fill_report(alloc, state, &mut report);
     // Rows that an allocation left out show in the comparison.
     if has_counts(state, &report) {

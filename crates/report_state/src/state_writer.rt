@@ -6,7 +6,7 @@ ghost use Rattle.report_state.specs.States.{SpellsCounts};
 use crate::places::{LogPlace, place_values};
 use crate::spelling::has_counts;
 use json_value::{ObjectBuilder, read_json};
-use report::{Report, Tally};
+use report::{QUESTIONS, Report, Tally};
 use serde_json::Value;
 use std::alloc::{AllocError, Global};
 
@@ -39,27 +39,17 @@ fn put_numbers(counts: &mut ObjectBuilder, report: &Report) {
     counts.put_number("lost", report.lost);
     counts.put_number("left_out", report.left_out);
     counts.put_number("offers_left_out", report.offers_left_out);
-    counts.put_bool("drawn", report.course.drawn);
+    counts.put_bool("drawn", report.drawn);
 }
 
 fn put_tables(alloc: Global, counts: &mut ObjectBuilder, report: &Report) {
-    put_table(alloc, counts, "kinds", &report.kinds);
-    put_table(alloc, counts, "refusals", &report.refusals);
-    put_table(alloc, counts, "loads", &report.loads);
-    put_table(alloc, counts, "ended", &report.ended);
-    put_table(alloc, counts, "results", &report.results);
-    put_table(alloc, counts, "update_checks", &report.update_checks);
-    put_table(alloc, counts, "offered", &report.offered);
-    put_table(alloc, counts, "unoffered", &report.unoffered);
-    put_table(alloc, counts, "hours", &report.hours);
-    put_table(alloc, counts, "buckets", &report.buckets);
-    put_table(alloc, counts, "unknown", &report.unknown);
-    put_table(alloc, counts, "without_cohort", &report.without_cohort);
-    put_table(alloc, counts, "without_id", &report.without_id);
-    put_table(alloc, counts, "cut_events", &report.cut_events);
-    put_table(alloc, counts, "versions", &report.course.versions);
-    put_table(alloc, counts, "by_minute", &report.course.by_minute);
-    put_table(alloc, counts, "by_hour", &report.course.by_hour);
+    let mut left = report.tallies.as_slice();
+    for question in QUESTIONS.iter() {
+        if let [tally, rest @ ..] = left {
+            put_table(alloc, counts, question.member(), tally);
+            left = rest;
+        }
+    }
 }
 
 fn counts_value(alloc: Global, report: &Report) -> Result<Value, AllocError> {

@@ -6,7 +6,6 @@ use Rattle.std.specs.declared.alloc.Global.{Global}
 use Rattle.moments.specs.Calendar.{minute_in}
 use Rattle.report.specs.Exposition.{first}
 use Rattle.report.specs.Screen.{Rows}
-use Rattle.report.specs.declared.counting.Report.{Report}
 use Rattle.report.specs.declared.tally.Tally.{Tally}
 use Rattle.timeline.specs.declared.bins.Bins.{Bins}
 use Rattle.timeline.specs.declared.picture.Undrawn.{Undrawn}
@@ -31,9 +30,9 @@ loads_outside bins rows = sum_by (count_outside bins) rows
 
 -- what a chart leaves out: counts without a row, update checks of apps after the first 256, and
 -- loads after the first 256 or outside the bins
-abbrev pub undrawn_of : Report → Tally → Bins → Undrawn
-undrawn_of r t bins = record {
-  counts = t.others;
-  asks = r.update_checks.others;
-  loads = r.loads.others + loads_outside bins r.loads.rows.entries;
+abbrev pub undrawn_of : (update_checks loads counts : Tally) → Bins → Undrawn
+undrawn_of update_checks loads counts bins = record {
+  counts = counts.others;
+  asks = update_checks.others;
+  loads = loads.others + loads_outside bins loads.rows.entries;
 }

@@ -9,7 +9,7 @@ use crate::app_panel::{PictureSource, draw_panel, panels_height};
 use crate::bins::{Bins, Reach, bins_over, reach_of};
 use crate::load_marks::loads_outside;
 use crate::marks::{added, first};
-use report::{Course, Report, Tally};
+use report::{AppQuestion, ChartQuestion, LineQuestion, Question, Report, Tally};
 use std::alloc::{AllocError, Global};
 use std::collections::BTreeMap;
 use svg::{Picture, SvgAttribute, Tag};
@@ -31,19 +31,46 @@ pub(crate) struct Undrawn {
     pub loads: u64,
 }
 
+// The tables of a report for its chart.
+#[derive(Clone, Copy)]
+struct ChartTables<'a> {
+    update_checks: &'a Tally,
+    loads: &'a Tally,
+    versions: &'a Tally,
+    by_minute: &'a Tally,
+    by_hour: &'a Tally,
+}
+
+fn tables_of<'a>(report: &'a Report) -> Option<ChartTables<'a>> {
+    Some(ChartTables {
+        update_checks: report.tally(Question::App(AppQuestion::UpdateCheck))?,
+        loads: report.tally(Question::Line(LineQuestion::Load))?,
+        versions: report.tally(Question::Chart(ChartQuestion::Versions))?,
+        by_minute: report.tally(Question::Chart(ChartQuestion::ByMinute))?,
+        by_hour: report.tally(Question::Chart(ChartQuestion::ByHour))?,
+    })
+}
+
 /// The chart of a report's counts over time, as the text of an SVG file. Also returns `AllocError`
 /// if a number overflows 64 bits.
 // open: when it fails; which numbers the chart shows (rows compare it).
 pub fn draw_course(alloc: Global, report: &Report) -> Result<String, AllocError>
     ensures { IfOk result (λ text. IsDocument (string_bytes text)) }
 {
-    if report.update_checks.rows().is_empty() {
+    let Some(tables) = tables_of(report) else {
+        return draw_none(alloc);
+    };
+    if tables.update_checks.rows().is_empty() {
         return draw_none(alloc);
     }
-    let by_hour = !is_fine(&report.course.by_minute);
-    let tally = table_of(&report.course, by_hour);
+    let by_hour = !is_fine(tables.by_minute);
+    let tally = if by_hour {
+        tables.by_hour
+    } else {
+        tables.by_minute
+    };
     match reach_of(tally.rows()) {
-        Some(reach) => draw_over(alloc, report, tally, reach, by_hour),
+        Some(reach) => draw_over(alloc, tables, tally, reach, by_hour),
         None => draw_none(alloc),
     }
 }
@@ -55,14 +82,6 @@ fn is_fine(by_minute: &Tally) -> bool {
         None => true,
     };
     short && by_minute.others() == 0
-}
-
-fn table_of<'a>(course: &'a Course, by_hour: bool) -> &'a Tally {
-    if by_hour {
-        &course.by_hour
-    } else {
-        &course.by_minute
-    }
 }
 
 // An empty chart.
@@ -81,7 +100,7 @@ fn draw_none(alloc: Global) -> Result<String, AllocError>
 
 fn draw_over<'a>(
     alloc: Global,
-    report: &'a Report,
+    tables: ChartTables<'a>,
     tally: &'a Tally,
     reach: Reach,
     by_hour: bool,
@@ -91,35 +110,36 @@ fn draw_over<'a>(
     let Some(bins) = bins_over(reach, by_hour) else {
         return Err(AllocError);
     };
-    let undrawn = undrawn_of(report, tally, &bins)?;
-    draw_panels(
-        alloc,
-        &source_of(report, tally, bins),
-        report.update_checks.rows(),
-        undrawn,
-    )
+    let undrawn = undrawn_of(tables.update_checks, tables.loads, tally, &bins)?;
+    let source = source_of(tables, tally, bins);
+    draw_panels(alloc, &source, tables.update_checks.rows(), undrawn)
 }
 
-fn source_of<'a>(report: &'a Report, tally: &'a Tally, bins: Bins) -> PictureSource<'a>
+fn source_of<'a>(tables: ChartTables<'a>, tally: &'a Tally, bins: Bins) -> PictureSource<'a>
     ensures { result.bins ≡ bins }
 {
     PictureSource {
         rows: tally.rows(),
         bins,
-        versions: report.course.versions.rows(),
-        loads: report.loads.rows(),
+        versions: tables.versions.rows(),
+        loads: tables.loads.rows(),
     }
 }
 
-fn undrawn_of(report: &Report, tally: &Tally, bins: &Bins) -> Result<Undrawn, AllocError>
-    ensures { IfOk result
-        (λ undrawn. undrawn ≡ specs.undrawn_of report.now tally.now bins.now) }
+fn undrawn_of(
+    update_checks: &Tally,
+    loads: &Tally,
+    counts: &Tally,
+    bins: &Bins,
+) -> Result<Undrawn, AllocError>
+    ensures { IfOk result (λ undrawn. undrawn
+        ≡ specs.undrawn_of update_checks.now loads.now counts.now bins.now) }
 {
-    let outside = loads_outside(bins, report.loads.rows())?;
+    let outside = loads_outside(bins, loads.rows())?;
     Ok(Undrawn {
-        counts: tally.others(),
-        asks: report.update_checks.others(),
-        loads: added(report.loads.others(), outside)?,
+        counts: counts.others(),
+        asks: update_checks.others(),
+        loads: added(loads.others(), outside)?,
     })
 }
 

@@ -1,20 +1,27 @@
-use Rattle.std.proofs.Common.{refl, arith, List}
-use Rattle.serde_json.specs.View.{view, items_view}
-use Rattle.serde_json.specs.declared.value.Value.{Value}
-use Rattle.report.specs.Names.{names_of_apps}
-use Rattle.report.proofs.Loops.{all_noted, first_rest, more_noted, none_left}
+use Rattle.std.proofs.Common.{arith}
+use Rattle.serde_json.specs.View.{view}
+use Rattle.report.specs.Questions.{names_of}
+use Rattle.report.proofs.Loops.{all_tables, one_table}
 use Rattle.report.proofs.note.note_each.Goals as goal
 
-pub loop-left-preserved : goal.loop-left-preserved
-loop-left-preserved c = λ last rest.
-    more_noted
-    (λ (vs : List Value). names_of_apps c.args.question (view c.args.line.now) (items_view vs))
-    _ _ _ _ c.loop-left.invariant _ _ _ _ last
-    (first_rest c.loop-left.left.now c.app-item.result (omega arith) c.app-item.is) refl
-    c.in_ok-note_app.ensures rest
+pub loop-place-preserved : goal.loop-place-preserved
+loop-place-preserved c =
+    one_table (λ q. names_of c.args.drawn q (view c.args.line.now)) c.args.questions.now
+    c.args.tallies.now c.loop-place.left.now c.loop-place.tallies c.loop-place.place _
+    c.index-tallies-place.result c.note_question.new.tally c.loop-place.invariant
+    (omega (arith, c.in-len1-up.len_at_least))
+    (omega (arith, c.loop-place-test.true, c.loop-place.auto.tallies))
+    c.in_ok-note_question.ensures
+
+pub returns-in_default : goal.returns-in_default
+returns-in_default c =
+    all_tables (λ q. names_of c.args.drawn q (view c.args.line.now)) c.args.questions.now
+    c.args.tallies.now c.loop-place.left.now c.loop-place.tallies c.loop-place.place
+    c.loop-place.invariant (λ some. absurd (omega (arith, some, c.in_default.len_below)))
 
 pub returns : goal.returns
 returns c =
-    all_noted
-    (λ (vs : List Value). names_of_apps c.args.question (view c.args.line.now) (items_view vs))
-    _ _ _ _ c.loop-left.invariant (none_left c.loop-left.left.now (omega arith)) refl
+    all_tables (λ q. names_of c.args.drawn q (view c.args.line.now)) c.args.questions.now
+    c.args.tallies.now c.loop-place.left.now c.loop-place.tallies c.loop-place.place
+    c.loop-place.invariant
+    (λ some. omega (arith, c.loop-place-test.false, c.loop-place.auto.tallies))

@@ -1,15 +1,13 @@
-use Rattle.std.proofs.Common.{length}
-use Rattle.serde_json.specs.View.{view, items_view}
-use Rattle.report.specs.Names.{names_of_apps}
-use Rattle.report.specs.Tallies.{Notes}
+use Rattle.std.proofs.Common.{List, ◌++◌, take, drop}
+use Rattle.serde_json.specs.View.{view}
+use Rattle.report.specs.Counts.{NotesEach}
+use Rattle.report.specs.Questions.{names_of}
 use Rattle.report.specs.declared.tally.Tally.{Tally}
 use Rattle.report.proofs.note.note_each.Given as goal
 
--- counting the remaining apps completes the count
-abbrev pub invariant-loop-left : goal.invariant-loop-left
-invariant-loop-left l = (last : Tally)
-    → Notes l.tally last (names_of_apps l.question (view l.line) (items_view l.left))
-    → Notes l.fn.tally last (names_of_apps l.question (view l.line) (items_view l.apps))
-
-abbrev pub decreases-loop-left : goal.decreases-loop-left
-decreases-loop-left l = length l.left
+-- counting in the remaining tables completes the count
+abbrev pub invariant-loop-place : goal.invariant-loop-place
+invariant-loop-place l = (last : List Tally)
+    → NotesEach (λ q. names_of l.drawn q (view l.line)) l.left (drop l.place l.tallies) last
+    → NotesEach (λ q. names_of l.drawn q (view l.line)) l.questions l.fn.tallies
+    (take l.place l.tallies ++ last)

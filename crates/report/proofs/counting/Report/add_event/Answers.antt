@@ -1,11 +1,12 @@
 use Rattle.std.proofs.Common.{Bool, Some, None, sym, subst, ◌∙◌, if◌then◌else◌}
 use Rattle.serde_json.specs.View.{view}
 use Rattle.report.specs.Counts.{AddsLine}
+use Rattle.report.proofs.Counted.{adds_nothing}
 use Rattle.report.proofs.counting.Report.add_event.Goals as goal
 
 pub returns : goal.returns
 returns c =
     let event = view c.args.event.now in
     subst (λ (b : Bool). AddsLine (Some event) (if b then Some event else None) c.args.self.now
-    c.add_nothing.new.self) (sym c.if-is_within.false ∙ c.is_within.ensures)
-    (c.add_nothing.ensures event)
+    c.args.self.now) (sym c.if-is_within.false ∙ c.is_within.ensures)
+    (adds_nothing event c.args.self.now)

@@ -1,5 +1,5 @@
 use Rattle.report.proofs.Tallied.{notes_both}
-use Rattle.report.proofs.course.note_three.Goals as goal
+use Rattle.report.proofs.chart_names.note_three.Goals as goal
 
 pub returns : goal.returns
 returns c =

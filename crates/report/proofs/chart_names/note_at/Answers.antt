@@ -1,5 +1,5 @@
 use Rattle.report.proofs.Tallied.{notes_both}
-use Rattle.report.proofs.course.note_at.Goals as goal
+use Rattle.report.proofs.chart_names.note_at.Goals as goal
 
 pub returns : goal.returns
 returns c = notes_both _ _ _ _ _ c.in_ok-note_three.ensures c.in_ok-note_ends.ensures

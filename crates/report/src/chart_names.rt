@@ -1,0 +1,108 @@
+//! The names that a line counts under for a chart of a log over time: update checks, offers, ended
+//! installs and failed ones of each version, by the minute and by the hour.
+
+ghost use Rattle.std.specs.Prelude.{◌≡◌, Some, OnOk};
+ghost use Rattle.serde_json.specs.View.{view};
+ghost use Rattle.report.specs.Courses as specs;
+ghost use Rattle.report.specs.Tallies.{Notes};
+
+use crate::log_events::text_in;
+use crate::note::{note_apps, note_ends};
+use crate::question::{AppQuestion, ChartQuestion, EventQuestion};
+use crate::tally::{Tally, note_nothing};
+use moments::minute_in;
+use serde_json::Value;
+use std::alloc::{AllocError, Global};
+
+/// Counts a line for a chart.
+pub(crate) fn note_chart(
+    alloc: Global,
+    tally: &mut Tally,
+    question: ChartQuestion,
+    line: &Value,
+) -> Result<(), AllocError>
+    ensures { OnOk result (Notes tally.old tally.new
+        (specs.chart_names question (view line.now))) }
+{
+    match question {
+        ChartQuestion::Versions => note_three(
+            alloc,
+            tally,
+            AppQuestion::UpdateCheckBy,
+            AppQuestion::Offered,
+            EventQuestion::FailedTo,
+            line,
+        ),
+        ChartQuestion::ByMinute => note_moment(alloc, tally, minute_of_line(line), line),
+        ChartQuestion::ByHour => {
+            note_moment(alloc, tally, hour_of_minute(minute_of_line(line)), line)
+        }
+    }
+}
+
+// The minute of a line since 1970.
+fn minute_of_line(line: &Value) -> Option<u64>
+    ensures { result ≡ specs.minute_of_line (view line.now) }
+{
+    match text_in(line, "time") {
+        Some(time) => minute_in(time),
+        None => None,
+    }
+}
+
+fn hour_of_minute(minute: Option<u64>) -> Option<u64>
+    ensures { result ≡ specs.hour_of_minute minute }
+{
+    match minute {
+        Some(minute) => Some(minute / 60),
+        None => None,
+    }
+}
+
+fn note_moment(
+    alloc: Global,
+    tally: &mut Tally,
+    moment: Option<u64>,
+    line: &Value,
+) -> Result<(), AllocError>
+    ensures { OnOk result
+        (Notes tally.old tally.new (specs.names_in_moment (view line.now) moment)) }
+{
+    match moment {
+        Some(moment) => note_at(alloc, tally, moment, line),
+        None => note_nothing(tally),
+    }
+}
+
+fn note_at(alloc: Global, tally: &mut Tally, moment: u64, line: &Value) -> Result<(), AllocError>
+    ensures { OnOk result
+        (Notes tally.old tally.new (specs.names_in_moment (view line.now) (Some moment))) }
+{
+    note_three(
+        alloc,
+        tally,
+        AppQuestion::UpdateCheckAt(moment),
+        AppQuestion::OfferedAt(moment),
+        EventQuestion::FailedAt(moment),
+        line,
+    )?;
+    note_ends(alloc, tally, EventQuestion::EndedAt(moment), line)?;
+    Ok(())
+}
+
+fn note_three(
+    alloc: Global,
+    tally: &mut Tally,
+    asks: AppQuestion,
+    offers: AppQuestion,
+    failures: EventQuestion,
+    line: &Value,
+) -> Result<(), AllocError>
+    ensures { OnOk result (Notes tally.old tally.new
+        (specs.three_names asks offers failures (view line.now))) }
+{
+    note_apps(alloc, tally, asks, line)?;
+    note_apps(alloc, tally, offers, line)?;
+    note_ends(alloc, tally, failures, line)?;
+    Ok(())
+}
