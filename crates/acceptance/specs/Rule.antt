@@ -14,6 +14,7 @@ use Rattle.rule_lang.specs.declared.rule_fault.RuleFaultKind.TheVariants.{Token}
 use Rattle.rule_lang.specs.declared.rule.Statement.{Statement}
 use Rattle.rule_lang.specs.Cost.{cost}
 use Rattle.rule_lang.specs.Verdicts.{IsVerdict}
+use Rattle.acceptance.specs.declared.rule.RuleProgram.{RuleProgram}
 use Rattle.acceptance.specs.declared.program_fault.RuleTextFault.{RuleTextFault}
 use Rattle.acceptance.specs.declared.program_fault.RuleTextFault.TheVariants.{Text, Compile}
 
@@ -31,6 +32,11 @@ pub record IsProgramOfRule (bytes : List ℕ) (program : ShapedProgram) : Type 0
   pub means : (a : Attributes) → Means a rule program
   pub flow : IsFlow program.code
   pub accepted : IsAccepted program.code program.shape
+
+-- the program is that of the rule that the bytes spell, and this is the rule
+pub record IsRuleProgram (bytes : List ℕ) (made : RuleProgram) : Type 0 where
+  pub program_is : IsProgramOfRule bytes made.program
+  pub rule_is : made.rule ≡ program_is.rule
 
 -- the bytes spell a rule of the shape whose code exceeds 4096 slots, and so does its cost
 pub record IsTooLong (bytes : List ℕ) (shape : AppShape) : Type 0 where

@@ -14,4 +14,4 @@ mod rule;
 
 pub use program::accept;
 pub use program_fault::{ProgramFault, RuleTextFault};
-pub use rule::rule_program;
+pub use rule::{RuleProgram, rule_program};

@@ -2,7 +2,7 @@
 
 ghost use Rattle.std.specs.Prelude.{◌≡◌, ◌≤◌, IfOk, length};
 
-use acceptance::rule_program;
+use acceptance::{RuleProgram, rule_program};
 use anyhow::{Context, Result, ensure};
 use attrs::Text;
 use bpf_verify::Verified;
@@ -80,7 +80,10 @@ fn shared(alloc: Global, apps: Vec<App>) -> Result<Arc<Ruleset>> {
 
 /// The program of a rule, for apps of a shape.
 fn program(alloc: Global, shape: &Shape, rule: &str) -> Result<Arc<Verified>> {
-    let program = rule_program(alloc, rule.as_bytes(), shape)?;
+    let RuleProgram {
+        program,
+        rule: _rule,
+    } = rule_program(alloc, rule.as_bytes(), shape)?;
     Ok(Arc::new(alloc, program)?)
 }
 

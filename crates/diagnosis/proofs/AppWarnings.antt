@@ -1,17 +1,14 @@
 -- The warnings on apps, one app after the other.
 use Rattle.std.proofs.Common.{◌≡◌, ℕ, ◌+◌, ◌-◌, ◌<◌, List, [], ◌∷◌, ◌++◌, length, take, drop}
-use Rattle.std.proofs.Common.{get_or, Some, Ok, arith, refl, sym, ap, ◌∙◌, subst}
+use Rattle.std.proofs.Common.{get_or, Some, None, arith, refl, sym, ap, ◌∙◌, subst}
 use Rattle.std.proofs.Common.{append_assoc, append-nil}
 use Rattle.std.proofs.Math.Seq.{take-length}
-use Rattle.std.specs.Prelude.{IsUtf8}
-use Rattle.rule_lang.specs.Verdicts.{IsVerdict}
 use Rattle.rule_lang.specs.declared.rule.Statement.{Statement}
-use Rattle.manifest.specs.declared.app.ProgramSource.{ProgramSource}
-use Rattle.manifest.specs.declared.app.ProgramSource.TheVariants.{Program, Rule}
+use Rattle.load.specs.JudgedApps.{OptionalRule}
+use Rattle.load.specs.declared.judged.JudgedApp.{JudgedApp}
 use Rattle.load.specs.declared.sources.AppSources.{AppSources}
-use Rattle.load.specs.Kept.{whole_file}
 use Rattle.diagnosis.specs.Added.{AddsApp, AddsRule}
-use Rattle.diagnosis.specs.Warned.{WarnsOfSource, WarnsOfApps, app_rule, app_warnings}
+use Rattle.diagnosis.specs.Warned.{WarnsOfRule, WarnsOfApps, app_warnings, evaluated}
 use Rattle.diagnosis.specs.Warned.WarnsOfApps.{no_app, next}
 use Rattle.warnings.specs.RuleWarnings.{budget_left, rule_warnings}
 use Rattle.warnings.specs.Evaluation.{RuleOfApp}
@@ -19,17 +16,16 @@ use Rattle.warnings.specs.declared.warning.Warning.{Warning}
 
 -- ---- one app
 
-module _ (number budget : ℕ) (app : AppSources) (source : ProgramSource)
-    (same : source ≡ app.entry.source) where
+module _ (number budget : ℕ) (app : JudgedApp) (rule : OptionalRule) (same : rule ≡ app.rule) where
   -- for an app with a program
-  pub adds_warnings : (file : List ℕ) (old new : List Warning) → source ≡ Program file
-      → new ≡ old ++ app_warnings number app.entry
+  pub adds_warnings : (old new : List Warning) → rule ≡ None
+      → new ≡ old ++ app_warnings number app.sources.entry
       → AddsApp number budget app old new budget
-  adds_warnings file old new is added = record {
-    reported = app_warnings number app.entry;
+  adds_warnings old new is added = record {
+    reported = app_warnings number app.sources.entry;
     warns = record {
       by_rule = [];
-      rule_warns = subst (λ (s : ProgramSource). WarnsOfSource number budget s app [] budget)
+      rule_warns = subst (λ (r : OptionalRule). WarnsOfRule number budget app.sources r [] budget)
           (sym is ∙ same) (refl, refl);
       reported_is = sym (append-nil _);
     };
@@ -37,55 +33,42 @@ module _ (number budget : ℕ) (app : AppSources) (source : ProgramSource)
   }
 
   -- for an app with a rule
-  pub adds_by_rule : (file : List ℕ) (old between new : List Warning) (left : ℕ) → source
-      ≡ Rule file
-      → between ≡ old ++ app_warnings number app.entry
-      → AddsRule number budget app between new left → AddsApp number budget app old new left
-  adds_by_rule file old between new left is first more = record {
-    reported = app_warnings number app.entry ++ more.by_rule;
+  pub adds_by_rule : (spelled : List Statement) (old between new : List Warning) (left : ℕ)
+      → rule ≡ Some spelled → between ≡ old ++ app_warnings number app.sources.entry
+      → AddsRule number budget app.sources spelled between new left
+      → AddsApp number budget app old new left
+  adds_by_rule spelled old between new left is first more = record {
+    reported = app_warnings number app.sources.entry ++ more.by_rule;
     warns = record {
       by_rule = more.by_rule;
       rule_warns =
-          subst (λ (s : ProgramSource). WarnsOfSource number budget s app more.by_rule left)
+          subst (λ (r : OptionalRule). WarnsOfRule number budget app.sources r more.by_rule left)
           (sym is ∙ same) more.rule_warns;
       reported_is = refl;
     };
     added_is = more.added_is ∙ ap (λ t. t ++ more.by_rule) first
-        ∙ append_assoc old (app_warnings number app.entry) more.by_rule;
+        ∙ append_assoc old (app_warnings number app.sources.entry) more.by_rule;
   }
 
--- ---- the rule of a text
+-- ---- its rule
 
 same_by_rule : (by_rule : RuleOfApp) (app : AppSources) (rule : List Statement)
     → by_rule.appid ≡ app.entry.appid → by_rule.shape ≡ app.shape
-    → by_rule.releases ≡ app.entry.releases → by_rule.rule ≡ rule → by_rule ≡ app_rule app rule
+    → by_rule.releases ≡ app.entry.releases → by_rule.rule ≡ rule → by_rule ≡ evaluated app rule
 same_by_rule by_rule app rule appid shape releases is =
     rw (← appid, ← shape, ← releases, ← is) refl
 
-pub added_rule : (number budget : ℕ) (app : AppSources) (bytes text : List ℕ)
-    (by_rule : RuleOfApp) (rule : List Statement) (old new : List Warning) (left : ℕ)
-    → whole_file app.kept ≡ Some bytes → text ≡ bytes → IsUtf8 bytes
+pub added_rule : (number budget : ℕ) (app : AppSources) (by_rule : RuleOfApp)
+    (rule : List Statement) (old new : List Warning) (left : ℕ)
     → by_rule.appid ≡ app.entry.appid → by_rule.shape ≡ app.shape
     → by_rule.releases ≡ app.entry.releases → by_rule.rule ≡ rule
-    → IsVerdict app.shape text (Ok rule)
     → new ≡ old ++ rule_warnings number budget by_rule → left ≡ budget_left budget by_rule
-    → AddsRule number budget app old new left
-added_rule number budget app bytes text by_rule rule old new left kept same utf8 appid shape
-    releases is verdict reported room_is =
+    → AddsRule number budget app rule old new left
+added_rule number budget app by_rule rule old new left appid shape releases is reported room_is =
     let all = same_by_rule by_rule app rule appid shape releases is in
     record {
-      by_rule = rule_warnings number budget (app_rule app rule);
-      rule_warns = record {
-        text = bytes;
-        kept_is = kept;
-        rule = rule;
-        spelled = record {
-          utf8 = utf8;
-          spelled = subst (λ (b : List ℕ). IsVerdict app.shape b (Ok rule)) same verdict;
-        };
-        by_rule_is = refl;
-        left_is = room_is ∙ ap (budget_left budget) all;
-      };
+      by_rule = rule_warnings number budget (evaluated app rule);
+      rule_warns = (refl, room_is ∙ ap (budget_left budget) all);
       added_is = reported ∙ ap (λ (r : RuleOfApp). old ++ rule_warnings number budget r) all;
     }
 
@@ -102,7 +85,7 @@ pub none_left : {X : Type 0} (xs : List X) → length xs < 1 → xs ≡ []
 none_left [] few = refl
 none_left (x ∷ xs) few = absurd (omega (arith, few))
 
-pub more_reported : (number budget left : ℕ) (all_apps apps : List AppSources) (app : AppSources)
+pub more_reported : (number budget left : ℕ) (all_apps apps : List JudgedApp) (app : JudgedApp)
     (old new rest : List Warning) (all : List Warning → Type 0)
     → ((more : List Warning) → WarnsOfApps number budget all_apps more → all (old ++ more))
     → AddsApp number budget app old new left → all_apps ≡ app ∷ apps
@@ -115,7 +98,7 @@ more_reported number budget left all_apps apps app old new rest all so_far added
 
 -- ---- all apps
 
-pub ended : (number budget : ℕ) (apps : List AppSources) (text : List Warning)
+pub ended : (number budget : ℕ) (apps : List JudgedApp) (text : List Warning)
     (all : List Warning → Type 0)
     → ((more : List Warning) → WarnsOfApps number budget apps more → all (text ++ more))
     → apps ≡ [] → all text

@@ -1,25 +1,28 @@
 -- From what was gathered and judged to the report.
 use Rattle.std.proofs.Common.{◌≡◌, ℕ, List, [], ◌++◌, length, string_bytes, ◌∙◌, ap, subst}
-use Rattle.std.proofs.Common.{refl, sym, Some, inl, inr}
-use Rattle.diagnosis.specs.Check.{FailsApps, FailsCheck, PassesApps, PassesCheck, files, no_file}
+use Rattle.std.proofs.Common.{All, refl, sym, inl, inr}
+use Rattle.diagnosis.specs.Check.{FailsApps, FailsCheck, PassesApps, PassesCheck, ReportsJudged}
+use Rattle.diagnosis.specs.Check.{files, no_file}
 use Rattle.diagnosis.specs.Texts.{accepted_text}
 use Rattle.diagnosis.specs.Reported.{ReportsRefused}
 use Rattle.diagnosis.specs.ArrayWarnings.{array_warnings}
 use Rattle.diagnosis.specs.Warned.{WarnsOfApps}
 use Rattle.diagnosis.specs.declared.accepted.CheckedManifest.{CheckedManifest}
 use Rattle.diagnosis.specs.declared.refused.Refused.{Refused}
-use Rattle.bpf_semantics.specs.Program.{ShapedProgram}
 use Rattle.bounded_files.specs.Files.{KnownFiles}
 use Rattle.cells.specs.Directory.{Declaration}
 use Rattle.cells.specs.declared.array.CellArray.{CellArray}
-use Rattle.load.specs.Digest.{digest_of}
-use Rattle.load.specs.Sources.{AreArraysWithFault, AreSources, IsParsedWithFault, IsSourcesRefusal}
-use Rattle.load.specs.Judged.{AreJudged, IsLoadOf, RefusesFirst, apps_of}
+use Rattle.load.specs.Sources.{AreArraysWithFault, AreSources, HasItsReleases}
+use Rattle.load.specs.Sources.{IsParsedWithFault, IsSourcesRefusal}
+use Rattle.load.specs.Judged.{IsLoadOf, RefusesFirst, apps_of}
+use Rattle.load.specs.JudgedApps.{IsJudgedOf, app_rules, programs_of, sources_of}
 use Rattle.load.specs.Load.{IsLoadFault}
 use Rattle.load.specs.declared.load_fault.LoadFault.{LoadFault}
 use Rattle.load.specs.declared.load_fault.LoadFault.TheVariants.{Manifest as NoManifest, File}
 use Rattle.load.specs.declared.load_fault.LoadFault.TheVariants.{Program}
 use Rattle.load.specs.declared.load_fault.LoadFault.TheVariants.{Rule, Cells, Memory}
+use Rattle.load.specs.declared.judged.JudgedApp.{JudgedApp}
+use Rattle.load.specs.declared.judged.JudgedManifest.{JudgedManifest}
 use Rattle.load.specs.declared.sources.Sources.{Sources}
 use Rattle.load.specs.declared.sources.AppSources.{AppSources}
 use Rattle.load.specs.declared.refusal.SourcesRefusal.{SourcesRefusal}
@@ -28,39 +31,45 @@ use Rattle.ruleset.specs.Rules.{AppRule}
 use Rattle.warnings.specs.RuleWarnings.{whole_budget}
 use Rattle.warnings.specs.declared.warning.Warning.{Warning}
 
-pub passes_apps : (bytes : List ℕ) (g : Sources) (programs : List ShapedProgram)
-    (gone : List AppSources) (reported : CheckedManifest) (by_rule lent : List Warning)
-    (directory : List CellArray) (shown : List Declaration) (supplied other : List AppRule)
-    → AreJudged g.apps.items programs → gone ≡ g.apps.items → directory ≡ g.directory
-    → reported.arrays.items ≡ g.arrays.items → shown ≡ reported.arrays.items
-    → supplied ≡ reported.apps.items → other ≡ reported.apps.items
-    → reported.apps.items ≡ apps_of g.apps.items programs
+pub reports_judged : (j : JudgedManifest) (reported : CheckedManifest)
+    (lent_apps : List JudgedApp) (by_rule lent : List Warning) (directory : List CellArray)
+    (shown : List Declaration) (supplied other : List AppRule) → lent_apps ≡ j.apps.items
+    → directory ≡ j.directory → reported.arrays.items ≡ j.arrays.items
+    → shown ≡ reported.arrays.items → supplied ≡ reported.apps.items
+    → other ≡ reported.apps.items → reported.apps.items ≡ app_rules j.apps.items
     → string_bytes reported.text ≡ accepted_text shown supplied
-    → WarnsOfApps 1 whole_budget gone by_rule → lent ≡ by_rule
+    → WarnsOfApps 1 whole_budget lent_apps by_rule → lent ≡ by_rule
     → reported.warnings.items ≡ array_warnings 0 directory other ++ lent
-    → digest_of bytes g.apps.items ≡ Some reported.digest → PassesApps bytes g reported
-passes_apps bytes g programs gone reported by_rule lent directory shown supplied other judged
-    gone_are
+    → reported.digest ≡ j.digest → ReportsJudged j reported
+reports_judged j reported lent_apps by_rule lent directory shown supplied other lent_are
     directory_is arrays_are shown_are supplied_are other_are apps_are text_is of_apps same
     warnings_are digest_is = record {
-      programs = programs;
-      judged = judged;
       arrays_are = arrays_are;
       apps_are = apps_are;
       text_is = text_is ∙ ap (λ (l : List Declaration). accepted_text l supplied) shown_are
           ∙ ap (λ (l : List AppRule). accepted_text reported.arrays.items l) supplied_are;
       warned = record {
         reported = by_rule;
-        of_apps = subst (λ (l : List AppSources). WarnsOfApps 1 whole_budget l by_rule) gone_are
+        of_apps = subst (λ (l : List JudgedApp). WarnsOfApps 1 whole_budget l by_rule) lent_are
             of_apps;
         warnings_are = warnings_are
             ∙ ap (λ (l : List CellArray). array_warnings 0 l other ++ lent) directory_is
-            ∙ ap (λ (l : List AppRule). array_warnings 0 g.directory l ++ lent)
+            ∙ ap (λ (l : List AppRule). array_warnings 0 j.directory l ++ lent)
             (other_are ∙ apps_are)
-            ∙ ap (λ t. array_warnings 0 g.directory (apps_of g.apps.items programs) ++ t) same;
+            ∙ ap (λ t. array_warnings 0 j.directory (app_rules j.apps.items) ++ t) same;
       };
       digest_is = digest_is;
     }
+
+pub passes_apps : (bytes : List ℕ) (g : Sources) (j : JudgedManifest) (reported : CheckedManifest)
+    → IsJudgedOf bytes g j → ReportsJudged j reported → PassesApps bytes g reported
+passes_apps bytes g j reported is reports =
+    record { judged = j; judged_of = is; reports = reports }
+
+pub judged_shaped : (bytes : List ℕ) (g : Sources) (j : JudgedManifest) → IsJudgedOf bytes g j
+    → All HasItsReleases g.apps.items → All HasItsReleases (sources_of j.apps.items)
+judged_shaped bytes g j is shaped =
+    subst (λ (apps : List AppSources). All HasItsReleases apps) (sym is.sources_are) shaped
 
 -- with an app's fault nothing was parsed
 none_parsed : (bytes : List ℕ) (apps : List AppSources) (fault : LoadFault)
@@ -76,15 +85,17 @@ module _ (known : KnownFiles) (bytes : List ℕ) (g : Sources) (is : AreSources 
     (load : IsLoadOf known [] bytes g is) where
   pub passes : (reported : CheckedManifest) → PassesApps bytes g reported
       → PassesCheck known bytes reported
-  passes reported h = record {
-    g = g;
-    sources = is;
-    passes = h;
-    rules = record { server = is.manifest.server; apps = apps_of g.apps.items h.programs };
-    loaded = load.supplied h.programs h.judged;
-    arrays_are = h.arrays_are ∙ is.arrays_are;
-    apps_are = h.apps_are;
-  }
+  passes reported h =
+      let programs = programs_of h.judged.apps.items in
+      record {
+        g = g;
+        sources = is;
+        passes = h;
+        rules = record { server = is.manifest.server; apps = apps_of g.apps.items programs };
+        loaded = load.supplied programs h.judged_of.programs_are;
+        arrays_are = h.reports.arrays_are ∙ h.judged_of.arrays_are ∙ is.arrays_are;
+        apps_are = h.reports.apps_are ∙ h.judged_of.rules_are;
+      }
 
   pub fails : (r : Refused) → FailsApps g r → FailsCheck known bytes r
   fails r h = record {
@@ -116,13 +127,14 @@ fails_early known bytes u r h is reported = record {
 }
 
 -- the fault of the first app without a program, and the report on it
-pub fails_by : (g : Sources) (lent : List AppSources) (fault : LoadFault) (r : Refused)
-    → RefusesFirst lent fault → lent ≡ g.apps.items → r.fault ≡ fault
-    → ReportsRefused Nothing g.arrays.items g.apps.items g.unread r → FailsApps g r
-fails_by g lent fault r refuses same is reported = record {
-  refused = subst (λ (f : LoadFault). RefusesFirst g.apps.items f) (sym is)
-      (subst (λ (l : List AppSources). RefusesFirst l fault) same refuses);
-  reported = reported;
+pub fails_by : (g back : Sources) (fault : LoadFault) (r : Refused) → RefusesFirst g.apps.items fault
+    → back ≡ g → r.fault ≡ fault
+    → ReportsRefused Nothing back.arrays.items back.apps.items back.unread r → FailsApps g r
+fails_by g back fault r refuses same is reported = record {
+  refused = subst (λ (f : LoadFault). RefusesFirst g.apps.items f) (sym is) refuses;
+  reported = subst
+      (λ (s : Sources). ReportsRefused Nothing s.arrays.items s.apps.items s.unread r) same
+      reported;
 }
 
 -- out of memory, which is reported without lines

@@ -1,7 +1,6 @@
 -- The results of checking a manifest, which is loaded over no arrays. All are defined by what was
 -- gathered: for each file of an app, the same bytes are judged, shown and tested for warnings.
-use Rattle.std.specs.Prelude.{◌≡◌, ◌<◌, ℕ, List, [], length, string_bytes, Some}
-use Rattle.bpf_semantics.specs.Program.{ShapedProgram}
+use Rattle.std.specs.Prelude.{◌≡◌, ◌<◌, ℕ, List, [], length, string_bytes}
 use Rattle.cells.specs.Directory.{Declaration}
 use Rattle.diagnosis.specs.Texts.{accepted_text}
 use Rattle.diagnosis.specs.Reported.{ReportsRefused}
@@ -9,11 +8,12 @@ use Rattle.diagnosis.specs.Warned.{WarnsOf}
 use Rattle.diagnosis.specs.declared.accepted.CheckedManifest.{CheckedManifest}
 use Rattle.diagnosis.specs.declared.refused.Refused.{Refused}
 use Rattle.bounded_files.specs.Files.{KnownFiles}
-use Rattle.load.specs.Digest.{digest_of}
 use Rattle.load.specs.Sources.{AreArraysWithFault, AreSources, IsParsedWithFault}
-use Rattle.load.specs.Judged.{AreJudged, RefusesFirst, apps_of}
+use Rattle.load.specs.Judged.{RefusesFirst}
+use Rattle.load.specs.JudgedApps.{IsJudgedOf, app_rules}
 use Rattle.load.specs.Load.{IsRulesetOf, IsLoadFault}
 use Rattle.load.specs.declared.load_fault.LoadFault.{LoadFault}
+use Rattle.load.specs.declared.judged.JudgedManifest.{JudgedManifest}
 use Rattle.load.specs.declared.sources.Sources.{Sources}
 use Rattle.load.specs.declared.sources.AppSources.{AppSources}
 use Rattle.manifest.specs.declared.refused.Parsed.{Parsed}
@@ -22,16 +22,21 @@ use Rattle.ruleset.specs.Rules.{Rules}
 
 -- ---- the gathered apps
 
--- each app has its program; the report has these arrays and apps, their lines, the warnings, and
--- the digest of the manifest's bytes and of its files
-pub record PassesApps (bytes : List ℕ) (g : Sources) (reported : CheckedManifest) : Type 0 where
-  pub programs : List ShapedProgram
-  pub judged : AreJudged g.apps.items programs
-  pub arrays_are : reported.arrays.items ≡ g.arrays.items
-  pub apps_are : reported.apps.items ≡ apps_of g.apps.items programs
+-- the report has the arrays and the apps of a judged manifest, their lines, the warnings, and the
+-- digest
+pub record ReportsJudged (j : JudgedManifest) (reported : CheckedManifest) : Type 0 where
+  pub arrays_are : reported.arrays.items ≡ j.arrays.items
+  pub apps_are : reported.apps.items ≡ app_rules j.apps.items
   pub text_is : string_bytes reported.text ≡ accepted_text reported.arrays.items reported.apps.items
-  pub warned : WarnsOf g programs reported.warnings.items
-  pub digest_is : digest_of bytes g.apps.items ≡ Some reported.digest
+  pub warned : WarnsOf j reported.warnings.items
+  pub digest_is : reported.digest ≡ j.digest
+
+-- each app has its program, and its rule, if its file has one; the report is about these, and the
+-- digest is that of the manifest's bytes and of its files
+pub record PassesApps (bytes : List ℕ) (g : Sources) (reported : CheckedManifest) : Type 0 where
+  pub judged : JudgedManifest
+  pub judged_of : IsJudgedOf bytes g judged
+  pub reports : ReportsJudged judged reported
 
 -- the first app without a program has this fault; the report is about it, the further faults, and
 -- the apps whose files aren't read

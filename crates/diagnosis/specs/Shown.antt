@@ -19,7 +19,7 @@ use Rattle.cells.specs.Arrays.{AppShape}
 use Rattle.ruleset.specs.Texts.{line}
 use Rattle.rule_diagnosis.specs.Places.{line_text}
 use Rattle.rule_diagnosis.specs.Message.{IsRuleMessage, rule_too_long}
-use Rattle.load.specs.Source.{file_of}
+use Rattle.manifest.specs.App.{file_of}
 use Rattle.load.specs.declared.sources.AppSources.{AppSources}
 use Rattle.bounded_files.specs.declared.kept_bytes.KeptBytes.{KeptBytes}
 use Rattle.bounded_files.specs.declared.kept_bytes.KeptBytes.TheVariants.{Longer}

@@ -3,7 +3,7 @@
 use Rattle.std.specs.Prelude.{ℕ, List, ◌++◌, length, codes, decimal, flat_map}
 use Rattle.cells.specs.Directory.{Declaration}
 use Rattle.declarations.specs.Texts.{declaration_text}
-use Rattle.load.specs.Source.{file_of}
+use Rattle.manifest.specs.App.{file_of}
 use Rattle.manifest.specs.declared.app.ProgramSource.{ProgramSource}
 use Rattle.manifest.specs.declared.app.ProgramSource.TheVariants.{Program, Rule}
 use Rattle.printing.specs.Printed.{printed}

@@ -2,15 +2,15 @@
 
 ghost use Rattle.std.specs.Prelude.{◌≡◌, flat_map, All, IfOk, OnOk, string_bytes};
 ghost use Rattle.printing.specs.Pushed.{Puts};
-ghost use Rattle.diagnosis.specs.Check.{PassesApps};
+ghost use Rattle.diagnosis.specs.Check.{ReportsJudged};
 ghost use Rattle.diagnosis.specs.Texts.{accepted_text, array_line, printed_app_line};
 ghost use Rattle.load.specs.Sources.{HasItsReleases};
-ghost use Rattle.load.specs.Judged.{AreJudged};
+ghost use Rattle.load.specs.JudgedApps.{IsJudgedApp, sources_of};
 
 use crate::warned::{warning_text, warnings_of_apps};
 use bpf_verify::Verified;
 use declarations::ArrayDeclaration;
-use load::{Sources, judged_digest, supply};
+use load::{JudgedManifest, supply};
 use printing::Printed;
 use ruleset::App;
 use std::alloc::{AllocError, Global};
@@ -37,26 +37,23 @@ pub struct CheckedManifest {
 /// The lines of its arrays and apps, the warnings, and the digest.
 pub(crate) fn report_accepted(
     alloc: Global,
-    manifest: &[u8],
-    sources: Sources,
-    programs: Vec<Verified>,
+    judged: JudgedManifest,
 ) -> Result<CheckedManifest, AllocError>
-    requires shaped { All HasItsReleases sources.apps.items }
-    requires judged { AreJudged sources.apps.items programs.items }
-    ensures { IfOk result (PassesApps manifest.now sources) }
+    requires shaped { All HasItsReleases (sources_of judged.apps.items) }
+    requires judged { All IsJudgedApp judged.apps.items }
+    ensures { IfOk result (ReportsJudged judged) }
 {
-    let Ok(reported) = warnings_of_apps(alloc, sources.apps.as_slice()) else {
+    let Ok(reported) = warnings_of_apps(alloc, judged.apps.as_slice()) else {
         return Err(AllocError);
     };
-    let digest = judged_digest(manifest, &sources.apps, &programs);
-    let Sources {
+    let JudgedManifest {
         server: _server,
         arrays,
         directory,
-        apps: collected_apps,
-        unread: _unread,
-    } = sources;
-    let Ok(apps) = supply(alloc, collected_apps, programs) else {
+        apps: judged_apps,
+        digest,
+    } = judged;
+    let Ok(apps) = supply(alloc, judged_apps) else {
         return Err(AllocError);
     };
     let Ok(text) = accepted_lines(alloc, arrays.as_slice(), apps.as_slice()) else {

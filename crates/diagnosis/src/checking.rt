@@ -11,7 +11,10 @@ use crate::accepted::{CheckedManifest, report_accepted};
 use crate::refusal_report::report_refused;
 use crate::refused::Refused;
 use cells::Directory;
-use load::{Files, LoadFault, Sources, SourcesRefusal, collect_sources, judge, sources_are_loaded};
+use load::{
+    Files, LoadFault, RefusedApps, Sources, SourcesRefusal, collect_sources, judge_sources,
+    sources_are_loaded,
+};
 use manifest::{ManifestFault, Parsed, TomlFault};
 use std::alloc::Global;
 
@@ -93,12 +96,15 @@ fn check_apps(alloc: Global, manifest: &[u8], sources: Sources) -> Result<Checke
 {
     let read = sources.apps.len();
     let unread = sources.unread;
-    match judge(alloc, sources.apps.as_slice()) {
-        Ok(programs) => match report_accepted(alloc, manifest, sources, programs) {
+    match judge_sources(alloc, manifest, sources) {
+        Ok(judged) => match report_accepted(alloc, judged) {
             Ok(reported) => Ok(reported),
             Err(_) => Err(out_of_memory(alloc, read, unread)),
         },
-        Err(fault) => Err(refuse_sources(alloc, &sources, fault)),
+        Err(refused) => {
+            let RefusedApps { fault, sources } = refused;
+            Err(refuse_sources(alloc, &sources, fault))
+        }
     }
 }
 

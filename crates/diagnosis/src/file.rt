@@ -9,7 +9,7 @@ ghost use Rattle.diagnosis.specs.Shown as specs;
 
 use crate::inside::is_inside;
 use crate::shown::{Place, show};
-use load::{AppSources, file_of};
+use load::AppSources;
 use manifest::ProgramSource;
 use printing::Printed;
 use std::alloc::{AllocError, Global};
@@ -49,7 +49,7 @@ fn push_file_line(text: &mut String, app: usize, source: &ProgramSource) -> Resu
     ensures { OnOk result (Puts text.old text.new (file_line app source.now)) }
 {
     let key = key_of(source);
-    let file = Printed(file_of(source));
+    let file = Printed(source.file());
     writeln!(text, "app[{app}].{key}: {file}")
 }
 
@@ -79,5 +79,5 @@ fn show_inside(alloc: Global, place: Place, app: &AppSources) -> String
 fn lies_inside(app: &AppSources) -> bool
     ensures { result ≡ specs.lies_inside app.now }
 {
-    is_inside(file_of(app.entry.source())) && !app.through_link
+    is_inside(app.entry.source().file()) && !app.through_link
 }

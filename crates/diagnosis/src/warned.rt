@@ -8,7 +8,7 @@ ghost use Rattle.warnings.specs.RuleWarnings.{whole_budget};
 use crate::array_warnings::report_arrays;
 use crate::warned_app::report_app;
 use cells::CellArray;
-use load::AppSources;
+use load::JudgedApp;
 use ruleset::App;
 use std::alloc::{AllocError, Global};
 use warnings::Warning;
@@ -36,7 +36,7 @@ pub(crate) fn warning_text(
 /// The warnings on apps, in their order.
 pub(crate) fn warnings_of_apps(
     alloc: Global,
-    apps: &[AppSources],
+    apps: &[JudgedApp],
 ) -> Result<Vec<Warning>, AllocError>
     ensures { IfOk result (λ warnings. WarnsOfApps 1 whole_budget apps.now warnings.items) }
 {

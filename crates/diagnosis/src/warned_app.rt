@@ -4,11 +4,10 @@ ghost use Rattle.std.specs.Prelude.{◌≡◌, ◌++◌, IfOk, OnOk};
 ghost use Rattle.diagnosis.specs.Added.{AddsApp, AddsRule};
 ghost use Rattle.diagnosis.specs.Warned.{app_warnings};
 
-use load::{AppSources, whole_file};
-use manifest::{AppEntry, ProgramSource};
-use rule_lang::parse;
+use load::{AppSources, JudgedApp};
+use manifest::AppEntry;
+use rule_lang::Rule;
 use std::alloc::{AllocError, Global};
-use std::str;
 use warnings::{
     EvaluatedRule, Warning, push_appid_warning, push_release_warnings, push_rule_warnings,
 };
@@ -20,15 +19,15 @@ pub(crate) fn report_app(
     warnings: &mut Vec<Warning>,
     number: usize,
     budget: u64,
-    app: &AppSources,
+    app: &JudgedApp,
 ) -> Result<u64, AllocError>
     ensures { IfOk result (AddsApp number budget app.now warnings.old.items warnings.new.items) }
 {
-    report_entry(warnings, number, &app.entry)?;
-    match app.entry.source() {
-        ProgramSource::Program(_) => Ok(budget),
-        ProgramSource::Rule(_) => {
-            let left = report_rule_text(alloc, warnings, number, budget, app)?;
+    report_entry(warnings, number, &app.sources.entry)?;
+    match &app.rule {
+        None => Ok(budget),
+        Some(rule) => {
+            let left = report_rule(alloc, warnings, number, budget, &app.sources, rule)?;
             Ok(left)
         }
     }
@@ -47,25 +46,17 @@ fn report_entry(
     push_release_warnings(warnings, number, entry.releases())
 }
 
-// The rule text of an accepted app is kept whole; otherwise there would be no warnings on it.
-fn report_rule_text(
+fn report_rule(
     alloc: Global,
     warnings: &mut Vec<Warning>,
     number: usize,
     budget: u64,
     app: &AppSources,
+    rule: &Rule,
 ) -> Result<u64, AllocError>
-    ensures { IfOk result (AddsRule number budget app.now warnings.old.items warnings.new.items) }
+    ensures { IfOk result
+        (AddsRule number budget app.now rule.now warnings.old.items warnings.new.items) }
 {
-    let Some(bytes) = whole_file(&app.kept) else {
-        return Err(AllocError);
-    };
-    let Ok(spelled) = str::from_utf8(bytes) else {
-        return Err(AllocError);
-    };
-    let Ok(rule) = parse(alloc, spelled, &app.shape) else {
-        return Err(AllocError);
-    };
     let evaluated = EvaluatedRule::of(
         app.entry.appid(),
         &app.shape,

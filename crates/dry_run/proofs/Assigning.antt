@@ -21,18 +21,16 @@ ReadsAs body read = read ≢ Err Memory → read ≡ request_in body
 pub why_text_is : (o : OpenedWhy) (moment : ℤ) (served words : List Assignment)
     (arrays : List CellArray)
     (counters : List ℕ) (request : Request) (front : List ℕ) (notes : List (List ℕ))
-    (left text : List ℕ) → arrays ≡ o.directory → AreAssigned arrays served words counters
+    (left text : List ℕ) → arrays ≡ o.manifest.directory → AreAssigned arrays served words counters
     → ReadsAs o.body.items (Ok request) → front ≡ request_note_in o.body.items
     → notes ≡ app_notes_in o.body.items
-    → ExplainsRequest o.rules o.optional_rules.items request.facts moment front notes counters
-    request.apps left text
+    → ExplainsRequest o.manifest request.facts moment front notes counters request.apps left text
     → IsWhyText o moment served words text
 why_text_is o moment served words arrays counters request front notes left text same set
     read fronted
     noted shown_text =
-    let N : List (List ℕ) → Type 0 = λ n. ExplainsRequest o.rules o.optional_rules.items
-    request.facts
-    moment front n counters request.apps left text in
+    let N : List (List ℕ) → Type 0 = λ n. ExplainsRequest o.manifest request.facts moment front n
+    counters request.apps left text in
     let all = subst N noted shown_text in
     record {
       counters = counters;

@@ -14,10 +14,12 @@ use Rattle.cells.specs.declared.event.CellEvent.{CellEvent}
 use Rattle.ruleset.specs.Rules.{Rules}
 use Rattle.cell_assignments.specs.Assignments.{Assignment}
 use Rattle.dry_run.specs.Counters.{AreAssigned, with_cells, with_declared}
-use Rattle.app_rules.specs.Rules.{OptionalRule}
+use Rattle.load.specs.JudgedApps.{rules_of}
+use Rattle.load.specs.declared.judged.JudgedManifest.{JudgedManifest}
 use Rattle.dry_run.specs.Reply.{RepliesToBodyOn}
 use Rattle.dry_run.specs.Why.{ExplainsApp, ExplainsApps, ExplainsReply}
 use Rattle.dry_run.specs.Why.{unlisted, not_requested, was_run, no_reason, next_reason}
+use Rattle.dry_run.proofs.Explaining.{rules_lack}
 use Rattle.dry_run.proofs.Requests.{one_reply_to_body}
 
 -- ---- the given counters are the same
@@ -44,17 +46,19 @@ joined : (a b : List CellEvent) (p m q : List ℕ) → GrewBy IsEvent p a m → 
 joined [] b p m q g h = subst (λ (x : List ℕ). GrewBy IsEvent x b q) g h
 joined (e ∷ es) b p m q g h = (g.0, g.1, joined es b g.0 m q g.2 h)
 
-module _ (rules : Rules) (optional_rules : List OptionalRule) (facts : RequestFacts)
-    (moment : ℤ) where
+module _ (manifest : JudgedManifest) (facts : RequestFacts) (moment : ℤ) where
+  abbrev rules : Rules
+  rules = rules_of manifest
+
   pub record OneRuns (app : AppFacts) (choice : Option ℕ) (old new : List ℕ) : Type 0 where
     pub events : List CellEvent
     pub runs : RunsApp rules facts moment app choice events
     pub grown : GrewBy IsEvent old events new
 
   one_runs : {app : AppFacts} {note old : List ℕ} {choice : Option ℕ} {new text : List ℕ}
-      → ExplainsApp rules optional_rules facts moment app note old choice new text
+      → ExplainsApp manifest facts moment app note old choice new text
       → OneRuns app choice old new
-  one_runs (unlisted found is) = record { events = []; runs = unknown found; grown = refl }
+  one_runs {app} (unlisted found is) = record { events = []; runs = unknown (rules_lack manifest app.appid found); grown = refl }
   one_runs (not_requested known found asks is) =
       record { events = []; runs = no_updatecheck asks; grown = refl }
   one_runs (was_run shown_text) =
@@ -69,7 +73,7 @@ module _ (rules : Rules) (optional_rules : List OptionalRule) (facts : RequestFa
 
   pub all_run : {notes : List (List ℕ)} {old : List ℕ} {apps : List AppFacts}
       {choices : List (Option ℕ)} {new text : List ℕ}
-      → ExplainsApps rules optional_rules facts moment notes old apps choices new text
+      → ExplainsApps manifest facts moment notes old apps choices new text
       → AllRun apps choices old new
   all_run no_reason = record { events = []; runs = none; grown = refl }
   all_run {old} (next_reason {between} {new} before here) =
@@ -83,10 +87,10 @@ module _ (rules : Rules) (optional_rules : List OptionalRule) (facts : RequestFa
 
 pub explains_reply : ExplainsReply
 explains_reply o moment served words text reply shown_text replied =
-    let runs = all_run o.rules o.optional_rules.items shown_text.request.facts moment
-    shown_text.reasons in
-    let mine : RepliesToBodyOn o.rules moment o.body.items shown_text.counters
-    (reply_text shown_text.request o.rules shown_text.choices moment) shown_text.left = (
+    let rules = rules_of o.manifest in
+    let runs = all_run o.manifest shown_text.request.facts moment shown_text.reasons in
+    let mine : RepliesToBodyOn rules moment o.body.items shown_text.counters
+    (reply_text shown_text.request rules shown_text.choices moment) shown_text.left = (
       shown_text.request,
       shown_text.requested,
       record {
@@ -96,9 +100,9 @@ explains_reply o moment served words text reply shown_text replied =
       },
     ) in
     let same =
-    same_counters o.directory served words replied.counters shown_text.counters replied.set
+    same_counters o.manifest.directory served words replied.counters shown_text.counters replied.set
     shown_text.set in
-    (one_reply_to_body o.rules moment o.body.items shown_text.counters reply
-    (reply_text shown_text.request o.rules shown_text.choices moment) replied.left shown_text.left
-    (subst (λ (c : List ℕ). RepliesToBodyOn o.rules moment o.body.items c reply replied.left) same
+    (one_reply_to_body rules moment o.body.items shown_text.counters reply
+    (reply_text shown_text.request rules shown_text.choices moment) replied.left shown_text.left
+    (subst (λ (c : List ℕ). RepliesToBodyOn rules moment o.body.items c reply replied.left) same
     replied.replies) mine).0

@@ -1,8 +1,11 @@
 -- Whole runs of an app's program: step by step, and by a rule that means the same.
-use Rattle.std.proofs.Common.{◌≡◌, ◌∙◌, ℕ, ◌≤◌, List, [], length, ap, sym, subst, arith}
-use Rattle.std.proofs.Common.{Option, Some, None, true}
-use Rattle.std.specs.Prelude.{ℤ, All}
+use Rattle.std.proofs.Common.{◌≡◌, ◌∙◌, ℕ, suc, ◌≤◌, List, [], ◌∷◌, length, refl, ap, sym, subst}
+use Rattle.std.proofs.Common.{Bool, Contains, Option, Some, None, arith, cond, false, true}
+use Rattle.std.specs.Prelude.{ℤ, All, IsTrue}
+use Rattle.std.specs.Str.{bytes_eq}
 use Rattle.std.proofs.lemmas.List.Elements.{All-head, All-tail}
+use Rattle.std.proofs.lemmas.Option.{none-some, same_Some}
+use Rattle.std.proofs.lemmas.Slice.Eq.{bytes_eq-Decides}
 use Rattle.attrs.specs.Attributes.{Attributes, AreShort, kept_text}
 use Rattle.attrs.specs.Context.{HasContextRanges}
 use Rattle.attrs.specs.Facts.{attributes_of}
@@ -21,7 +24,8 @@ use Rattle.cells.specs.declared.event.CellOp.{CellOp}
 use Rattle.reasons.specs.RuleLines.{ExplainsRule}
 use Rattle.rule_compile.specs.Means.{Means}
 use Rattle.rule_lang.specs.declared.rule.Statement.{Statement}
-use Rattle.ruleset.specs.Rules.{AppRule, Rules, IsApp, ListsApp, app_of, appid_of}
+use Rattle.releases.specs.Appid.{is_appid}
+use Rattle.ruleset.specs.Rules.{AppRule, ChoosesAmong, ListsApp, Rules, app_in, app_of, appid_of}
 use Rattle.trace.specs.Trace.{IsTraced}
 use Rattle.trace.specs.declared.jump.Jump.{Jump}
 use Rattle.dry_run.specs.AppLines.{program_line}
@@ -117,24 +121,49 @@ by_trace p a held old new choice count steps text jump same traced short among i
 
 -- ---- an app is answered by it
 
--- the appid of an app is kept unchanged
-kept_appid : (app : AppRule) → IsApp app → app.appid ≡ kept_text (Some app.appid)
-kept_appid app kept = let named = kept.named in grind (arith, named)
+-- a valid appid is kept unchanged
+kept_appid : (appid : List ℕ) → IsTrue (is_appid appid) → appid ≡ kept_text (Some appid)
+kept_appid appid named = grind (arith, named)
+
+-- a found app is listed, with this appid
+found_in : (apps : List AppRule) (appid : List ℕ) (known : AppRule) → app_in apps appid ≡ Some known
+    → Contains apps known × (known.appid ≡ appid)
+found_in [] appid known found = absurd (none-some known found)
+found_in (app ∷ rest) appid known found =
+    by (bytes_eq app.appid appid) refl (λ h. found_in rest appid known h)
+  where
+    by : (b : Bool) → bytes_eq app.appid appid ≡ b
+        → (app_in rest appid ≡ Some known → Contains rest known × (known.appid ≡ appid))
+        → Contains (app ∷ rest) known × (known.appid ≡ appid)
+    by true e behind =
+        let here = ap (λ (b : Bool). cond b (Some app) (app_in rest appid)) e in
+        let same : app ≡ known = same_Some app known (sym here ∙ found) in (
+          (0, omega arith, same),
+          ap (λ (a : AppRule). a.appid) (sym same) ∙ (bytes_eq-Decides app.appid appid).0 e,
+        )
+    by false e behind =
+        let here = ap (λ (b : Bool). cond b (Some app) (app_in rest appid)) e in
+        let there = behind (sym here ∙ found) in
+        ((suc there.0.0, omega (arith, there.0.1), there.0.2), there.1)
 
 -- so attribute 0 is the appid, if the ruleset has the app
 known_by : (rules : Rules) (app : AppFacts) (facts : RequestFacts) (moment : ℤ) (known : AppRule)
-    → IsApp known → ListsApp rules app.appid known
+    → IsTrue (is_appid known.appid) → ListsApp rules app.appid known
     → ListsApp rules (appid_of (attributes_of app facts moment)) known
-known_by rules app facts moment known kept is =
+known_by rules app facts moment known named is =
     subst (λ (appid : List ℕ). ListsApp rules appid known)
-    (sym is.appid_is ∙ kept_appid known kept
+    (sym is.appid_is ∙ kept_appid known.appid named
     ∙ ap (λ (text : List ℕ). kept_text (Some text)) is.appid_is) is
 
 pub runs_app : (rules : Rules) (facts : RequestFacts) (moment : ℤ) (app : AppFacts)
     (known : AppRule) (old : List ℕ) (choice count : ℕ) (new : List ℕ)
     (run : WholeRun known.program (attributes_of app facts moment) old choice count new)
-    → app.updatecheck ≡ true → app_of rules app.appid ≡ Some known → IsApp known
-    → ListsApp rules app.appid known → RunsApp rules facts moment app (Some choice) run.events
-runs_app rules facts moment app known old choice count new run updates found kept is =
-    ran known count updates found (known_by rules app facts moment known kept is) run.ends
-    run.short (subst (λ (n : ℕ). choice ≤ n) (sym kept.all) run.among) run.fits run.lawful
+    → app.updatecheck ≡ true → app_of rules app.appid ≡ Some known
+    → IsTrue (is_appid known.appid) → ChoosesAmong known.program known.releases
+    → RunsApp rules facts moment app (Some choice) run.events
+runs_app rules facts moment app known old choice count new run updates found named among =
+    let listed = found_in rules.apps app.appid known found in
+    let is : ListsApp rules app.appid known =
+    record { listed = listed.0; appid_is = listed.1 } in
+    ran known count updates found (known_by rules app facts moment known named is) run.ends
+    run.short (subst (λ (n : ℕ). choice ≤ n) (sym among) run.among) run.fits run.lawful

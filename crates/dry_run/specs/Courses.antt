@@ -11,7 +11,7 @@ use Rattle.cells.specs.declared.event.CellEvent.{CellEvent}
 use Rattle.reasons.specs.RuleLines.{ExplainsRule}
 use Rattle.trace.specs.Jumps.{last_jump_of}
 use Rattle.dry_run.specs.AppLines.{program_line}
-use Rattle.app_rules.specs.Rules.{OptionalRule}
+use Rattle.load.specs.JudgedApps.{OptionalRule}
 
 -- from its first instruction to its end, on counters with the values `old`, each of which replies
 -- with its value; it leaves them the values `new`. It takes at most as many instructions as the

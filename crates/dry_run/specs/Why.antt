@@ -9,50 +9,48 @@ use Rattle.attrs.specs.declared.facts.RequestFacts.{RequestFacts}
 use Rattle.answering.specs.Apps.{RunsApp}
 use Rattle.answering.specs.Found.{reply_text}
 use Rattle.omaha_json.specs.Request.{Request, request_in}
-use Rattle.ruleset.specs.Rules.{AppRule, Rules, app_of}
+use Rattle.load.specs.JudgedApps.{app_named, rules_of}
+use Rattle.load.specs.declared.judged.JudgedApp.{JudgedApp}
+use Rattle.load.specs.declared.judged.JudgedManifest.{JudgedManifest}
 use Rattle.cell_assignments.specs.Assignments.{Assignment}
 use Rattle.dry_run.specs.AppLines.{head_line, offer_line, no_request_line, unknown_line}
 use Rattle.dry_run.specs.Counters.{AreAssigned}
 use Rattle.dry_run.specs.Courses.{ExplainsCourse}
 use Rattle.dry_run.specs.IgnoredLines.{app_notes_in, request_note_in}
-use Rattle.app_rules.specs.Rules.{OptionalRule}
-use Rattle.dry_run.specs.Meanings.{optional_rule_of}
 use Rattle.dry_run.specs.OnCounters.{RepliesOnCounters}
 use Rattle.dry_run.specs.declared.why_files.OpenedWhy.{OpenedWhy}
 
 -- the lines of an app that the ruleset runs, with some choice
-pub record RunIsExplained (known : AppRule) (rule : OptionalRule) (app : AppFacts) (a : Attributes)
+pub record RunIsExplained (known : JudgedApp) (app : AppFacts) (a : Attributes)
     (note old new text : List ℕ) : Type 0 where
   pub choice : ℕ
   pub course : List ℕ
-  pub course_is : ExplainsCourse known.program rule a old choice new course
-  pub text_is : text ≡ head_line app a.context ++ course ++ offer_line known.releases choice
-      ++ note
+  pub course_is : ExplainsCourse known.program known.rule a old choice new course
+  pub text_is : text ≡ head_line app a.context ++ course
+      ++ offer_line known.sources.entry.releases choice ++ note
 
-module _ (rules : Rules) (optional_rules : List OptionalRule) (facts : RequestFacts)
-    (moment : ℤ) where
+module _ (manifest : JudgedManifest) (facts : RequestFacts) (moment : ℤ) where
   -- the lines of an app that the ruleset runs, for the run by which the app is answered
   pub record ExplainsRun (app : AppFacts) (note old : List ℕ) (choice : ℕ) (new text : List ℕ)
       : Type 0 where
-    pub known : AppRule
-    pub found : app_of rules app.appid ≡ Some known
+    pub known : JudgedApp
+    pub found : app_named manifest.apps.items app.appid ≡ Some known
     pub course : List ℕ
-    pub course_is
-        : ExplainsCourse known.program (optional_rule_of rules.apps optional_rules app.appid)
-        (attributes_of app facts moment) old choice new course
-    pub runs : RunsApp rules facts moment app (Some choice) course_is.run.events
+    pub course_is : ExplainsCourse known.program known.rule (attributes_of app facts moment) old
+        choice new course
+    pub runs : RunsApp (rules_of manifest) facts moment app (Some choice) course_is.run.events
     pub text_is : text ≡ head_line app (context_of app facts moment) ++ course
-        ++ offer_line known.releases choice ++ note
+        ++ offer_line known.sources.entry.releases choice ++ note
 
   -- the lines of an app, followed by a note, with the choice of its run, if it has one
   pub data ExplainsApp (app : AppFacts) (note old : List ℕ) : Option ℕ → (new text : List ℕ)
       → Type 0 where
     -- the ruleset doesn't know it
-    unlisted : {text : List ℕ} → app_of rules app.appid ≡ None
+    unlisted : {text : List ℕ} → app_named manifest.apps.items app.appid ≡ None
         → text ≡ unknown_line app.appid ++ note → ExplainsApp app note old None old text
     -- the ruleset knows it, and the app requests no update
-    not_requested : {text : List ℕ} (known : AppRule) → app_of rules app.appid ≡ Some known
-        → app.updatecheck ≡ false
+    not_requested : {text : List ℕ} (known : JudgedApp)
+        → app_named manifest.apps.items app.appid ≡ Some known → app.updatecheck ≡ false
         → text ≡ head_line app (context_of app facts moment) ++ no_request_line ++ note
         → ExplainsApp app note old None old text
     -- the ruleset runs it
@@ -91,19 +89,20 @@ module _ (rules : Rules) (optional_rules : List OptionalRule) (facts : RequestFa
 pub record IsWhyText (o : OpenedWhy) (moment : ℤ) (served words : List Assignment) (text : List ℕ)
     : Type 0 where
   pub counters : List ℕ
-  pub set : AreAssigned o.directory served words counters
+  pub set : AreAssigned o.manifest.directory served words counters
   pub request : Request
   pub requested : request_in o.body.items ≡ Ok request
   pub choices : List (Option ℕ)
   pub left : List ℕ
   pub lines : List ℕ
-  pub reasons : ExplainsApps o.rules o.optional_rules.items request.facts moment
-      (app_notes_in o.body.items) counters request.apps choices left lines
+  pub reasons : ExplainsApps o.manifest request.facts moment (app_notes_in o.body.items) counters
+      request.apps choices left lines
   pub text_is : text ≡ request_note_in o.body.items ++ lines
 
 -- the choices in the explanation are those of the reply
 abbrev pub ExplainsReply : Type 0
 ExplainsReply = (o : OpenedWhy) (moment : ℤ) (served words : List Assignment) (text reply : List ℕ)
     (shown_text : IsWhyText o moment served words text)
-    → RepliesOnCounters o.rules o.directory o.body.items moment served words reply
-    → reply ≡ reply_text shown_text.request o.rules shown_text.choices moment
+    → RepliesOnCounters (rules_of o.manifest) o.manifest.directory o.body.items moment served words
+    reply
+    → reply ≡ reply_text shown_text.request (rules_of o.manifest) shown_text.choices moment

@@ -1,8 +1,7 @@
 //! How an app's program makes its choice, on counters of one thread: by its rule, line by line; or,
 //! if it isn't a rule's, by a run, step by step.
 
-ghost use Rattle.std.specs.Prelude.{IfOk, Some, None, option_copied, string_bytes};
-ghost use Rattle.std.specs.Arc.{arc_value};
+ghost use Rattle.std.specs.Prelude.{IfOk, Some, None, string_bytes};
 ghost use Rattle.dry_run.specs.Courses as specs;
 ghost use Rattle.dry_run.specs.Meanings.{HasMeaning};
 
@@ -26,15 +25,14 @@ pub(crate) struct ExplainedChoice {
 /// How a program makes its choice.
 pub(crate) fn explain_course(
     alloc: Global,
-    program: &Arc<Verified>,
-    rule: Option<&Rule>,
+    program: &Verified,
+    rule: &Option<Rule>,
     attrs: Attrs,
     counters: &mut PlainPass,
 ) -> Result<ExplainedChoice, AllocError>
-    requires { HasMeaning (arc_value program.now) (option_copied rule) }
-    ensures { IfOk result (λ c. specs.ExplainsCourse (arc_value program.now)
-        (option_copied rule.entry) attrs counters.old c.choice counters.new
-        (string_bytes c.text)) }
+    requires { HasMeaning program.now rule.now }
+    ensures { IfOk result (λ c. specs.ExplainsCourse program.now rule.now attrs counters.old
+        c.choice counters.new (string_bytes c.text)) }
 {
     match rule {
         Some(rule) => explain_meaning(alloc, program, rule, &attrs, counters),

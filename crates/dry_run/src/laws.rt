@@ -6,7 +6,7 @@ ghost use Rattle.dry_run.specs.Noted.{MembersAreNoted, ReadMembersAreExplained};
 ghost use Rattle.dry_run.specs.Sent as specs;
 ghost use Rattle.dry_run.specs.Why.{ExplainsReply};
 
-use load::sources_are_made;
+use load::{opened_is_made, sources_are_made};
 
 /// Law: the texts that a server with this newest ruleset may send as Omaha's reply are exactly
 /// those that answer the request's apps under it. A server may also refuse, if out of memory or
@@ -44,6 +44,7 @@ pub fn explains_reply()
 pub fn opens_the_same()
     ensures { OpensTheSame }
 {
+    opened_is_made();
     sources_are_made();
 }
 

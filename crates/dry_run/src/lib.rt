@@ -11,8 +11,8 @@
 // has a rule, the rule is evaluated instead of running the program. The program was compiled from
 // exactly this rule, so it has its meaning, and on counters with given values a run has one course.
 // If a program isn't a rule's, it is run step by step, like `trace`, but on these counters.
-// The manifest and its files are gathered once (`why_files.rt`), and the text of a rule, which has
-// one verdict, is parsed again for its meaning (crate `app_rules`).
+// The manifest and its files are gathered once, and each app is judged with its rule
+// (`why_files.rt`).
 
 mod app_lines;
 mod app_runs;

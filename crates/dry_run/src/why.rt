@@ -1,10 +1,9 @@
 //! Why the apps of a request get what they get.
 
-ghost use Rattle.std.specs.Prelude.{◌≡◌, ◌++◌, Option, IfOk, IfErr, map, string_bytes};
-ghost use Rattle.std.specs.Prelude.{option_copied};
+ghost use Rattle.std.specs.Prelude.{◌≡◌, ◌++◌, All, IfOk, IfErr, map, string_bytes};
 ghost use Rattle.attrs.specs.Facts.{attributes_of};
 ghost use Rattle.dry_run.specs.AppLines as lines;
-ghost use Rattle.dry_run.specs.Meanings.{HasMeaning, HaveMeanings, optional_rule_of};
+ghost use Rattle.dry_run.specs.Meanings.{HasMeaning, IsMeantApp};
 ghost use Rattle.dry_run.specs.OnCounters.{IsUnanswered};
 ghost use Rattle.dry_run.specs.Why as specs;
 
@@ -18,9 +17,8 @@ use answering::NoObserver;
 use attrs::{AppFacts, Attrs, Context, Moment, RequestFacts, SharedFacts};
 use cell_assignments::CellAssignment;
 use cells::PlainPass;
+use load::{JudgedApp, JudgedManifest};
 use omaha_json::{OmahaFault, Request, read_request};
-use rule_lang::Rule;
-use ruleset::App;
 use std::alloc::{AllocError, Global};
 
 /// Why the apps of a body's request get what they get, at a moment, on the counters of
@@ -29,8 +27,7 @@ use std::alloc::{AllocError, Global};
 /// may count as absent only as an attribute. Returns B7 if the manifest lacks a cell of `words`, or
 /// a value doesn't fit; then O1 to O4. Returns B4 or O5 if an allocation fails.
 ///
-/// That an app's lines are those of its rule depends on `optional_rules`, which `open_why` gives:
-/// an app that has none in it is explained as a program.
+/// An app without a rule is explained as a program.
 // open: whether an allocation fails (B4, O5).
 #[tactic(auto, using(crate::proofs::Assigning::why_text_is, crate::proofs::Assigning::unread))]
 pub fn why_on_counters(
@@ -40,13 +37,13 @@ pub fn why_on_counters(
     served: &[CellAssignment<'_>],
     words: &[CellAssignment<'_>],
 ) -> Result<String, DryRunFault>
-    requires { HaveMeanings why.now.rules.apps why.now.optional_rules.items }
+    requires { All IsMeantApp why.now.manifest.apps.items }
     ensures shown_text { IfOk result (λ text.
         specs.IsWhyText why.now moment.now served.now words.now (string_bytes text)) }
     ensures fault { IfErr result
-        (IsUnanswered why.now.directory why.now.body.items served.now words.now) }
+        (IsUnanswered why.now.manifest.directory why.now.body.items served.now words.now) }
 {
-    let mut counters = assigned_counters(alloc, why.directory.arrays(), served, words)?;
+    let mut counters = assigned_counters(alloc, why.manifest.directory.arrays(), served, words)?;
     let request = match read_request(alloc, &why.body, &mut NoObserver) {
         Ok(request) => request,
         Err(fault) => return Err(DryRunFault::Omaha(fault)),
@@ -54,7 +51,7 @@ pub fn why_on_counters(
     let Ok(notes) = notes_in(alloc, &why.body) else {
         return Err(DryRunFault::Omaha(OmahaFault::Memory));
     };
-    match explain_request(alloc, why, &request, moment, notes, &mut counters) {
+    match explain_request(alloc, &why.manifest, &request, moment, notes, &mut counters) {
         Ok(text) => Ok(text),
         Err(_) => Err(DryRunFault::Omaha(OmahaFault::Memory)),
     }
@@ -64,23 +61,22 @@ pub fn why_on_counters(
 #[tactic(auto, using(crate::proofs::Explaining::behind))]
 fn explain_request(
     alloc: Global,
-    why: &OpenedWhy,
+    manifest: &JudgedManifest,
     request: &Request,
     moment: &Moment,
     notes: Notes,
     counters: &mut PlainPass,
 ) -> Result<String, AllocError>
-    requires { HaveMeanings why.now.rules.apps why.now.optional_rules.items }
-    ensures { IfOk result (λ text. specs.ExplainsRequest why.now.rules why.now.optional_rules.items
-        request.now.facts moment.now (string_bytes notes.request)
-        (map string_bytes notes.apps.items) counters.old request.now.apps counters.new
-        (string_bytes text)) }
+    requires { All IsMeantApp manifest.now.apps.items }
+    ensures { IfOk result (λ text. specs.ExplainsRequest manifest.now request.now.facts moment.now
+        (string_bytes notes.request) (map string_bytes notes.apps.items) counters.old
+        request.now.apps counters.new (string_bytes text)) }
 {
     let Notes {
         request: front,
         apps,
     } = notes;
-    let lines = explain_apps(alloc, why, request, moment, &apps, counters)?;
+    let lines = explain_apps(alloc, manifest, request, moment, &apps, counters)?;
     let mut text = front;
     text.push_str(lines.as_str())?;
     Ok(text)
@@ -89,16 +85,16 @@ fn explain_request(
 #[tactic(auto, using(crate::proofs::Explaining::none_yet, crate::proofs::Explaining::all_shown))]
 fn explain_apps(
     alloc: Global,
-    why: &OpenedWhy,
+    manifest: &JudgedManifest,
     request: &Request,
     moment: &Moment,
     notes: &[String],
     counters: &mut PlainPass,
 ) -> Result<String, AllocError>
-    requires { HaveMeanings why.now.rules.apps why.now.optional_rules.items }
-    ensures { IfOk result (λ text. specs.ExplainsAll why.now.rules why.now.optional_rules.items
-        request.now.facts moment.now (map string_bytes notes.now) counters.old request.now.apps
-        counters.new (string_bytes text)) }
+    requires { All IsMeantApp manifest.now.apps.items }
+    ensures { IfOk result (λ text. specs.ExplainsAll manifest.now request.now.facts moment.now
+        (map string_bytes notes.now) counters.old request.now.apps counters.new
+        (string_bytes text)) }
 {
     let mut text = String::new(alloc);
     let facts = request.facts();
@@ -106,7 +102,7 @@ fn explain_apps(
     let mut place = 0;
     for app in apps {
         let note = note_at(notes, place);
-        let Ok(lines) = explain_app(alloc, why, facts, moment, app, note, counters) else {
+        let Ok(lines) = explain_app(alloc, manifest, facts, moment, app, note, counters) else {
             return Err(AllocError);
         };
         let Ok(()) = text.push_str(lines.as_str()) else {
@@ -117,23 +113,22 @@ fn explain_apps(
     Ok(text)
 }
 
-#[tactic(auto, using(crate::proofs::Explaining::rule_meant))]
 fn explain_app(
     alloc: Global,
-    why: &OpenedWhy,
+    manifest: &JudgedManifest,
     facts: &RequestFacts,
     moment: &Moment,
     app: &SharedFacts,
     note: &str,
     counters: &mut PlainPass,
 ) -> Result<String, AllocError>
-    requires { HaveMeanings why.now.rules.apps why.now.optional_rules.items }
-    ensures { IfOk result (λ text. specs.ExplainsOne why.now.rules why.now.optional_rules.items
-        facts.now moment.now app.now note.now counters.old counters.new (string_bytes text)) }
+    requires { All IsMeantApp manifest.now.apps.items }
+    ensures { IfOk result (λ text. specs.ExplainsOne manifest.now facts.now moment.now app.now
+        note.now counters.old counters.new (string_bytes text)) }
 {
     let appid = app.appid();
     let stated = app.facts();
-    let Some(known) = why.rules.find(appid) else {
+    let Some(known) = manifest.app(appid) else {
         return unknown_app(alloc, appid, note);
     };
     let Ok(attrs) = attrs_of(alloc, stated, facts, moment) else {
@@ -142,9 +137,8 @@ fn explain_app(
     if !stated.updatecheck {
         return no_request_app(alloc, stated, attrs.context(), note);
     }
-    known.invariant_law();
-    let rule = rule_of(why.rules.apps(), &why.optional_rules, appid);
-    run_app(alloc, known, rule, stated, attrs, note, counters)
+    let _named = known.sources.entry.appid();
+    run_app(alloc, known, stated, attrs, note, counters)
 }
 
 // The attributes of an app at a moment.
@@ -191,53 +185,24 @@ fn no_request_app(
 // The lines of an app that the ruleset runs.
 fn run_app(
     alloc: Global,
-    known: &App,
-    rule: Option<&Rule>,
+    known: &JudgedApp,
     app: &AppFacts,
     attrs: Attrs,
     note: &str,
     counters: &mut PlainPass,
 ) -> Result<String, AllocError>
-    requires { HasMeaning known.now.program (option_copied rule) }
-    ensures { IfOk result (λ text. specs.RunIsExplained known.now (option_copied rule.entry) app.now
-        attrs note.now counters.old counters.new (string_bytes text)) }
+    requires { HasMeaning known.now.program known.now.rule }
+    ensures { IfOk result (λ text. specs.RunIsExplained known.now app.now attrs note.now
+        counters.old counters.new (string_bytes text)) }
 {
     let mut text = String::new(alloc);
     push_head(&mut text, app, attrs.context())?;
     let ExplainedChoice {
         choice,
         text: course,
-    } = explain_course(alloc, known.program(), rule, attrs, counters)?;
+    } = explain_course(alloc, &known.program, &known.rule, attrs, counters)?;
     text.push_str(course.as_str())?;
-    push_offer(&mut text, known.releases(), choice)?;
+    push_offer(&mut text, known.sources.entry.releases(), choice)?;
     text.push_str(note)?;
     Ok(text)
-}
-
-// The rule of the first app with an appid.
-fn rule_of<'a>(apps: &[App], rules: &'a [Option<Rule>], appid: &str) -> Option<&'a Rule>
-    ensures { option_copied result ≡ optional_rule_of apps.now rules.now appid.now }
-{
-    let mut left = apps;
-    let mut others = rules;
-    while let [app, later_apps @ ..] = left {
-        let [rule, later_rules @ ..] = others else {
-            return None;
-        };
-        if app.appid() == appid {
-            return lent(rule);
-        }
-        left = later_apps;
-        others = later_rules;
-    }
-    None
-}
-
-fn lent(rule: &Option<Rule>) -> Option<&Rule>
-    ensures { option_copied result ≡ rule.now }
-{
-    match rule {
-        Some(rule) => Some(rule),
-        None => None,
-    }
 }

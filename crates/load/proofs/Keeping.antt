@@ -13,6 +13,7 @@ use Rattle.bpf_semantics.specs.Program.{ShapedProgram}
 use Rattle.cells.specs.Arrays.{AppShape}
 use Rattle.flow_check.specs.declared.flow_fault.FlowFault.TheVariants as flow
 use Rattle.flow_check.specs.declared.flow_fault.FlowRule.TheVariants.{TooLong}
+use Rattle.manifest.specs.App.{file_of}
 use Rattle.manifest.specs.declared.app.ProgramSource.{ProgramSource}
 use Rattle.manifest.specs.declared.app.ProgramSource.TheVariants as source
 use Rattle.rule_lang.specs.Verdicts.{too_long}
@@ -22,10 +23,13 @@ use Rattle.load.specs.declared.load_fault.AppFault.{AppFault}
 use Rattle.load.specs.declared.load_fault.AppFault.TheVariants as app
 use Rattle.bounded_files.specs.declared.kept_bytes.KeptBytes.{KeptBytes}
 use Rattle.bounded_files.specs.declared.kept_bytes.KeptBytes.TheVariants.{Whole, Longer}
+use Rattle.load.specs.JudgedApps.{IsAppProgram, IsGivenBy, IsGivenByKept, IsRuleKept}
+use Rattle.load.specs.declared.judged.AppProgram.{AppProgram}
+use Rattle.load.specs.declared.sources.AppSources.{AppSources}
 use Rattle.load.specs.Kept.{IsKeptFrom, IsLonger, IsProgramKept, RefusesKept}
 use Rattle.load.specs.Kept.{long_count, most_of}
 use Rattle.load.specs.Source.{IsProgramFrom, IsProgramIn, RefusesBytes, RefusesFile}
-use Rattle.load.specs.Source.{RefusesSource, RefusesText, file_of}
+use Rattle.load.specs.Source.{RefusesSource, RefusesText}
 use Rattle.load.proofs.Long.{long_verdict}
 
 pub no_file : (from : ProgramSource) (bytes : List ℕ) (shape : AppShape)
@@ -44,19 +48,51 @@ unread_fault from kept shape is =
 
 module _ (from : ProgramSource) (kept : Option KeptBytes) (v : Vec ℕ Global) (bytes : List ℕ)
     (is : kept ≡ Some (Whole v)) (same : bytes ≡ v.items) where
-  pub whole_program : (r : Result ShapedProgram AppFault) → IfOk r (IsProgramFrom from bytes)
-      → IfOk r (IsProgramKept from kept)
+  pub whole_program : (r : Result AppProgram AppFault) → IfOk r (IsGivenBy from bytes)
+      → IfOk r (IsGivenByKept from kept)
   whole_program (Ok p) h =
-      subst (λ (x : Option KeptBytes). IsProgramKept from x p) (sym is)
-      (subst (λ (b : List ℕ). IsProgramFrom from b p) same h)
+      subst (λ (x : Option KeptBytes). IsGivenByKept from x p) (sym is)
+      (subst (λ (b : List ℕ). IsGivenBy from b p) same h)
   whole_program (Err fault) h = tt
 
-  pub whole_fault : (shape : AppShape) (r : Result ShapedProgram AppFault)
+  pub whole_fault : (shape : AppShape) (r : Result AppProgram AppFault)
       → IfErr r (RefusesFile from bytes shape) → IfErr r (RefusesKept from kept shape)
   whole_fault shape (Ok p) h = tt
   whole_fault shape (Err fault) h =
       subst (λ (x : Option KeptBytes). RefusesKept from x shape fault) (sym is)
       (subst (λ (b : List ℕ). RefusesFile from b shape fault) same h)
+
+-- ---- the program and the rule of what is kept
+
+program_kept : (from : ProgramSource) (kept : Option KeptBytes) (p : AppProgram)
+    → IsGivenByKept from kept p → IsProgramKept from kept p.program
+program_kept (source.Program file) None p h = absurd h
+program_kept (source.Program file) (Some (Whole v)) p h = h.0
+program_kept (source.Program file) (Some (Longer v count is_text)) p h = absurd h
+program_kept (source.Rule file) None p h = absurd h
+program_kept (source.Rule file) (Some (Whole v)) p h = h.0
+program_kept (source.Rule file) (Some (Longer v count is_text)) p h = absurd h
+
+rule_kept : (from : ProgramSource) (kept : Option KeptBytes) (p : AppProgram)
+    → IsGivenByKept from kept p → IsRuleKept from kept p.program p.rule
+rule_kept (source.Program file) None p h = absurd h
+rule_kept (source.Program file) (Some (Whole v)) p h = h.1
+rule_kept (source.Program file) (Some (Longer v count is_text)) p h = absurd h
+rule_kept (source.Rule file) None p h = absurd h
+rule_kept (source.Rule file) (Some (Whole v)) p h = h
+rule_kept (source.Rule file) (Some (Longer v count is_text)) p h = absurd h
+
+pub app_program : (app : AppSources) (r : Result AppProgram AppFault)
+    → IfOk r (λ p. p.program.shape ≡ app.shape) → IfOk r (IsGivenByKept app.entry.source app.kept)
+    → IfOk r (IsAppProgram app)
+app_program app (Ok p) shape given = record {
+  judged = record {
+    shape_is = shape;
+    program_is = program_kept app.entry.source app.kept p given;
+  };
+  rule_is = rule_kept app.entry.source app.kept p given;
+}
+app_program app (Err fault) shape given = tt
 
 -- ---- a file that is too long
 

@@ -17,7 +17,7 @@ use Rattle.load.specs.declared.load_fault.AppFault.{AppFault}
 use Rattle.load.specs.declared.load_fault.AppFault.TheVariants as app
 use Rattle.load.specs.App.{IsShapeOf, IsAppOf, RefusesApp}
 use Rattle.load.specs.Apps.{AreAppsOf, next, IsRefusedApp}
-use Rattle.load.specs.Source.{file_of}
+use Rattle.manifest.specs.App.{file_of}
 use Rattle.load.proofs.OneProgram.{ComesTo, same_program}
 
 -- ---- the shape of an app

@@ -8,11 +8,12 @@ use Rattle.bounded_files.specs.declared.kept_bytes.KeptBytes.{KeptBytes}
 use Rattle.bounded_files.specs.declared.kept_bytes.KeptBytes.TheVariants.{Whole, Longer}
 use Rattle.bpf_semantics.specs.Program.{ShapedProgram}
 use Rattle.cells.specs.Arrays.{AppShape}
+use Rattle.manifest.specs.App.{file_of}
 use Rattle.manifest.specs.declared.app.ProgramSource.{ProgramSource}
 use Rattle.manifest.specs.declared.app.ProgramSource.TheVariants as source
 use Rattle.load.specs.declared.load_fault.AppFault.{AppFault}
 use Rattle.load.specs.declared.load_fault.AppFault.TheVariants as app
-use Rattle.load.specs.Source.{IsProgramFrom, RefusesFile, file_of}
+use Rattle.load.specs.Source.{IsProgramFrom, RefusesFile}
 
 -- the most bytes of a program, and of the text of a rule
 abbrev pub most_of : ProgramSource → ℕ

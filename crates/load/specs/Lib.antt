@@ -13,3 +13,5 @@ pub mod Judged
 pub mod Made
 pub mod OneLoad
 pub mod Texts
+pub mod JudgedApps
+pub mod Opened

@@ -6,15 +6,12 @@ use Rattle.acceptance.specs.Rule as rule
 use Rattle.acceptance.specs.Rule.{IsProgramOfRule, RefusesRule}
 use Rattle.bpf_semantics.specs.Program.{ShapedProgram}
 use Rattle.cells.specs.Arrays.{AppShape}
+use Rattle.manifest.specs.App.{file_of}
 use Rattle.manifest.specs.declared.app.ProgramSource.{ProgramSource}
 use Rattle.manifest.specs.declared.app.ProgramSource.TheVariants as source
 use Rattle.load.specs.declared.load_fault.AppFault.{AppFault}
 use Rattle.load.specs.declared.load_fault.AppFault.TheVariants as app
 use Rattle.bounded_files.specs.Files.{KnownFiles, Gives}
-
-abbrev pub file_of : ProgramSource → List ℕ
-file_of (source.Program file) = file
-file_of (source.Rule file) = file
 
 -- the program that the bytes of the file give
 abbrev pub IsProgramFrom : ProgramSource → List ℕ → ShapedProgram → Type 0

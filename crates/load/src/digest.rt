@@ -7,10 +7,11 @@ ghost use Rattle.bpf_semantics.specs.Program.{ShapedProgram};
 ghost use Rattle.sha2.specs.Hashers.{Holds256};
 ghost use Rattle.load.specs.Digest as specs;
 ghost use Rattle.load.specs.Judged.{AreJudged};
+ghost use Rattle.load.specs.JudgedApps.{AreAppPrograms};
 
+use crate::judged::AppProgram;
 use crate::kept_file::whole_file;
 use crate::sources::AppSources;
-use bpf_verify::Verified;
 use sha2::{Digest, Sha256};
 
 /// SHA-256 (FIPS 180-4) of a manifest's bytes and the bytes of its apps' files, in order. Each
@@ -36,8 +37,12 @@ pub fn digest_of(manifest: &[u8], apps: &[AppSources]) -> Option<[u8; 32]>
 }
 
 /// The digest of a manifest and of apps with these programs; it always exists.
-pub fn judged_digest(manifest: &[u8], apps: &[AppSources], programs: &[Verified]) -> [u8; 32]
-    requires { AreJudged apps.now programs.now }
+pub(crate) fn judged_digest(
+    manifest: &[u8],
+    apps: &[AppSources],
+    programs: &[AppProgram],
+) -> [u8; 32]
+    requires { AreAppPrograms apps.now programs.now }
     ensures { specs.digest_of manifest.now apps.now ≡ Some result }
 {
     let _judged = programs;

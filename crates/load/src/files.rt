@@ -43,7 +43,8 @@ pub trait Files {
         ensures { result ≡ failed self.now };
 
     /// Whether the path of a name has a symbolic link: the file itself, or a folder below the
-    /// manifest's. Files in memory have none. Nothing is promised about the result.
+    /// manifest's; also if that isn't known. Files in memory have none. Nothing is promised about
+    /// the result.
     fn is_through_link(&self, _name: &str) -> bool {
         false
     }

@@ -17,11 +17,13 @@ pub struct FolderFiles<'a, D> {
     alloc: Global,
     disk: &'a D,
     manifest: &'a str,
+    asks_links: bool,
     failures: u64,
 }
 
 impl<'a, D> FolderFiles<'a, D> {
-    /// The files next to the manifest at this path, none read yet.
+    /// The files next to the manifest at this path, none read yet. The disk isn't queried about
+    /// symbolic links, so each path counts as one.
     pub fn in_folder_of(alloc: Global, disk: &'a D, manifest: &'a str) -> FolderFiles<'a, D>
         ensures disk { result.disk.now ≡ disk.now }
         ensures manifest { result.manifest.now ≡ manifest.now }
@@ -31,6 +33,22 @@ impl<'a, D> FolderFiles<'a, D> {
             alloc,
             disk,
             manifest,
+            asks_links: false,
+            failures: 0,
+        }
+    }
+
+    /// The same, but the disk is queried about symbolic links.
+    pub fn with_links(alloc: Global, disk: &'a D, manifest: &'a str) -> FolderFiles<'a, D>
+        ensures disk { result.disk.now ≡ disk.now }
+        ensures manifest { result.manifest.now ≡ manifest.now }
+        ensures failures { result.failures ≡ 0 }
+    {
+        FolderFiles {
+            alloc,
+            disk,
+            manifest,
+            asks_links: true,
             failures: 0,
         }
     }
@@ -77,6 +95,9 @@ impl<'a, D: Disk> Files for FolderFiles<'a, D> {
     }
 
     fn is_through_link(&self, name: &str) -> bool {
+        if !self.asks_links {
+            return true;
+        }
         for part in Path::new(name).ancestors() {
             if is_link_in_folder(self.alloc, self.disk, self.manifest, part.as_os_str()) {
                 return true;

@@ -2,33 +2,32 @@
 
 ghost use Rattle.std.specs.Prelude.{◌≡◌, ◌↔◌, ◌<◌, ℕ, List, length, IfOk, IfErr, Some};
 ghost use Rattle.std.specs.Prelude.{IsTrue, IsUtf8};
-ghost use Rattle.acceptance.specs.Program.{IsProgramOf};
-ghost use Rattle.acceptance.specs.Rule.{IsProgramOfRule};
 ghost use Rattle.cells.specs.Arrays.{AppShape};
-ghost use Rattle.load.specs.Kept.{IsLonger, IsProgramKept, RefusesKept};
-ghost use Rattle.load.specs.Source.{IsProgramFrom, RefusesBytes, RefusesFile, RefusesText};
+ghost use Rattle.load.specs.JudgedApps.{IsGivenBy, IsGivenByBytes, IsGivenByKept, IsGivenByText};
+ghost use Rattle.load.specs.Kept.{IsLonger, RefusesKept};
+ghost use Rattle.load.specs.Source.{RefusesBytes, RefusesFile, RefusesText};
 
+use crate::judged::AppProgram;
 use crate::load_fault::AppFault;
-use acceptance::{ProgramFault, RuleTextFault, accept, rule_program};
+use acceptance::{ProgramFault, RuleProgram, RuleTextFault, accept, rule_program};
 use bounded_files::KeptBytes;
-use bpf_verify::Verified;
 use cells::Shape;
 use flow_check::{FlowFault, FlowRule};
 use manifest::ProgramSource;
 use rule_lang::{RuleFault, RuleFaultKind};
 use std::alloc::Global;
 
-/// The program of an app, from what is kept of its file. Returns M4 if the file couldn't be read,
-/// M5 if its bytes aren't a program, M6 if its text isn't a rule, and M8 if an allocation fails.
-/// The verdict is the same for any file of which this is kept.
+/// The program of an app and its rule, from what is kept of its file. Returns M4 if the file
+/// couldn't be read, M5 if its bytes aren't a program, M6 if its text isn't a rule, and M8 if an
+/// allocation fails. The verdict is the same for any file of which this is kept.
 pub(crate) fn judge_file(
     alloc: Global,
     source: &ProgramSource,
     kept: &Option<KeptBytes>,
     shape: &Shape,
-) -> Result<Verified, AppFault>
-    ensures shape { IfOk result (λ program. program.shape ≡ shape.now) }
-    ensures program { IfOk result (IsProgramKept source.now kept.now) }
+) -> Result<AppProgram, AppFault>
+    ensures shape { IfOk result (λ p. p.program.shape ≡ shape.now) }
+    ensures program { IfOk result (IsGivenByKept source.now kept.now) }
     ensures fault { IfErr result (RefusesKept source.now kept.now shape.now) }
 {
     match kept {
@@ -43,9 +42,9 @@ fn judge_kept(
     source: &ProgramSource,
     kept: &KeptBytes,
     shape: &Shape,
-) -> Result<Verified, AppFault>
-    ensures shape { IfOk result (λ program. program.shape ≡ shape.now) }
-    ensures program { IfOk result (IsProgramKept source.now (Some kept.now)) }
+) -> Result<AppProgram, AppFault>
+    ensures shape { IfOk result (λ p. p.program.shape ≡ shape.now) }
+    ensures program { IfOk result (IsGivenByKept source.now (Some kept.now)) }
     ensures fault { IfErr result (RefusesKept source.now (Some kept.now) shape.now) }
 {
     match kept {
@@ -59,9 +58,9 @@ fn judge_bytes(
     source: &ProgramSource,
     bytes: &[u8],
     shape: &Shape,
-) -> Result<Verified, AppFault>
-    ensures shape { IfOk result (λ program. program.shape ≡ shape.now) }
-    ensures program { IfOk result (IsProgramFrom source.now bytes.now) }
+) -> Result<AppProgram, AppFault>
+    ensures shape { IfOk result (λ p. p.program.shape ≡ shape.now) }
+    ensures program { IfOk result (IsGivenBy source.now bytes.now) }
     ensures fault { IfErr result (RefusesFile source.now bytes.now shape.now) }
 {
     match source {
@@ -70,25 +69,34 @@ fn judge_bytes(
     }
 }
 
-fn program_of(alloc: Global, bytes: &[u8], shape: &Shape) -> Result<Verified, AppFault>
-    ensures shape { IfOk result (λ program. program.shape ≡ shape.now) }
-    ensures program { IfOk result (IsProgramOf bytes.now) }
+fn program_of(alloc: Global, bytes: &[u8], shape: &Shape) -> Result<AppProgram, AppFault>
+    ensures shape { IfOk result (λ p. p.program.shape ≡ shape.now) }
+    ensures program { IfOk result (IsGivenByBytes bytes.now) }
     ensures fault { IfErr result (RefusesBytes bytes.now shape.now) }
 {
     match accept(alloc, bytes, shape) {
-        Ok(program) => Ok(program),
+        Ok(program) => Ok(AppProgram {
+            program,
+            rule: None,
+        }),
         Err(fault) if fault.is_memory() => Err(AppFault::Memory),
         Err(fault) => Err(AppFault::Program(fault)),
     }
 }
 
-fn program_of_rule(alloc: Global, text: &[u8], shape: &Shape) -> Result<Verified, AppFault>
-    ensures shape { IfOk result (λ program. program.shape ≡ shape.now) }
-    ensures program { IfOk result (IsProgramOfRule text.now) }
+fn program_of_rule(alloc: Global, text: &[u8], shape: &Shape) -> Result<AppProgram, AppFault>
+    ensures shape { IfOk result (λ p. p.program.shape ≡ shape.now) }
+    ensures program { IfOk result (IsGivenByText text.now) }
     ensures fault { IfErr result (RefusesText text.now shape.now) }
 {
     match rule_program(alloc, text, shape) {
-        Ok(program) => Ok(program),
+        Ok(made) => {
+            let RuleProgram { program, rule } = made;
+            Ok(AppProgram {
+                program,
+                rule: Some(rule),
+            })
+        }
         Err(fault) if fault.is_memory() => Err(AppFault::Memory),
         Err(fault) => Err(AppFault::Rule(fault)),
     }

@@ -4,7 +4,6 @@
 ghost use Rattle.std.specs.Prelude.{◌≡◌, ◌^◌, ◌-◌, ◌<◌, IfOk, option_copied};
 ghost use Rattle.load.specs.Kept.{CountsKept, IsKeptFrom};
 ghost use Rattle.load.specs.Kept as specs;
-ghost use Rattle.load.specs.Source as source_specs;
 
 use crate::files::Files;
 use bounded_files::{KeptBytes, ResourceFault};
@@ -25,7 +24,7 @@ pub(crate) fn collect_file<F: Files>(
     ensures sources { IfOk result (IsKeptFrom (F.known files.old) source.now) }
     ensures count { CountsKept (F.failed files.old) (F.failed files.new) result }
 {
-    match files.keep(file_of(source), most_of(source)) {
+    match files.keep(source.file(), most_of(source)) {
         Ok(kept) => Ok(Some(kept)),
         Err(ResourceFault::File) => Ok(None),
         Err(ResourceFault::Memory) => Err(AllocError),
@@ -61,15 +60,5 @@ pub fn whole_file(kept: &Option<KeptBytes>) -> Option<&[u8]>
         None => None,
         Some(KeptBytes::Whole(bytes)) => Some(bytes.as_slice()),
         Some(KeptBytes::Longer { .. }) => None,
-    }
-}
-
-/// The name of the file of an app, as the manifest has it.
-pub fn file_of(source: &ProgramSource) -> &str
-    ensures { result.now ≡ source_specs.file_of source.now }
-{
-    match source {
-        ProgramSource::Program(file) => file.as_str(),
-        ProgramSource::Rule(file) => file.as_str(),
     }
 }

@@ -3,6 +3,7 @@
 ghost use Rattle.load.specs.Judged.{SourcesAreLoaded};
 ghost use Rattle.load.specs.Made.{SourcesAreMade};
 ghost use Rattle.load.specs.OneLoad.{HasOneJudgement, HasOneLoad, HasOneLoadFrom};
+ghost use Rattle.load.specs.Opened.{OpenedIsMade};
 
 use declarations::lists_declare_one_way;
 use manifest::one_reading;
@@ -31,4 +32,9 @@ pub fn sources_are_loaded()
 /// Law: the ruleset made of a gathered manifest is the one that its load gives.
 pub fn sources_are_made()
     ensures { SourcesAreMade }
+{}
+
+/// Law: the ruleset of an opened manifest is the one that a load makes of it.
+pub fn opened_is_made()
+    ensures { OpenedIsMade }
 {}

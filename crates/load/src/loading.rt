@@ -14,7 +14,7 @@ use crate::cause::cause_of;
 use crate::files::Files;
 use crate::laws::{sources_are_loaded, sources_are_made};
 use crate::load_fault::LoadFault;
-use crate::made::make_ruleset;
+use crate::made::{judge_sources, make_ruleset};
 use crate::refusal::SourcesRefusal;
 use crate::sources::collect_sources;
 use cells::{Directory, arrays_stay};
@@ -22,6 +22,7 @@ use ruleset::{LoadedRuleset, Ruleset};
 use std::alloc::Global;
 
 /// Does what `load_over` does, but changes the directory in place. After a refusal it is unchanged.
+/// It is the specification's call: servers take `load_with_digest`.
 // open: what `load_over` leaves open.
 pub fn load_ruleset<F: Files>(
     alloc: Global,
@@ -57,7 +58,8 @@ pub fn load_ruleset<F: Files>(
 ///   don't spell a rule.
 ///
 /// All files are read before the first is judged, as in `collect_sources`. Returns M8 if an
-/// allocation fails or the count of unreadable files overflows.
+/// allocation fails or the count of unreadable files overflows. It is the specification's call:
+/// servers take `load_with_digest`.
 // open: whether an allocation fails (M8), and for M8 how far the count of unreadable files grew;
 // what a device's files contain.
 pub fn load_over<F: Files>(
@@ -119,15 +121,26 @@ pub(crate) fn load_bytes<F: Files>(
     sources_are_loaded();
     sources_are_made();
     arrays_stay();
-    match collect_sources(alloc, manifest, files, directory) {
-        Ok(sources) => {
-            let _arrays = sources.directory.arrays();
-            match make_ruleset(alloc, manifest, sources) {
-                Ok(made) => Ok(made),
-                Err(fault) => Err(BytesRefusal { fault, cause: None }),
-            }
+    let sources = match collect_sources(alloc, manifest, files, directory) {
+        Ok(sources) => sources,
+        Err(refused_sources) => return Err(refused(alloc, directory, refused_sources)),
+    };
+    let _arrays = sources.directory.arrays();
+    let judged = match judge_sources(alloc, manifest, sources) {
+        Ok(judged) => judged,
+        Err(refused_apps) => {
+            return Err(BytesRefusal {
+                fault: refused_apps.into_fault(),
+                cause: None,
+            });
         }
-        Err(refused_sources) => Err(refused(alloc, directory, refused_sources)),
+    };
+    match make_ruleset(alloc, judged) {
+        Ok(made) => Ok(made),
+        Err(_) => Err(BytesRefusal {
+            fault: LoadFault::Memory,
+            cause: None,
+        }),
     }
 }
 

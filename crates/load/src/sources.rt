@@ -13,7 +13,7 @@ ghost use Rattle.manifest.specs.Parsed.{IsNoManifest};
 
 use crate::arrays::declare_arrays;
 use crate::files::Files;
-use crate::kept_file::{collect_file, file_of, long_count};
+use crate::kept_file::{collect_file, long_count};
 use crate::load_fault::LoadFault;
 use crate::refusal::SourcesRefusal;
 use attrs::Text;
@@ -30,7 +30,7 @@ use std::alloc::{AllocError, Global};
 const MOST_LONG: u128 = 0x400_0000;
 
 /// An app of a manifest, its shape, and what is kept of its file (None if that can't be read). Also
-/// whether the file's path had a symbolic link just before it was read.
+/// whether the file's path had a symbolic link just before it was read, or may have had one.
 pub struct AppSources {
     pub entry: AppEntry,
     pub shape: Shape,
@@ -88,8 +88,8 @@ struct ReadApps {
 /// Gathers a manifest and its files. Each file is read once, and none after more than 64 MiB of
 /// files that are too long. Also returns M8 if the count of unreadable files overflows.
 // open: whether an allocation fails (M8), and for M8 how far the count of unreadable files grew;
-// that the disk is queried whether a file's path has a symbolic link: `bench/hostile`; what a
-// device's files contain.
+// that the disk is queried about links before each file is read: `bench/hostile`; what a device's
+// files contain.
 pub fn collect_sources<F: Files>(
     alloc: Global,
     manifest: &[u8],
@@ -248,7 +248,7 @@ fn collect_app<F: Files>(
     let Ok(shape) = Shape::of(alloc, releases, directory, numbers) else {
         return Err(AllocError);
     };
-    let through_link = files.is_through_link(file_of(entry.source()));
+    let through_link = files.is_through_link(entry.source().file());
     let Ok(kept) = collect_file(files, entry.source()) else {
         return Err(AllocError);
     };

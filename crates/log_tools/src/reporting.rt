@@ -54,14 +54,22 @@ where
 {
     require_drawable(rt, logs, file)?;
     let drawn = file.is_some();
-    let Ok(mut report) = Report::new(rt.alloc(), drawn) else {
-        return Err(ResourceFault::Memory);
-    };
+    let mut report = new_report(rt.alloc(), drawn)?;
     let output = output_of_logs(rt, logs, since, until, form, drawn, &mut report);
     drop(report);
     let output = output?;
     write_picture(rt, file, &output.picture)?;
     Ok(output)
+}
+
+// A report on no lines.
+fn new_report(alloc: Global, drawn: bool) -> Result<Report, ResourceFault>
+    ensures { IfOk result (λ report. (window : Window) → Counts window [] drawn report) }
+{
+    match Report::new(alloc, drawn) {
+        Ok(report) => Ok(report),
+        Err(_) => Err(ResourceFault::Memory),
+    }
 }
 
 // The report, before its picture is written. It is counted in `report`, which has counted nothing.

@@ -1,5 +1,3 @@
-pub mod Kept
-pub mod Opening
 pub mod SameApps
 pub mod RowSides
 pub mod Reported

@@ -11,7 +11,7 @@ use Rattle.rule_space.specs.Coordinates.{place_of}
 use Rattle.rule_space.specs.Machines.{Side, State, gets}
 use Rattle.rule_space.specs.Scopes.{IsWithin, Scope}
 use Rattle.rule_space.specs.Spaces.{Space}
-use Rattle.manifest_diff.specs.Apps.{ManifestApp}
+use Rattle.load.specs.declared.judged.JudgedApp.{JudgedApp}
 use Rattle.manifest_diff.specs.Apps.IsSameApp.{same_rule, same_program}
 use Rattle.manifest_diff.specs.NoRow.{DiffIsSo, GivesAlike, HasMachine, IsAlike, IsRowValue}
 use Rattle.manifest_diff.specs.NoRow.{RowsMatchRuns, Serves}
@@ -79,7 +79,7 @@ module _ (x : Scope) (space : Space) (rows : List Row) (side other : Side) (row_
 
 -- ---- the promise
 
-is_alike : (old new : Option ManifestApp) → IsSame old new → (a : Attributes) (g : State)
+is_alike : (old new : Option JudgedApp) → IsSame old new → (a : Attributes) (g : State)
     → IsAlike old new a g
 is_alike (Some old) (Some new) (same_rule side first second) a g =
     same_content (record {

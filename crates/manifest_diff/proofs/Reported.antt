@@ -1,6 +1,7 @@
 -- The comparisons of the apps of NEW and of those that are gone are those of all.
 use Rattle.std.proofs.Common.{◌≡◌, ◌∙◌, refl, sym, ap, subst, ℕ, List, [], ◌∷◌, ◌++◌, All, map}
-use Rattle.std.specs.Prelude.{Bool, true, false, ◌||◌, not, Contains, Option, None}
+use Rattle.std.specs.Prelude.{Bool, true, false, cond, is_some, ◌||◌, not, Contains}
+use Rattle.std.specs.Prelude.{Option, Some, None}
 use Rattle.std.specs.Prelude.{if◌then◌else◌}
 use Rattle.std.specs.List.{filter, list_any}
 use Rattle.std.specs.Str.{bytes_eq}
@@ -11,6 +12,8 @@ use Rattle.std.proofs.lemmas.List.{map-append}
 use Rattle.std.proofs.lemmas.List.Folds.{Any-from_list_any, list_any-append}
 use Rattle.std.proofs.lemmas.Map.Views.{any-filter_same}
 use Rattle.std.proofs.lemmas.Slice.Eq.{bytes_eq-Decides}
+use Rattle.load.specs.JudgedApps.{app_named}
+use Rattle.load.specs.declared.judged.JudgedApp.{JudgedApp}
 use Rattle.rule_space.specs.declared.bounds.CellBound.{CellBound}
 use Rattle.manifest_diff.specs.Opened.{manifest_appids}
 use Rattle.manifest_diff.specs.Adding.{AddsDiffs}
@@ -48,6 +51,22 @@ adds_one both from_day used only appid before after d is reported appid_is own =
 }
 
 -- ---- each app of either manifest is reported
+
+found_appid : (appid : List ℕ) (apps : List JudgedApp)
+    → is_some (app_named apps appid)
+    ≡ has_appid (map (λ (app : JudgedApp). app.sources.entry.appid) apps) appid
+found_appid appid [] = refl
+found_appid appid (app ∷ apps) =
+    elim (bytes_eq app.sources.entry.appid appid)
+    as (λ b. is_some (cond b (Some app) (app_named apps appid))
+    ≡ (b || has_appid (map (λ (app : JudgedApp). app.sources.entry.appid) apps) appid))
+    [ true ↦ refl | false ↦ found_appid appid apps ]
+
+-- whether the app is found is whether its appid is there
+pub has_found : (appid : List ℕ) (apps : List JudgedApp) (found : Option JudgedApp)
+    → found ≡ app_named apps appid → is_some found
+    ≡ has_appid (map (λ (app : JudgedApp). app.sources.entry.appid) apps) appid
+has_found appid apps found is = ap is_some is ∙ found_appid appid apps
 
 either_has : (both : OpenedBoth) (appid : List ℕ) (new : Bool)
     → has_appid (manifest_appids both.new) appid ≡ new

@@ -5,6 +5,7 @@ use Rattle.cells.specs.Arrays.{AppShape, IsShape}
 use Rattle.cells.specs.declared.array.CellArray.{CellArray}
 use Rattle.diff_text.specs.Shown.{AreShown, Sources}
 use Rattle.diff_text.specs.declared.shown.AppRows.{AppRows}
+use Rattle.load.specs.declared.judged.JudgedApp.{JudgedApp}
 use Rattle.releases.specs.Release.{Release}
 use Rattle.rule_diff.specs.Rows.{IsDiff, Row}
 use Rattle.rule_diff.specs.declared.contents.Contents.{Contents}
@@ -14,7 +15,7 @@ use Rattle.rule_space.specs.Lines.{IsLine}
 use Rattle.rule_space.specs.Machines.{Side}
 use Rattle.rule_space.specs.Scopes.{Scope}
 use Rattle.rule_space.specs.Spaces.{Space}
-use Rattle.manifest_diff.specs.Apps.{HasContents, ManifestApp, contents_in, releases_in}
+use Rattle.manifest_diff.specs.Apps.{HasContents, contents_in, releases_in}
 use Rattle.manifest_diff.specs.Apps.{releases_or_none, side_with}
 use Rattle.manifest_diff.specs.Outcomes.{ShowsRows, arrays_or_none, sources_of}
 use Rattle.manifest_diff.specs.Sides.{IsSideBy, IsSideWith}
@@ -23,7 +24,7 @@ abbrev side_of_parts : AppShape → List Statement → List ℕ → Side
 side_of_parts shape rule contents =
     record { shape = shape; statements = rule; contents = contents }
 
-pub side_of_app : (releases : List Release) (app : ManifestApp) (rule : List Statement)
+pub side_of_app : (releases : List Release) (app : JudgedApp) (rule : List Statement)
     (contents : List ℕ) (side : Side) → app.rule ≡ Some rule
     → contents ≡ contents_in releases (Some app)
     → IsSideWith app.program.shape rule contents side → IsSideBy releases (Some app) side
@@ -61,7 +62,7 @@ sources all old_contents new_contents old_arrays new_arrays = record {
   new_arrays = new_arrays;
 }
 
-sources_are : (old new : Option ManifestApp) (releases others : List Release) (c : Contents)
+sources_are : (old new : Option JudgedApp) (releases others : List Release) (c : Contents)
     (arrays more : List CellArray) → releases ≡ releases_or_none old
     → others ≡ releases_or_none new → HasContents old new c → arrays ≡ arrays_or_none old
     → more ≡ arrays_or_none new
@@ -79,7 +80,7 @@ sources_are old new releases others c arrays more r s has a b =
     (contents_in (releases_in old new) old) (contents_in (releases_in old new) new)
     (arrays_or_none old) xs) b
 
-shows_rows : (x : Scope) (old new : Option ManifestApp) (old_side new_side : Side)
+shows_rows : (x : Scope) (old new : Option JudgedApp) (old_side new_side : Side)
     (space : Space) (rows : List Row) (releases others : List Release) (c : Contents)
     (arrays more : List CellArray) (shown : AppRows)
     → IsSideBy (releases_in old new) old old_side → IsSideBy (releases_in old new) new new_side
@@ -105,7 +106,7 @@ shows_rows x old new old_side new_side space rows releases others c arrays more 
     }
 
 -- and none, if a condition isn't shown
-pub shows_rows_if_any : (x : Scope) (old new : Option ManifestApp) (old_side new_side : Side)
+pub shows_rows_if_any : (x : Scope) (old new : Option JudgedApp) (old_side new_side : Side)
     (space : Space) (rows : List Row) (releases others : List Release) (c : Contents)
     (arrays more : List CellArray) (shown : Option AppRows)
     → IsSideBy (releases_in old new) old old_side → IsSideBy (releases_in old new) new new_side

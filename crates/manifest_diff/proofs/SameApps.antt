@@ -7,19 +7,20 @@ use Rattle.bpf_semantics.specs.Program.{ShapedProgram}
 use Rattle.bounded_files.specs.declared.kept_bytes.KeptBytes.{KeptBytes}
 use Rattle.bounded_files.specs.declared.kept_bytes.KeptBytes.TheVariants.{Whole, Longer}
 use Rattle.cells.specs.Arrays.{AppShape}
-use Rattle.app_rules.specs.Rules.{IsRuleKept, OptionalRule}
 use Rattle.flow_check.specs.Fault.{HasOneVerdict}
 use Rattle.flow_check.specs.Flow.{IsFlow, program_bytes}
+use Rattle.load.specs.JudgedApps.{IsJudgedApp, IsRuleKept, OptionalRule}
 use Rattle.load.specs.Kept.{whole_file}
 use Rattle.manifest.specs.declared.app.ProgramSource.{ProgramSource}
 use Rattle.manifest.specs.declared.app.ProgramSource.TheVariants as source
+use Rattle.load.specs.declared.judged.JudgedApp.{JudgedApp}
 use Rattle.releases.specs.Release.{Release}
 use Rattle.rule_diff.specs.declared.contents.Contents.{Contents}
 use Rattle.rule_lang.specs.Parts.{OrFault}
 use Rattle.rule_lang.specs.Verdicts.{RuleHasOneVerdict}
 use Rattle.rule_lang.specs.declared.rule.Statement.{Statement}
 use Rattle.rule_space.specs.Machines.{Side}
-use Rattle.manifest_diff.specs.Apps.{AgreeAsFar, HasContents, IsKeptApp, IsSameApp, ManifestApp}
+use Rattle.manifest_diff.specs.Apps.{AgreeAsFar, HasContents, IsSameApp}
 use Rattle.manifest_diff.specs.Apps.{contents_in, releases_in, side_in, side_with}
 use Rattle.manifest_diff.specs.Apps.IsSameApp.{same_rule as by_rule, same_program as by_program}
 use Rattle.manifest_diff.specs.Outcomes.{IsSame}
@@ -61,8 +62,8 @@ one_spelled bytes shape rule other one is same =
     (one shape bytes (Ok same.spelled) (Ok is.spelled) same.text.spelled is.text.spelled)
     ∙ sym is.rule_is
 
-pub has_same_rule : (old new : ManifestApp) (rule other : List Statement)
-    → ((s : AppShape) (all : List ℕ) → RuleHasOneVerdict s all) → IsKeptApp old → IsKeptApp new
+pub has_same_rule : (old new : JudgedApp) (rule other : List Statement)
+    → ((s : AppShape) (all : List ℕ) → RuleHasOneVerdict s all) → IsJudgedApp old → IsJudgedApp new
     → old.rule ≡ Some rule → new.rule ≡ Some other → old.program.shape ≡ new.program.shape
     → HasSameFile old new → HasSameRule old new
 has_same_rule old new rule other one kept kept_new has has_new shape file =
@@ -83,12 +84,12 @@ has_same_rule old new rule other one kept kept_new has has_new shape file =
 abbrev parts : AppShape → List Statement → List ℕ → Side
 parts shape rule contents = record { shape = shape; statements = rule; contents = contents }
 
-side_of_rule : (all : List Release) (app : ManifestApp) (rule : List Statement)
+side_of_rule : (all : List Release) (app : JudgedApp) (rule : List Statement)
     → app.rule ≡ Some rule → side_in all (Some app) ≡ Some (side_with all app rule)
 side_of_rule all app rule has =
     ap (λ (r : Option (List Statement)). option_map (side_with all app) r) has
 
-pub same_rule : (old new : ManifestApp) (c : Contents) → HasContents (Some old) (Some new) c
+pub same_rule : (old new : JudgedApp) (c : Contents) → HasContents (Some old) (Some new) c
     → c.old.items ≡ c.new.items → HasSameRule old new → IsSameApp old new
 same_rule old new c has same is =
     let all = releases_in (Some old) (Some new) in
@@ -99,7 +100,7 @@ same_rule old new c has same is =
     ∙ ap (λ (s : AppShape). Some (parts s is.rule (contents_in all (Some new)))) (sym is.shape_is)
     ∙ ap (λ (l : List ℕ). Some (parts old.program.shape is.rule l)) contents)
 
-pub same_program : (old new : ManifestApp) (c : Contents) → HasContents (Some old) (Some new) c
+pub same_program : (old new : JudgedApp) (c : Contents) → HasContents (Some old) (Some new) c
     → IsFlow old.program.code → IsFlow new.program.code
     → HasOneVerdict (program_bytes old.program.code)
     → program_bytes old.program.code ≡ program_bytes new.program.code
@@ -126,8 +127,8 @@ agree_past xs (suc n) x y first second = absurd cc
 
 -- ---- both manifests have the app
 
-pub is_same_of : (app other : ManifestApp) (old new : Option ManifestApp) → old ≡ Some app
+pub is_same_of : (app other : JudgedApp) (old new : Option JudgedApp) → old ≡ Some app
     → new ≡ Some other → IsSameApp app other → IsSame old new
 is_same_of app other old new is also same =
-    subst (λ (o : Option ManifestApp). IsSame o new) (sym is)
-    (subst (λ (o : Option ManifestApp). IsSame (Some app) o) (sym also) same)
+    subst (λ (o : Option JudgedApp). IsSame o new) (sym is)
+    (subst (λ (o : Option JudgedApp). IsSame (Some app) o) (sym also) same)

@@ -1,56 +1,29 @@
 -- An app of a manifest, and its side of a comparison by rows.
-use Rattle.std.specs.Prelude.{◌≡◌, ℕ, List, [], ◌∷◌, ◌++◌, map, slice_get, if◌then◌else◌}
+use Rattle.std.specs.Prelude.{◌≡◌, ℕ, List, [], ◌++◌, map, slice_get}
 use Rattle.std.specs.Prelude.{Option, Some, None, option_map}
-use Rattle.std.specs.Str.{bytes_eq}
-use Rattle.bpf_semantics.specs.Program.{ShapedProgram}
-use Rattle.app_rules.specs.Rules.{IsRuleKept, OptionalRule}
-use Rattle.load.specs.Judged.{IsJudged}
-use Rattle.load.specs.declared.sources.AppSources.{AppSources}
+use Rattle.load.specs.declared.judged.JudgedApp.{JudgedApp}
 use Rattle.releases.specs.Release.{Release}
 use Rattle.rule_diff.specs.Contents.{content_number}
 use Rattle.rule_diff.specs.declared.contents.Contents.{Contents}
 use Rattle.rule_lang.specs.declared.rule.Statement.{Statement}
 use Rattle.rule_space.specs.Machines.{Side}
 
--- ---- apps
-
--- an app as gathered from its manifest, the program of its file, and the rule if its file has one
-pub record ManifestApp : Type 0 where
-  pub sources : AppSources
-  pub program : ShapedProgram
-  pub rule : OptionalRule
-
-abbrev pub manifest_app : AppSources → ShapedProgram → OptionalRule → ManifestApp
-manifest_app sources program rule =
-    record { sources = sources; program = program; rule = rule }
-
--- the first app with an appid, among apps with their programs and rules
-abbrev pub app_in : List AppSources → List ShapedProgram → List OptionalRule → (appid : List ℕ)
-    → Option ManifestApp
-app_in (app ∷ apps) (program ∷ programs) (rule ∷ rules) appid =
-    if bytes_eq app.entry.appid appid then Some (manifest_app app program rule)
-    else app_in apps programs rules appid
-app_in apps programs rules appid = None
-
--- its file gives its program, and its rule, if the file has one
-pub record IsKeptApp (app : ManifestApp) : Type 0 where
-  pub judged : IsJudged app.sources app.program
-  pub rule_is : IsRuleKept app.sources.entry.source app.sources.kept app.program app.rule
+-- ---- releases
 
 -- the releases of an app; none if the manifest lacks it
-abbrev pub releases_or_none : Option ManifestApp → List Release
+abbrev pub releases_or_none : Option JudgedApp → List Release
 releases_or_none (Some app) = app.sources.entry.releases
 releases_or_none None = []
 
 -- the releases of both manifests, by which contents are numbered
-abbrev pub releases_in : (old new : Option ManifestApp) → List Release
+abbrev pub releases_in : (old new : Option JudgedApp) → List Release
 releases_in old new = releases_or_none old ++ releases_or_none new
 
 -- the numbers of the contents of an app's releases
-abbrev pub contents_in : List Release → Option ManifestApp → List ℕ
+abbrev pub contents_in : List Release → Option JudgedApp → List ℕ
 contents_in releases app = map (content_number releases) (releases_or_none app)
 
-pub record HasContents (old new : Option ManifestApp) (c : Contents) : Type 0 where
+pub record HasContents (old new : Option JudgedApp) (c : Contents) : Type 0 where
   pub old_are : c.old.items ≡ contents_in (releases_in old new) old
   pub new_are : c.new.items ≡ contents_in (releases_in old new) new
 
@@ -65,7 +38,7 @@ no_side = record {
 }
 
 -- the side of an app with this rule
-abbrev pub side_with : List Release → ManifestApp → List Statement → Side
+abbrev pub side_with : List Release → JudgedApp → List Statement → Side
 side_with releases app rule = record {
   shape = app.program.shape;
   statements = rule;
@@ -73,7 +46,7 @@ side_with releases app rule = record {
 }
 
 -- the side of an app, unless its file is a program
-abbrev pub side_in : List Release → Option ManifestApp → Option Side
+abbrev pub side_in : List Release → Option JudgedApp → Option Side
 side_in releases None = Some no_side
 side_in releases (Some app) = option_map (side_with releases app) app.rule
 
@@ -86,7 +59,7 @@ AgreeAsFar {A} xs ys = (number : ℕ) (x y : A) → slice_get xs number ≡ Some
 
 -- a program, or rules that are compiled to the same one: the same instructions on the same arrays
 -- choose among the same contents
-pub record IsSameProgram (old new : ManifestApp) : Type 0 where
+pub record IsSameProgram (old new : JudgedApp) : Type 0 where
   pub code_is : new.program.code ≡ old.program.code
   pub arrays : AgreeAsFar old.program.shape.arrays new.program.shape.arrays
   pub contents : AgreeAsFar (contents_in (releases_in (Some old) (Some new)) (Some old))
@@ -94,7 +67,7 @@ pub record IsSameProgram (old new : ManifestApp) : Type 0 where
 
 -- both manifests have the app, with one rule, on the same arrays, for releases of the same
 -- contents; or with the same program
-pub data IsSameApp (old new : ManifestApp) : Type 0 where
+pub data IsSameApp (old new : JudgedApp) : Type 0 where
   same_rule : (side : Side)
       → side_in (releases_in (Some old) (Some new)) (Some old) ≡ Some side
       → side_in (releases_in (Some old) (Some new)) (Some new) ≡ Some side → IsSameApp old new

@@ -42,11 +42,11 @@ module _ (old new : List Declaration) where
 
 -- the arrays of both
 abbrev pub arrays_in : OpenedBoth → List Declaration
-arrays_in both = both.old.sources.arrays.items ++ both.new.sources.arrays.items
+arrays_in both = both.old.arrays.items ++ both.new.arrays.items
 
 -- a server's cells that one of the manifests has, and then the given ones; the last value of a cell
 -- counts
 abbrev pub used_in : OpenedBoth → (served given : List Assignment) → List CellBound
 used_in both served given =
-    used_declared both.old.sources.arrays.items both.new.sources.arrays.items served
-    ++ used_declared both.old.sources.arrays.items both.new.sources.arrays.items given
+    used_declared both.old.arrays.items both.new.arrays.items served
+    ++ used_declared both.old.arrays.items both.new.arrays.items given

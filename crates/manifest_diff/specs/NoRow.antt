@@ -7,6 +7,7 @@ use Rattle.std.specs.String.{string_bytes}
 use Rattle.attrs.specs.Attributes.{Attributes}
 use Rattle.cells.specs.Arrays.{AppShape, IsShape}
 use Rattle.cells.specs.declared.event.CellEvent.{CellEvent}
+use Rattle.load.specs.declared.judged.JudgedApp.{JudgedApp}
 use Rattle.rule_diff.specs.Replies.{GrantsAlike, RepliesAreFrom, RepliesRise}
 use Rattle.rule_diff.specs.Rows.{AreApart, AreComplete, AreTrue, Row, row_agrees}
 use Rattle.rule_space.specs.Coordinates.{place_of}
@@ -16,7 +17,7 @@ use Rattle.rule_space.specs.Machines.{IsMachine, Side, State, content_of, declar
 use Rattle.rule_space.specs.Machines.{gets}
 use Rattle.rule_space.specs.Scopes.{IsWithin, Scope}
 use Rattle.rule_space.specs.Spaces.{Space}
-use Rattle.manifest_diff.specs.Apps.{IsSameProgram, ManifestApp, releases_in, side_in}
+use Rattle.manifest_diff.specs.Apps.{IsSameProgram, releases_in, side_in}
 use Rattle.manifest_diff.specs.Outcomes.{HasRows, IsSame}
 use Rattle.manifest_diff.specs.Reports.{AreAppDiffs, IsAppDiff, have_app}
 use Rattle.manifest_diff.specs.declared.opened.OpenedBoth.{OpenedBoth}
@@ -25,7 +26,7 @@ use Rattle.manifest_diff.specs.declared.app_diff.AppDiff.{AppDiff}
 -- ---- the same app
 
 -- a machine in a state gets the same content from both manifests
-pub record GetsTheSame (old new : Option ManifestApp) (a : Attributes) (g : State) : Type 0 where
+pub record GetsTheSame (old new : Option JudgedApp) (a : Attributes) (g : State) : Type 0 where
   pub old_side : Side
   pub new_side : Side
   pub old_is : side_in (releases_in old new) old ≡ Some old_side
@@ -33,9 +34,9 @@ pub record GetsTheSame (old new : Option ManifestApp) (a : Attributes) (g : Stat
   pub same : gets old_side a g ≡ gets new_side a g
 
 -- either that, or both manifests have the app with the same program; then nothing more is promised
-pub data IsAlike (old new : Option ManifestApp) (a : Attributes) (g : State) : Type 0 where
+pub data IsAlike (old new : Option JudgedApp) (a : Attributes) (g : State) : Type 0 where
   same_content : GetsTheSame old new a g → IsAlike old new a g
-  same_program : (app other : ManifestApp) → old ≡ Some app → new ≡ Some other
+  same_program : (app other : JudgedApp) → old ≡ Some app → new ≡ Some other
       → IsSameProgram app other → IsAlike old new a g
 
 -- ---- servers
@@ -97,7 +98,7 @@ RowsMatchRuns x space rows side other row_value =
 
 -- for an app that is compared by rows: the rows are true of machines in states, and of runs of
 -- servers
-pub record RowsAreSo (x : Scope) (old new : Option ManifestApp) (space : Space) (rows : List Row)
+pub record RowsAreSo (x : Scope) (old new : Option JudgedApp) (space : Space) (rows : List Row)
     (has : HasRows x old new space rows) : Type 0 where
   pub no_row : AreComplete x has.old_side has.new_side space rows
   pub true_of : AreTrue x has.old_side has.new_side space rows
@@ -118,7 +119,7 @@ pub record DiffIsSo : Type 0 where
   pub report : (both : OpenedBoth) (from_day : ℕ) (used : List CellBound) (diffs : List AppDiff)
       → AreAppDiffs both from_day used None diffs → (appid : List ℕ) → have_app both appid ≡ true
       → IsReported both from_day used diffs appid
-  pub rows : (x : Scope) (old new : Option ManifestApp) (space : Space) (rows : List Row)
+  pub rows : (x : Scope) (old new : Option JudgedApp) (space : Space) (rows : List Row)
       (has : HasRows x old new space rows) → RowsAreSo x old new space rows has
-  pub same : (old new : Option ManifestApp) → IsSame old new → (a : Attributes) (g : State)
+  pub same : (old new : Option JudgedApp) → IsSame old new → (a : Attributes) (g : State)
       → IsAlike old new a g

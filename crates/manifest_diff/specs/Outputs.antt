@@ -24,7 +24,7 @@ lacks_app both None = false
 lacks_app both (Some appid) = not (have_app both appid)
 
 abbrev pub changes_in : OpenedBoth → List ArrayChange
-changes_in both = array_changes both.old.sources.arrays.items both.new.sources.arrays.items
+changes_in both = array_changes both.old.arrays.items both.new.arrays.items
 
 -- a comparison as JSON, with the servers' names
 abbrev pub json_of : (old new : List ℕ) → List ArrayChange → List AppDiff → (loses : Bool) → List ℕ
@@ -36,8 +36,8 @@ module _ (both : OpenedBoth) (changes : List ArrayChange) where
   abbrev pub text_of : DiffOptions → List AppDiff → (loses : Bool) → List ℕ
   text_of options diffs loses =
       if options.json
-      then json_of both.old.sources.server both.new.sources.server changes diffs loses
-      else diff_text both.old.sources.server both.new.sources.server changes
+      then json_of both.old.server both.new.server changes diffs loses
+      else diff_text both.old.server both.new.server changes
       (is_some (option_copied options.only)) diffs
 
 -- a comparison of the apps, as a text; and whether it loses anything

@@ -6,9 +6,10 @@ use Rattle.std.specs.Str.{bytes_eq}
 use Rattle.std.specs.String.{string_bytes}
 use Rattle.rule_space.specs.declared.bounds.CellBound.{CellBound}
 use Rattle.rule_space.specs.Scopes.{Scope}
-use Rattle.manifest_diff.specs.Apps.{ManifestApp}
+use Rattle.load.specs.JudgedApps.{app_named}
+use Rattle.load.specs.declared.judged.JudgedApp.{JudgedApp}
 use Rattle.manifest_diff.specs.Arrays.{array_changes}
-use Rattle.manifest_diff.specs.Opened.{app_of, manifest_appids}
+use Rattle.manifest_diff.specs.Opened.{manifest_appids}
 use Rattle.manifest_diff.specs.Outcomes.{IsOutcome, app_loses, change_of}
 use Rattle.manifest_diff.specs.declared.opened.OpenedBoth.{OpenedBoth}
 use Rattle.manifest_diff.specs.declared.app_diff.AppDiff.{AppDiff}
@@ -46,11 +47,11 @@ module _ (both : OpenedBoth) (from_day : ℕ) (used : List CellBound) where
   scope_for d = record { appid = string_bytes d.appid; from_day = from_day; used = used }
 
   -- the app in OLD, and in NEW
-  abbrev pub old_app : AppDiff → Option ManifestApp
-  old_app d = app_of both.old (string_bytes d.appid)
+  abbrev pub old_app : AppDiff → Option JudgedApp
+  old_app d = app_named both.old.apps.items (string_bytes d.appid)
 
-  abbrev pub new_app : AppDiff → Option ManifestApp
-  new_app d = app_of both.new (string_bytes d.appid)
+  abbrev pub new_app : AppDiff → Option JudgedApp
+  new_app d = app_named both.new.apps.items (string_bytes d.appid)
 
   pub record IsAppDiff (d : AppDiff) : Type 0 where
     pub change_is : d.change ≡ change_of (old_app d) (new_app d)
@@ -69,5 +70,5 @@ loses d = app_loses d.change d.outcome
 abbrev pub is_lossy : OpenedBoth → List AppDiff → Bool
 is_lossy both apps =
     list_any loses apps
-    || not (length (array_changes both.old.sources.arrays.items
-    both.new.sources.arrays.items) == 0)
+    || not (length (array_changes both.old.arrays.items
+    both.new.arrays.items) == 0)

@@ -1,11 +1,12 @@
 -- Sides of a comparison by rows.
 use Rattle.std.specs.Prelude.{◌≡◌, ℕ, List, Option, Some, true}
 use Rattle.cells.specs.Arrays.{AppShape, IsShape}
+use Rattle.load.specs.declared.judged.JudgedApp.{JudgedApp}
 use Rattle.releases.specs.Release.{Release}
 use Rattle.rule_lang.specs.Fits.{fits}
 use Rattle.rule_lang.specs.declared.rule.Statement.{Statement}
 use Rattle.rule_space.specs.Machines.{Side}
-use Rattle.manifest_diff.specs.Apps.{ManifestApp, side_in}
+use Rattle.manifest_diff.specs.Apps.{side_in}
 
 -- the side's rule fits its shape
 pub record IsRuleSide (side : Side) : Type 0 where
@@ -19,7 +20,7 @@ pub record IsSideWith (shape : AppShape) (rule : List Statement) (contents : Lis
   pub of_rule : IsRuleSide side
 
 -- the side of an app, or of a manifest that lacks it
-pub record IsSideBy (releases : List Release) (app : Option ManifestApp) (side : Side)
+pub record IsSideBy (releases : List Release) (app : Option JudgedApp) (side : Side)
     : Type 0 where
   pub side_is : side_in releases app ≡ Some side
   pub of_rule : IsRuleSide side

@@ -7,9 +7,9 @@ ghost use Rattle.manifest_diff.specs.Opened.{AreKept, manifest_appids};
 ghost use Rattle.manifest_diff.specs.Reports as specs;
 
 use crate::comparing::compare_app;
-use crate::opened::{OpenedBoth, OpenedManifest};
+use crate::opened::OpenedBoth;
 use crate::outcome::{AppChange, AppOutcome};
-use load::AppSources;
+use load::{JudgedApp, JudgedManifest};
 use rule_space::{Bounds, CellBound};
 use std::alloc::{AllocError, Global};
 
@@ -39,17 +39,13 @@ fn is_reported(only: Option<&str>, appid: &str) -> bool
 }
 
 // Whether the manifest has an app with this appid.
-fn has_appid(opened: &OpenedManifest, appid: &str) -> bool
+fn has_appid(opened: &JudgedManifest, appid: &str) -> bool
     ensures { result ≡ specs.has_appid (manifest_appids opened.now) appid.now }
 {
-    let mut left: &[AppSources] = &opened.sources.apps;
-    while let [app, others @ ..] = left {
-        if app.entry.appid() == appid {
-            return true;
-        }
-        left = others;
+    match opened.app(appid) {
+        Some(_) => true,
+        None => false,
     }
-    false
 }
 
 /// Whether either manifest has an app with this appid.
@@ -79,8 +75,8 @@ fn diff_app(
         used: within.used,
     };
     let appid = String::from_str(alloc, appid)?;
-    let change = AppChange::of(old.as_ref(), new.as_ref());
-    let outcome = compare_app(alloc, &bounds, old.as_ref(), new.as_ref())?;
+    let change = AppChange::of(old, new);
+    let outcome = compare_app(alloc, &bounds, old, new)?;
     Ok(AppDiff {
         appid,
         change,
@@ -122,9 +118,9 @@ fn add_new(
         (option_copied only.entry) (manifest_appids both.now.new) diffs.old.items
         diffs.new.items) }
 {
-    let mut left: &[AppSources] = &both.new.sources.apps;
+    let mut left: &[JudgedApp] = &both.new.apps;
     while let [app, others @ ..] = left {
-        add_app(alloc, diffs, both, within, only, app.entry.appid())?;
+        add_app(alloc, diffs, both, within, only, app.sources.entry.appid())?;
         left = others;
     }
     Ok(())
@@ -143,10 +139,10 @@ fn add_gone(
         (option_copied only.entry) (specs.gone_appids both.now) diffs.old.items
         diffs.new.items) }
 {
-    let mut left: &[AppSources] = &both.old.sources.apps;
+    let mut left: &[JudgedApp] = &both.old.apps;
     while let [app, others @ ..] = left {
-        if !has_appid(&both.new, app.entry.appid()) {
-            add_app(alloc, diffs, both, within, only, app.entry.appid())?;
+        if !has_appid(&both.new, app.sources.entry.appid()) {
+            add_app(alloc, diffs, both, within, only, app.sources.entry.appid())?;
         }
         left = others;
     }

@@ -1,17 +1,19 @@
 //! The comparison of an app in two manifests.
 
 ghost use Rattle.std.specs.Prelude.{◌≡◌, true, IfOk, IfSome, option_copied};
-ghost use Rattle.manifest_diff.specs.Apps.{HasContents, IsKeptApp, releases_in};
+ghost use Rattle.load.specs.JudgedApps.{IsJudgedApp};
+ghost use Rattle.manifest_diff.specs.Apps.{HasContents, releases_in};
 ghost use Rattle.manifest_diff.specs.Outcomes as specs;
 ghost use Rattle.manifest_diff.specs.Sides.{IsSideBy};
 ghost use Rattle.rule_space.specs.Scopes.{scope_of, side_of};
 
-use crate::apps::{ManifestApp, arrays_or_none, releases_or_none};
+use crate::apps::{arrays_or_none, releases_or_none};
 use crate::outcome::{AppOutcome, WhyNot};
 use crate::same::{is_same_program, is_same_rule};
 use crate::sides::side_in;
 use cells::Shape;
 use diff_text::{AppRows, app_rows};
+use load::JudgedApp;
 use rule_diff::{Contents, compare, contents_of};
 use rule_space::{Bounds, RuleSide};
 use std::alloc::{AllocError, Global};
@@ -21,8 +23,8 @@ fn rows_of(
     alloc: Global,
     bounds: &Bounds<'_>,
     sides: (&RuleSide<'_>, &RuleSide<'_>),
-    old: Option<&ManifestApp<'_>>,
-    new: Option<&ManifestApp<'_>>,
+    old: Option<&JudgedApp>,
+    new: Option<&JudgedApp>,
     contents: &Contents,
 ) -> Result<Option<AppRows>, AllocError>
     requires contents { HasContents (option_copied old) (option_copied new)
@@ -54,8 +56,8 @@ fn rows_of(
 fn rows_if_any<'x>(
     alloc: Global,
     bounds: &Bounds<'_>,
-    old: Option<&'x ManifestApp<'x>>,
-    new: Option<&'x ManifestApp<'x>>,
+    old: Option<&'x JudgedApp>,
+    new: Option<&'x JudgedApp>,
     contents: &'x Contents,
 ) -> Result<Option<AppRows>, AllocError>
     requires { HasContents (option_copied old) (option_copied new) contents.now }
@@ -73,13 +75,9 @@ fn rows_if_any<'x>(
 }
 
 // Whether both manifests have the app with the same rule.
-fn have_same_rule(
-    old: Option<&ManifestApp<'_>>,
-    new: Option<&ManifestApp<'_>>,
-    contents: &Contents,
-) -> bool
-    requires old { IfSome (option_copied old) IsKeptApp }
-    requires new { IfSome (option_copied new) IsKeptApp }
+fn have_same_rule(old: Option<&JudgedApp>, new: Option<&JudgedApp>, contents: &Contents) -> bool
+    requires old { IfSome (option_copied old) IsJudgedApp }
+    requires new { IfSome (option_copied new) IsJudgedApp }
     requires contents { HasContents (option_copied old) (option_copied new)
         contents.now }
     ensures { result ≡ true → specs.IsSame (option_copied old.entry) (option_copied new.entry) }
@@ -90,11 +88,7 @@ fn have_same_rule(
     }
 }
 
-fn have_same_program(
-    old: Option<&ManifestApp<'_>>,
-    new: Option<&ManifestApp<'_>>,
-    contents: &Contents,
-) -> bool
+fn have_same_program(old: Option<&JudgedApp>, new: Option<&JudgedApp>, contents: &Contents) -> bool
     requires { HasContents (option_copied old) (option_copied new) contents.now }
     ensures { result ≡ true → specs.IsSame (option_copied old.entry) (option_copied new.entry) }
 {
@@ -108,11 +102,11 @@ fn have_same_program(
 pub(crate) fn compare_app(
     alloc: Global,
     bounds: &Bounds<'_>,
-    old: Option<&ManifestApp<'_>>,
-    new: Option<&ManifestApp<'_>>,
+    old: Option<&JudgedApp>,
+    new: Option<&JudgedApp>,
 ) -> Result<AppOutcome, AllocError>
-    requires old { IfSome (option_copied old) IsKeptApp }
-    requires new { IfSome (option_copied new) IsKeptApp }
+    requires old { IfSome (option_copied old) IsJudgedApp }
+    requires new { IfSome (option_copied new) IsJudgedApp }
     ensures { IfOk result (specs.IsOutcome (scope_of bounds.now) (option_copied old.entry)
         (option_copied new.entry)) }
 {

@@ -5,8 +5,7 @@
 //! See docs/PROGRAM.md, "diff".
 #![tactic(auto)]
 
-// How it works. Each manifest is gathered with its files and judged like a server's first one
-// (`opened.rt`). An app with a rule is a side of a comparison by rows (`sides.rt`); a manifest that
+// How it works. Each manifest is opened like a server's first one (`opened.rt`). An app with a rule is a side of a comparison by rows (`sides.rt`); a manifest that
 // lacks the app is a side that offers nothing. An app with two equal sides, or two equal programs,
 // is the same without a search (`same.rt`). Everything else with a program isn't compared.
 //
@@ -29,9 +28,8 @@ mod same;
 mod sides;
 
 pub use app_diff::AppDiff;
-pub use apps::ManifestApp;
 pub use diff_fault::DiffFault;
 pub use laws::diff_is_so;
-pub use opened::{OpenedBoth, OpenedManifest, open_both};
+pub use opened::{OpenedBoth, open_both};
 pub use outcome::{AppChange, AppOutcome, WhyNot};
 pub use output::{DiffOptions, DiffOutput, diff_manifests};

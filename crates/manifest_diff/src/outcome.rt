@@ -3,8 +3,8 @@
 ghost use Rattle.std.specs.Prelude.{◌≡◌, option_copied};
 ghost use Rattle.manifest_diff.specs.Outcomes as specs;
 
-use crate::apps::ManifestApp;
 use diff_text::AppRows;
+use load::JudgedApp;
 
 /// Which of the manifests have an app: both, only NEW, or only OLD.
 #[derive(Clone, Copy)]
@@ -16,7 +16,7 @@ pub enum AppChange {
 
 impl AppChange {
     /// From the app in OLD and in NEW, at least one of which exists.
-    pub(crate) fn of(old: Option<&ManifestApp<'_>>, new: Option<&ManifestApp<'_>>) -> AppChange
+    pub(crate) fn of(old: Option<&JudgedApp>, new: Option<&JudgedApp>) -> AppChange
         ensures { result ≡ specs.change_of (option_copied old.entry) (option_copied new.entry) }
     {
         match (old, new) {
@@ -36,7 +36,7 @@ pub enum WhyNot {
     Size,
 }
 
-fn is_program(app: Option<&ManifestApp<'_>>) -> bool
+fn is_program(app: Option<&JudgedApp>) -> bool
     ensures { result ≡ specs.is_program (option_copied app.entry) }
 {
     match app {
@@ -47,7 +47,7 @@ fn is_program(app: Option<&ManifestApp<'_>>) -> bool
 
 impl WhyNot {
     /// Why an app isn't compared, if it isn't.
-    pub(crate) fn of(old: Option<&ManifestApp<'_>>, new: Option<&ManifestApp<'_>>) -> WhyNot
+    pub(crate) fn of(old: Option<&JudgedApp>, new: Option<&JudgedApp>) -> WhyNot
         ensures { result ≡ specs.why_not (option_copied old.entry) (option_copied new.entry) }
     {
         if is_program(old) || is_program(new) {

@@ -46,7 +46,7 @@ fn used_in(
         ≡ counters.used_in both.now served.now given.now) }
 {
     let mut used = Vec::new(alloc);
-    let (old, new) = (both.old.arrays(), both.new.arrays());
+    let (old, new) = (&both.old.arrays, &both.new.arrays);
     add_declared(alloc, &mut used, old, new, served)?;
     add_declared(alloc, &mut used, old, new, given)?;
     Ok(used)
@@ -92,7 +92,7 @@ fn text_of(
     ensures { IfOk result (λ text. string_bytes text
         ≡ specs.text_of both.now changes.now options.now diffs.now loses) }
 {
-    let (old, new) = (both.old.server(), both.new.server());
+    let (old, new) = (both.old.server.as_str(), both.new.server.as_str());
     if options.json {
         return json_of(alloc, old, new, changes, diffs, loses);
     }
@@ -112,7 +112,7 @@ fn output_of(
     requires { AreKept both.now }
     ensures { IfOk result (specs.IsOutputOf both.now used.now options.now) }
 {
-    let changes = array_changes(alloc, both.old.arrays(), both.new.arrays())?;
+    let changes = array_changes(alloc, &both.old.arrays, &both.new.arrays)?;
     let within = Within {
         from_day: options.from_day,
         used,
@@ -150,7 +150,7 @@ pub fn diff_manifests(
     if lacks_app(both, options.only) {
         return Err(DiffFault::NoApp);
     }
-    if !are_declared(both.old.arrays(), both.new.arrays(), given) {
+    if !are_declared(&both.old.arrays, &both.new.arrays, given) {
         return Err(DiffFault::Cell);
     }
     let Ok(used) = used_in(alloc, both, served, given) else {

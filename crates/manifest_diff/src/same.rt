@@ -1,15 +1,15 @@
 //! Whether two manifests have the same app: the same rule, or the same program.
 
 ghost use Rattle.std.specs.Prelude.{◌≡◌, Some, length, true};
+ghost use Rattle.load.specs.JudgedApps.{IsJudgedApp};
 ghost use Rattle.manifest_diff.specs.Apps as specs;
 ghost use Rattle.manifest_diff.specs.Same as same;
 
-use crate::apps::ManifestApp;
 use crate::arrays::is_same_width;
 use bpf_verify::Verified;
 use cells::CellArray;
 use flow_check::one_verdict as one_verdict_of_bytes;
-use load::whole_file;
+use load::{JudgedApp, whole_file};
 use rule_diff::Contents;
 use rule_lang::one_verdict;
 
@@ -66,7 +66,7 @@ fn agree_on_contents(contents: &[u8], others: &[u8]) -> bool
 }
 
 // Whether the files of two apps are whole, and have the same bytes.
-fn has_same_file(old: &ManifestApp<'_>, new: &ManifestApp<'_>) -> bool
+fn has_same_file(old: &JudgedApp, new: &JudgedApp) -> bool
     ensures { result ≡ true → same.HasSameFile old.now new.now }
 {
     match (whole_file(&old.sources.kept), whole_file(&new.sources.kept)) {
@@ -86,27 +86,23 @@ fn has_same_shape(old: &Verified, new: &Verified) -> bool
 
 // Whether both apps have one rule, by the text of their files.
 #[tactic(auto, using(crate::proofs::SameApps::has_same_rule))]
-fn has_same_rule(old: &ManifestApp<'_>, new: &ManifestApp<'_>) -> bool
-    requires old { specs.IsKeptApp old.now }
-    requires new { specs.IsKeptApp new.now }
+fn has_same_rule(old: &JudgedApp, new: &JudgedApp) -> bool
+    requires old { IsJudgedApp old.now }
+    requires new { IsJudgedApp new.now }
     ensures { result ≡ true → same.HasSameRule old.now new.now }
 {
     one_verdict();
-    match (old.rule, new.rule) {
-        (Some(_), Some(_)) => has_same_shape(old.program, new.program) && has_same_file(old, new),
+    match (&old.rule, &new.rule) {
+        (Some(_), Some(_)) => has_same_shape(&old.program, &new.program) && has_same_file(old, new),
         _ => false,
     }
 }
 
 /// Whether both manifests have the app with one rule, on the same arrays, for the same contents.
 #[tactic(auto, using(crate::proofs::SameApps::same_rule))]
-pub(crate) fn is_same_rule(
-    old: &ManifestApp<'_>,
-    new: &ManifestApp<'_>,
-    contents: &Contents,
-) -> bool
-    requires old { specs.IsKeptApp old.now }
-    requires new { specs.IsKeptApp new.now }
+pub(crate) fn is_same_rule(old: &JudgedApp, new: &JudgedApp, contents: &Contents) -> bool
+    requires old { IsJudgedApp old.now }
+    requires new { IsJudgedApp new.now }
     requires contents { specs.HasContents (Some old.now) (Some new.now) contents.now }
     ensures { result ≡ true → specs.IsSameApp old.now new.now }
 {
@@ -115,11 +111,7 @@ pub(crate) fn is_same_rule(
 
 /// Whether both manifests have the app with one program, or with rules that are compiled to one.
 #[tactic(auto, using(crate::proofs::SameApps::same_program))]
-pub(crate) fn is_same_program(
-    old: &ManifestApp<'_>,
-    new: &ManifestApp<'_>,
-    contents: &Contents,
-) -> bool
+pub(crate) fn is_same_program(old: &JudgedApp, new: &JudgedApp, contents: &Contents) -> bool
     requires { specs.HasContents (Some old.now) (Some new.now) contents.now }
     ensures { result ≡ true → specs.IsSameApp old.now new.now }
 {

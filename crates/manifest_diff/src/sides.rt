@@ -6,8 +6,8 @@ ghost use Rattle.manifest_diff.specs.Sides as specs;
 ghost use Rattle.releases.specs.Release as release;
 ghost use Rattle.rule_space.specs.Scopes.{side_of};
 
-use crate::apps::ManifestApp;
 use cells::Shape;
+use load::JudgedApp;
 use rule_lang::{Rule, Statement};
 use rule_space::RuleSide;
 
@@ -44,7 +44,7 @@ fn side_with<'a>(shape: &'a Shape, rule: &'a Rule, contents: &'a [u8]) -> Option
 #[tactic(auto, using(crate::proofs::RowSides::side_of_app, crate::proofs::RowSides::side_of_none))]
 pub(crate) fn side_in<'a>(
     plain: &'a Shape,
-    app: Option<&ManifestApp<'a>>,
+    app: Option<&'a JudgedApp>,
     contents: &'a [u8],
 ) -> Option<RuleSide<'a>>
     requires releases { plain.now.releases ≡ 0 }
@@ -58,7 +58,7 @@ pub(crate) fn side_in<'a>(
             plain.invariant_law();
             Some(rule_side(plain, &[], contents))
         }
-        Some(app) => match app.rule {
+        Some(app) => match &app.rule {
             Some(rule) => side_with(app.program.shape(), rule, contents),
             None => None,
         },

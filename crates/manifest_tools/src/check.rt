@@ -25,7 +25,7 @@ pub(crate) fn check_file<D: Disk>(
         Ok(None) => return Err(ManifestToolFault::Diagnosed(too_long(alloc))),
         Err(fault) => return Err(ManifestToolFault::Resource(fault)),
     };
-    let mut files = FolderFiles::in_folder_of(alloc, disk, path);
+    let mut files = FolderFiles::with_links(alloc, disk, path);
     match check(alloc, bytes.as_slice(), &mut files) {
         Ok(checked) => Ok(checked),
         Err(refused) => Err(ManifestToolFault::Diagnosed(refused)),

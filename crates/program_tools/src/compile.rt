@@ -6,7 +6,7 @@ ghost use Rattle.program_tools.specs.Rules.{IsRuleProgramFor, IsRuleRefusal};
 
 use crate::program::declared_shape;
 use crate::program_tool_fault::ProgramToolFault;
-use acceptance::rule_program;
+use acceptance::{RuleProgram, rule_program};
 use bounded_files::{Disk, MOST_BYTES, read_within, write_file};
 use bpf_verify::Verified;
 use command_line::DeclaredShape;
@@ -55,7 +55,10 @@ fn program_of_rule<D: Disk>(
         Err(fault) => return Err(ProgramToolFault::Resource(fault)),
     };
     match rule_program(alloc, bytes.as_slice(), &shape) {
-        Ok(program) => Ok(program),
+        Ok(RuleProgram {
+            program,
+            rule: _rule,
+        }) => Ok(program),
         Err(fault) => Err(ProgramToolFault::Rule(fault)),
     }
 }

@@ -1,14 +1,15 @@
 -- What is known of each part makes a plan.
 use Rattle.std.proofs.Common.{◌≡◌, ℕ, List, Option, Some}
 use Rattle.bounded_files.specs.Files.{KnownFiles}
-use Rattle.load.specs.Source.{file_of}
+use Rattle.load.specs.Opened.{IsCollected}
+use Rattle.load.specs.declared.opened.CollectedManifest.{CollectedManifest}
 use Rattle.load.specs.declared.sources.AppSources.{AppSources}
-use Rattle.load.specs.declared.sources.Sources.{Sources}
+use Rattle.manifest.specs.App.{file_of}
 use Rattle.stage_folder.specs.Folders.{GivesFile, KnownFolder}
 use Rattle.staging.specs.Halts.{Halts, halting_file}
 use Rattle.staging.specs.Raises.{IsRaised}
 use Rattle.stage_records.specs.Steps.{ReplacedFile}
-use Rattle.stage_commands.specs.Apps.{IsAppOf, IsCollected, ReplacesBy, app_named}
+use Rattle.stage_commands.specs.Apps.{ReplacesBy, app_named}
 use Rattle.stage_commands.specs.Stages.{PlansHalt, PlansHaltOf, PlansRaise, PlansRaiseOf}
 
 pub halt_of : (folder : KnownFolder) (app : AppSources) (found : Option (List ℕ))
@@ -24,19 +25,14 @@ halt_of folder app found bytes file is halts given by = record {
   by = by folder given;
 }
 
-is_app : (known : KnownFiles) (manifest appid bytes : List ℕ) (sources : Sources)
-    (app : AppSources) → IsCollected known manifest bytes sources
-    → app_named sources.apps.items appid ≡ Some app → IsAppOf known manifest appid app
-is_app known manifest appid bytes sources app collected found =
-    record { bytes = bytes; sources = sources; collected = collected; found = found }
-
-pub halt : (known : KnownFiles) (manifest appid bytes : List ℕ) (sources : Sources)
+pub halt : (known : KnownFiles) (manifest appid : List ℕ) (collected : CollectedManifest)
     (app : AppSources) (folder : KnownFolder) (file : Option ReplacedFile)
-    → IsCollected known manifest bytes sources → app_named sources.apps.items appid ≡ Some app
+    → IsCollected known manifest collected
+    → app_named collected.sources.apps.items appid ≡ Some app
     → PlansHaltOf folder app file → PlansHalt known manifest appid folder file
-halt known manifest appid bytes sources app folder file collected found plan = record {
+halt known manifest appid collected app folder file is found plan = record {
   app = app;
-  is_app = is_app known manifest appid bytes sources app collected found;
+  is_app = record { manifest = collected; collected = is; found = found };
   plan = plan;
 }
 
@@ -52,12 +48,13 @@ raise_of folder app buckets was text file given raised by = record {
   by = by folder given;
 }
 
-pub raise : (known : KnownFiles) (manifest appid bytes : List ℕ) (buckets : ℕ)
-    (sources : Sources) (app : AppSources) (folder : KnownFolder) (file : Option ReplacedFile)
-    → IsCollected known manifest bytes sources → app_named sources.apps.items appid ≡ Some app
+pub raise : (known : KnownFiles) (manifest appid : List ℕ) (buckets : ℕ)
+    (collected : CollectedManifest) (app : AppSources) (folder : KnownFolder)
+    (file : Option ReplacedFile) → IsCollected known manifest collected
+    → app_named collected.sources.apps.items appid ≡ Some app
     → PlansRaiseOf folder app buckets file → PlansRaise known manifest appid buckets folder file
-raise known manifest appid bytes buckets sources app folder file collected found plan = record {
+raise known manifest appid buckets collected app folder file is found plan = record {
   app = app;
-  is_app = is_app known manifest appid bytes sources app collected found;
+  is_app = record { manifest = collected; collected = is; found = found };
   plan = plan;
 }

@@ -3,20 +3,23 @@ use Rattle.std.proofs.Common.{◌≡◌, ℕ, List, [], ◌∷◌, All, Bool, fa
 use Rattle.std.proofs.Common.{ap, subst, sym, ◌∙◌, ◌++◌, Option, None}
 use Rattle.std.proofs.Common.{arith, drop, get_or, length, take, ◌-◌, ◌<◌}
 use Rattle.std.proofs.Math.Seq.{take-length}
-use Rattle.std.specs.Prelude.{codes, option_map, OnOk, Result, Ok, Err}
+use Rattle.std.specs.Prelude.{codes, option_map, IfOk, IsOk, OnOk, Result, Ok, Err}
+use Rattle.std.proofs.lemmas.Bool.{true≢false}
 use Rattle.std.proofs.lemmas.List.Elements.{All-nil, All-push, All-weaker}
 use Rattle.bounded_files.specs.Files.{KnownFiles}
 use Rattle.load.specs.Kept.{whole_file}
-use Rattle.load.specs.Source.{file_of}
+use Rattle.load.specs.Opened.{IsCollected}
+use Rattle.load.specs.declared.opened.CollectedManifest.{CollectedManifest}
 use Rattle.load.specs.declared.sources.AppSources.{AppSources}
-use Rattle.load.specs.declared.sources.Sources.{Sources}
+use Rattle.manifest.specs.App.{file_of}
 use Rattle.stage_folder.specs.Folders.{GivesFile, KnownFolder, KnownRecords}
 use Rattle.stage_folder.specs.Recorded.{AreRecorded}
 use Rattle.stage_folder.specs.Steps.{done}
 use Rattle.stage_folder.specs.declared.records.RecordedSteps.{RecordedSteps}
 use Rattle.stage_records.specs.Steps.{ReplacedFile, StagingStep}
 use Rattle.staging.specs.InForce.{lifted_halt}
-use Rattle.stage_commands.specs.Apps.{IsCollected, ReplacesBy}
+use Rattle.stage_commands.specs.Apps.{ReplacesBy}
+use Rattle.stage_commands.specs.declared.outcome.Stop.{Stop}
 use Rattle.stage_commands.specs.Puts.{AddsAppFile, app_file, no_file}
 use Rattle.stage_commands.specs.Puts.{AddsFile, file_added, nothing_added}
 use Rattle.stage_commands.specs.Puts.{AreFilesOf, AreFilesSoFar, IsAmongFiles, IsFileOf}
@@ -90,23 +93,31 @@ are_files manifest apps files _ h (file_added _ file named has) =
     (inl (named, has))
 
 pub plans : (known : KnownFiles) (current manifest : List ℕ) (steps : List StagingStep)
-    (anyway : Bool) (files : List ReplacedFile) (bytes : List ℕ) (sources : Sources)
-    → IsCollected known manifest bytes sources → AreFilesOf bytes sources.apps.items files
-    → (anyway ≡ false → LiftsNone known current steps sources.apps.items)
+    (anyway : Bool) (files : List ReplacedFile) (next : CollectedManifest)
+    → IsCollected known manifest next
+    → AreFilesOf next.bytes.items next.sources.apps.items files
+    → (anyway ≡ false → LiftsNone known current steps next.sources.apps.items)
     → PlansPut known current manifest steps anyway files
-plans known current manifest steps anyway files bytes sources collected are lifts = record {
-  bytes = bytes;
-  sources = sources;
-  collected = collected;
-  are_files = are;
-  lifts_none = lifts;
-}
+plans known current manifest steps anyway files next collected are lifts =
+    record { next = next; collected = collected; are_files = are; lifts_none = lifts }
 
-pub lifts_none : (known : KnownFiles) (current bytes : List ℕ) (steps : List StagingStep)
-    (sources : Sources) (next : List AppSources) → IsCollected known current bytes sources
-    → lifted_halt steps sources.apps.items next ≡ None → LiftsNone known current steps next
-lifts_none known current bytes steps sources next collected is =
-    record { bytes = bytes; sources = sources; collected = collected; none_is = is }
+lifts_none : (known : KnownFiles) (current : List ℕ) (steps : List StagingStep)
+    (manifest : CollectedManifest) (next : List AppSources) → IsCollected known current manifest
+    → lifted_halt steps manifest.sources.apps.items next ≡ None
+    → LiftsNone known current steps next
+lifts_none known current steps manifest next collected is =
+    record { manifest = manifest; collected = collected; none_is = is }
+
+-- the manifest in place was gathered, and by it no halt is lifted
+pub lifts_none_by : (known : KnownFiles) (current : List ℕ) (steps : List StagingStep)
+    (present : Result CollectedManifest Stop) (next : List AppSources)
+    (lifted : Option (List ℕ)) → IfOk present (IsCollected known current) → IsOk present
+    → IfOk present (λ manifest. lifted ≡ lifted_halt steps manifest.sources.apps.items next)
+    → lifted ≡ None → LiftsNone known current steps next
+lifts_none_by known current steps (Err stop) after lifted collected is by none =
+    absurd (true≢false (sym is))
+lifts_none_by known current steps (Ok manifest) after lifted collected is by none =
+    lifts_none known current steps manifest after collected (sym by ∙ none)
 
 pub has_put : (known : KnownFiles) (current manifest : List ℕ) (anyway : Bool)
     (records : KnownRecords) (old new : KnownFolder) (recorded : RecordedSteps)

@@ -1,11 +1,10 @@
 -- An app of the manifest in place, and a file that is replaced.
-use Rattle.std.specs.Prelude.{◌≡◌, ◌⊎◌, ℕ, List, [], find, Option, Some, None}
+use Rattle.std.specs.Prelude.{◌≡◌, ◌⊎◌, ℕ, List, find, Option, Some, None}
 use Rattle.std.specs.Str.{bytes_eq}
-use Rattle.bounded_files.specs.Files.{Gives, KnownFiles, regular_files}
-use Rattle.load.specs.Folder.{files_in_folder}
-use Rattle.load.specs.Sources.{AreSources}
+use Rattle.bounded_files.specs.Files.{KnownFiles}
+use Rattle.load.specs.Opened.{IsCollected}
+use Rattle.load.specs.declared.opened.CollectedManifest.{CollectedManifest}
 use Rattle.load.specs.declared.sources.AppSources.{AppSources}
-use Rattle.load.specs.declared.sources.Sources.{Sources}
 use Rattle.stage_folder.specs.Folders.{GivesFile, KnownFolder, put_known}
 use Rattle.stage_records.specs.Steps.{ReplacedFile}
 
@@ -13,18 +12,11 @@ use Rattle.stage_records.specs.Steps.{ReplacedFile}
 abbrev pub app_named : List AppSources → (appid : List ℕ) → Option AppSources
 app_named apps appid = find (λ app. bytes_eq app.entry.appid appid) apps
 
--- the manifest at a path, as a load gathers it
-pub record IsCollected (known : KnownFiles) (path bytes : List ℕ) (sources : Sources)
-    : Type 0 where
-  pub given : Gives (regular_files known) path (Some bytes)
-  pub are_sources : AreSources (files_in_folder known path) [] bytes sources
-
 -- the app with this appid of the manifest at a path
 pub record IsAppOf (known : KnownFiles) (path appid : List ℕ) (app : AppSources) : Type 0 where
-  pub bytes : List ℕ
-  pub sources : Sources
-  pub collected : IsCollected known path bytes sources
-  pub found : app_named sources.apps.items appid ≡ Some app
+  pub manifest : CollectedManifest
+  pub collected : IsCollected known path manifest
+  pub found : app_named manifest.sources.apps.items appid ≡ Some app
 
 -- ---- one file
 

@@ -3,16 +3,16 @@ use Rattle.std.specs.Prelude.{◌≡◌, ◌⊎◌, ℕ, List, [], ◌∷◌, �
 use Rattle.std.specs.Prelude.{Bool, false, option_map}
 use Rattle.bounded_files.specs.Files.{KnownFiles}
 use Rattle.load.specs.Kept.{whole_file}
-use Rattle.load.specs.Source.{file_of}
+use Rattle.load.specs.Opened.{IsCollected}
+use Rattle.load.specs.declared.opened.CollectedManifest.{CollectedManifest}
 use Rattle.load.specs.declared.sources.AppSources.{AppSources}
-use Rattle.load.specs.declared.sources.Sources.{Sources}
+use Rattle.manifest.specs.App.{file_of}
 use Rattle.stage_folder.specs.Folders.{KnownFolder, KnownRecords}
 use Rattle.stage_folder.specs.Steps.{done}
 use Rattle.stage_folder.specs.Recorded.{AreRecorded}
 use Rattle.stage_folder.specs.declared.records.RecordedSteps.{RecordedSteps}
 use Rattle.stage_records.specs.Steps.{ReplacedFile, StagingStep}
 use Rattle.staging.specs.InForce.{lifted_halt}
-use Rattle.stage_commands.specs.Apps.{IsCollected}
 
 -- ---- the files that are replaced
 
@@ -60,21 +60,19 @@ pub record AreFilesSoFar (apps left : List AppSources) (files : List ReplacedFil
 -- the next manifest lifts no halt of these steps that is in force under the manifest in place
 pub record LiftsNone (known : KnownFiles) (current : List ℕ) (steps : List StagingStep)
     (next : List AppSources) : Type 0 where
-  pub bytes : List ℕ
-  pub sources : Sources
-  pub collected : IsCollected known current bytes sources
-  pub none_is : lifted_halt steps sources.apps.items next ≡ None
+  pub manifest : CollectedManifest
+  pub collected : IsCollected known current manifest
+  pub none_is : lifted_halt steps manifest.sources.apps.items next ≡ None
 
 -- ---- the whole
 
 module _ (known : KnownFiles) (current manifest : List ℕ) where
   pub record PlansPut (steps : List StagingStep) (anyway : Bool) (files : List ReplacedFile)
       : Type 0 where
-    pub bytes : List ℕ
-    pub sources : Sources
-    pub collected : IsCollected known manifest bytes sources
-    pub are_files : AreFilesOf bytes sources.apps.items files
-    pub lifts_none : anyway ≡ false → LiftsNone known current steps sources.apps.items
+    pub next : CollectedManifest
+    pub collected : IsCollected known manifest next
+    pub are_files : AreFilesOf next.bytes.items next.sources.apps.items files
+    pub lifts_none : anyway ≡ false → LiftsNone known current steps next.sources.apps.items
 
   -- each file that changes has the bytes that the manifest at a path gives it, and without
   -- `--anyway` no halt that is recorded is lifted

@@ -1,8 +1,8 @@
 -- What each action of `stage` does to the files of a folder.
 use Rattle.std.specs.Prelude.{◌≡◌, ℕ, List, Option, Some}
 use Rattle.bounded_files.specs.Files.{KnownFiles}
-use Rattle.load.specs.Source.{file_of}
 use Rattle.load.specs.declared.sources.AppSources.{AppSources}
+use Rattle.manifest.specs.App.{file_of}
 use Rattle.stage_folder.specs.Folders.{GivesFile, KnownFolder}
 use Rattle.staging.specs.Halts.{Halts, halting_file}
 use Rattle.staging.specs.Raises.{IsRaised}

@@ -9,7 +9,7 @@ use crate::options::StageCall;
 use crate::outcome::{Lines, Stop};
 use crate::stop_texts::{no_app, one_file};
 use attrs::Text;
-use load::{AppSources, file_of};
+use load::AppSources;
 use stage_records::ReplacedFile;
 use std::alloc::{AllocError, Global};
 use std::fs;
@@ -22,8 +22,7 @@ fn file_identity<R>(rt: &R, manifest: &str, name: &str) -> Result<Option<(u64, u
 where
     R: Files + AllocGlobal,
 {
-    let folder = Path::new(manifest).parent().unwrap_or(Path::new(""));
-    let path = folder.join(rt.alloc(), name)?;
+    let path = Path::new(manifest).with_file_name(rt.alloc(), name)?;
     match fs::metadata(rt, path.as_str()) {
         Ok(found) => Ok(Some((found.dev(), found.ino()))),
         Err(_) => Ok(None),
@@ -57,10 +56,10 @@ fn app_with_file<'a, R>(
 where
     R: Files + AllocGlobal,
 {
-    let file = file_of(app.entry.source());
+    let file = app.entry.source().file();
     for other in apps {
         let is_other = other.entry.appid() != app.entry.appid();
-        if is_other && is_one_file(rt, manifest, file, file_of(other.entry.source()))? {
+        if is_other && is_one_file(rt, manifest, file, other.entry.source().file())? {
             return Ok(Some(other.entry.appid()));
         }
     }
@@ -89,7 +88,7 @@ where
     let Some(other) = found else {
         return Ok(app);
     };
-    let refusal = one_file(alloc, file_of(app.entry.source()), other);
+    let refusal = one_file(alloc, app.entry.source().file(), other);
     match lines.go_on_if(call.options.anyway, refusal) {
         Ok(()) => Ok(app),
         Err(stop) => Err(stop),

@@ -1,7 +1,7 @@
 //! For whom the next manifest changes what the present one gives, with the counters of a server.
 
-ghost use Rattle.stage_commands.specs.Compared.{IsJudged};
 ghost use Rattle.manifest_diff.specs.Opened.{AreKept};
+ghost use Rattle.stage_commands.specs.Compared.{AreAllJudged};
 
 use crate::options::{StageCall, StageOptions};
 use crate::outcome::{Lines, Stop};
@@ -9,7 +9,8 @@ use crate::quota_lines::push_quotas;
 use crate::stop_texts::{LOSES, not_compared, refused};
 use attrs::Elapsed;
 use cell_assignments::{CellAssignment, read_assignments};
-use manifest_diff::{DiffOptions, DiffOutput, OpenedBoth, OpenedManifest, diff_manifests};
+use load::JudgedManifest;
+use manifest_diff::{DiffOptions, DiffOutput, OpenedBoth, diff_manifests};
 use operator::ask_server;
 use operator_request::OperatorRequest;
 use printing::TextBuffer;
@@ -96,7 +97,7 @@ where
     let Ok(cells) = read_assignments(rt.alloc(), reply) else {
         return Err(Stop::Memory);
     };
-    push_quotas(text, &both.new.sources.arrays, &cells);
+    push_quotas(text, &both.new.arrays, &cells);
     push_rows(rt, both, &cells, text)
 }
 
@@ -105,14 +106,14 @@ where
 #[tactic(auto, using(crate::proofs::Opening::both_kept))]
 pub(crate) fn compare<R, D>(
     call: &StageCall<'_, R, D>,
-    old: OpenedManifest,
-    new: OpenedManifest,
+    old: JudgedManifest,
+    new: JudgedManifest,
     lines: &mut Lines,
 ) -> Result<(), Stop>
 where
     R: AllocGlobal + Clock + Net<Stream = TcpStream>,
-    requires old { IsJudged old }
-    requires new { IsJudged new }
+    requires old { AreAllJudged old }
+    requires new { AreAllJudged new }
 {
     let both = OpenedBoth { old, new };
     let reply = counters(call.rt, call.options, &mut lines.stderr);

@@ -2,17 +2,17 @@
 
 ghost use Rattle.std.specs.Prelude.{◌≡◌, IfOk, OnOk, false, true};
 ghost use Rattle.bounded_files.specs.Files.{KnownFiles};
-ghost use Rattle.stage_commands.specs.Apps.{IsCollected};
+ghost use Rattle.load.specs.Opened.{IsCollected};
 ghost use Rattle.stage_commands.specs.Stages.{HasHalted, PlansHalt, PlansHaltOf};
 
 use crate::app_file::{app_to_change, replacement};
-use crate::collected::{CollectedManifest, collected_at};
+use crate::collected::collected_at;
 use crate::options::StageCall;
 use crate::outcome::{Lines, Stop};
 use crate::steps::{number_in, owned_text, take_file};
 use crate::stop_texts::in_folder;
 use bounded_files::Disk;
-use load::{AppSources, file_of};
+use load::{AppSources, CollectedManifest};
 use stage_folder::StageFolder;
 use stage_records::{ReplacedFile, StepAction};
 use staging::halting_file;
@@ -30,7 +30,7 @@ fn halting_file_of<F: StageFolder>(
     ensures { IfOk result (PlansHaltOf (F.files folder.now) app.now) }
 {
     let source = app.entry.source();
-    let name = file_of(source);
+    let name = source.file();
     let before = match folder.read(name) {
         Ok(before) => before,
         Err(fault) => return Err(in_folder(alloc, name, fault)),
@@ -51,7 +51,7 @@ where
     R: Files + AllocGlobal,
     F: StageFolder,
     ensures { IfOk result (λ file. (known : KnownFiles)
-        → IsCollected known call.now.manifest.now collected.now.bytes.items collected.now.sources
+        → IsCollected known call.now.manifest.now collected.now
         → PlansHalt known call.now.manifest.now appid.now (F.files folder.now) file) }
 {
     let app = app_to_change(call, &collected.sources.apps, appid, lines)?;

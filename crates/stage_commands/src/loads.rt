@@ -2,12 +2,13 @@
 
 // No contract says what is printed or noted: bench/outside tests it.
 
-use crate::collected::{CollectedManifest, collect, digest_text};
+use crate::collected::digest_text;
 use crate::load_notes::{LoadNote, read_notes, with_note};
 use crate::options::StageCall;
 use crate::outcome::Lines;
 use crate::removed_apps::{apps_shown, push_removed};
 use bounded_files::Disk;
+use load::{CollectedManifest, collect_manifest};
 use operator::{RequestFault, ask_server};
 use operator_request::OperatorRequest;
 use printing::TextBuffer;
@@ -138,7 +139,7 @@ where
     if call.options.no_load || call.options.dry_run {
         return true;
     }
-    let collected = collect(call.rt.alloc(), call.disk, call.manifest).ok();
+    let collected = collect_manifest(call.rt.alloc(), call.disk, call.manifest).ok();
     let each = load_each(call, folder, collected.as_ref(), lines);
     drop(collected);
     match each {

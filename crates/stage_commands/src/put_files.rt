@@ -7,7 +7,7 @@ use crate::app_file::replacement;
 use crate::outcome::Stop;
 use crate::replaced_files::file_named;
 use crate::stop_texts::in_folder;
-use load::{AppSources, file_of, whole_file};
+use load::{AppSources, whole_file};
 use stage_folder::StageFolder;
 use stage_records::ReplacedFile;
 use std::alloc::{AllocError, Global};
@@ -59,7 +59,7 @@ fn add_app_file<F: StageFolder>(
     let Some(bytes) = whole_file(&app.kept) else {
         return Ok(());
     };
-    add_file(alloc, folder, files, file_of(app.entry.source()), bytes)?;
+    add_file(alloc, folder, files, app.entry.source().file(), bytes)?;
     Ok(())
 }
 

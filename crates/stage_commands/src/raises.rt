@@ -2,15 +2,15 @@
 
 ghost use Rattle.std.specs.Prelude.{◌≡◌, IfOk, OnOk, Some, false, string_bytes, true};
 ghost use Rattle.bounded_files.specs.Files.{KnownFiles};
-ghost use Rattle.load.specs.Source.{file_of};
+ghost use Rattle.load.specs.Opened.{IsCollected};
+ghost use Rattle.manifest.specs.App.{file_of};
 ghost use Rattle.staging.specs.Raises.{IsRaised};
-ghost use Rattle.stage_commands.specs.Apps.{IsCollected};
-ghost use Rattle.stage_commands.specs.Compared.{IsJudged};
+ghost use Rattle.stage_commands.specs.Compared.{AreAllJudged};
 ghost use Rattle.stage_commands.specs.Stages.{HasRaised, PlansRaise, PlansRaiseOf};
 ghost use Rattle.stage_folder.specs.Folders.{GivesFile};
 
 use crate::app_file::{app_to_change, replacement};
-use crate::collected::{CollectedManifest, collected_at, judged, judged_at};
+use crate::collected::{collected_at, judged, judged_at};
 use crate::comparison::compare;
 use crate::options::StageCall;
 use crate::outcome::{Lines, Stop};
@@ -20,9 +20,8 @@ use crate::stop_texts::{
     HAS_PROGRAM, IS_HALTED, NO_TEXT, in_folder, next_refused, not_raised, refusal_of,
 };
 use bounded_files::Disk;
-use load::{AppSources, file_of};
+use load::{AppSources, CollectedManifest, JudgedManifest};
 use manifest::ProgramSource;
-use manifest_diff::OpenedManifest;
 use stage_folder::StageFolder;
 use stage_records::{ReplacedFile, StepAction};
 use staging::{halting_file, raised_rule};
@@ -37,7 +36,7 @@ fn raised_text(alloc: Global, app: &AppSources, bytes: &[u8], buckets: u32) -> R
     ensures { IfOk result (λ text.
         IsRaised app.now.shape bytes.now (string_bytes text) buckets) }
 {
-    let name = file_of(app.entry.source());
+    let name = app.entry.source().file();
     if bytes == halting_file(app.entry.source()) {
         return Err(refusal_of(alloc, name, IS_HALTED));
     }
@@ -55,7 +54,7 @@ fn rule_bytes<F: StageFolder>(alloc: Global, folder: &F, app: &AppSources) -> Re
     ensures { IfOk result (λ bytes.
         GivesFile (F.files folder.now) (file_of app.now.entry.source) (Some bytes.items)) }
 {
-    let name = file_of(app.entry.source());
+    let name = app.entry.source().file();
     if let ProgramSource::Program(_) = app.entry.source() {
         return Err(refusal_of(alloc, name, HAS_PROGRAM));
     }
@@ -84,7 +83,7 @@ fn raised_file_of<F: StageFolder>(
             return Err(stop);
         }
     };
-    let name = file_of(app.entry.source());
+    let name = app.entry.source().file();
     let file = replacement(alloc, name, Some(bytes), text.as_bytes())?;
     Ok(file)
 }
@@ -96,15 +95,15 @@ fn judged_with<D: Disk>(
     manifest: &str,
     bytes: &[u8],
     file: &ReplacedFile,
-) -> Result<OpenedManifest, Stop>
-    ensures { IfOk result IsJudged }
+) -> Result<JudgedManifest, Stop>
+    ensures { IfOk result AreAllJudged }
 {
     let replaced = slice::from_ref(file);
     let sources = match sources_with(alloc, disk, manifest, bytes, replaced, true) {
         Ok(sources) => sources,
         Err(fault) => return Err(next_refused(alloc, fault)),
     };
-    match judged(alloc, sources) {
+    match judged(alloc, bytes, sources) {
         Ok(opened) => Ok(opened),
         Err(fault) => Err(next_refused(alloc, fault)),
     }
@@ -123,7 +122,7 @@ where
 {
     let alloc = call.rt.alloc();
     let CollectedManifest { bytes, sources } = collected;
-    let old = match judged_at(alloc, call.manifest, sources) {
+    let old = match judged_at(alloc, call.manifest, &bytes, sources) {
         Ok(old) => old,
         Err(stop) => {
             drop(bytes);
@@ -154,7 +153,7 @@ where
     R: Files + AllocGlobal,
     F: StageFolder,
     ensures { IfOk result (λ file. (known : KnownFiles)
-        → IsCollected known call.now.manifest.now collected.now.bytes.items collected.now.sources
+        → IsCollected known call.now.manifest.now collected.now
         → PlansRaise known call.now.manifest.now appid.now buckets (F.files folder.now) file) }
 {
     let app = app_to_change(call, &collected.sources.apps, appid, lines)?;

@@ -1,8 +1,8 @@
 //! The files of a manifest, of which a step's are as before it, or as after it.
 
-use crate::collected::sources_over;
 use bounded_files::{Disk, ResourceFault};
-use load::{Files, FolderFiles, LoadFault, Sources};
+use cells::Directory;
+use load::{Files, FolderFiles, LoadFault, Sources, collect_sources};
 use stage_records::ReplacedFile;
 use std::alloc::{AllocError, Global};
 
@@ -81,5 +81,8 @@ pub(crate) fn sources_with<D: Disk>(
         replaced,
         is_after,
     };
-    sources_over(alloc, bytes, &mut files)
+    match collect_sources(alloc, bytes, &mut files, &Directory::new(alloc)) {
+        Ok(sources) => Ok(sources),
+        Err(refusal) => Err(refusal.into_fault()),
+    }
 }

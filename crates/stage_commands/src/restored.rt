@@ -1,16 +1,15 @@
 //! What changes if a step is undone: the manifest in place, compared with the one before the step.
 
 ghost use Rattle.std.specs.Prelude.{IfSome};
-ghost use Rattle.stage_commands.specs.Compared.{IsJudged};
+ghost use Rattle.stage_commands.specs.Compared.{AreAllJudged};
 
-use crate::collected::{CollectedManifest, collect, judged};
+use crate::collected::judged;
 use crate::comparison::compare;
 use crate::options::StageCall;
 use crate::outcome::{Lines, Stop};
 use crate::replaced_files::{bytes_of, file_named, sources_with};
 use bounded_files::Disk;
-use load::{Sources, manifest_bytes};
-use manifest_diff::OpenedManifest;
+use load::{CollectedManifest, JudgedManifest, collect_manifest, manifest_bytes};
 use stage_records::{ReplacedFile, StagingStep};
 use std::alloc::Global;
 use std::net::{Net, TcpStream};
@@ -22,36 +21,28 @@ const CURRENT: &str = "current.toml";
 /// What is said in place of a comparison.
 const NOT_COMPARED: &str = "stage: a manifest is refused, so what changes isn't compared\n";
 
-// The sources of the manifest in place.
-fn sources_at<D: Disk>(alloc: Global, disk: &D, manifest: &str) -> Option<Sources> {
-    let collected = collect(alloc, disk, manifest).ok()?;
-    let CollectedManifest {
-        bytes: _bytes,
-        sources,
-    } = collected;
-    Some(sources)
-}
-
-// The sources of the manifest as it was before a step.
-fn sources_before<D: Disk>(
+// The manifest as it was before a step.
+fn collected_before<D: Disk>(
     alloc: Global,
     disk: &D,
     manifest: &str,
     restored: &[ReplacedFile],
-) -> Option<Sources> {
+) -> Option<CollectedManifest> {
     let bytes = match file_named(restored, CURRENT) {
         Some(file) => bytes_of(alloc, file, false).ok()?,
         None => manifest_bytes(disk, manifest).ok()?,
     };
-    sources_with(alloc, disk, manifest, &bytes, restored, false).ok()
+    let sources = sources_with(alloc, disk, manifest, &bytes, restored, false).ok()?;
+    Some(CollectedManifest { bytes, sources })
 }
 
-// A manifest's sources, judged, if they can be.
-fn judged_if(alloc: Global, sources: Option<Sources>) -> Option<OpenedManifest>
-    ensures { IfSome result IsJudged }
+// A manifest, judged, if it can be.
+fn judged_if(alloc: Global, collected: Option<CollectedManifest>) -> Option<JudgedManifest>
+    ensures { IfSome result AreAllJudged }
 {
-    match judged(alloc, sources?) {
-        Ok(opened) => Some(opened),
+    let CollectedManifest { bytes, sources } = collected?;
+    match judged(alloc, &bytes, sources) {
+        Ok(judged) => Some(judged),
         Err(fault) => {
             drop(fault);
             None
@@ -72,11 +63,11 @@ where
     D: Disk,
 {
     let (alloc, disk) = (call.rt.alloc(), call.disk);
-    let Some(old) = judged_if(alloc, sources_at(alloc, disk, call.manifest)) else {
+    let Some(old) = judged_if(alloc, collect_manifest(alloc, disk, call.manifest).ok()) else {
         lines.stderr.push(NOT_COMPARED);
         return Ok(());
     };
-    let before = sources_before(alloc, disk, call.manifest, &step.files);
+    let before = collected_before(alloc, disk, call.manifest, &step.files);
     let Some(new) = judged_if(alloc, before) else {
         drop(old);
         lines.stderr.push(NOT_COMPARED);

@@ -2,7 +2,7 @@
 
 // No contract says what is printed: bench/outside tests it.
 
-use crate::collected::{CollectedManifest, digest_text};
+use crate::collected::digest_text;
 use crate::digest_line::last_digest;
 use crate::load_notes::{note_of, read_notes};
 use crate::loads::push_fault;
@@ -10,9 +10,8 @@ use crate::options::StageCall;
 use crate::outcome::Lines;
 use crate::quota_lines::push_quotas;
 use crate::served::{InPlace, Served, are_both};
-use bpf_verify::Verified;
 use cell_assignments::read_assignments;
-use load::{AppSources, judge};
+use load::{AppSources, CollectedManifest, judge_app};
 use operator::{RequestFault, ask_server};
 use operator_request::OperatorRequest;
 use printing::TextBuffer;
@@ -21,40 +20,20 @@ use std::alloc::{AllocError, Global};
 use std::net::{Net, TcpStream};
 use std::rt::Files;
 
-// The lines by which a server shows these apps.
-fn app_lines(
-    alloc: Global,
-    apps: &[AppSources],
-    programs: &[Verified],
-) -> Result<String, AllocError> {
+// The lines by which a server shows the apps of a manifest; None if a load would refuse it.
+fn shown_apps(alloc: Global, apps: &[AppSources]) -> Result<Option<String>, AllocError> {
     let mut text = TextBuffer::new(alloc);
-    let mut left = programs;
     for app in apps {
-        let [program, others @ ..] = left else {
-            break;
+        let Ok(judged) = judge_app(alloc, app) else {
+            return Ok(None);
         };
         text.push("app ");
         text.push(app.entry.appid());
         text.push_number(" releases ", app.entry.releases().len() as u64, "");
-        text.push_number(" slots ", program.len() as u64, "\n");
-        left = others;
+        text.push_number(" slots ", judged.program.len() as u64, "\n");
+        drop(judged);
     }
-    text.finish()
-}
-
-// The lines by which a server shows the apps of a manifest; None if a load would refuse it.
-fn shown_apps(alloc: Global, apps: &[AppSources]) -> Result<Option<String>, AllocError> {
-    match judge(alloc, apps) {
-        Ok(programs) => {
-            let text = app_lines(alloc, apps, &programs);
-            drop(programs);
-            Ok(Some(text?))
-        }
-        Err(fault) => {
-            drop(fault);
-            Ok(None)
-        }
-    }
+    Ok(Some(text.finish()?))
 }
 
 // What is in place, for a comparison with what servers serve.

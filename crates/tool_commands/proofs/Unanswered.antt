@@ -16,7 +16,7 @@ by_files known args fault why = why
 
 pub unanswered : (known : KnownFiles) (args : AskArgs) (opened : OpenedWhy) (fault : Fault)
     → AreOpenedWhy known args.manifest.now args.request.now opened
-    → IsReplyFault opened.directory opened.body.items args fault
+    → IsReplyFault opened.manifest.directory opened.body.items args fault
     → IsWhyRefusal known args fault
 unanswered known args opened fault files because =
     by_files known args fault (record { opened = opened; files = files; because = because })

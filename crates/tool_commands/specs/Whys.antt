@@ -21,7 +21,7 @@ pub record IsWhyBy (opened : OpenedWhy) (args : AskArgs) (text : List ℕ) : Typ
   pub counters : AreServed args.operator served
   pub lines : List ℕ
   pub why_is : IsWhyText opened moment served args.cells.items lines
-  pub text_is : text ≡ lines ++ digest_line opened.digest
+  pub text_is : text ≡ lines ++ digest_line opened.manifest.digest
 
 -- the reasons, from the files
 pub record HasWhy (known : KnownFiles) (args : AskArgs) (text : List ℕ) : Type 0 where
@@ -33,7 +33,7 @@ pub record HasWhy (known : KnownFiles) (args : AskArgs) (text : List ℕ) : Type
 pub record IsUnansweredWhy (known : KnownFiles) (args : AskArgs) (fault : Fault) : Type 0 where
   pub opened : OpenedWhy
   pub files : AreOpenedWhy known args.manifest.now args.request.now opened
-  pub because : IsReplyFault opened.directory opened.body.items args fault
+  pub because : IsReplyFault opened.manifest.directory opened.body.items args fault
 
 -- what prevents the reasons; a fault of the files comes first
 abbrev pub IsWhyRefusal : KnownFiles → AskArgs → Fault → Type 0

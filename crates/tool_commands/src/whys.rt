@@ -1,11 +1,11 @@
 //! `ask --why`: why each app of a request gets what it gets, and the digest of the files that give
 //! the reasons.
 
-ghost use Rattle.std.specs.Prelude.{◌≡◌, ◌++◌, IfOk, IfErr};
+ghost use Rattle.std.specs.Prelude.{◌≡◌, ◌++◌, All, IfOk, IfErr};
 ghost use Rattle.std.specs.String.{string_bytes};
 ghost use Rattle.tool_commands.specs.DryRuns.{IsReplyFault};
 ghost use Rattle.tool_commands.specs.Whys as specs;
-ghost use Rattle.dry_run.specs.Meanings.{HaveMeanings};
+ghost use Rattle.dry_run.specs.Meanings.{IsMeantApp};
 ghost use Rattle.manifest_tools.specs.Checks.{digest_line};
 
 use crate::dry_runs::{moment_of, served_reply};
@@ -48,11 +48,11 @@ where
 fn why_from<R>(rt: &R, opened: &OpenedWhy, args: &AskArgs<'_>) -> Result<String, Fault>
 where
     R: AllocGlobal + Clock + Net<Stream = TcpStream>,
-    requires { HaveMeanings opened.now.rules.apps opened.now.optional_rules.items }
+    requires { All IsMeantApp opened.now.manifest.apps.items }
     ensures why { IfOk result (λ text.
         specs.IsWhyBy opened.now args.now (string_bytes text)) }
     ensures fault { IfErr result
-        (IsReplyFault opened.now.directory opened.now.body.items args.now) }
+        (IsReplyFault opened.now.manifest.directory opened.now.body.items args.now) }
 {
     let reply = match served_reply(rt, args.operator) {
         Ok(reply) => reply,
@@ -66,7 +66,7 @@ where
         Ok(lines) => lines,
         Err(fault) => return Err(Fault::DryRun(fault)),
     };
-    match with_digest(lines, opened.digest) {
+    match with_digest(lines, opened.manifest.digest) {
         Ok(text) => Ok(text),
         Err(_) => Err(Fault::Resource(ResourceFault::Memory)),
     }

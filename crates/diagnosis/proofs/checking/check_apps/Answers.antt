@@ -1,6 +1,14 @@
 use Rattle.std.proofs.Common.{◌∙◌, refl}
-use Rattle.diagnosis.proofs.Passing.{fails_by}
+use Rattle.diagnosis.proofs.Passing.{fails_by, judged_shaped, passes_apps}
 use Rattle.diagnosis.proofs.checking.check_apps.Goals as goal
+
+pub report_accepted-requires-clause-shaped : goal.report_accepted-requires-clause-shaped
+report_accepted-requires-clause-shaped c =
+    judged_shaped _ _ _ c.in-Ok.ensures.judged c.requires
+
+pub returns-in-Ok-report_accepted-clause-passes : goal.returns-in-Ok-report_accepted-clause-passes
+returns-in-Ok-report_accepted-clause-passes c =
+    passes_apps _ _ _ _ c.in-Ok.ensures.judged c.in-Ok-report_accepted.ensures
 
 pub returns-in-Err-report_accepted-clause-fails : goal.returns-in-Err-report_accepted-clause-fails
 returns-in-Err-report_accepted-clause-fails c =
@@ -9,5 +17,6 @@ returns-in-Err-report_accepted-clause-fails c =
 
 pub returns-in-Err-clause-fails : goal.returns-in-Err-clause-fails
 returns-in-Err-clause-fails c =
-    fails_by _ _ _ _ c.in-Err.ensures.fault c.as_slice.ensures.value c.refuse_sources.ensures.fault
-    c.refuse_sources.ensures.reported
+    fails_by c.args.sources c.in-Err.refused.sources c.in-Err.refused.fault _
+    c.in-Err.ensures.fault c.in-Err.ensures.sources
+    c.refuse_sources.ensures.fault c.refuse_sources.ensures.reported

@@ -5,7 +5,7 @@ use Rattle.diagnosis.specs.Further.JudgesApp.{supplied, refused}
 use Rattle.diagnosis.proofs.later_faults.fault_in.Goals as goal
 
 pub returns-in-Ok : goal.returns-in-Ok
-returns-in-Ok c = supplied _ c.in-Ok.ensures.program
+returns-in-Ok c = supplied _ c.in-Ok.ensures.program.judged
 
 pub returns-in_ok-fault-in-Err : goal.returns-in_ok-fault-in-Err
 returns-in_ok-fault-in-Err c =

@@ -9,7 +9,7 @@ loop-app-preserved c =
     c.in-Ok-push_str.ensures.bytes
     ∙ ap (λ (t : List ℕ). string_bytes c.loop-app.text ++ t) c.as_str.ensures.value in (
       ap (λ (n : ℕ). n + 1) so_far.0,
-      one_more c.args.why.now.rules c.args.why.now.optional_rules.items c.facts-facts.result.now
+      one_more c.args.manifest.now c.facts-facts.result.now
           c.args.moment.now (map string_bytes c.args.notes.now) c.args.counters.now
           c.apps-apps.result.now c.loop-app.app-index c.loop-app.place c.app-item.result
           c.note_at-note.result.now _ _ _ _ _ c.loop-app-test.true c.app-item.is so_far.0

@@ -6,5 +6,5 @@ use Rattle.dry_run.proofs.why.explain_apps.Given as goal
 abbrev pub invariant-loop-app : goal.invariant-loop-app
 invariant-loop-app l =
     (l.place ≡ l.app-index)
-    × ExplainsAll l.why.rules l.why.optional_rules.items l.facts l.moment (map string_bytes l.notes)
+    × ExplainsAll l.manifest l.facts l.moment (map string_bytes l.notes)
     l.initial.counters (take l.app-index l.apps) l.counters (string_bytes l.text)

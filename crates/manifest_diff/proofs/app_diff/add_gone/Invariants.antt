@@ -1,5 +1,5 @@
 use Rattle.std.proofs.Common.{length, map}
-use Rattle.load.specs.declared.sources.AppSources.{AppSources}
+use Rattle.load.specs.declared.judged.JudgedApp.{JudgedApp}
 use Rattle.std.specs.Option.{option_copied}
 use Rattle.manifest_diff.specs.Adding.{AddsMore, gone_among}
 use Rattle.manifest_diff.specs.Reports.{gone_appids}
@@ -9,7 +9,7 @@ abbrev pub invariant-loop-left : goal.invariant-loop-left
 invariant-loop-left l =
     AddsMore l.both l.within.from_day l.within.used.now (option_copied l.only)
     (gone_appids l.both)
-    (gone_among l.both (map (λ (app : AppSources). app.entry.appid) l.left))
+    (gone_among l.both (map (λ (app : JudgedApp). app.sources.entry.appid) l.left))
     l.initial.diffs.items l.diffs.items
 
 abbrev pub decreases-loop-left : goal.decreases-loop-left

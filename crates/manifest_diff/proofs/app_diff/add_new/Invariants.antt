@@ -1,5 +1,5 @@
 use Rattle.std.proofs.Common.{length, map}
-use Rattle.load.specs.declared.sources.AppSources.{AppSources}
+use Rattle.load.specs.declared.judged.JudgedApp.{JudgedApp}
 use Rattle.std.specs.Option.{option_copied}
 use Rattle.manifest_diff.specs.Opened.{manifest_appids}
 use Rattle.manifest_diff.specs.Adding.{AddsMore}
@@ -8,7 +8,7 @@ use Rattle.manifest_diff.proofs.app_diff.add_new.Given as goal
 abbrev pub invariant-loop-left : goal.invariant-loop-left
 invariant-loop-left l =
     AddsMore l.both l.within.from_day l.within.used.now (option_copied l.only)
-    (manifest_appids l.both.new) (map (λ (app : AppSources). app.entry.appid) l.left)
+    (manifest_appids l.both.new) (map (λ (app : JudgedApp). app.sources.entry.appid) l.left)
     l.initial.diffs.items l.diffs.items
 
 abbrev pub decreases-loop-left : goal.decreases-loop-left

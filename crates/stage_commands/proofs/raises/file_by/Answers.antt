@@ -4,4 +4,4 @@ use Rattle.stage_commands.proofs.raises.file_by.Goals as goal
 pub returns : goal.returns
 returns g c = λ known collected.
     let found = rw c.deref.ensures.value at c.in_ok-app.ensures in
-    raise known _ _ _ _ _ c.in_ok-app.app.now _ _ collected found c.in_ok-file.ensures
+    raise known _ _ _ _ c.in_ok-app.app.now _ _ collected found c.in_ok-file.ensures
