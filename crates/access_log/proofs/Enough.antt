@@ -128,10 +128,10 @@ brief_outcome NoUpdate is =
     less (number_takes 1 (codes "choice") 0 refl (omega arith) (omega arith) (omega arith))
     (omega arith)
 
-brief_event : (e : Option Excerpt) → IfSome e IsShort
+brief_count : (e : Option Excerpt) → IfSome e IsShort
     → Takes 25 (count_member (codes "event_left_out") (event_length e))
-brief_event (Some e) is = less (count_takes (codes "event_left_out") e.length refl is) (omega arith)
-brief_event None is = none
+brief_count (Some e) is = less (count_takes (codes "event_left_out") e.length refl is) (omega arith)
+brief_count None is = none
 
 -- the brace and the id, which has no comma
 head_takes : (text : List ℕ) → text_size text ≤ 64 → Takes 76 (head_of text)
@@ -169,7 +169,7 @@ brief_app app is =
     (omega (arith, is.2))))
     (flag_takes (codes "named") app.named refl))
     (brief_outcome app.outcome is.3))
-    (brief_event app.event is.4))
+    (brief_count app.event is.4))
     end_takes in
     omega (arith, all.few)
 
@@ -230,12 +230,5 @@ lists_enough : (apps : List LoggedApp) → ListsEnough apps
 lists_enough apps are = either_way apps (all_fit apps) (so_many 11 0 3641 apps (omega arith) are)
 
 pub lists_apps : (e : LogEvent) → ListsApps e
-lists_apps (log.Start s) = tt
-lists_apps (log.Serving generation) = tt
-lists_apps (log.Load l) = tt
 lists_apps (log.Connection a) = lists_enough a.apps.now
-lists_apps (log.Unaccepted reason) = tt
-lists_apps (log.Lost lines) = tt
-lists_apps (log.Totals t) = tt
-lists_apps (log.Stop refusal) = tt
-lists_apps (log.Counter a) = tt
+lists_apps other = tt
