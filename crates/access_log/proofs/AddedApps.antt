@@ -58,7 +58,8 @@ Completes comma old line room left i apps =
     → AddsTokens false e old new (app_objects room apps)
 
 pub one_more : {old line new : List ℕ} {comma : Bool} {rest : ℕ} (room left : ℕ)
-    (apps : List LoggedApp) (i : ℕ) (d : LoggedApp) → i < length apps → rest ≡ left_after left (get_or apps i d)
+    (apps : List LoggedApp) (i : ℕ) (d : LoggedApp) → i < length apps
+    → rest ≡ left_after left (get_or apps i d)
     → AddsTokens comma true line new
     (object_with (get_or apps i d) (fitted_details left (get_or apps i d)))
     → Completes comma old line room left i apps → Completes true old new room rest (i + 1) apps

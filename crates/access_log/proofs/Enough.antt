@@ -82,7 +82,8 @@ text_takes n name text plain within few =
 number_takes : (digits : ℕ) (name : List ℕ) (k : ℕ) → is_plain_text name ≡ true → 1 ≤ digits
     → k < 10 ^ digits → k < 2 ^ 64 → Takes (length name + 4 + digits) (number_member name k)
 number_takes digits name k plain some few small =
-    member_takes digits name (number (decimal k)) plain refl (length-decimal-le digits k some few small)
+    member_takes digits name (number (decimal k)) plain refl
+    (length-decimal-le digits k some few small)
 
 unless : {n : ℕ} {ts : List Token} (b : Bool) → Takes n ts → Takes n (if b then [] else ts)
 unless true takes = none
@@ -165,7 +166,7 @@ brief_app app is =
     (both (head_takes app.appid.text.now is.0.0)
     (count_takes (codes "appid_left_out") (left_out app.appid) refl (omega (arith, is.0.1))))
     (brief_version app.version is.1))
-    (number_takes 4 (codes "bucket") app.bucket refl (omega arith) (omega (arith, is.2))
+    (number_takes 5 (codes "bucket") app.bucket refl (omega arith) (omega (arith, is.2))
     (omega (arith, is.2))))
     (flag_takes (codes "named") app.named refl))
     (brief_outcome app.outcome is.3))

@@ -1,7 +1,7 @@
--- What a line logs of the apps of a request. All apps have 3641 bytes, and the rest of the line has
--- the others.
+-- What a line logs of the apps of a request: together they take at most 3641 bytes.
 use Rattle.std.specs.Prelude.{ℕ, ◌+◌, ◌-◌, List, [], ◌∷◌, ◌++◌, codes, length, take, drop}
-use Rattle.std.specs.Prelude.{Bool, true, nat_le, nat_lt, ◌==◌, if◌then◌else◌, Option, Some, None}
+use Rattle.std.specs.Prelude.{Bool, true, false, nat_le, nat_lt, ◌==◌, if◌then◌else◌}
+use Rattle.std.specs.Prelude.{Option, Some, None}
 use Rattle.json.specs.Token.{Token, begin_object, end_object, begin_array, end_array, key}
 use Rattle.access_log.specs.Members.{text_member, number_member, flag_member, count_member}
 use Rattle.access_log.specs.Members.{left_out, optional_excerpt}
@@ -42,11 +42,12 @@ app_members app =
     ++ flag_member (codes "named") app.named
     ++ outcome_members app.outcome
 
+abbrev pub event_of : LoggedApp → List Token
+event_of app = optional_excerpt (codes "event") (codes "event_left_out") app.event
+
 -- its details: the further members, and the event
 abbrev pub details_of : LoggedApp → List Token
-details_of app =
-    more_members app.more
-    ++ optional_excerpt (codes "event") (codes "event_left_out") app.event
+details_of app = more_members app.more ++ event_of app
 
 abbrev pub event_length : Option Excerpt → ℕ
 event_length (Some e) = e.length
@@ -72,6 +73,10 @@ no_details_size app = size_of (no_details_of app)
 abbrev pub details_size : LoggedApp → ℕ
 details_size app = size_of (details_of app) - no_details_size app
 
+-- likewise of only its event
+abbrev pub event_size : LoggedApp → ℕ
+event_size app = size_of (event_of app) - no_details_size app
+
 abbrev pub first_of : (count room : ℕ) → Listed
 first_of count room = record { count = count; room = room }
 
@@ -85,14 +90,23 @@ fitting count room (app ∷ apps) =
 
 -- ---- apps that share `room` bytes for their details
 
--- the details if they fit, otherwise what replaces them
+-- the event if it fits, otherwise what replaces it
+abbrev pub fitted_event : ℕ → LoggedApp → List Token
+fitted_event room app = if nat_lt room (event_size app) then no_details_of app else event_of app
+
+abbrev pub left_after_event : ℕ → LoggedApp → ℕ
+left_after_event room app = if nat_lt room (event_size app) then room else room - event_size app
+
+-- the details if they fit, otherwise only the event, or what replaces it
 abbrev pub fitted_details : ℕ → LoggedApp → List Token
 fitted_details room app =
-    if nat_lt room (details_size app) then no_details_of app else details_of app
+    if nat_lt room (details_size app) then fitted_event room app else details_of app
 
 -- the bytes of `room` that are left for later apps
 abbrev pub left_after : ℕ → LoggedApp → ℕ
-left_after room app = if nat_lt room (details_size app) then room else room - details_size app
+left_after room app =
+    if nat_lt room (details_size app) then left_after_event room app
+    else room - details_size app
 
 -- the bytes of its further members
 abbrev pub more_size : LoggedApp → ℕ
@@ -158,11 +172,14 @@ first_apps listed apps =
 abbrev pub all_of : List LoggedApp → Listed
 all_of apps = first_of (length apps) 3641
 
--- with `,"apps":[` and `]`, and without the first comma, a list has 9 bytes more than its apps
+-- With `,"apps":[` and `]`, and without the first comma, a list has 9 bytes more than its apps. If
+-- there are more than 16 apps, each is measured first.
 abbrev pub all_fit : List LoggedApp → Bool
-all_fit apps = nat_le (size_of (first_apps (all_of apps) apps)) 3650
+all_fit apps =
+    if nat_lt 16 (length apps) then false
+    else nat_le (size_of (first_apps (all_of apps) apps)) 3650
 
--- all apps if they fit, otherwise as many as fit without their details
+-- all apps if they fit at once, otherwise as many as fit without their details
 abbrev pub listed_of : List LoggedApp → Listed
 listed_of apps = if all_fit apps then all_of apps else fitting 0 3641 apps
 

@@ -7,7 +7,7 @@ use Rattle.access_log.specs.declared.logged_app.Outcome.{Outcome}
 use Rattle.access_log.specs.declared.logged_app.Outcome.TheVariants.{Offered}
 use Rattle.access_log.specs.declared.excerpt.Excerpt.{Excerpt}
 
--- a client's text, which is shorter than a request may be
+-- a client's text: a request has at most 1 MiB
 abbrev pub IsShort : Excerpt → Type 0
 IsShort e = e.length < 10000000
 
@@ -15,14 +15,15 @@ IsShort e = e.length < 10000000
 abbrev pub IsBriefText : Excerpt → Type 0
 IsBriefText e = (text_size e.text.now ≤ 64) × IsShort e
 
--- a release has at most four numbers of ten digits
+-- A release is a number of a byte, and a version of at most four numbers of ten digits.
 abbrev pub HasBriefRelease : Outcome → Type 0
-HasBriefRelease (Offered choice version) = (choice < 1000) × (text_size version.now ≤ 43)
+HasBriefRelease (Offered choice version) = (choice < 256) × (text_size version.now ≤ 43)
 HasBriefRelease outcome = ⊤
 
+-- an app with such texts, whose bucket is a number of two bytes
 abbrev pub IsBrief : LoggedApp → Type 0
 IsBrief app =
-    IsBriefText app.appid × IfSome app.version IsBriefText × (app.bucket < 10000)
+    IsBriefText app.appid × IfSome app.version IsBriefText × (app.bucket < 65536)
     × HasBriefRelease app.outcome × IfSome app.event IsShort
 
 abbrev pub AreBrief : List LoggedApp → Type 0

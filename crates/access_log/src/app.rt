@@ -1,5 +1,5 @@
-//! An app of a request, as a line logs it: always the same members, and the details, its further
-//! members and its event, if they fit.
+//! An app of a request, as a line logs it. Its details, the further members and the event, are
+//! logged if they fit; otherwise only the event, if that fits.
 
 ghost use Rattle.std.specs.Prelude.{◌≡◌, ◌≤◌, [], ◌∷◌, ◌++◌, true, cond, IfOk, OnOk};
 ghost use Rattle.access_log.specs.Tokens.{AddsTokens, AddsMembers};
@@ -24,7 +24,7 @@ pub struct Left {
     pub without_more: usize,
 }
 
-/// An app, after a comma or not, with its details if these fit in `room` bytes.
+/// An app, after a comma or not, with those of its details that fit in `room` bytes.
 pub fn write_app(
     line: &mut LineBuffer,
     comma: bool,
@@ -112,7 +112,7 @@ fn write_offer(line: &mut LineBuffer, choice: u8, version: &str) -> Result<(), A
     Ok(())
 }
 
-// The details, or what replaces them if they don't fit in `room` bytes.
+// The details if they fit in `room` bytes, otherwise the event or its length.
 fn write_fitted(line: &mut LineBuffer, app: &LoggedApp<'_>, room: usize) -> Result<Left, AllocError>
     ensures text { OnOk result (AddsMembers line.old line.new
         (specs.fitted_details room app.now)) }
@@ -126,9 +126,8 @@ fn write_fitted(line: &mut LineBuffer, app: &LoggedApp<'_>, room: usize) -> Resu
     let size = line.added_since(before).saturating_sub(least);
     if room < size {
         line.cut_back(before);
-        write_no_details(line, app)?;
         return Ok(Left {
-            room,
+            room: write_fitted_event(line, app, room)?,
             without_more: if more == 0 { 0 } else { 1 },
         });
     }
@@ -136,6 +135,28 @@ fn write_fitted(line: &mut LineBuffer, app: &LoggedApp<'_>, room: usize) -> Resu
         room: room - size,
         without_more: 0,
     })
+}
+
+// The event, or its length if it doesn't fit in `room` bytes. Returns the bytes that are left.
+fn write_fitted_event(
+    line: &mut LineBuffer,
+    app: &LoggedApp<'_>,
+    room: usize,
+) -> Result<usize, AllocError>
+    ensures text { OnOk result (AddsMembers line.old line.new
+        (specs.fitted_event room app.now)) }
+    ensures room { IfOk result (λ left. left ≡ specs.left_after_event room app.now) }
+{
+    let least = no_details_size(line, app)?;
+    let before = line.len();
+    write_event(line, app)?;
+    let size = line.added_since(before).saturating_sub(least);
+    if room < size {
+        line.cut_back(before);
+        write_no_details(line, app)?;
+        return Ok(room);
+    }
+    Ok(room - size)
 }
 
 // The details of an app. Returns the bytes of its further members.
@@ -146,8 +167,14 @@ fn write_details(line: &mut LineBuffer, app: &LoggedApp<'_>) -> Result<usize, Al
     let before = line.len();
     write_more(line, &app.more)?;
     let more = line.added_since(before);
-    write_optional_excerpt(line, "event", "event_left_out", &app.event)?;
+    write_event(line, app)?;
     Ok(more)
+}
+
+fn write_event(line: &mut LineBuffer, app: &LoggedApp<'_>) -> Result<(), AllocError>
+    ensures { OnOk result (AddsMembers line.old line.new (specs.event_of app.now)) }
+{
+    write_optional_excerpt(line, "event", "event_left_out", &app.event)
 }
 
 // What replaces the details.

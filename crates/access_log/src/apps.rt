@@ -1,5 +1,6 @@
-//! The apps of a request, as a line logs them: all if they fit, otherwise the first that fit without
-//! their details. A part that doesn't fit is written, and the line is then cut back.
+//! The apps of a request, as a line logs them: all if they fit, otherwise the first that fit
+//! without their details. A part that doesn't fit is written, and the line is then cut back. So
+//! that the buffer of a line stays small, only a few apps are written without measuring each.
 
 ghost use Rattle.std.specs.Prelude.{◌≡◌, ◌≤◌, length, IfOk, OnOk};
 ghost use Rattle.access_log.specs.Tokens.{AddsMembers, AddsElements};
@@ -14,6 +15,9 @@ use std::alloc::AllocError;
 
 /// The most bytes of all apps of a line.
 const APPS_LIMIT: usize = 3641;
+
+/// The most apps that are written at once.
+const FEW_APPS: usize = 16;
 
 /// The most bytes of the member `apps` and what follows it, if no app is left out.
 const ALL_LIMIT: usize = 3650;
@@ -40,6 +44,9 @@ pub fn write_apps(line: &mut LineBuffer, apps: &[LoggedApp<'_>]) -> Result<(), A
 fn write_fitting(line: &mut LineBuffer, apps: &[LoggedApp<'_>]) -> Result<(), AllocError>
     ensures { OnOk result (AddsMembers line.old line.new (specs.fitting_members apps.now)) }
 {
+    if apps.len() > FEW_APPS {
+        return write_measured(line, apps);
+    }
     let before = line.len();
     let all = Listed {
         count: apps.len(),
@@ -50,6 +57,14 @@ fn write_fitting(line: &mut LineBuffer, apps: &[LoggedApp<'_>]) -> Result<(), Al
         return Ok(());
     }
     line.cut_back(before);
+    write_measured(line, apps)
+}
+
+// As many apps as fit.
+fn write_measured(line: &mut LineBuffer, apps: &[LoggedApp<'_>]) -> Result<(), AllocError>
+    ensures { OnOk result (AddsMembers line.old line.new
+        (specs.first_apps (specs.fitting 0 3641 apps.now) apps.now)) }
+{
     let listed = listed_apps(line, apps)?;
     write_first(line, apps, listed)
 }

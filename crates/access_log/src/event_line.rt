@@ -14,8 +14,8 @@ use crate::utc::Utc;
 use std::alloc::{AllocError, Global};
 
 /// The line of an event, with its line feed. Returns no line if an allocation fails.
-// open: whether an allocation fails; that a connection's line is never too long, and that a line,
-// as defined, is JSON: tests.
+// open: whether an allocation fails; that a connection's line is never too long, that a server's
+// apps are as brief as `apps` requires, and that a line, as defined, is JSON: tests.
 #[tactic(auto, using(crate::proofs::Enough::lists_apps))]
 pub fn log_line(
     alloc: Global,

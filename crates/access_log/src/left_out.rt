@@ -1,5 +1,5 @@
-//! What a line says of the apps of a request that it doesn't list: how many there are, and how many
-//! of these were offered a release or aren't known.
+//! The apps of a request that a line doesn't list: how many there are, how many were offered a
+//! release, and how many aren't known.
 
 ghost use Rattle.std.specs.Prelude.{◌≡◌, ◌≤◌, OnOk};
 ghost use Rattle.access_log.specs.Tokens.{AddsMembers};

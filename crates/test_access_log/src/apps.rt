@@ -20,11 +20,10 @@ pub(crate) struct Row {
 }
 
 /// Each app takes 67 bytes and its appid's, with the comma before it, and 19 or 22 if its appid is
-/// cut. All apps together have 3641. At least eleven apps are in a line, whatever a client wrote of
-/// them and a manifest has: all texts are cut, and no event fits. Thirty apps of 93 bytes leave
-/// 851, and an event takes 502 more than its count. Details take no bytes from apps: thirty apps of
-/// 88 bytes leave 1001, enough for eight times 115, and eight of 109 leave 2769, enough for four
-/// times 617.
+/// cut. All apps together have 3641. At least eleven apps are in a line: all texts are cut, and no
+/// event fits. Thirty apps of 93 bytes leave 851, and an event takes 502 more than its length.
+/// Details take no bytes from apps. Thirty apps of 88 bytes leave 1001, enough for eight times 115.
+/// Eight of 109 leave 2769, enough for four times 617. Six leave 2987, enough for an event more.
 const ROWS: &[Row] = &[
     Row {
         apps: &[(NO_APPID, 1)],
@@ -96,6 +95,11 @@ const ROWS: &[Row] = &[
         end: "]}\n",
     },
     Row {
+        apps: &[(WITH_MORE, 17)],
+        parts: &[(FURTHER, 17)],
+        end: "]}\n",
+    },
+    Row {
         apps: &[(WITH_MORE, 30)],
         parts: &[("\"appid\"", 30), (FURTHER, 8), ("\"ap\":", 8)],
         end: "],\"more_left_out\":22}\n",
@@ -104,6 +108,15 @@ const ROWS: &[Row] = &[
         apps: &[(WITH_BOTH, 8)],
         parts: &[("\"event\":", 4), ("\"ap\":", 4)],
         end: "],\"more_left_out\":4}\n",
+    },
+    Row {
+        apps: &[(WITH_BOTH, 6)],
+        parts: &[
+            ("\"event\":", 5),
+            ("\"ap\":", 4),
+            ("\"event_left_out\":512", 1),
+        ],
+        end: "],\"more_left_out\":2}\n",
     },
 ];
 
