@@ -11,8 +11,7 @@ use std::rt::Files;
 /// How many names are tried for the new file.
 const MOST_NAMES: u32 = 100;
 
-/// What happens if this process may not give a new file the owner of the old one, or may not open
-/// the folder to sync it.
+/// What happens if a new file can't get the owner of the old one, or its folder can't be synced.
 #[derive(Clone, Copy)]
 pub enum IfDenied {
     /// The call fails.
@@ -21,9 +20,10 @@ pub enum IfDenied {
     Ignore,
 }
 
-/// Replaces a regular file, or makes it with this mode. The new file has the owner and the mode of
-/// the old one. After the call its bytes and its name survive a crash. After an error the file is as
-/// before, or else it is replaced but its name may not survive a crash.
+/// Replaces a regular file, or makes it with this mode. The new file has the mode of the old one,
+/// and its bytes survive a crash. With `IfDenied::Fail` it also has the owner of the old one, and
+/// its name survives a crash. After an error the file is as before, or else it is replaced but its
+/// name may not survive a crash.
 // open: which bytes the file has, and which fault is returned: tests and `bench/outside`.
 pub fn replace_file<R: Files<File = File> + AllocGlobal>(
     rt: &R,
@@ -104,8 +104,8 @@ impl NewFile {
     }
 }
 
-// Only users who could read the old file can read the new one: it gets its owner and mode before
-// its name.
+// Only users who could read the old file can read the new one, unless `denied` ignores the owner:
+// it gets its owner and mode before its name.
 fn fill(file: &mut File, old: Option<Metadata>, bytes: &[u8], denied: IfDenied) -> io::Result<()> {
     file.write_all(bytes)?;
     if let Some(old) = old {
@@ -129,15 +129,18 @@ fn give_to_owner(file: &File, old: &Metadata, denied: IfDenied) -> io::Result<()
     given
 }
 
-// After this call, the names in the folder survive a crash.
+// With `IfDenied::Fail`, the names in the folder survive a crash after this call.
 fn sync_folder_of<R: Files>(rt: &R, path: &str, denied: IfDenied) -> io::Result<()> {
     let folder = match Path::new(path).parent() {
         Some(folder) if folder.as_str() != "" => folder.as_str(),
         _ => ".",
     };
-    match (fs::open(rt, folder), denied) {
-        (Ok(opened), _) => opened.sync_all(),
-        (Err(error), IfDenied::Ignore) if error.kind() == ErrorKind::PermissionDenied => Ok(()),
-        (Err(error), _) => Err(error),
+    let synced = match fs::open(rt, folder) {
+        Ok(opened) => opened.sync_all(),
+        Err(error) => Err(error),
+    };
+    match denied {
+        IfDenied::Fail => synced,
+        IfDenied::Ignore => Ok(()),
     }
 }

@@ -7,7 +7,8 @@
 // memory. A path that must lead to a regular file is checked before it is opened, so that no call
 // waits for the writer of a FIFO (`regular_file.rt`). Files are read through a trait, so that files
 // in memory can replace those of a device; for files in memory the contracts say which bytes were
-// read. A written file replaces the old one as a whole (`atomic_write.rt`), if the folder allows it.
+// read. A written file replaces the old one as a whole, if the folder allows it
+// (`atomic_write.rt`).
 //
 // For a file that may be longer than needed, only the first bytes are kept, its length, and whether
 // it is text to its end (`kept_bytes.rt`). It is read in pieces. Between pieces only the few bytes

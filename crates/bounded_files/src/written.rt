@@ -9,9 +9,9 @@ use std::path::Path;
 use std::rt::Files;
 
 /// Writes a file. If the path names a regular file (links are followed) or doesn't exist, the file
-/// is replaced as a whole, so the old bytes stay if writing fails. The new file has the mode of the
-/// old one, and its owner if this process may give it away. A device or a FIFO is written in place,
-/// and so is a file in a folder that takes no new files.
+/// is replaced as a whole. Then the old bytes stay if writing fails. The new file has the mode of
+/// the old one, and its owner if this process may give it away. A device or a FIFO is written in
+/// place, and so is a file in a folder that takes no new files.
 // open: which bytes OUT got, that the old bytes stay if writing fails, and that not every file
 // returns B3: `bench/outside`.
 pub fn write_file<R: Files<File = File> + AllocGlobal>(
