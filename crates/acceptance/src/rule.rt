@@ -18,8 +18,9 @@ pub struct RuleProgram {
     pub rule: Rule,
 }
 
-/// The rule that bytes spell and its program, accepted under a shape, or the fault that counts: L1
-/// to L5 of `parse`, and then C1 or C2 of `compile`. Bytes that aren't UTF-8 are L1 at line 1.
+/// The rule that bytes spell and its program, accepted under a shape, or the fault that counts.
+/// Faults are L1 to L5 of `parse`, and then C1 or C2 of `compile`. Bytes that aren't UTF-8 are L1
+/// at line 1.
 // open: whether an allocation fails (L5, C2).
 pub fn rule_program(alloc: Global, text: &[u8], shape: &Shape) -> Result<RuleProgram, RuleTextFault>
     ensures shape { IfOk result (λ made. made.program.shape ≡ shape.now) }

@@ -28,10 +28,10 @@ use std::thread::Threads;
 use std::time::Clock;
 
 /// Does what the words request, with files of the disk. The first word is the program's name.
-/// Results go to `out`, and only refusals and usage to `err`. With `--verbose` a refusal has a second
-/// line, and a load prints by the runtime itself which apps the server no longer has. The status is
-/// 0 if the request was done; 1 if it was refused, or a write failed; and 2 for usage. For `serve`
-/// it is returned after the server's end.
+/// Results go to `out`, and only refusals and usage to `err`. With `--verbose` a refusal has a
+/// second line, and a load prints by the runtime itself which apps the server no longer has. The
+/// status is 0 if the request was done; 1 if it was refused, or a write failed; and 2 for usage.
+/// For `serve` it is returned after the server's end.
 // open: `clap`'s texts; that the status isn't 1, since a read or a write may fail at any time: the
 // tests compare each command's lines and status.
 pub fn command<R, D, S, O, E>(rt: &R, disk: &D, words: &[S], out: &mut O, err: &mut E) -> u8

@@ -127,8 +127,8 @@ fails_early known bytes u r h is reported = record {
 }
 
 -- the fault of the first app without a program, and the report on it
-pub fails_by : (g back : Sources) (fault : LoadFault) (r : Refused) → RefusesFirst g.apps.items fault
-    → back ≡ g → r.fault ≡ fault
+pub fails_by : (g back : Sources) (fault : LoadFault) (r : Refused)
+    → RefusesFirst g.apps.items fault → back ≡ g → r.fault ≡ fault
     → ReportsRefused Nothing back.arrays.items back.apps.items back.unread r → FailsApps g r
 fails_by g back fault r refuses same is reported = record {
   refused = subst (λ (f : LoadFault). RefusesFirst g.apps.items f) (sym is) refuses;

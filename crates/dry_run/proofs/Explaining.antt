@@ -58,7 +58,8 @@ rule_found (app ∷ apps) appid =
     (app_in (app_rules apps) appid) (rule_found apps appid)
 
 module _ (manifest : JudgedManifest) (appid : List ℕ) where
-  pub rules_lack : app_named manifest.apps.items appid ≡ None → app_of (rules_of manifest) appid ≡ None
+  pub rules_lack : app_named manifest.apps.items appid ≡ None
+      → app_of (rules_of manifest) appid ≡ None
   rules_lack none = rule_found manifest.apps.items appid ∙ ap (option_map app_rule) none
 
   rules_have : (known : JudgedApp) → app_named manifest.apps.items appid ≡ Some known
@@ -80,8 +81,8 @@ module _ (manifest : JudgedManifest) (facts : RequestFacts) (moment : ℤ) where
   pub no_request_explained : (app stated : AppFacts) (appid note old text : List ℕ)
       (known : JudgedApp)
       (a : Attributes) (context : Context) → appid ≡ app.appid
-      → Some known ≡ app_named manifest.apps.items appid → stated ≡ app → a ≡ attributes_of stated facts moment
-      → context ≡ a.context → stated.updatecheck ≡ false
+      → Some known ≡ app_named manifest.apps.items appid → stated ≡ app
+      → a ≡ attributes_of stated facts moment → context ≡ a.context → stated.updatecheck ≡ false
       → text ≡ head_line stated context ++ no_request_line ++ note
       → ExplainsOne manifest facts moment app note old old text
   no_request_explained app stated appid note old text known a context named found same made by

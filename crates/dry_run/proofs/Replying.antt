@@ -58,7 +58,8 @@ module _ (manifest : JudgedManifest) (facts : RequestFacts) (moment : ℤ) where
   one_runs : {app : AppFacts} {note old : List ℕ} {choice : Option ℕ} {new text : List ℕ}
       → ExplainsApp manifest facts moment app note old choice new text
       → OneRuns app choice old new
-  one_runs {app} (unlisted found is) = record { events = []; runs = unknown (rules_lack manifest app.appid found); grown = refl }
+  one_runs {app} (unlisted found is) =
+      record { events = []; runs = unknown (rules_lack manifest app.appid found); grown = refl }
   one_runs (not_requested known found asks is) =
       record { events = []; runs = no_updatecheck asks; grown = refl }
   one_runs (was_run shown_text) =

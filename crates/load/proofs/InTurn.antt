@@ -50,7 +50,8 @@ pub refused_more : (all left behind : List AppSources) (count more : ℕ) (one :
     → IsFirstRefused all (more + number) fault
 refused_more all left behind count more one program so_far left_is more_is judged number fault
     later =
-    let first : IsFirstRefused left (suc number) fault = rw left_is (there program.program judged.judged later) in
+    let first : IsFirstRefused left (suc number) fault =
+    rw left_is (there program.program judged.judged later) in
     let same : count + suc number ≡ more + number = omega (arith, more_is) in
     subst (λ (n : ℕ). IsFirstRefused all n fault) same (so_far (suc number) fault first)
 

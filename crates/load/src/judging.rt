@@ -18,8 +18,8 @@ use rule_lang::{RuleFault, RuleFaultKind};
 use std::alloc::Global;
 
 /// The program of an app and its rule, from what is kept of its file. Returns M4 if the file
-/// couldn't be read, M5 if its bytes aren't a program, M6 if its text isn't a rule, and M8 if an
-/// allocation fails. The verdict is the same for any file of which this is kept.
+/// couldn't be read. Returns M5 if its bytes aren't a program, M6 if its text isn't a rule, and M8
+/// if an allocation fails. The verdict is the same for any file of which this is kept.
 pub(crate) fn judge_file(
     alloc: Global,
     source: &ProgramSource,

@@ -88,8 +88,8 @@ struct ReadApps {
 /// Gathers a manifest and its files. Each file is read once, and none after more than 64 MiB of
 /// files that are too long. Also returns M8 if the count of unreadable files overflows.
 // open: whether an allocation fails (M8), and for M8 how far the count of unreadable files grew;
-// that the disk is queried about links before each file is read: `bench/hostile`; what a device's
-// files contain.
+// that `is_through_link` is called before each file is read: `bench/hostile`; what a device's files
+// contain.
 pub fn collect_sources<F: Files>(
     alloc: Global,
     manifest: &[u8],

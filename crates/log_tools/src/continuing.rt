@@ -21,9 +21,9 @@ use std::io::{self, Read};
 use std::rt::Files;
 use std::time::Clock;
 
-/// The report on all lines of the logs that this call and those before it counted, in this form. The
-/// file `state` says what was counted. It is replaced before the report is returned. If it is empty
-/// or doesn't exist, the logs are read from their first line.
+/// The report on all lines of the logs that this call and those before it counted, in this form.
+/// The file `state` says what was counted. It is replaced before the report is returned. If it is
+/// empty or doesn't exist, the logs are read from their first line.
 ///
 /// A log is known by its first 256 bytes, whatever its path is. The state also keeps the logs that
 /// this call leaves out, up to 1000 in all, so a later call continues them. A last line without its

@@ -31,8 +31,8 @@ pub struct ReportOutput {
 }
 
 /// The report on the logs' lines from `since` on and before `until`, in this form. A log named `-`
-/// is standard input. If `file` names a file, a picture of the lines' course is written into it once
-/// all logs are read.
+/// is standard input. If `file` names a file, a picture of the lines' course is written into it
+/// once all logs are read.
 ///
 /// Returns B3 if the picture would overwrite a log, or a file that isn't empty and isn't a picture;
 /// if a log can't be read; if a moment is given and the clock can't be read; or if the picture

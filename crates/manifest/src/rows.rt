@@ -44,7 +44,7 @@ pub(crate) fn read_rows<R: TableRow>(
     }
 }
 
-/// The items of a member that is a list of `from` to `to` items; if `from` is 0 it may be absent,
+/// The items of a member that is a list of `from` to `to` items. If `from` is 0, it may be absent,
 /// and then has no items. None for any other member.
 pub fn items_between<'a>(table: &'a Table, key: &str, from: usize, to: usize) -> Option<&'a [Value]>
     ensures items { option_map (λ v. map view v.now) result

@@ -5,9 +5,10 @@
 //! See docs/PROGRAM.md, "diff".
 #![tactic(auto)]
 
-// How it works. Each manifest is opened like a server's first one (`opened.rt`). An app with a rule is a side of a comparison by rows (`sides.rt`); a manifest that
-// lacks the app is a side that offers nothing. An app with two equal sides, or two equal programs,
-// is the same without a search (`same.rt`). Everything else with a program isn't compared.
+// How it works. Each manifest is opened like a server's first one (`opened.rt`). An app with a rule
+// is a side of a comparison by rows (`sides.rt`); a manifest that lacks the app is a side that
+// offers nothing. An app with two equal sides, or two equal programs, is the same without a search
+// (`same.rt`). Everything else with a program isn't compared.
 //
 // What is promised of rows is proved in `rule_diff`. Here the law `diff_is_so` says it of apps: a
 // machine that is in no row of an app compared by rows gets the same from both manifests.

@@ -55,10 +55,12 @@ fn program_of_rule<D: Disk>(
         Err(fault) => return Err(ProgramToolFault::Resource(fault)),
     };
     match rule_program(alloc, bytes.as_slice(), &shape) {
-        Ok(RuleProgram {
-            program,
-            rule: _rule,
-        }) => Ok(program),
+        Ok(
+            RuleProgram {
+                program,
+                rule: _rule,
+            },
+        ) => Ok(program),
         Err(fault) => Err(ProgramToolFault::Rule(fault)),
     }
 }

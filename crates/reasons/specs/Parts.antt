@@ -45,8 +45,8 @@ followed first second = record {
   taken = first.taken ++ second.taken;
 }
 
--- the part agrees with a reading: it was evaluated on counters with these values, left the reading's
--- values, and its takes can be undone
+-- the part agrees with a reading: it was evaluated on counters with these values, left the
+-- reading's values, and its takes can be undone
 pub record IsPartOf (r : Reading) (old : List ℕ) (p : Part) (new : List ℕ) : Type 0 where
   pub text : p.text ≡ r.text
   pub holds : p.holds ≡ r.holds

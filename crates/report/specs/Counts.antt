@@ -66,7 +66,7 @@ GoesUp old new by = (before : ℕ) → old ≡ capped before → new ≡ capped 
 abbrev pub one_if : Bool → ℕ
 one_if holds = if holds then 1 else 0
 
--- each table counts its question's names in addition; there are no tables beyond the questions
+-- each table counts its question's names in addition; other tables stay
 abbrev pub NotesEach : (Question → List RowName) → List Question → List Tally → List Tally
     → Type 0
 NotesEach names [] old new = new ≡ old

@@ -1,4 +1,5 @@
-//! The questions of a report about lines. Each has a table, whose rows are the names that it counts.
+//! The questions of a report about lines. Each has a table, whose rows are the names that it
+//! counts.
 
 ghost use Rattle.std.specs.Prelude.{◌≡◌};
 ghost use Rattle.report.specs.Questions as specs;

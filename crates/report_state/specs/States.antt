@@ -52,7 +52,7 @@ pub record HasNumbers (d : Data) (r : Report) : Type 0 where
 abbrev pub IsDrawn : Data → Bool → Type 0
 IsDrawn d drawn = flag_in (codes "drawn") d ≡ Some drawn
 
--- the table of each question by its name, and no other
+-- the table of each question by its name
 abbrev pub HasTables : Data → List Question → List Tally → Type 0
 HasTables d questions tallies =
     AllZip (λ question t. HasTable d (member_of question) t) questions tallies

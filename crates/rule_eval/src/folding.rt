@@ -8,7 +8,7 @@ use rule_lang::{RuleCondition, Step, Test};
 use std::alloc::AllocError;
 
 /// How a condition is evaluated: the value of a test, and those of `not`, `and` and `or` by the
-/// values of the conditions that they join.
+/// values that they join.
 pub trait ConditionFold {
     ghost use Rattle.rule_lang.specs.Trees.{Tree, Leaf, Negated, Both, Either};
 

@@ -1,13 +1,13 @@
-//! The tests of a rule, one by one: whether one holds for an app, which value it read, and its text;
-//! and the walk over a condition, for any values of its tests.
+//! The tests of a rule, one by one: whether one holds for an app, which value it read, and its
+//! text. Also the walk over a condition, for any values of its tests.
 //!
 //! See docs/RULES.md.
 #![tactic(auto)]
 
 // It is for tools that evaluate a rule test by test, without running its program. What a test reads
-// and whether it holds is the meaning of rules itself (`rule_lang/specs/Meaning.antt`). The contract
-// of the walk says that a value is the one of the condition's tree, by the definition that the
-// caller has of it. The only other definitions here are those of the texts.
+// and whether it holds is the meaning of rules itself (`rule_lang/specs/Meaning.antt`). The
+// contract of the walk says that a value is the one of the condition's tree, by the definition that
+// the caller has of it. The only other definitions here are those of the texts.
 //
 // A take holds by its cell's reply. The caller passes that reply, and updates the cell itself.
 

@@ -1,5 +1,5 @@
-//! How many buckets move from which release to which: a table for each app. Rows compare the tables;
-//! the counts in them are those of `count_moves`, and `loses` marks a row.
+//! How many buckets move from which release to which: a table for each app. Rows compare the
+//! tables; the counts in them are those of `count_moves`, and `loses` marks a row.
 
 ghost use Rattle.std.specs.Prelude.{◌≡◌, ℕ, List, OnOk, None, length};
 ghost use Rattle.printing.specs.Pushed.{Puts};

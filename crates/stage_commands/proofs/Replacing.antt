@@ -20,7 +20,8 @@ one : (old : KnownFolder) (file : ReplacedFile) (name bytes : List ℕ)
     → option_map (done (file ∷ [])) old ≡ put_known name (Some bytes) old
 one None file name bytes is has = refl
 one (Some folder) file name bytes is has =
-    ap (λ n. Some (put n (Some file.after) folder)) is ∙ ap (λ b. Some (put name (Some b) folder)) has
+    ap (λ n. Some (put n (Some file.after) folder)) is
+    ∙ ap (λ b. Some (put name (Some b) folder)) has
 
 pub replaces : (old new : KnownFolder) (name bytes : List ℕ) (file : Option ReplacedFile)
     → ReplacesBy old name bytes file → new ≡ option_map (done (option_to_list file)) old

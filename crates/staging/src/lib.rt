@@ -7,8 +7,8 @@
 // rule or a program. It is proved that no load refuses them, and that nobody is offered a release.
 //
 // The text of a raised rule is made without a contract and then read back by the parser of rules.
-// What is read is compared with what is wanted, and a text that doesn't read back isn't returned. So
-// no lemma is about texts.
+// What is read is compared with what is wanted, and a text that doesn't read back isn't returned.
+// So no lemma is about texts.
 
 mod cut;
 mod halt;

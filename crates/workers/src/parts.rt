@@ -16,7 +16,7 @@ pub struct ServeOptions<'a> {
     pub log: Option<&'a LogQueue>,
 }
 
-/// What a server works with: the loader of its rulesets, and its counters.
+/// What a server works with: the loader of its rulesets, its counters, its time limit and its log.
 #[derive(Drop)]
 pub struct ServerParts<'a, L, C> {
     pub loader: &'a L,

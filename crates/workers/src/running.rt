@@ -160,10 +160,11 @@ where
 /// of the whole line. If nothing fails, all passes and watchers are returned. Returns B4 if an
 /// allocation or a thread fails, before any client is answered and before anything is written; B3
 /// if `out` can't be written.
-// open: when B4 and when B3 is returned: `bench/refused`, and a test. Nothing shows which bytes a socket carries, and which moment a clock gives. Tests show that
-// connections are answered in parallel, and the operator's one after another; their time limits,
-// and the log; that all threads end after a stop, even if the server can't connect to its own port;
-// and that the line takes one write (std says nothing about the number of writes).
+// open: when B4 and when B3 is returned: `bench/refused`, and a test. Nothing shows which bytes a
+// socket carries, and which moment a clock gives. Tests show that connections are answered in
+// parallel, and the operator's one after another; their time limits, and the log; that all threads
+// end after a stop, even if the server can't connect to its own port; and that the line takes one
+// write (std says nothing about the number of writes).
 pub fn run<H, L, C, O>(
     rt: &H,
     ports: Ports,

@@ -3,5 +3,6 @@ use Rattle.load.proofs.digest.judged_digest.Goals as goal
 
 pub unreachable-requires : goal.unreachable-requires
 unreachable-requires c =
-    let some = c.in-None.ensures.judged _ (are_judged c.args.apps.now c.args.programs.now c.requires)
-    in absurd cc
+    let some =
+    c.in-None.ensures.judged _ (are_judged c.args.apps.now c.args.programs.now c.requires) in
+    absurd cc

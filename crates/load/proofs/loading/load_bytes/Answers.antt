@@ -40,8 +40,8 @@ returns-in-Ok-make_ruleset-clause-only g c =
 
 pub returns-in-Ok-make_ruleset-clause-count : goal.returns-in-Ok-make_ruleset-clause-count
 returns-in-Ok-make_ruleset-clause-count g c =
-    let none = all_read c.in-Ok.sources.apps.items _ c.in-Ok-judge_sources.ensures.judged.programs_are
-    in
+    let none =
+    all_read c.in-Ok.sources.apps.items _ c.in-Ok-judge_sources.ensures.judged.programs_are in
     omega (arith, c.in-Ok.ensures.count, none)
 
 pub returns-in-Err-make_ruleset-clause-fault : goal.returns-in-Err-make_ruleset-clause-fault

@@ -10,4 +10,5 @@ returns c = λ b d before between first second.
     let holds : c.first.inside.holds ≡ c.args.first.holds = search rules in
     both_made a s b d c.args.first c.first.inside.holds holds c.joined.result before between
     c.joined.new.counters first
-    (c.joined.ensures (read_tree a s before b) (read_tree a s between d) before between first second)
+    (c.joined.ensures (read_tree a s before b) (read_tree a s between d) before between first
+    second)
