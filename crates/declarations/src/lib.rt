@@ -13,4 +13,5 @@ mod spec;
 pub use declaration::ArrayDeclaration;
 pub use declare::{RefusedArray, declare_all};
 pub use laws::lists_declare_one_way;
-pub use spec::{SpecFault, read_spec};
+pub use parts::parts_of;
+pub use spec::{SpecFault, read_fields, read_spec};

@@ -61,7 +61,9 @@ fn read_part(alloc: Global, part: &str) -> Result<ArrayDeclaration, SpecFault>
     }
 }
 
-fn read_fields(alloc: Global, fields: &[&str]) -> Result<ArrayDeclaration, SpecFault>
+/// The declaration with these fields: a name, a width, a length, and a quota if there is one.
+// open: whether an allocation fails.
+pub fn read_fields(alloc: Global, fields: &[&str]) -> Result<ArrayDeclaration, SpecFault>
     ensures read { IfOk result (λ d.
         specs.of_fields (map (λ field. field.now) fields.now) ≡ Some d) }
     ensures malformed { result ≡ Err SpecFault.Malformed
