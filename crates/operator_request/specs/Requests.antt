@@ -6,6 +6,8 @@ use Rattle.std.specs.Str.{IsUtf8}
 use Rattle.operator_request.specs.declared.request.OperatorRequest.{OperatorRequest}
 use Rattle.operator_request.specs.declared.request.OperatorRequest.TheVariants.{Load, Show}
 use Rattle.operator_request.specs.declared.request.OperatorRequest.TheVariants.{Cells, Stop}
+use Rattle.operator_request.specs.declared.request.OperatorRequest.TheVariants.{Halt, Resume}
+use Rattle.operator_request.specs.declared.request.OperatorRequest.TheVariants.{State}
 
 -- the most bytes that a line has, without the line feed that may end it
 abbrev pub line_limit : ℕ
@@ -20,11 +22,23 @@ request_words (Load path) = codes "load " ++ path.now
 request_words Show = codes "show"
 request_words Cells = codes "cells"
 request_words Stop = codes "stop"
+request_words (Halt appid) = codes "halt " ++ appid.now
+request_words (Resume appid) = codes "resume " ++ appid.now
+request_words State = codes "state"
 
--- the line is the words of the request; a path has bytes, which are a text
+-- the line is a word, and an argument that has bytes, which are a text
+abbrev pub HasArgument : List ℕ → List ℕ → List ℕ → Type 0
+HasArgument word text line = (line ≡ word ++ text) × IsUtf8 text × (text ≢ [])
+
+-- the line isn't this word and an argument
+abbrev pub HasNoArgument : List ℕ → List ℕ → Type 0
+HasNoArgument word line = (text : List ℕ) → ¬ HasArgument word text line
+
+-- the line is the words of the request
 abbrev pub HasWordsOf : List ℕ → OperatorRequest → Type 0
-HasWordsOf line (Load path) =
-    (line ≡ request_words (Load path)) × IsUtf8 path.now × (path.now ≢ [])
+HasWordsOf line (Load path) = HasArgument (codes "load ") path.now line
+HasWordsOf line (Halt appid) = HasArgument (codes "halt ") appid.now line
+HasWordsOf line (Resume appid) = HasArgument (codes "resume ") appid.now line
 HasWordsOf line request = line ≡ request_words request
 
 -- the line spells this request
@@ -41,8 +55,8 @@ SpellsNoRequest line = (request : OperatorRequest) → ¬ SpellsRequest line req
 abbrev pub IsSendable : OperatorRequest → Type 0
 IsSendable request = SpellsRequest (request_words request) request
 
--- a path that can follow `load ` in a line
-pub record IsPath (path : List ℕ) : Type 0 where
-  pub some : path ≢ []
-  pub short : length path ≤ 4091
-  pub single : IsFalse (list_any is_line_feed path)
+-- an argument of at most this many bytes, which can follow a word in a line
+pub record IsArgument (limit : ℕ) (text : List ℕ) : Type 0 where
+  pub some : text ≢ []
+  pub short : length text ≤ limit
+  pub single : IsFalse (list_any is_line_feed text)
