@@ -127,7 +127,8 @@ fn app(
     ensure!(is_appid(appid.as_str()), "no appid");
     let accepted: &Verified = program;
     let program = Arc::try_clone(program)?;
-    let releases = releases(alloc, accepted.shape().releases(), packages)?;
+    let count = accepted.shape().releases();
+    let releases = Arc::new(alloc, releases(alloc, count, packages)?)?;
     Ok(App::new(appid, program, releases))
 }
 

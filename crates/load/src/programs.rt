@@ -118,5 +118,8 @@ fn ruleset_app(alloc: Global, app: JudgedApp) -> Result<App, AllocError>
     let Ok(program) = Arc::new(alloc, program) else {
         return Err(AllocError);
     };
+    let Ok(releases) = Arc::new(alloc, releases) else {
+        return Err(AllocError);
+    };
     Ok(App::new(appid.into_string(), program, releases))
 }

@@ -18,6 +18,10 @@ pub record AppRule : Type 0 where
   pub program : ShapedProgram
   pub releases : List Release
 
+-- the app with another program
+abbrev pub programmed : ShapedProgram → AppRule → AppRule
+programmed program app = record app { program = program }
+
 -- a server's name, and its apps in order
 pub record Rules : Type 0 where
   pub server : List ℕ

@@ -1,11 +1,12 @@
 //! One app of a ruleset.
 
-ghost use Rattle.std.specs.Prelude.{◌≡◌, IsTrue};
+ghost use Rattle.std.specs.Prelude.{◌≡◌, IsTrue, IfOk};
 ghost use Rattle.std.specs.Arc.{arc_value};
 ghost use Rattle.releases.specs.Appid.{is_appid};
 
 use bpf_verify::Verified;
 use releases::Release;
+use std::alloc::{AllocError, Global};
 use std::marker::Model;
 use std::sync::Arc;
 
@@ -14,7 +15,7 @@ use std::sync::Arc;
 pub struct App {
     appid: String,
     program: Arc<Verified>,
-    releases: Vec<Release>,
+    releases: Arc<Vec<Release>>,
 }
 
 // Not derived: a crate that drops one would prove the drop of each of its parts anew.
@@ -38,28 +39,28 @@ impl Model for App {
     ghost view = { λ a. record {
       appid = string_bytes a.appid;
       program = arc_value a.program;
-      releases = a.releases.items;
+      releases = (arc_value a.releases).items;
     } };
 
     ghost invariant = { λ a. IsApp (record {
       appid = string_bytes a.appid;
       program = arc_value a.program;
-      releases = a.releases.items;
+      releases = (arc_value a.releases).items;
     }) };
 }
 
 impl App {
     ghost use Rattle.std.specs.Prelude.{string_bytes};
-    ghost use Rattle.ruleset.specs.Rules.{IsApp, ChoosesAmong};
+    ghost use Rattle.ruleset.specs.Rules.{IsApp, ChoosesAmong, programmed};
 
     /// An app with this appid and these releases, of which the program chooses one; doesn't
     /// allocate. The program's shape must have as many releases.
-    pub fn new(appid: String, program: Arc<Verified>, releases: Vec<Release>) -> App
+    pub fn new(appid: String, program: Arc<Verified>, releases: Arc<Vec<Release>>) -> App
         requires named { IsTrue (is_appid (string_bytes appid)) }
-        requires all { ChoosesAmong (arc_value program) releases.items }
+        requires all { ChoosesAmong (arc_value program) (arc_value releases).items }
         ensures appid { result.appid ≡ string_bytes appid }
         ensures program { result.program ≡ arc_value program }
-        ensures releases { result.releases ≡ releases.items }
+        ensures releases { result.releases ≡ (arc_value releases).items }
     {
         let accepted: &Verified = &program;
         accepted.invariant_law();
@@ -67,6 +68,34 @@ impl App {
             appid,
             program,
             releases,
+        }
+    }
+
+    /// Another owner of the app's releases, with a copy of its appid and this program, which must
+    /// choose among these releases.
+    // open: whether an allocation fails, or a count of owners is at its most: its only error.
+    pub fn with_program(&self, alloc: Global, program: Arc<Verified>) -> Result<App, AllocError>
+        requires { ChoosesAmong (arc_value program) self.now.releases }
+        ensures { IfOk result (λ app. app ≡ programmed (arc_value program) self.now) }
+    {
+        self.invariant_law();
+        let Ok(appid) = String::from_str(alloc, self.appid.as_str()) else {
+            return Err(AllocError);
+        };
+        match Arc::try_clone(&self.releases) {
+            Ok(releases) => Ok(App::new(appid, program, releases)),
+            Err(_) => Err(AllocError),
+        }
+    }
+
+    /// Another owner of the app's program and releases, with a copy of its appid.
+    // open: whether an allocation fails, or a count of owners is at its most: its only error.
+    pub fn share(&self, alloc: Global) -> Result<App, AllocError>
+        ensures { IfOk result (λ app. app ≡ self.now) }
+    {
+        match Arc::try_clone(&self.program) {
+            Ok(program) => self.with_program(alloc, program),
+            Err(_) => Err(AllocError),
         }
     }
 
