@@ -1,0 +1,4 @@
+mod Runs
+mod Accepted
+mod Lists
+mod Served
