@@ -37,7 +37,7 @@ parts false plain is = (refl, is)
 low : (b : ℕ) → is_escaped b ≡ false → b < 128
 low b is = grind (arith, nat_tests)
 
-plain_low : (text : List ℕ) → is_plain_text text ≡ true → (i : ℕ) → slice_index text i < 128
+pub plain_low : (text : List ℕ) → is_plain_text text ≡ true → (i : ℕ) → slice_index text i < 128
 plain_low [] is i = omega arith
 plain_low (b ∷ text) is zero = low b (parts (is_escaped b) (is_plain_text text) is).0
 plain_low (b ∷ text) is (suc i) = plain_low text (parts (is_escaped b) (is_plain_text text) is).1 i

@@ -14,6 +14,7 @@ use Rattle.access_log.specs.Spelled.{spelled}
 use Rattle.access_log.specs.Utc.{utc_text}
 use Rattle.access_log.specs.declared.log_event.Connection.{Connection}
 use Rattle.access_log.specs.declared.log_event.Counter.{Counter}
+use Rattle.access_log.specs.declared.log_event.Halt.{Halt}
 use Rattle.access_log.specs.declared.log_event.LineHeader.{LineHeader}
 use Rattle.access_log.specs.declared.log_event.LogEvent.{LogEvent}
 use Rattle.access_log.specs.declared.log_event.LogEvent.TheVariants as log
@@ -49,8 +50,21 @@ load_members load =
     kind_member (codes "load") ++ path_members load.path
     ++ count_member (codes "generation") load.generation
     ++ optional_member (codes "digest") (option_copied load.digest)
+    ++ count_member (codes "halted") load.halted
     ++ optional_member (codes "refusal") (option_copied load.refusal)
     ++ optional_excerpt (codes "cause") (codes "cause_left_out") load.cause
+
+-- the word that requested a halt, or its end
+abbrev pub halt_word_member : Bool → List Token
+halt_word_member is_resume =
+    text_member (codes "word") (if is_resume then codes "resume" else codes "halt")
+
+abbrev pub halt_members : Halt → List Token
+halt_members halt =
+    kind_member (codes "halt") ++ excerpt_members (codes "app") (codes "app_left_out") halt.app
+    ++ halt_word_member halt.is_resume
+    ++ count_member (codes "generation") halt.generation
+    ++ optional_member (codes "refusal") (option_copied halt.refusal)
 
 -- only a request that has no id has the member
 abbrev pub id_member : Bool → List Token
@@ -118,6 +132,7 @@ abbrev pub members_of : LogEvent → List Token
 members_of (log.Start start) = start_members start
 members_of (log.Serving generation) = serving_members generation
 members_of (log.Load load) = load_members load
+members_of (log.Halt halt) = halt_members halt
 members_of (log.Connection connection) = connection_members connection
 members_of (log.Unaccepted reason) = unaccepted_members reason.now
 members_of (log.Lost lines) = lost_members lines

@@ -8,7 +8,7 @@ ghost use Rattle.access_log.specs.Plain.{is_plain_text};
 use crate::apps::write_apps;
 use crate::excerpt::Excerpt;
 use crate::line_buffer::LineBuffer;
-use crate::log_event::{Connection, Counter, Load, LogEvent, Start, Totals};
+use crate::log_event::{Connection, Counter, Halt, Load, LogEvent, Start, Totals};
 use crate::member::{
     write_count, write_excerpt, write_flag, write_number, write_optional, write_optional_excerpt,
     write_text, write_word,
@@ -23,6 +23,7 @@ pub fn write_members(line: &mut LineBuffer, event: &LogEvent<'_>) -> Result<(), 
         LogEvent::Start(start) => write_start(line, start),
         LogEvent::Serving(generation) => write_serving(line, *generation),
         LogEvent::Load(load) => write_load(line, load),
+        LogEvent::Halt(halt) => write_halt(line, halt),
         LogEvent::Connection(connection) => write_connection(line, connection),
         LogEvent::Unaccepted(reason) => write_unaccepted(line, reason),
         LogEvent::Lost(lines) => write_lost(line, *lines),
@@ -59,9 +60,31 @@ fn write_load(line: &mut LineBuffer, load: &Load<'_>) -> Result<(), AllocError>
     write_path(line, &load.path)?;
     write_count(line, "generation", load.generation)?;
     write_optional(line, "digest", load.digest)?;
+    write_count(line, "halted", load.halted)?;
     write_optional(line, "refusal", load.refusal)?;
     write_optional_excerpt(line, "cause", "cause_left_out", &load.cause)?;
     Ok(())
+}
+
+fn write_halt(line: &mut LineBuffer, halt: &Halt<'_>) -> Result<(), AllocError>
+    ensures { OnOk result (AddsMembers line.old line.new (specs.halt_members halt.now)) }
+{
+    write_kind(line, "halt")?;
+    write_excerpt(line, "app", "app_left_out", &halt.app)?;
+    write_halt_word(line, halt.is_resume)?;
+    write_count(line, "generation", halt.generation)?;
+    write_optional(line, "refusal", halt.refusal)?;
+    Ok(())
+}
+
+// What the operator requested.
+fn write_halt_word(line: &mut LineBuffer, is_resume: bool) -> Result<(), AllocError>
+    ensures { OnOk result (AddsMembers line.old line.new (specs.halt_word_member is_resume)) }
+{
+    if is_resume {
+        return write_word(line, "word", "resume");
+    }
+    write_word(line, "word", "halt")
 }
 
 fn write_connection(line: &mut LineBuffer, connection: &Connection<'_>) -> Result<(), AllocError>

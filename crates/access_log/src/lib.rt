@@ -30,6 +30,6 @@ pub use event_line::{log_line, log_line_in};
 pub use excerpt::Excerpt;
 pub use further_members::FurtherMembers;
 pub use line_buffer::LineBuffer;
-pub use log_event::{Connection, Counter, LineHeader, Load, LogEvent, Start, Totals};
+pub use log_event::{Connection, Counter, Halt, LineHeader, Load, LogEvent, Start, Totals};
 pub use logged_app::{LoggedApp, Outcome};
 pub use utc::Utc;

@@ -36,9 +36,23 @@ pub struct Load<'a> {
     pub generation: u64,
     /// The digest of the manifest and of the files that it names, in hexadecimal digits.
     pub digest: Option<&'a str>,
+    /// How many apps are halted, whatever is loaded.
+    pub halted: u64,
     pub refusal: Option<&'a str>,
     /// A detail of the refusal, such as which array changes, or which member is wrong.
     pub cause: Option<Excerpt<'a>>,
+}
+
+/// A halt of an app that the operator requested, or its end.
+#[derive(Clone, Copy)]
+pub struct Halt<'a> {
+    /// The appid, as the operator wrote it.
+    pub app: Excerpt<'a>,
+    /// Whether the halt was to end: `resume`.
+    pub is_resume: bool,
+    /// The generation that is served from then on; 0 if the request was refused.
+    pub generation: u64,
+    pub refusal: Option<&'a str>,
 }
 
 /// A client's connection, at its end.
@@ -102,6 +116,7 @@ pub enum LogEvent<'a> {
     /// The server is ready, and serves the ruleset of this generation.
     Serving(u64),
     Load(Load<'a>),
+    Halt(Halt<'a>),
     Connection(Connection<'a>),
     /// A connection couldn't be accepted, for this reason.
     Unaccepted(&'a str),

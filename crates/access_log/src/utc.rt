@@ -1,11 +1,14 @@
 //! Coordinated Universal Time, and its text by RFC 3339.
 
 ghost use Rattle.std.specs.Prelude.{◌≡◌, ◌+◌, ◌*◌, ◌/◌, ◌%◌, ◌<◌, ◌↔◌, pos, IfSome, IsSome};
+ghost use Rattle.std.specs.Prelude.{IfOk, string_bytes};
 ghost use Rattle.jiff_core.specs.Calendar.{IsCivilDate, days_from_civil};
 ghost use Rattle.access_log.specs.Utc as specs;
 
 use jiff_core::civil::{Date, Time};
 use jiff_core::constants::SECS_PER_CIVIL_DAY;
+use std::alloc::{AllocError, Global};
+use std::str;
 
 const DAY_SECONDS: u64 = SECS_PER_CIVIL_DAY as u64;
 
@@ -49,6 +52,19 @@ impl Utc {
             second: time.second,
             millis,
         })
+    }
+
+    /// Its text, as RFC 3339 defines it (section 5.6), with three digits of a second's fraction and
+    /// `Z`.
+    // open: whether an allocation fails.
+    pub fn written(&self, alloc: Global) -> Result<String, AllocError>
+        ensures { IfOk result (λ text. string_bytes text ≡ specs.utc_text self.now) }
+    {
+        let bytes = self.text();
+        match str::from_utf8(&bytes) {
+            Ok(text) => String::from_str(alloc, text),
+            Err(_) => unreachable!(),
+        }
     }
 
     /// As RFC 3339 defines it (section 5.6), with three digits of a second's fraction and `Z`.

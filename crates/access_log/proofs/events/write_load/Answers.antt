@@ -3,6 +3,7 @@ use Rattle.access_log.proofs.events.write_load.Goals as goal
 
 pub returns : goal.returns
 returns c =
-    then_adds (then_adds (then_adds (then_adds (then_adds c.in_ok-write_kind.ensures
+    then_adds (then_adds (then_adds (then_adds (then_adds (then_adds c.in_ok-write_kind.ensures
     c.in_ok-write_path.ensures) c.in_ok-write_count.ensures) c.in_ok-write_optional.ensures)
-    c.in_ok-write_optional-2.ensures) c.in_ok-write_optional_excerpt.ensures
+    c.in_ok-write_count-2.ensures) c.in_ok-write_optional-2.ensures)
+    c.in_ok-write_optional_excerpt.ensures
