@@ -1,6 +1,9 @@
 pub mod Counted
+mod Halted
+mod Held
 pub mod Leading
 pub mod Lines
+mod Performed
 pub mod Positions
 mod Refused
 mod Replied

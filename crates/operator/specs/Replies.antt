@@ -1,7 +1,8 @@
 -- The forms of an operator's replies, by which an operator's port is recognized: what another port
 -- sends, such as the clients' port, isn't a reply. An empty reply to `cells` means that all
 -- counters are 0. So a port that closes without sending anything passes for a server with such
--- counters. A reply to `cells` or `show` that is cut at the end of a line passes for a whole one.
+-- counters. A reply to `cells` or `show` that is cut at the end of a line passes for a whole one;
+-- one to `state` doesn't, since its last line is `end`.
 use Rattle.std.specs.Prelude.{ℕ, ◌-◌, List, [], ◌∷◌, length, take, drop, codes}
 use Rattle.std.specs.Prelude.{Bool, false, ◌==◌, ◌&&◌, ◌||◌, IsTrue, nat_eq, nat_lt, nat_le}
 use Rattle.std.specs.Char.{is_ascii_digit}
@@ -13,6 +14,8 @@ use Rattle.operator_request.specs.Requests.{IsSendable, is_line_feed}
 use Rattle.operator_request.specs.declared.request.OperatorRequest.{OperatorRequest}
 use Rattle.operator_request.specs.declared.request.OperatorRequest.TheVariants.{Load, Show}
 use Rattle.operator_request.specs.declared.request.OperatorRequest.TheVariants.{Cells, Stop}
+use Rattle.operator_request.specs.declared.request.OperatorRequest.TheVariants.{Halt, Resume}
+use Rattle.operator_request.specs.declared.request.OperatorRequest.TheVariants.{State}
 use Rattle.ruleset.specs.Texts.{line}
 
 -- lines, of which the first begins with this word
@@ -59,6 +62,10 @@ abbrev pub begins_with_generation : List ℕ → Bool
 begins_with_generation bytes =
     ends_with nat_eq bytes (codes "\n") && is_generation_line (line_of bytes)
 
+-- the same, and the last line is `end`
+abbrev pub is_state : List ℕ → Bool
+is_state bytes = begins_with_generation bytes && ends_with nat_eq bytes (codes "\nend\n")
+
 -- each line is that of a cell
 abbrev pub are_cell_lines : List ℕ → Bool
 are_cell_lines text = list_all is_cell_line (slice_split is_line_feed text)
@@ -73,6 +80,9 @@ is_answer (Load path) bytes = is_ended is_generation_line bytes
 is_answer Show bytes = begins_with_generation bytes
 is_answer Cells bytes = are_cells bytes
 is_answer Stop bytes = bytes_eq bytes (line (codes "stopping"))
+is_answer (Halt appid) bytes = is_ended is_generation_line bytes
+is_answer (Resume appid) bytes = is_ended is_generation_line bytes
+is_answer State bytes = is_state bytes
 
 -- any request may also be refused
 abbrev pub is_reply : OperatorRequest → List ℕ → Bool

@@ -6,9 +6,12 @@ use Rattle.std.specs.Option.{option_map}
 use Rattle.std.specs.String.{string_bytes}
 use Rattle.bounded_files.specs.Texts.{resource_text}
 use Rattle.bounded_files.specs.declared.resource_fault.ResourceFault.TheVariants as resource
+use Rattle.access_log.specs.Utc.{utc_text}
 use Rattle.cells.specs.declared.array.CellArray.{CellArray}
+use Rattle.hex.specs.Hex.{encode_lower}
 use Rattle.hot_swap.specs.Latest.{Latest}
 use Rattle.hot_swap.specs.Texts.{swap_text}
+use Rattle.operator.specs.Control.{Controlled, LastLoad}
 use Rattle.operator.specs.declared.server_reply.RequestFault.{RequestFault}
 use Rattle.operator.specs.declared.server_reply.RequestFault.TheVariants as ask
 use Rattle.operator.specs.declared.reply.OperatorRefusal.{OperatorRefusal}
@@ -18,13 +21,35 @@ use Rattle.operator.specs.declared.reply.OperatorReply.TheVariants as reply
 use Rattle.printing.specs.Printed.{printed}
 use Rattle.ruleset.specs.Texts.{line, app_line}
 
--- ---- the lines of a ruleset and of the counters
+-- ---- the lines of a ruleset, of a server's state and of the counters
 
 abbrev pub generation_line : ℕ → List ℕ
 generation_line generation = line (codes "generation " ++ decimal generation)
 
 abbrev pub ruleset_text : Latest → List ℕ
 ruleset_text latest = generation_line latest.generation ++ flat_map app_line latest.rules.apps
+
+abbrev pub digest_line : List ℕ → List ℕ
+digest_line digest = line (codes "digest " ++ encode_lower digest)
+
+-- when a load was made, and from where
+abbrev pub loaded_line : List ℕ → List ℕ → List ℕ
+loaded_line time path = line (codes "loaded " ++ time ++ codes " " ++ printed path)
+
+abbrev pub origin_line : LastLoad → List ℕ
+origin_line load = loaded_line (utc_text load.time) load.path
+
+abbrev pub load_text : LastLoad → List ℕ
+load_text load = digest_line load.digest ++ origin_line load
+
+abbrev pub halted_line : List ℕ → List ℕ
+halted_line appid = line (codes "halted " ++ appid)
+
+-- the last line shows that none is missing
+abbrev pub state_text : Controlled → List ℕ
+state_text c =
+    generation_line c.publishing.latest.generation ++ load_text c.last
+    ++ flat_map halted_line c.halted ++ line (codes "end")
 
 -- the line of an array's cell, unless the cell is 0
 abbrev pub cell_text : CellArray → ℕ → ℕ → List ℕ
@@ -48,6 +73,7 @@ module _ {F : Type 0} (fault_text : F → Option (List ℕ)) where
   refusal_text refusal.Memory = Some (resource_text resource.Memory)
   refusal_text (refusal.Load fault) = fault_text fault
   refusal_text (refusal.Install fault) = Some (swap_text fault)
+  refusal_text refusal.App = Some (codes "B8 App")
 
   -- the lines of a reply
   abbrev pub reply_text : OperatorReply F → Option (List ℕ)

@@ -12,6 +12,7 @@ use crate::loader::Loader;
 use crate::performing::perform;
 use crate::reply::OperatorReply;
 use crate::request_line::read_line;
+use access_log::Utc;
 use cells::CellSteps;
 use net_io::Counted;
 use operator_request::{LINE_LIMIT, OperatorRequest};
@@ -24,12 +25,13 @@ use std::sync::Wait;
 const LINE_SIZE: usize = LINE_LIMIT + 1;
 
 /// Reads a line, does what it requests, and returns the reply. Returns `None` if the reader failed;
-/// then nothing was done.
+/// then nothing was done. `now` is the time that `state` has for a load.
 // open: whether an allocation fails (B4, H1); which line a socket gave. The value of each counter
 // is that at the moment of its load.
 pub fn answer<H: Wait, R: Read, L: Loader, C: CellSteps>(
     rt: &H,
     alloc: Global,
+    now: Utc,
     reader: &mut Counted<R>,
     loader: &L,
     control: &mut Control,
@@ -55,7 +57,7 @@ pub fn answer<H: Wait, R: Read, L: Loader, C: CellSteps>(
         return None;
     };
     let request = OperatorRequest::of(&room[..size]);
-    let reply = perform(rt, alloc, loader, control, cells, pass, request);
+    let reply = perform(rt, alloc, now, loader, control, cells, pass, request);
     Some(reply)
 }
 

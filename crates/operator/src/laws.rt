@@ -1,9 +1,11 @@
 //! Laws of answered lines, by the definitions only.
 
-ghost use Rattle.operator.specs.Leading.{LinesGoOnwards, LinesKeepToArrays, LinesOnlyRead};
+ghost use Rattle.operator.specs.Leading.{HaltsHold, LinesGoOnwards, LinesKeepToArrays};
+ghost use Rattle.operator.specs.Leading.{LinesOnlyRead, LinesServeLoads};
 
 use crate::loader::Loader;
 use cells::arrays_stay;
+use halts::halts_are_so;
 
 /// Law. Answered lines only append to what is published. Programs that know only a server's arrays
 /// still do so afterwards, and the counters were only read.
@@ -14,4 +16,15 @@ pub fn loads_go_on<L: Loader>(loader: &L)
 {
     let _loader = loader;
     arrays_stay();
+    halts_are_so();
+}
+
+/// Law. A halt holds, whatever is loaded, until a line resumes the app. What is served is the last
+/// load, with the programs of the halted apps replaced.
+pub fn halts_hold<L: Loader>(loader: &L)
+    ensures hold { HaltsHold (L.loads loader.now) }
+    ensures serve { LinesServeLoads (L.loads loader.now) }
+{
+    let _loader = loader;
+    halts_are_so();
 }

@@ -19,12 +19,15 @@ pub enum OperatorRefusal<F> {
     Load(F),
     /// H1 or H3: the ruleset isn't installed.
     Install(SwapFault),
+    /// B8: no app has this appid; neither one of the last load, nor a halted one.
+    App,
 }
 
 /// The reply to a request.
 #[derive(Drop)]
 pub enum OperatorReply<F> {
-    /// A ruleset was loaded and installed as this generation.
+    /// This generation is served: a ruleset that was loaded, or the last one with a halt more or
+    /// less; or what was served before, if the app was halted, or not halted, already.
     Loaded(Generation),
     /// The requested lines.
     Lines(String),
@@ -43,6 +46,7 @@ impl<F: Display> Display for OperatorRefusal<F> {
             OperatorRefusal::Memory => f.write_str(ResourceFault::Memory.name()),
             OperatorRefusal::Load(fault) => write!(f, "{fault}"),
             OperatorRefusal::Install(fault) => f.write_str(fault.name()),
+            OperatorRefusal::App => f.write_str("B8 App"),
         }
     }
 }

@@ -32,6 +32,13 @@ pub(crate) fn are_cells(bytes: &[u8]) -> bool
     bytes.is_empty() || bytes.ends_with(b"\n") && are_cell_lines(&bytes[..bytes.len() - 1])
 }
 
+/// Whether the bytes are lines, of which the first is that of a generation and the last is `end`.
+pub(crate) fn is_state(bytes: &[u8]) -> bool
+    ensures { result ≡ specs.is_state bytes.now }
+{
+    begins_with_generation(bytes) && bytes.ends_with(b"\nend\n")
+}
+
 fn is_generation_line(text: &[u8]) -> bool
     ensures { result ≡ specs.is_generation_line text.now }
 {

@@ -6,7 +6,7 @@ ghost use Rattle.operator.specs.Replies as specs;
 ghost use Rattle.operator.specs.Texts.{request_fault_text};
 ghost use Rattle.operator_request.specs.Requests.{IsSendable};
 
-use crate::reply_forms::{are_cells, begins_with_generation, is_loaded};
+use crate::reply_forms::{are_cells, begins_with_generation, is_loaded, is_state};
 use bounded_files::ResourceFault;
 use operator_request::OperatorRequest;
 use printing::Printed;
@@ -97,10 +97,13 @@ fn is_answer(request: OperatorRequest<'_>, bytes: &[u8]) -> bool
     ensures { result ≡ specs.is_answer request.entry bytes.now }
 {
     match request {
-        OperatorRequest::Load(_) => is_loaded(bytes),
+        OperatorRequest::Load(_) | OperatorRequest::Halt(_) | OperatorRequest::Resume(_) => {
+            is_loaded(bytes)
+        }
         OperatorRequest::Show => begins_with_generation(bytes),
         OperatorRequest::Cells => are_cells(bytes),
         OperatorRequest::Stop => bytes == b"stopping\n".as_slice(),
+        OperatorRequest::State => is_state(bytes),
     }
 }
 
