@@ -1,3 +1,5 @@
 pub mod Loads
+pub mod Halts
+pub mod Requested
 pub mod ConnectionRecord
 pub mod Starts

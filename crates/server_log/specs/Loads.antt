@@ -1,6 +1,5 @@
 -- The log's event of a load, and its line.
-use Rattle.std.specs.Prelude.{◌≡◌, ℕ, List, Option, Some, None, IfSome}
-use Rattle.std.specs.Prelude.{option_copied, option_map}
+use Rattle.std.specs.Prelude.{◌≡◌, ℕ, List, Option, Some, None, IfSome, option_copied}
 use Rattle.access_log.specs.Excerpt.{IsExcerpt}
 use Rattle.access_log.specs.Line.{event_line}
 use Rattle.access_log.specs.declared.log_event.LineHeader.{LineHeader}
@@ -26,12 +25,14 @@ IsExcerptOf (Some text) (Some excerpt) = IsExcerpt text excerpt
 IsExcerptOf None None = Unit {0}
 IsExcerptOf text excerpt = ⊥
 
--- the event of an installed load: its path, the generation that is then served, and its digest
-pub record DescribesInstalledLoad (path : List ℕ) (generation : ℕ) (digest : Option (List ℕ))
+-- the event of an installed load: its path, the generation that is then served, its digest, and how
+-- many apps are halted
+pub record DescribesInstalledLoad (path : List ℕ) (generation : ℕ) (digest : List ℕ) (halted : ℕ)
     (load : Load) : Type 0 where
   pub path_is : IsExcerpt path load.path
   pub generation_is : load.generation ≡ generation
-  pub digest_is : option_copied load.digest ≡ digest
+  pub digest_is : option_copied load.digest ≡ Some digest
+  pub halted_is : load.halted ≡ halted
   pub refusal_is : load.refusal ≡ None
   pub cause_is : load.cause ≡ None
 
@@ -41,6 +42,7 @@ pub record DescribesRefusedLoad (path text : List ℕ) (cause : Option (List ℕ
   pub path_is : IsExcerpt path load.path
   pub generation_is : load.generation ≡ 0
   pub digest_is : load.digest ≡ None
+  pub halted_is : load.halted ≡ 0
   pub refusal_is : option_copied load.refusal ≡ Some text
   pub cause_is : IsExcerptOf cause load.cause
 
@@ -64,14 +66,14 @@ module _ {F : Type 0} (has_cause : F → Option (List ℕ) → Type 0)
     pub describes : DescribesRefusedLoad path text cause load
 
   -- the line of an operator's request for a load, by the reply: its generation and digest if it is
-  -- installed, or why it is refused; other replies have no line
-  abbrev pub IsLineOfReply : LineHeader → List ℕ → Option (List ℕ) → OperatorReply F
+  -- installed, and how many apps are halted; or why it is refused; other replies have no line
+  abbrev pub IsLineOfReply : LineHeader → List ℕ → List ℕ → ℕ → OperatorReply F
       → Option (List ℕ) → Type 0
-  IsLineOfReply header path digest (reply.Loaded generation) (Some line) =
+  IsLineOfReply header path digest halted (reply.Loaded generation) (Some line) =
       IsLoadLine header
-      (DescribesInstalledLoad path generation (option_map encode_lower digest)) line
-  IsLineOfReply header path digest (reply.Refused refused) (Some line) =
+      (DescribesInstalledLoad path generation (encode_lower digest) halted) line
+  IsLineOfReply header path digest halted (reply.Refused refused) (Some line) =
       IsLoadLine header (DescribesReplyRefusal path refused) line
-  IsLineOfReply header path digest (reply.Lines lines) None = Unit {0}
-  IsLineOfReply header path digest reply.Stopping None = Unit {0}
-  IsLineOfReply header path digest other line = ⊥
+  IsLineOfReply header path digest halted (reply.Lines lines) None = Unit {0}
+  IsLineOfReply header path digest halted reply.Stopping None = Unit {0}
+  IsLineOfReply header path digest halted other line = ⊥

@@ -7,10 +7,10 @@
 //!
 //! The contents of a connection's line are kept while the connection is answered: what was read and
 //! how a device failed (`Recorder`), and the result for each app (`ConnectionRecord`). The line of
-//! an event is that of `log_line` in `access_log`, which is proved. The line of a load is proved
-//! from the operator's reply on (`load_line`), that of a start from the digest or the fault on
-//! (`start_line`). Connections are also counted (`tally`), and the totals are logged each minute.
-//! Nothing is proved about queues, threads, clocks and standard error.
+//! an event is that of `log_line` in `access_log`, which is proved. The line of an operator's
+//! request is proved from the reply on (`request_line`), that of a start from the digest or the
+//! fault on (`start_line`). Connections are also counted (`tally`), and the totals are logged each
+//! minute. Nothing is proved about queues, threads, clocks and standard error.
 //!
 //! See docs/OPERATING.md, "The log".
 #![tactic(auto)]
@@ -20,6 +20,7 @@ mod app_record;
 mod clock;
 mod connection_line;
 mod connection_record;
+mod halt_line;
 mod kept_texts;
 mod load_line;
 mod log;
@@ -27,17 +28,19 @@ mod log_output;
 mod log_queue;
 mod log_thread;
 mod recorder;
+mod request_line;
 mod start_line;
 mod tally;
 
-pub use clock::seconds_from_now;
+pub use clock::{seconds_from_now, utc_now};
 pub use connection_line::{note_connection, note_unaccepted};
 pub use connection_record::ConnectionRecord;
-pub use load_line::{digest_text, note_load, note_serving};
+pub use load_line::{digest_text, note_serving};
 pub use log::Log;
 pub use log_output::LogOutput;
 pub use log_queue::{LogPiece, LogQueue};
 pub use log_thread::{LogEnd, start_log};
 pub use recorder::Recorder;
+pub use request_line::note_request;
 pub use start_line::{Starting, note_refused_start, note_start, write_refused_start};
 pub use tally::{count_begun, count_ended};

@@ -1,14 +1,12 @@
 //! The log lines about what is served: that the server is ready, and each load.
 
-ghost use Rattle.std.specs.Prelude.{◌≡◌, IfOk, IfSome, option_copied, option_map, string_bytes};
+ghost use Rattle.std.specs.Prelude.{◌≡◌, IfOk, length, option_copied, option_map, string_bytes};
 ghost use Rattle.hex.specs.Hex.{encode_lower};
 ghost use Rattle.server_log.specs.Loads.{IsCauseOf, IsExcerptOf, IsLineOfReply, IsLoadLine};
 ghost use Rattle.server_log.specs.Loads.{DescribesInstalledLoad, DescribesReplyRefusal};
 ghost use Rattle.server_log.specs.Loads.{DescribesRefusedLoad};
 
-use crate::clock::seconds_from_now;
-use crate::log_queue::{LogPiece, LogQueue};
-use crate::recorder::Recorder;
+use crate::log_queue::LogQueue;
 use access_log::{Excerpt, LineHeader, Load, LogEvent, log_line};
 use hex::encode;
 use hot_swap::Generation;
@@ -16,9 +14,6 @@ use operator::{Control, Loader, OperatorRefusal, OperatorReply};
 use std::alloc::{AllocError, Global};
 use std::sync::Wait;
 use std::time::Clock;
-
-/// How long the line of a load waits for a place in the queue.
-const LOAD_SECONDS: u64 = 2;
 
 /// Queues the line that the server is ready and serves this generation, if there is a queue. The
 /// line is lost if an allocation fails.
@@ -32,66 +27,29 @@ where
     }
 }
 
-/// Puts the line of a load into the queue, if there is a queue and a load was requested. The line
-/// has the digest of an installed load, or the refusal and the loader's cause. It is lost if an
-/// allocation fails, or if no place becomes free in time.
-// open: that what is queued is the piece of `load_line`, that its path is the requested one, and
-// that it is written: no contract knows the contents of a queue. Tests.
-pub fn note_load<H, R, L>(
-    rt: &H,
-    log: Option<&LogQueue>,
-    recorder: Recorder<R>,
-    loader: &L,
-    control: &Control,
-    reply: &OperatorReply<L::Fault>,
-)
-where
-    H: Wait + AllocGlobal + Clock,
-    R: Drop,
-    L: Loader,
-{
-    let Some(queue) = log else {
-        return;
-    };
-    let Some(path) = recorder.load_path() else {
-        if let OperatorReply::Loaded(_) = reply {
-            queue.count_lost(1);
-        }
-        return;
-    };
-    match load_line(rt.alloc(), &queue.header(rt), path, loader, control, reply) {
-        Ok(Some(piece)) => {
-            let until = seconds_from_now(rt, LOAD_SECONDS);
-            let _put = queue.put_until(rt, piece, until);
-        }
-        Ok(None) => (),
-        Err(_) => queue.count_lost(1),
-    }
-}
-
-/// The line of a request for a load: with the digest of what is then served, or with the refusal
-/// and the loader's cause; `None` if the reply isn't that to a load.
+/// The line of a request for a load: with the digest of what was loaded and the number of halted
+/// apps, or with the refusal and the loader's cause; `None` if the reply isn't that to a load.
 // open: whether an allocation fails.
-fn load_line<L: Loader>(
+pub(crate) fn load_line<L: Loader>(
     alloc: Global,
     header: &LineHeader,
     path: &str,
     loader: &L,
     control: &Control,
     reply: &OperatorReply<L::Fault>,
-) -> Result<Option<LogPiece>, AllocError>
-    ensures line { IfOk result (λ piece. IsLineOfReply L.has_cause L.Fault.output header.now
-        path.now control.now.digest reply.now (option_map (λ p. p.text.items) piece)) }
-    ensures one { IfOk result (λ piece. IfSome piece (λ p. p.lines ≡ 1)) }
+) -> Result<Option<Vec<u8>>, AllocError>
+    ensures { IfOk result (λ line. IsLineOfReply L.has_cause L.Fault.output header.now path.now
+        control.now.last.digest (length control.now.halted) reply.now
+        (option_map (λ l. l.items) line)) }
 {
     match reply {
         OperatorReply::Loaded(generation) => {
-            let text = installed_line(alloc, header, path, *generation, control.digest())?;
-            Ok(Some(LogPiece { text, lines: 1 }))
+            let line = installed_line(alloc, header, path, *generation, control)?;
+            Ok(Some(line))
         }
         OperatorReply::Refused(refusal) => {
-            let text = refused_line(alloc, header, path, loader, refusal)?;
-            Ok(Some(LogPiece { text, lines: 1 }))
+            let line = refused_line(alloc, header, path, loader, refusal)?;
+            Ok(Some(line))
         }
         _ => Ok(None),
     }
@@ -102,14 +60,21 @@ fn installed_line(
     header: &LineHeader,
     path: &str,
     generation: Generation,
-    digest: Option<[u8; 32]>,
+    control: &Control,
 ) -> Result<Vec<u8>, AllocError>
     ensures { IfOk result (λ line. IsLoadLine header.now (DescribesInstalledLoad path.now generation
-        (option_map encode_lower digest)) line.items) }
+        (encode_lower control.now.last.digest) (length control.now.halted)) line.items) }
 {
-    let digest = digest_text(alloc, digest)?;
-    let load = installed(path, generation, digest.as_deref());
+    let digest = encode(alloc, control.last().digest)?;
+    let load = installed(path, generation, &digest, halted_count(control));
     log_line(alloc, header, &LogEvent::Load(load))
+}
+
+// How many apps are halted.
+fn halted_count(control: &Control) -> u64
+    ensures { result ≡ length control.now.halted }
+{
+    control.halted().len() as u64
 }
 
 fn refused_line<L: Loader>(
@@ -150,13 +115,14 @@ pub fn digest_text(alloc: Global, digest: Option<[u8; 32]>) -> Result<Option<Str
 }
 
 // The event of an installed load.
-fn installed<'x>(path: &'x str, generation: Generation, digest: Option<&'x str>) -> Load<'x>
-    ensures { DescribesInstalledLoad path.now generation (option_copied digest.entry) result }
+fn installed<'x>(path: &'x str, generation: Generation, digest: &'x str, halted: u64) -> Load<'x>
+    ensures { DescribesInstalledLoad path.now generation digest.now halted result }
 {
     Load {
         path: Excerpt::of(path),
         generation,
-        digest,
+        digest: Some(digest),
+        halted,
         refusal: None,
         cause: None,
     }
@@ -170,6 +136,7 @@ fn refused<'x>(path: &'x str, refusal: &'x str, cause: Option<&'x str>) -> Load<
         path: Excerpt::of(path),
         generation: 0,
         digest: None,
+        halted: 0,
         refusal: Some(refusal),
         cause: excerpt_of(cause),
     }

@@ -62,16 +62,12 @@ impl<T> Recorder<T> {
         }
     }
 
-    /// The path of the load that an operator requested, if that is the request and its line was
-    /// kept.
-    pub(crate) fn load_path(&self) -> Option<&str> {
+    /// The operator's request, if the line is one and was kept.
+    pub(crate) fn request(&self) -> Option<OperatorRequest<'_>> {
         if !self.is_kept {
             return None;
         }
-        match OperatorRequest::of(first_line(&self.bytes)) {
-            Some(OperatorRequest::Load(path)) => Some(path),
-            _ => None,
-        }
+        OperatorRequest::of(first_line(&self.bytes))
     }
 
     /// The address in `X-Forwarded-For`, if it has one address and no list.
