@@ -1,8 +1,8 @@
 //! Each kind of event, and its line.
 
 use crate::given::{ANSWERED, NOTES, is_line};
-use crate::samples::{CUT, CUT_APPS, DROPPED, LOAD, START, STRANGE};
-use access_log::{Connection, Counter, Load, LogEvent, Start, Totals};
+use crate::samples::{CUT, CUT_APPS, DROPPED, HALT, LOAD, START, STRANGE};
+use access_log::{Connection, Counter, Halt, Load, LogEvent, Start, Totals};
 use std::test::Fail;
 
 /// An event, and what its line has from its kind on. Line feeds here don't count.
@@ -73,6 +73,38 @@ const EVENTS: &[(LogEvent<'static>, &str)] = &[
         }),
         r#""load","path":"m.toml","refusal":"M7 Cells N2 Redefined in array 1",
 "cause":"a\tb","cause_left_out":9}"#,
+    ),
+    (
+        LogEvent::Load(Load {
+            generation: 3,
+            digest: Some("e3b0c44298fc1c14"),
+            halted: 2,
+            ..LOAD
+        }),
+        r#""load","path":"m.toml","generation":3,"digest":"e3b0c44298fc1c14","halted":2}"#,
+    ),
+    (
+        LogEvent::Halt(Halt {
+            generation: 4,
+            ..HALT
+        }),
+        r#""halt","app":"editor","word":"halt","generation":4}"#,
+    ),
+    (
+        LogEvent::Halt(Halt {
+            is_resume: true,
+            generation: 5,
+            ..HALT
+        }),
+        r#""halt","app":"editor","word":"resume","generation":5}"#,
+    ),
+    (
+        LogEvent::Halt(Halt {
+            app: CUT,
+            refusal: Some("B8 App"),
+            ..HALT
+        }),
+        r#""halt","app":"a\tb","app_left_out":9,"word":"halt","refusal":"B8 App"}"#,
     ),
     (
         LogEvent::Unaccepted("Too many open files (os error 24)"),

@@ -1,7 +1,7 @@
 //! Parts of events, of which the tests have the lines.
 
 use crate::given::NO_MORE;
-use access_log::{Connection, Excerpt, Load, LoggedApp, Outcome, Start};
+use access_log::{Connection, Excerpt, Halt, Load, LoggedApp, Outcome, Start};
 
 const MANIFEST: Excerpt<'static> = Excerpt {
     text: "m.toml",
@@ -26,8 +26,19 @@ pub(crate) const LOAD: Load<'static> = Load {
     path: MANIFEST,
     generation: 0,
     digest: None,
+    halted: 0,
     refusal: None,
     cause: None,
+};
+
+pub(crate) const HALT: Halt<'static> = Halt {
+    app: Excerpt {
+        text: "editor",
+        length: 6,
+    },
+    is_resume: false,
+    generation: 0,
+    refusal: None,
 };
 
 /// A connection whose client got no reply.

@@ -6,6 +6,7 @@
 mod ending;
 #[cfg(test)]
 mod gated;
+mod halts;
 #[cfg(test)]
 mod impaired;
 #[cfg(test)]

@@ -2,6 +2,7 @@
 //! stops them.
 
 use crate::ending::ending;
+use crate::halts::halted;
 use crate::impaired::Impaired;
 use crate::log_lines::Line;
 use crate::logged::is_requested;
@@ -36,6 +37,8 @@ pub(crate) enum PortTask {
     Silent,
     /// A client sends slowly, and another one needs the only worker.
     Slow,
+    /// An app is halted and resumed, and rulesets are loaded.
+    Halted,
     /// The server is stopped while requests are read and others wait.
     Ending,
     /// Clients send requests at once, while rulesets are swapped or a quota is taken from.
@@ -98,6 +101,7 @@ where
         PortTask::AtOnce => at_once(own, place.clients),
         PortTask::Silent => silent(own, place),
         PortTask::Slow => slow(own, place.clients),
+        PortTask::Halted => halted(own, place),
         PortTask::Ending => ending(own, place),
         PortTask::Swapped(swaps) => are_swapped(own, place, swaps),
         PortTask::Logged(line) => is_requested(own, place.clients, line),
@@ -155,6 +159,7 @@ const SERVED: &[(PortTask, &str, usize, u64, &str)] = &[
     ),
     (PortTask::Silent, "no.toml", 1, 1, "silent ones are dropped"),
     (PortTask::Slow, "no.toml", 1, 1, "a slow one is dropped"),
+    (PortTask::Halted, "yes.toml", 2, 10, "a halt holds"),
     (
         PortTask::Ending,
         "no.toml",

@@ -6,8 +6,9 @@ use crate::servers::service_of;
 use bounded_files::Device;
 use cells::{Directory, PlainCells};
 use hot_swap::Publisher;
-use operator::Control;
+use operator::{Control, LastLoad};
 use ruleset::Ruleset;
+use server_log::utc_now;
 use serving::Manifests;
 use std::net::TcpListener;
 use std::process::Abort;
@@ -24,11 +25,25 @@ pub(crate) fn publisher_of<T: Abort + Wait>(own: &Impaired<'_, T>) -> Publisher 
     publisher.expect(own.handles, "a publisher")
 }
 
+/// A control of a publisher of a ruleset without apps.
+fn control_of<T: Abort + Wait>(own: &Impaired<'_, T>) -> Control {
+    let alloc = own.rt.alloc();
+    let rules = Ruleset::new(String::new(alloc), Vec::new(alloc));
+    let rules = Arc::new(alloc, rules.expect(own.handles, "a ruleset"));
+    let last = LastLoad {
+        rules: rules.expect(own.handles, "memory"),
+        digest: [0; 32],
+        path: String::new(alloc),
+        time: utc_now(own),
+    };
+    Control::new(alloc, publisher_of(own), Directory::new(alloc), last)
+}
+
 /// Serves the operator's port of a stopped server. Returns whether a line ended it.
 fn is_ended_by_line<T: Abort + Wait>(own: &Impaired<'_, T>, listener: &TcpListener) -> bool {
     let alloc = own.rt.alloc();
     let (cells, mut pass) = PlainCells::new(alloc).expect(own.handles, "cells");
-    let mut control = Control::new(publisher_of(own), Directory::new(alloc));
+    let mut control = control_of(own);
     let disk = Device::new(own.rt);
     let parts = ServerParts {
         loader: &Manifests::of(&disk),
