@@ -150,17 +150,10 @@ counts_along c top old (e ∷ es) new lt size h counts room =
           ∙ ap (λ (k : ℕ). min top (slice_index old c + k)) (sym adds),
     )
 
-from_none : (y a v top : ℕ) → v ≡ 0 → y + min top v ≡ min top (v + a) → y ≡ min top a
-from_none y a v top none along = at_zero
-    (subst (λ (k : ℕ). y + min top k ≡ min top (k + a)) none along)
-  where
-    at_zero : y + min top 0 ≡ min top (0 + a) → y ≡ min top a
-    at_zero first = omega arith
-
 -- what the quotas promise, for closed cells
-pub exact : (passes : List PassView) (values : List ℕ) → AreLeftBy passes values
-    → QuotasAreExact passes values
-exact passes values closed c counter =
+pub exact : (opening : List ℕ) (passes : List PassView) (values : List ℕ)
+    → AreLeftBy opening passes values → QuotasAreExact opening passes values
+exact opening passes values closed c counter =
     let made = all_events closed.history in
     let all = events_made passes in
     let legal = closed.legal in
@@ -173,17 +166,16 @@ exact passes values closed c counter =
     let yes : (top : ℕ) → yes_count c top all ≡ yes_count c top made = λ top.
     sum_by-IsPermutation (λ (x : CellEvent). one_if
     (x.cell == c && adds_one x.op && nat_lt x.reply top)) made all shuffle in
-    let none = legal.zeros.zero c in
     let room = counter.adds_fit in
-    let along : (top : ℕ) → (slice_index values c ≡ slice_index legal.opening c + add_count c made)
-    × (yes_count c top made + min top (slice_index legal.opening c) ≡ min top
-    (slice_index legal.opening c + add_count c made)) = λ top.
-    counts_along c top legal.opening made values counter.wide legal.zeros.count legal.grown counts
+    let along : (top : ℕ) → (slice_index values c ≡ slice_index opening c + add_count c made)
+    × (yes_count c top made + min top (slice_index opening c) ≡ min top
+    (slice_index opening c + add_count c made)) = λ top.
+    counts_along c top opening made values counter.wide legal.cells.count legal.grown counts
     (omega arith) in
     record {
-      value_is = (along 0).0 ∙ omega arith;
+      value_is = (along 0).0 ∙ ap (λ (k : ℕ). slice_index opening c + k) (sym adds);
       yes_is = λ top.
-          yes top ∙ from_none (yes_count c top made) (add_count c made)
-          (slice_index legal.opening c) top none (along top).1
-          ∙ ap (λ (k : ℕ). min top k) (sym adds);
+          ap (λ (k : ℕ). k + min top (slice_index opening c)) (yes top)
+          ∙ (along top).1
+          ∙ ap (λ (k : ℕ). min top (slice_index opening c + k)) (sym adds);
     }

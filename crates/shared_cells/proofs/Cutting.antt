@@ -10,14 +10,13 @@ use mathlib.Core.Option.{some, some-ne-none, some-injective}
 use lib.ListN.{get_elem?}
 use Rattle.atomic_table.specs.Table.{opening, Splits, Joins}
 use Rattle.atomic_table.proofs.Lists.{at_set, at_snoc}
-use Rattle.cells.specs.Events.{AreZeros}
+use Rattle.cells.specs.Events.{AreCells}
 use Rattle.shared_cells.specs.declared.rule.Account.{Account}
 use Rattle.shared_cells.specs.History.{Entry}
-use Rattle.shared_cells.specs.Words.{stored_word}
+use Rattle.shared_cells.specs.Words.{AreWordsOf}
 use Rattle.shared_cells.specs.Rule.{account, new_accounts, all_but_first, first_only}
 use Rattle.shared_cells.specs.Rule.{AgreesWith, accounts_of, one_if, HasHistory}
 use Rattle.shared_cells.proofs.Accounts.{sum_set, count-cons, count-append}
-use Rattle.shared_cells.proofs.Words.{stored_word-zero}
 
 new_agree : (k n : ℕ) → All (AgreesWith []) (new_accounts k n)
 new_agree k zero = All-nil (AgreesWith [])
@@ -58,16 +57,15 @@ one_seat : (f : List Account → ℕ) (v : List Account) → sum_by f (v ∷ [])
 one_seat f v = sum_by-cons f v [] ∙ add-zero (f v)
 
 -- the rule at first, without events
-pub begins : {S : Type 0} (n : ℕ) (ws : List ℕ) → AreZeros 8192 ws
-    → HasHistory {S = S} n (opening ws [] (new_accounts 0 n))
-begins n ws zeros = record {
+pub begins : {S : Type 0} (o : List ℕ) (n : ℕ) (ws : List ℕ) → AreCells o
+    → AreWordsOf o ws → HasHistory {S = S} o n (opening ws [] (new_accounts 0 n))
+begins o n ws cells is = record {
   history = [];
-  values = ws;
-  legal = record { opening = ws; zeros = zeros; grown = refl };
-  cells = zeros.count;
-  words = zeros.count;
-  stored = λ c lt. zeros.zero c ∙ sym (stored_word-zero c)
-      ∙ ap (stored_word c) (sym (zeros.zero c));
+  values = o;
+  legal = record { cells = cells; grown = refl };
+  cells = cells.count;
+  words = is.count;
+  stored = is.stored;
   agrees = agrees;
   once = λ p. one_seat (accounts_of p) (new_accounts 0 n) ∙ new_once n p;
   whole = one_seat (λ (v : List Account). length v) (new_accounts 0 n) ∙ new_length 0 n;
@@ -104,9 +102,9 @@ count_adds : (p : ℕ) (x : Account) (xs : List Account)
 count_adds p x xs = let a = count-cons p x xs in let b = count-cons p x [] in omega arith
 
 -- the first account goes to a new seat
-pub splits : {S : Type 0} (n id : ℕ) (v : List Account)
-    → Splits (HasHistory {S = S} n) id v (all_but_first v) (first_only v)
-splits n id v s rule at =
+pub splits : {S : Type 0} (o : List ℕ) (n id : ℕ) (v : List Account)
+    → Splits (HasHistory {S = S} o n) id v (all_but_first v) (first_only v)
+splits o n id v s rule at =
     let left = all_but_first v in
     let right = first_only v in
     let rest = set s.views id left in
@@ -140,9 +138,9 @@ splits n id v s rule at =
     }
 
 -- one seat takes over what another knows
-pub joins : {S : Type 0} (n id : ℕ) (v : List Account) (other : ℕ) (w : List Account)
-    → Joins (HasHistory {S = S} n) id v other w (w ++ v) []
-joins n id v other w s rule at two there =
+pub joins : {S : Type 0} (o : List ℕ) (n id : ℕ) (v : List Account) (other : ℕ) (w : List Account)
+    → Joins (HasHistory {S = S} o n) id v other w (w ++ v) []
+joins o n id v other w s rule at two there =
     let both = w ++ v in
     let first = set s.views id both in
     let theirs : get_elem? s.views other ≡ some w =

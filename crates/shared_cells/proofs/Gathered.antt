@@ -48,12 +48,12 @@ value_read ws i w at =
 none_above : (n m : ℕ) → one_if (nat_lt m n) ≡ 0 → n ≤ m
 none_above n m none = grind (arith, nat_tests)
 
-length_stored : (c : ℕ) (ws : List ℕ) → length (stored_values c ws) ≡ length ws
+pub length_stored : (c : ℕ) (ws : List ℕ) → length (stored_values c ws) ≡ length ws
 length_stored c [] = refl
 length_stored c (w ∷ ws) = ap suc (length_stored (suc c) ws)
 
 -- two lists of the same length that agree at each place are equal
-same_lists : (xs ys : List ℕ) → length xs ≡ length ys
+pub same_lists : (xs ys : List ℕ) → length xs ≡ length ys
     → ((i : ℕ) → i < length ys → slice_index xs i ≡ slice_index ys i) → xs ≡ ys
 same_lists [] [] long same = refl
 same_lists [] (y ∷ ys) long same = absurd (omega arith)
@@ -77,11 +77,11 @@ length_lists : (passes : List PassView) → length (lists_of passes) ≡ length 
 length_lists [] = refl
 length_lists (x ∷ xs) = ap suc (length_lists xs)
 
-pub closes : {S : Type 0} (n id : ℕ) (v : List Account) (passes : List PassView) (ws : List ℕ)
-    (xs : List S)
+pub closes : {S : Type 0} (o : List ℕ) (n id : ℕ) (v : List Account) (passes : List PassView)
+    (ws : List ℕ) (xs : List S)
     → length passes ≡ n → events_known v ≡ lists_of passes
-    → Final (Seen (HasHistory {S = S} n) id v) ws xs → AreLeftBy passes (stored_values 0 ws)
-closes n id v passes ws xs all same final =
+    → Final (Seen (HasHistory {S = S} o n) id v) ws xs → AreLeftBy o passes (stored_values 0 ws)
+closes o n id v passes ws xs all same final =
     let s = final.0 in
     let rule = final.1.0 in
     let at = final.1.1 in
@@ -89,13 +89,13 @@ closes n id v passes ws xs all same final =
     ∙ ap (λ (l : List (List CellEvent)). length l) same ∙ length_lists passes ∙ all in
     let numbers : (m : ℕ) → accounts_of m v ≡ one_if (nat_lt m n) = λ m.
     sym (all_in m s.views id v at (rule.whole ∙ sym long)) ∙ rule.once m in
-    let legal : IsLegal (all_events rule.history) (stored_values 0 ws) =
-    subst (IsLegal (all_events rule.history))
+    let legal : IsLegal o (all_events rule.history) (stored_values 0 ws) =
+    subst (IsLegal o (all_events rule.history))
     (values_are s.words rule.values rule.words rule.cells rule.stored
     ∙ ap (stored_values 0) final.2) rule.legal in
     record {
       history = by_place v rule.history;
-      legal = subst (λ (es : List CellEvent). IsLegal es (stored_values 0 ws))
+      legal = subst (λ (es : List CellEvent). IsLegal o es (stored_values 0 ws))
           (sym (same_events v rule.history)) legal;
       own = λ p.
           own_by_place v rule.history (rule.agrees id v at)

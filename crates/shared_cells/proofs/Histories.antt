@@ -26,16 +26,15 @@ events_more [] x = refl
 events_more (y ∷ history) x = ap (λ (es : List CellEvent). y.event ∷ es) (events_more history x)
 
 -- a legal history and one event on the values after it
-pub legal_more : (history : List Entry) (x : Entry) (values new : List ℕ)
-    → IsLegal (all_events history) values → IsEvent values x.event new
-    → IsLegal (all_events (history ++ x ∷ [])) new
-legal_more history x values new legal last = record {
-  opening = legal.opening;
-  zeros = legal.zeros;
+pub legal_more : (o : List ℕ) (history : List Entry) (x : Entry) (values new : List ℕ)
+    → IsLegal o (all_events history) values → IsEvent values x.event new
+    → IsLegal o (all_events (history ++ x ∷ [])) new
+legal_more o history x values new legal last = record {
+  cells = legal.cells;
   grown =
-      subst (λ (es : List CellEvent). GrewBy IsEvent legal.opening es new)
+      subst (λ (es : List CellEvent). GrewBy IsEvent o es new)
       (sym (events_more history x))
-      (grown_more legal.opening (all_events history) values x.event new legal.grown last);
+      (grown_more o (all_events history) values x.event new legal.grown last);
 }
 
 more_if : (b : Bool) (x e : CellEvent) (old new : List CellEvent) → new ≡ old ++ e ∷ []

@@ -9,3 +9,4 @@ mod Places
 mod Shuffles
 mod Steps
 mod Words
+mod Zeros

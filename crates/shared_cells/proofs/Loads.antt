@@ -54,10 +54,9 @@ grown_without p (x ∷ history) old new h =
         (unchanged old x.event h.0 (both (x.pass == p) (is_load x.event.op) is) h.1) rest
 
 pub loads_go : LoadsCanGo
-loads_go p history values legal = record {
-  opening = legal.opening;
-  zeros = legal.zeros;
-  grown = grown_without p history legal.opening values legal.grown;
+loads_go p history o values legal = record {
+  cells = legal.cells;
+  grown = grown_without p history o values legal.grown;
 }
 
 -- an entry by another pass stays, and none of this pass is missed

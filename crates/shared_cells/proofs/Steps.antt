@@ -83,11 +83,11 @@ below : (p n : ℕ) → one_if (nat_lt p n) ≢ 0 → p < n
 below p n counted = grind (arith, nat_tests)
 
 -- a seat (a ghost token) that knows the account of one pass acts on a cell
-one_acts : {S : Type 0} (n slots id p : ℕ) (made : List CellEvent) (held : List (ℕ × S))
-    (cell : ℕ) (op : CellOp) (f : ℕ → ℕ) → cell < 8192 → DoesTo cell f op
-    → Allows (HasHistory n) slots id (account p made ∷ [], held) cell f
+one_acts : {S : Type 0} (o : List ℕ) (n slots id p : ℕ) (made : List CellEvent)
+    (held : List (ℕ × S)) (cell : ℕ) (op : CellOp) (f : ℕ → ℕ) → cell < 8192 → DoesTo cell f op
+    → Allows (HasHistory o n) slots id (account p made ∷ [], held) cell f
     (Gains cell op (account p made ∷ [], held))
-one_acts {S} n slots id p made held cell op f room does s rule homes at small =
+one_acts {S} o n slots id p made held cell op f room does s rule homes at small =
     let old = account p made ∷ [] in
     let value : ℕ = slice_index rule.values cell in
     let e : CellEvent = event cell op
@@ -135,7 +135,7 @@ one_acts {S} n slots id p made held cell op f room does s rule homes at small =
       record {
         history = history;
         values = values;
-        legal = legal_more rule.history (by_pass p e) rule.values values rule.legal is;
+        legal = legal_more o rule.history (by_pass p e) rule.values values rule.legal is;
         cells = length-set rule.values cell (after (limit cell) value op) ∙ rule.cells;
         words = length-set s.words cell (f (slice_index s.words cell)) ∙ rule.words;
         stored = stored_after s.words rule.values cell op f rule.words rule.cells room rule.stored
@@ -149,14 +149,16 @@ one_acts {S} n slots id p made held cell op f room does s rule homes at small =
     )
 
 -- as above, for a seat with the premise that it knows one pass
-acts : {S : Type 0} (n slots id : ℕ) (me : Me S (List Account)) (cell : ℕ) (op : CellOp) (f : ℕ → ℕ)
+acts : {S : Type 0} (o : List ℕ) (n slots id : ℕ) (me : Me S (List Account)) (cell : ℕ)
+    (op : CellOp) (f : ℕ → ℕ)
     → KnowsOne me → cell < 8192 → DoesTo cell f op
-    → Allows (HasHistory n) slots id me cell f (Gains cell op me)
-acts {S} n slots id me cell op f is room does =
+    → Allows (HasHistory o n) slots id me cell f (Gains cell op me)
+acts {S} o n slots id me cell op f is room does =
     subst
-    (λ (v : List Account). Allows {S = S} (HasHistory n) slots id (v, me.1) cell f
+    (λ (v : List Account). Allows {S = S} (HasHistory o n) slots id (v, me.1) cell f
     (Gains cell op (v, me.1)))
-    (sym is) (one_acts n slots id (first_number me.0) (first_events me.0) me.1 cell op f room does)
+    (sym is)
+    (one_acts o n slots id (first_number me.0) (first_events me.0) me.1 cell op f room does)
 
 -- ---- premises of a call on the table: that the seat is at it, that the word exists, and the step
 
@@ -165,30 +167,30 @@ at_table : {cells now : CellsView} {seat pass : PassView}
 at_table cells_are seat_is belongs =
     ap (λ p. p.table) seat_is ∙ belongs ∙ sym (ap (λ s. s.table) cells_are)
 
-module _ {S : Type 0} {cells now : CellsView} {seat pass : PassView} {n slots id cell : ℕ}
-    {op : CellOp} (me : Me S (List Account)) (at : ℕ) (cells_are : cells ≡ now)
-    (seat_is : seat ≡ pass) (belongs : IsPassOf now pass) (many : cells.table.words ≡ 8192)
-    (room : at < 8192) (one : KnowsOne me) (here : cell ≡ at) where
+module _ {S : Type 0} {cells now : CellsView} {seat pass : PassView} {o : List ℕ}
+    {n slots id cell : ℕ} {op : CellOp} (me : Me S (List Account)) (at : ℕ)
+    (cells_are : cells ≡ now) (seat_is : seat ≡ pass) (belongs : IsPassOf now pass)
+    (many : cells.table.words ≡ 8192) (room : at < 8192) (one : KnowsOne me) (here : cell ≡ at) where
   -- the step of the call's operation
   pub allowed : {access : CellOp} (f : ℕ → ℕ) → op ≡ access → DoesTo at f access
       → (seat.table ≡ cells.table) × (at < cells.table.words)
-      × Allows (HasHistory n) slots id me at f (Gains cell op me)
+      × Allows (HasHistory o n) slots id me at f (Gains cell op me)
   allowed {access} f same does = (
     at_table cells_are seat_is belongs,
     omega (arith, many, room),
-    subst (λ (x : ℕ × CellOp). Allows {S = S} (HasHistory n) slots id me at f (Gains x.0 x.1 me))
-        (λ i. (sym here i, sym same i)) (acts n slots id me at access f one room does),
+    subst (λ (x : ℕ × CellOp). Allows {S = S} (HasHistory o n) slots id me at f (Gains x.0 x.1 me))
+        (λ i. (sym here i, sym same i)) (acts o n slots id me at access f one room does),
   )
 
   -- a store finds nothing, and its reply doesn't depend on what it found
   pub allowed_store : {new : ℕ} (x : ℕ) → op ≡ Store x → new ≡ stored_word at (x % limit at)
       → (seat.table ≡ cells.table) × (at < cells.table.words)
-      × Allows (HasHistory n) slots id me at (λ _. new) (λ _. Gains cell op me new)
+      × Allows (HasHistory o n) slots id me at (λ _. new) (λ _. Gains cell op me new)
   allowed_store {new} x same does = (
     at_table cells_are seat_is belongs,
     omega (arith, many, room),
-    subst (λ (y : ℕ × CellOp). Allows {S = S} (HasHistory n) slots id me at (λ _. new)
+    subst (λ (y : ℕ × CellOp). Allows {S = S} (HasHistory o n) slots id me at (λ _. new)
         (λ _. Gains y.0 y.1 me new))
         (λ i. (sym here i, sym same i))
-        (acts n slots id me at (Store x) (λ _. new) one room (λ v. does)),
+        (acts o n slots id me at (Store x) (λ _. new) one room (λ v. does)),
   )

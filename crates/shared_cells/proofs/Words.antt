@@ -107,10 +107,3 @@ stored_value-stored_word c v = by_width (nat_lt c 4096)
         else (if b then v else v * 2 ^ 32) / 2 ^ 32) ≡ v
     by_width true = refl
     by_width false = shl-shr v 32
-
-pub stored_word-zero : (c : ℕ) → stored_word c 0 ≡ 0
-stored_word-zero c = by_width (nat_lt c 4096)
-  where
-    by_width : (b : Bool) → (if b then 0 else 0 * 2 ^ 32) ≡ 0
-    by_width true = refl
-    by_width false = refl

@@ -2,7 +2,7 @@
 -- of the pass that made it.
 use Rattle.std.specs.Prelude.{ℕ, ◌==◌, if◌then◌else◌, List, [], ◌∷◌}
 use Rattle.cells.specs.declared.event.CellEvent.{CellEvent}
-use Rattle.cells.specs.Events.{IsEvent, AreZeros}
+use Rattle.cells.specs.Events.{IsEvent, AreCells}
 use Rattle.cells.specs.Grown.{GrewBy}
 
 -- an event, and the number of its pass
@@ -21,10 +21,9 @@ events_by p [] = []
 events_by p (x ∷ history) =
     if x.pass == p then x.event ∷ events_by p history else events_by p history
 
--- the events are legal from cells that are all 0, and leave these values: each replies by the
--- values that earlier events left, and leaves the next ones. With the order of each pass, this is a
--- linearization without real-time order
-pub record IsLegal (made : List CellEvent) (values : List ℕ) : Type 0 where
-  pub opening : List ℕ
-  pub zeros : AreZeros 8192 opening
+-- the events are legal from cells with these opening values, and leave these last ones: each
+-- replies by the values that earlier events left, and leaves the next ones. With the order of each
+-- pass, this is a linearization without real-time order
+pub record IsLegal (opening : List ℕ) (made : List CellEvent) (values : List ℕ) : Type 0 where
+  pub cells : AreCells opening
   pub grown : GrewBy IsEvent opening made values

@@ -14,8 +14,9 @@ without_loads p = filter (λ x. not (x.pass == p && is_load x.event.op))
 
 -- it is as legal as the whole, and leaves the same values in the cells
 abbrev pub LoadsCanGo : Type 0
-LoadsCanGo = (p : ℕ) (history : List Entry) (values : List ℕ)
-    → IsLegal (all_events history) values → IsLegal (all_events (without_loads p history)) values
+LoadsCanGo = (p : ℕ) (history : List Entry) (opening values : List ℕ)
+    → IsLegal opening (all_events history) values
+    → IsLegal opening (all_events (without_loads p history)) values
 
 -- and the other passes made the same events
 abbrev pub OthersAreKept : Type 0

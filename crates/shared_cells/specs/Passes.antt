@@ -6,10 +6,11 @@ use Rattle.cells.specs.declared.event.CellEvent.{CellEvent}
 use Rattle.cells.specs.Grown.{GrewBy}
 use Rattle.shared_cells.specs.History.{Entry, all_events, events_by, IsLegal}
 
--- the cells: the table of their words, and how many passes were made to them
+-- the cells: the table of their words, how many passes were made to them, and their opening values
 pub record CellsView : Type 0 where
   pub table : TableId
   pub passes : ℕ
+  pub opening : List ℕ
 
 -- a pass: the table of its cells, and the events that it made, oldest first
 pub record PassView : Type 0 where
@@ -59,7 +60,7 @@ events_made = flat_map (λ pass. pass.events)
 -- The values are those after one legal history. In it the events of a pass are those that the pass
 -- made, each once and in their order, and there are no others. Passes are numbered by their places
 -- in this list.
-pub record AreLeftBy (passes : List PassView) (values : List ℕ) : Type 0 where
+pub record AreLeftBy (opening : List ℕ) (passes : List PassView) (values : List ℕ) : Type 0 where
   pub history : List Entry
-  pub legal : IsLegal (all_events history) values
+  pub legal : IsLegal opening (all_events history) values
   pub own : (p : ℕ) → events_by p history ≡ get_or (lists_of passes) p []

@@ -71,10 +71,11 @@ abbrev pub one_if : Bool → ℕ
 one_if test = if test then 1 else 0
 
 -- `n` is the number of passes
-pub record HasHistory {S : Type 0} (n : ℕ) (s : State S (List Account)) : Type 0 where
+pub record HasHistory {S : Type 0} (opening : List ℕ) (n : ℕ)
+    (s : State S (List Account)) : Type 0 where
   pub history : List Entry
   pub values : List ℕ
-  pub legal : IsLegal (all_events history) values
+  pub legal : IsLegal opening (all_events history) values
   -- (follows from `legal`; the proofs use it)
   pub cells : length values ≡ 8192
   pub words : length s.words ≡ 8192

@@ -49,8 +49,8 @@ impl SharedCells {
         requires own { All (IsPassOf self) passes.items }
         ensures closed { IfOk result (AreClosed self) }
         ensures passes { IfOk result (λ c. c.passes ≡ passes.items) }
-        ensures history { IfOk result (λ c. AreLeftBy c.passes c.values) }
-        ensures quotas { IfOk result (λ c. QuotasAreExact c.passes c.values) }
+        ensures history { IfOk result (λ c. AreLeftBy self.opening c.passes c.values) }
+        ensures quotas { IfOk result (λ c. QuotasAreExact self.opening c.passes c.values) }
         ensures always { IsOk result }
     {
         let cells = Snapshot::of(&self);
@@ -81,6 +81,17 @@ impl Closed {
     {
         let at = cell.index();
         to_value(at, self.table.word(at))
+    }
+
+    /// Copies the last values of all cells, by their numbers.
+    pub fn copy_values(&self, values: &mut [u64])
+        requires { length values.old ≡ 8192 }
+        ensures { values.new ≡ self.now.values }
+    {
+        let _table = &self.table;
+        for cell in 0..CellNo::COUNT {
+            values[usize::from(cell)] = self.value(CellNo::new(cell));
+        }
     }
 }
 

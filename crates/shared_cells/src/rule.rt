@@ -5,6 +5,7 @@ use atomic_table::{Join, Play, Split, TableRule};
 use cells::{CellEvent, CellOp};
 use std::collections::LinkedList;
 use std::marker::{Brand, PhantomData};
+use std::snapshot::Snapshot;
 
 /// The number of a pass, and the events that it made.
 pub struct Account {
@@ -15,15 +16,22 @@ pub struct Account {
 /// What a seat knows: the accounts of passes.
 pub type View = LinkedList<Account>;
 
-/// The rule of the table, in which the number of passes is fixed.
+/// How cells open: how many passes are made to them, and their values.
+#[derive(Drop)]
+pub struct Opening {
+    pub passes: usize,
+    pub values: Snapshot<Vec<u64>>,
+}
+
+/// The rule of the table, in which the number of passes and the opening values are fixed.
 pub struct OneHistory;
 
-impl TableRule<(), View, usize> for OneHistory {
+impl TableRule<(), View, Opening> for OneHistory {
     ghost use Rattle.shared_cells.specs.Rule.{HasHistory, new_accounts};
 
-    ghost holds = { HasHistory };
+    ghost holds = { λ o. HasHistory o.values.value.items o.passes };
 
-    ghost first = { new_accounts 0 };
+    ghost first = { λ o. new_accounts 0 o.passes };
 }
 
 /// The cell and the operation of a step, which its call names.

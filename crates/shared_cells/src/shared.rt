@@ -5,7 +5,7 @@ ghost use Rattle.cells.specs.Events.{event, CanReply};
 ghost use Rattle.shared_cells.specs.Passes.{IsPassOf, Gained};
 
 use crate::pass::SharedPass;
-use crate::rule::{NamedAccess, OneEvent, OneHistory, View};
+use crate::rule::{NamedAccess, OneEvent, OneHistory, Opening, View};
 use crate::word::{to_value, to_word};
 use atomic_table::Table;
 use cells::{CellNo, CellOp, CellSteps};
@@ -15,7 +15,7 @@ use std::marker::{Brand, Model};
 /// Counters that threads share. In contracts they have their table, and the number of their passes.
 #[derive(Drop)]
 pub struct SharedCells {
-    pub(crate) table: Table<(), View, usize, OneHistory, Global>,
+    pub(crate) table: Table<(), View, Opening, OneHistory, Global>,
 }
 
 impl Model for SharedCells {
@@ -24,10 +24,14 @@ impl Model for SharedCells {
 
     ghost Value = { CellsView };
 
-    ghost view = { λ s. record { table = s.table.shared.table_id; passes = s.table.shared.key } };
+    ghost view = { λ s. record {
+      table = s.table.shared.table_id;
+      passes = s.table.shared.key.passes;
+      opening = s.table.shared.key.values.value.items;
+    } };
 
     ghost invariant = { λ s. (s.table.shared.table_id.words ≡ 8192)
-        × (s.table.shared.table_id.slots ≡ 0) × (0 < s.table.shared.key) };
+        × (s.table.shared.table_id.slots ≡ 0) × (0 < s.table.shared.key.passes) };
 }
 
 impl CellSteps for SharedCells {

@@ -13,7 +13,7 @@ pub split_seat-first-requires : goal.split_seat-first-requires
 split_seat-first-requires c = (
   c.loop.invariant.same ∙ c.requires.seat,
   c.requires.words,
-  splits c.args.words.now.key
+  splits c.args.words.now.key.values.value.items c.args.words.now.key.passes
       c.loop.seat.id c.loop.seat.me.0,
 )
 

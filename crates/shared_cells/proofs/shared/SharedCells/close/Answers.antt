@@ -23,7 +23,8 @@ join_seat-requires c =
       c.into_seat.ensures.table ∙ popped.1,
       c.into_seat.ensures.none,
       omega (arith, c.self.invariant.0),
-      joins c.self.inside.table.shared.key c.loop-pass.seat.id c.loop-pass.seat.me.0
+      joins c.self.inside.table.shared.key.values.value.items c.self.inside.table.shared.key.passes
+          c.loop-pass.seat.id c.loop-pass.seat.me.0
           c.into_seat.result.id c.into_seat.result.me.0,
     )
 
@@ -46,14 +47,16 @@ loop-pass-preserved c =
     }
 
 left_by : (c : After-drop-passes)
-    → AreLeftBy c.args.passes.items (stored_values 0 c.close_with-table.result.words.items)
+    → AreLeftBy c.self.inside.table.shared.key.values.value.items c.args.passes.items
+    (stored_values 0 c.close_with-table.result.words.items)
 left_by c =
     let none = none_left c.loop-pass.passes.items
     (sym c.loop-pass.passes.ok.0 ∙ c.in_default-pop.ensures.cases.0) in
     let known : events_known c.loop-pass.seat.me.0 ≡ lists_of c.args.passes.items =
     ap (λ (l : List PassView). lists_of l ++ events_known c.loop-pass.seat.me.0) (sym none)
     ∙ c.loop-pass.invariant.known in
-    closes c.self.inside.table.shared.key c.loop-pass.seat.id c.loop-pass.seat.me.0
+    closes c.self.inside.table.shared.key.values.value.items c.self.inside.table.shared.key.passes
+    c.loop-pass.seat.id c.loop-pass.seat.me.0
     c.args.passes.items
     (slots_items c.close_with-table.result.words) (slots_items c.close_with-table.result.slots)
     (c.requires.all ∙ sym (ap (λ s. s.passes) c.self.view_is)) known
@@ -67,8 +70,12 @@ pub returns-clause-passes : goal.returns-clause-passes
 returns-clause-passes c = agrees c
 
 pub returns-clause-history : goal.returns-clause-history
-returns-clause-history c = rw (agrees c) (left_by c)
+returns-clause-history c =
+    let opening = ap (λ s. s.opening) c.self.view_is in rw (agrees c, sym opening) (left_by c)
 
 pub returns-clause-quotas : goal.returns-clause-quotas
-returns-clause-quotas c = rw (agrees c) (exact c.args.passes.items
+returns-clause-quotas c =
+    let opening = ap (λ s. s.opening) c.self.view_is in
+    rw (agrees c, sym opening)
+    (exact c.self.inside.table.shared.key.values.value.items c.args.passes.items
     (stored_values 0 c.close_with-table.result.words.items) (left_by c))

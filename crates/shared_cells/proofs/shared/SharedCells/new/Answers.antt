@@ -1,13 +1,13 @@
-use Rattle.std.proofs.Common.{ℕ, List, length, ap, ◌∙◌}
-use Rattle.std.specs.Prelude.{slice_index}
-use Rattle.shared_cells.proofs.Cutting.{begins}
+use Rattle.std.proofs.Common.{sym, subst}
+use Rattle.std.proofs.lemmas.Result.{IfOk-weaker}
+use Rattle.cells.specs.Events.{AreZeros}
+use Rattle.shared_cells.proofs.Zeros.{zeros_are_cells}
 use Rattle.shared_cells.proofs.shared.SharedCells.new.Goals as goal
 
-pub of_words-requires : goal.of_words-requires
-of_words-requires c =
-    let is = c.as_slice.ensures.value in
-    let zeros = c.in_ok-words.ensures in
-    begins c.args.passes c.as_slice.result.now (record {
-      count = ap (λ (l : List ℕ). length l) is ∙ zeros.count;
-      zero = λ i. ap (λ (l : List ℕ). slice_index l i) is ∙ zeros.zero i;
-    })
+pub opened-requires-clause-cells : goal.opened-requires-clause-cells
+opened-requires-clause-cells c = zeros_are_cells c.in_ok-values.values.items c.in_ok-values.ensures
+
+pub returns-clause-opening : goal.returns-clause-opening
+returns-clause-opening c =
+    IfOk-weaker c.opened.result _ _
+    (λ made same. subst (AreZeros 8192) (sym same) c.in_ok-values.ensures) c.opened.ensures.opening
