@@ -1,0 +1,21 @@
+//! Laws of several starts, by the definitions only. The functions do nothing.
+
+ghost use Rattle.restart_laws.specs.Servers.{EachCountsOn, ServersCountAsOne};
+ghost use Rattle.restart_laws.specs.Starts.{StartsGrantNoMore};
+
+/// Law: servers that were stopped, one after another, grant a quota as one server would have that
+/// did what all did. Each opened its counters with the last values of the one before. An array that
+/// a later server declared counts from that server on.
+pub fn servers_count_as_one()
+    ensures all { ServersCountAsOne }
+    // So each server counts on, whatever servers were before it.
+    ensures each { EachCountsOn }
+{}
+
+/// Law: take starts of a server of which some were stopped and some crashed, each of which opened a
+/// quota's cell as the one before may leave it. All together send at most as many places as the
+/// quota has.
+// open: that a crash leaves such a value: a person chooses it before the next start.
+pub fn starts_grant_no_more()
+    ensures { StartsGrantNoMore }
+{}
