@@ -25,13 +25,17 @@ pub record WorldState : Type 0 where
 unfoldable pub zeros : List ℕ
 zeros = replicate cell_count 0
 
--- the world in which a server begins: one ruleset, all counters 0, and all workers idle
-abbrev pub opening_world : Rules → ℕ → WorldState
-opening_world rules count = record {
+-- a world in which a server begins: one ruleset, counters with these values, and all workers idle
+abbrev pub opened_world : Rules → (values : List ℕ) → (workers : ℕ) → WorldState
+opened_world rules values count = record {
   rulesets = rules ∷ [];
-  cells = zeros;
+  cells = values;
   workers = replicate count Idle;
 }
+
+-- the world of a server that keeps no counters from an earlier one: all are 0
+abbrev pub opening_world : Rules → ℕ → WorldState
+opening_world rules = opened_world rules zeros
 
 -- ---- rulesets
 
