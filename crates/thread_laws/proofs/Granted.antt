@@ -32,9 +32,9 @@ only_quotas apart there arrays array cell directory listed quota has published s
 
 pub quotas_are_granted : ThreadsKeepQuotas → ArraysLieApart → QuotasAreWide
     → NamedArraysAreThere → ThreadsGrantQuotas
-quotas_are_granted keep apart wide there published passes looker history values runs arrays world
-    exact sound only directory array cell listed quota has =
-    let counts = keep published passes looker history values runs cell world
+quotas_are_granted keep apart wide there published passes looker opening history values runs arrays
+    world exact sound only directory array cell listed quota has =
+    let counts = keep published passes looker opening history values runs cell world
     (only_quotas apart there arrays array cell directory listed quota has published sound only) in
     record {
       only = counts;

@@ -1,30 +1,25 @@
 -- Runs that share a legal history can be run by one world.
-use Rattle.std.proofs.Common.{ℕ, List, ◌∷◌, get_or, map, sym, subst, ◌∙◌}
+use Rattle.std.proofs.Common.{List, ◌∷◌, get_or, map, sym, subst, ◌∙◌}
 use Rattle.std.proofs.lemmas.List.{length-map}
 use Rattle.std.proofs.lemmas.List.Elements.{All-from_recursion, recursion_from_All}
 use Rattle.cells.specs.declared.event.CellEvent.{CellEvent}
-use Rattle.cells.specs.Events.{IsEvent}
-use Rattle.cells.specs.Grown.{GrewBy}
 use Rattle.ruleset.specs.Rules.{IsRuleset}
-use Rattle.shared_cells.specs.History.{all_events}
-use Rattle.world.specs.World.{Idle, zeros}
+use Rattle.world.specs.World.{Idle}
 use Rattle.thread_laws.specs.OneWorld.{OneWorld, OpensRuns, IsStepEvent}
 use Rattle.thread_laws.specs.Runs.{IsRunUnder, at_start, as_far}
-use Rattle.thread_laws.proofs.Lists.{are_zeros}
 use Rattle.thread_laws.proofs.Works.{Works, Counts, all_work}
 use Rattle.thread_laws.proofs.Playing.{played}
 use Rattle.thread_laws.proofs.Opening.{all_open}
 
 pub one_world : Counts → OneWorld
-one_world law first later runs history values sound all shared =
+one_world law first later runs opening history values sound all shared =
     let published = first ∷ later in
     let each = recursion_from_All (IsRunUnder published) runs all in
-    let opens = all_open first later runs each (recursion_from_All IsRuleset published sound).1 in
+    let opens = all_open first later runs opening each
+    (recursion_from_All IsRuleset published sound).1 in
     let legal = shared.legal in
-    let grown = subst (λ (cells : List ℕ). GrewBy IsEvent cells (all_events history) values)
-    (are_zeros legal.opening legal.zeros) legal.grown in
-    let goes = played published values (map as_far runs) history zeros (map at_start runs)
-    (length-map runs at_start ∙ sym (length-map runs as_far)) grown
+    let goes = played published values (map as_far runs) history opening (map at_start runs)
+    (length-map runs at_start ∙ sym (length-map runs as_far)) legal.grown
     (λ k. subst (λ (es : List CellEvent).
     Works (get_or (map at_start runs) k Idle) es (get_or (map as_far runs) k Idle))
     (sym (shared.own k)) (all_work law published runs each k)) in

@@ -14,7 +14,7 @@ use Rattle.bpf_semantics.specs.Program.{ShapedProgram}
 use Rattle.bpf_semantics.specs.State.{opening}
 use Rattle.ruleset.specs.Rules.{Rules, IsRuleset, appid_of}
 use Rattle.world.specs.Happens.{Answer, Happens, Plays}
-use Rattle.world.specs.World.{WorldState, Worker, Idle, Running, HasProgram, opening_world, zeros}
+use Rattle.world.specs.World.{WorldState, Worker, Idle, Running, HasProgram, opened_world}
 use Rattle.world.specs.World.{ruleset_at, newest, with_worker}
 use Rattle.world.specs.declared.event.Event.{Event}
 use Rattle.world.specs.declared.event.Event.TheVariants.{Start, Swap}
@@ -211,15 +211,15 @@ all_begun published (run ∷ runs) all =
     let rest = all_begun published runs all.1 in
     λ i. first i ∷ rest i
 
-pub all_open : (first : Rules) (later : List Rules) (runs : List AppRun)
+pub all_open : (first : Rules) (later : List Rules) (runs : List AppRun) (cells : List ℕ)
     → AllByRecursion (IsRunUnder (first ∷ later)) runs → AllByRecursion IsRuleset later
-    → Opens (opening_world first (length runs)) (all_at_start (first ∷ later) runs)
-all_open first later runs all sound =
+    → Opens (opened_world first cells (length runs)) (all_at_start (first ∷ later) runs cells)
+all_open first later runs cells all sound =
     let published = first ∷ later in
-    let v = all_at_start published runs in
-    let last = opens_now (world_of published zeros (map (begun (suc (length published))) runs)) v
-    (ap (world_of published zeros) (sym (all_begun published runs all))) in
-    let swapped = swaps zeros runs v (first ∷ []) later all sound last in
-    let begins = starts (first ∷ []) zeros v later 1 refl [] runs all swapped in
-    subst (λ (ws : List Worker). Opens (world_of (first ∷ []) zeros ws) v)
+    let v = all_at_start published runs cells in
+    let last = opens_now (world_of published cells (map (begun (suc (length published))) runs)) v
+    (ap (world_of published cells) (sym (all_begun published runs all))) in
+    let swapped = swaps cells runs v (first ∷ []) later all sound last in
+    let begins = starts (first ∷ []) cells v later 1 refl [] runs all swapped in
+    subst (λ (ws : List Worker). Opens (world_of (first ∷ []) cells ws) v)
     (none_begun published runs all) begins

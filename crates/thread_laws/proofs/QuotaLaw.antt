@@ -1,13 +1,12 @@
 -- What the passes did to a cell that no program of the rulesets has in an array without a quota.
-use Rattle.std.proofs.Common.{◌≡◌, ℕ, zero, suc, ◌<◌, List, [], ◌∷◌, get_or, inl, inr}
+use Rattle.std.proofs.Common.{◌≡◌, ℕ, zero, suc, List, [], ◌∷◌, get_or, inl, inr}
 use Rattle.std.proofs.Common.{sym, subst}
 use Rattle.std.specs.Prelude.{All, slice_get, Some}
 use Rattle.std.proofs.lemmas.Bool.{cases_eq}
 use Rattle.std.proofs.lemmas.List.Elements.{All-nil, All-cons, All-append, All-head, All-tail}
 use Rattle.std.proofs.lemmas.List.Elements.{All-contains}
-use Rattle.std.proofs.lemmas.Nat.{pow_pos}
 use Rattle.std.proofs.lemmas.Option.{slice_get_within, get_or_from_slice_get}
-use Rattle.cells.specs.Events.{AreCells, AreZeros, IsEvent, limit, width}
+use Rattle.cells.specs.Events.{AreCells, IsEvent}
 use Rattle.cells.specs.Grown.{GrewBy}
 use Rattle.cells.specs.Widths.{EventsFit}
 use Rattle.cells.specs.declared.event.CellEvent.{CellEvent}
@@ -29,12 +28,6 @@ use Rattle.thread_laws.proofs.QuotaRuns.{run_counts}
 
 -- ---- replies along a legal history fit
 
-zeros_are_cells : (values : List ℕ) → AreZeros 8192 values → AreCells values
-zeros_are_cells values zeros = record {
-  count = zeros.count;
-  fit = λ c. subst (λ (v : ℕ). v < limit c) (sym (zeros.zero c)) (pow_pos (width c));
-}
-
 fit_along : EventsFit → (old : List ℕ) (made : List CellEvent) (new : List ℕ) → AreCells old
     → GrewBy IsEvent old made new → All HasPossibleReply made
 fit_along law old [] new cells grown = All-nil HasPossibleReply
@@ -43,13 +36,12 @@ fit_along law old (e ∷ es) new cells grown =
     All-cons HasPossibleReply e es here.reply (fit_along law grown.0 es new here.cells grown.2)
 
 -- and so do those of each run that shares it
-fit_shared : EventsFit → (runs : List AppRun) (history : List Entry) (values : List ℕ)
-    → IsSharedBy runs history values → (k : ℕ)
+fit_shared : EventsFit → (runs : List AppRun) (opening : List ℕ) (history : List Entry)
+    (values : List ℕ) → IsSharedBy runs opening history values → (k : ℕ)
     → All HasPossibleReply (get_or (lists_of_runs runs) k [])
-fit_shared law runs history values shared k =
+fit_shared law runs opening history values shared k =
     let legal = shared.legal in
-    let fit = fit_along law legal.opening (all_events history) values
-    (zeros_are_cells legal.opening legal.zeros) legal.grown in
+    let fit = fit_along law opening (all_events history) values legal.cells legal.grown in
     subst (All HasPossibleReply) (shared.own k) (all_by HasPossibleReply k history fit)
 
 -- ---- what runs did
@@ -107,8 +99,8 @@ module _ (cell : ℕ) (published : List Rules) (all : AllHaveOnlyQuotasAt cell p
 -- ---- the law
 
 pub quotas_are_kept : EventsFit → ThreadsKeepQuotas
-quotas_are_kept law published passes looker history values runs cell world all =
+quotas_are_kept law published passes looker opening history values runs cell world all =
     let each = runs_count cell published all (all_runs runs) world.each
-    (fit_shared law (all_runs runs) world.by_runs values world.shared) in
+    (fit_shared law (all_runs runs) opening world.by_runs values world.shared) in
     all_made (OnlyCountsAt cell) passes
     (pass_counts cell published all (lists_of passes) looker runs world.did each)

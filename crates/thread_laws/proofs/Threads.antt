@@ -24,9 +24,10 @@ pub record Laws : Type 0 where
 
 -- the history without the Loads of the pass that only read is one of the runs
 of_runs : Laws → (passes : List PassView) (looker : ℕ) (runs : List (List AppRun))
-    (values : List ℕ) (left : AreLeftBy passes values) → DidRuns (lists_of passes) looker runs
+    (opening values : List ℕ) (left : AreLeftBy opening passes values)
+    → DidRuns (lists_of passes) looker runs
     → IsOfRuns (without_loads looker left.history) runs
-of_runs laws passes looker runs values left did =
+of_runs laws passes looker runs opening values left did =
     let history = without_loads looker left.history in
     let P : ℕ → Type 0 = λ (p : ℕ). events_by p history ≡ events_in_turn (get_or runs p []) in
     let loads = subst AreLoads (sym (left.own looker)) did.looked in
@@ -48,12 +49,12 @@ events_kept runs (x ∷ history) =
     ap (λ (es : List CellEvent). x.event ∷ es) (events_kept runs history)
 
 pub passes_are_one_world : Laws → PassesAreOneWorld
-passes_are_one_world laws first later passes looker values left runs sound did each =
-    let cut = of_runs laws passes looker runs values left did in
-    let shared : IsSharedBy (all_runs runs) cut.by_runs values = record {
-      legal = subst (λ (es : List CellEvent). IsLegal es values)
+passes_are_one_world laws first later passes looker opening values left runs sound did each =
+    let cut = of_runs laws passes looker runs opening values left did in
+    let shared : IsSharedBy (all_runs runs) opening cut.by_runs values = record {
+      legal = subst (λ (es : List CellEvent). IsLegal opening es values)
           (sym (ap (λ (h : List Entry). all_events h) cut.same) ∙ events_kept runs cut.by_runs)
-          (laws.loads looker left.history values left.legal);
+          (laws.loads looker left.history opening values left.legal);
       own = cut.own;
     } in
     record {
@@ -65,5 +66,5 @@ passes_are_one_world laws first later passes looker values left runs sound did e
       first = first;
       later = later;
       published_are = refl;
-      world = laws.world first later (all_runs runs) cut.by_runs values sound each shared;
+      world = laws.world first later (all_runs runs) opening cut.by_runs values sound each shared;
     }

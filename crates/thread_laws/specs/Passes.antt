@@ -66,25 +66,27 @@ pub record DidRuns (lists : List (List CellEvent)) (looker : ℕ)
   pub others : (p : ℕ) → p ≢ looker
       → get_or lists p [] ≡ events_in_turn (get_or runs p [])
 
--- The passes did these runs under the published list, and one world runs them all. Its history is
--- this one of the passes, without the Loads of the one that only read, and it leaves the counters
--- these values
+-- The passes did these runs under the published list, and one world runs them all, from counters
+-- with these opening values. Its history is this one of the passes, without the Loads of the one
+-- that only read, and it leaves the counters these last values
 pub record DidOneWorld (published : List Rules) (passes : List PassView) (looker : ℕ)
-    (history : List Entry) (values : List ℕ) (runs : List (List AppRun)) : Type 0 where
+    (opening : List ℕ) (history : List Entry) (values : List ℕ)
+    (runs : List (List AppRun)) : Type 0 where
   pub did : DidRuns (lists_of passes) looker runs
   pub each : All (IsRunUnder published) (all_runs runs)
   pub by_runs : List Entry
   pub same : by_passes runs by_runs ≡ without_loads looker history
-  pub shared : IsSharedBy (all_runs runs) by_runs values
+  pub shared : IsSharedBy (all_runs runs) opening by_runs values
   pub first : Rules
   pub later : List Rules
   pub published_are : published ≡ first ∷ later
-  pub world : HasOneWorld first later (all_runs runs) by_runs values
+  pub world : HasOneWorld first later (all_runs runs) opening by_runs values
 
 -- this is true of all passes if one only read and each other one did runs, done or not
 abbrev pub PassesAreOneWorld : Type 0
 PassesAreOneWorld = (first : Rules) (later : List Rules) (passes : List PassView) (looker : ℕ)
-    (values : List ℕ) (left : AreLeftBy passes values) (runs : List (List AppRun))
+    (opening values : List ℕ) (left : AreLeftBy opening passes values)
+    (runs : List (List AppRun))
     → All IsRuleset (first ∷ later) → DidRuns (lists_of passes) looker runs
     → All (IsRunUnder (first ∷ later)) (all_runs runs)
-    → DidOneWorld (first ∷ later) passes looker left.history values runs
+    → DidOneWorld (first ∷ later) passes looker opening left.history values runs

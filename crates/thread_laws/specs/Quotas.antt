@@ -1,6 +1,6 @@
 -- Quotas of threads: which programs a ruleset may have, so that threads only count on the cell of a
 -- quota; and what is granted of each array that has a quota.
-use Rattle.std.specs.Prelude.{◌≡◌, ℕ, ◌<◌, ◌^◌, List, All, Contains, slice_index, IsSome}
+use Rattle.std.specs.Prelude.{◌≡◌, ℕ, ◌+◌, ◌<◌, ◌^◌, List, All, Contains, slice_index, IsSome}
 use Rattle.attrs.specs.Attributes.{Attributes, AreShort}
 use Rattle.cells.specs.Arrays.{HasCell}
 use Rattle.cells.specs.Directory.{IsDirectory}
@@ -39,33 +39,35 @@ OnlyCountsAt cell e = e.cell ≡ cell → OnlyCounts e.op
 -- on the cell were loads and additions of 1.
 abbrev pub ThreadsKeepQuotas : Type 0
 ThreadsKeepQuotas =
-    (published : List Rules) (passes : List PassView) (looker : ℕ) (history : List Entry)
-    (values : List ℕ) (runs : List (List AppRun)) (cell : ℕ)
-    → DidOneWorld published passes looker history values runs
+    (published : List Rules) (passes : List PassView) (looker : ℕ) (opening : List ℕ)
+    (history : List Entry) (values : List ℕ) (runs : List (List AppRun)) (cell : ℕ)
+    → DidOneWorld published passes looker opening history values runs
     → AllHaveOnlyQuotasAt cell published
     → All (OnlyCountsAt cell) (events_made passes)
 
 -- ---- all cells of arrays with quotas
 
--- The only operations on the cell were loads and additions of 1. If the additions were fewer than
--- 2^64, its value is their number, and for each quota min(quota, additions) of them found a smaller
--- value
-pub record IsGranted (cell value : ℕ) (made : List CellEvent) : Type 0 where
+-- The only operations on the cell were loads and additions of 1. If it didn't overflow, its last
+-- value is the opening one and the number of these additions. Of them
+-- min(quota, opening + additions) less min(quota, opening) found a value below a quota: from 0 on
+-- min(quota, additions)
+pub record IsGranted (cell opening value : ℕ) (made : List CellEvent) : Type 0 where
   pub only : All (OnlyCountsAt cell) made
-  pub exact : add_count cell made < 2 ^ 64 → CountsExactly cell value made
+  pub exact : opening + add_count cell made < 2 ^ 64 → CountsExactly cell opening value made
 
 -- the same for each cell of each of these arrays that has a quota
-abbrev pub QuotasAreGranted : List CellArray → List PassView → List ℕ → Type 0
-QuotasAreGranted arrays passes values = (array : CellArray) (cell : ℕ)
+abbrev pub QuotasAreGranted : List CellArray → List ℕ → List PassView → List ℕ → Type 0
+QuotasAreGranted arrays opening passes values = (array : CellArray) (cell : ℕ)
     → Contains arrays array → IsSome array.quota → HasCell array cell
-    → IsGranted cell (slice_index values cell) (events_made passes)
+    → IsGranted cell (slice_index opening cell) (slice_index values cell) (events_made passes)
 
 -- If all rulesets know only the arrays of one directory, and the passes are as above, each quota of
 -- the directory is granted
 abbrev pub ThreadsGrantQuotas : Type 0
 ThreadsGrantQuotas =
-    (published : List Rules) (passes : List PassView) (looker : ℕ) (history : List Entry)
-    (values : List ℕ) (runs : List (List AppRun)) (arrays : List CellArray)
-    → DidOneWorld published passes looker history values runs → QuotasAreExact passes values
+    (published : List Rules) (passes : List PassView) (looker : ℕ) (opening : List ℕ)
+    (history : List Entry) (values : List ℕ) (runs : List (List AppRun)) (arrays : List CellArray)
+    → DidOneWorld published passes looker opening history values runs
+    → QuotasAreExact opening passes values
     → All IsRuleset published → All (KnowsOnly arrays) published → IsDirectory arrays
-    → QuotasAreGranted arrays passes values
+    → QuotasAreGranted arrays opening passes values
