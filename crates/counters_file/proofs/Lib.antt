@@ -1,0 +1,14 @@
+mod ArraysBack
+mod Back
+mod Committed
+mod CountersBack
+mod Filling
+mod LinesBack
+mod Names
+mod NewArrays
+mod Numbers
+mod Placed
+mod Pushed
+mod ReadOn
+mod Splits
+mod Values

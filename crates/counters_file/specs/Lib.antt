@@ -1,0 +1,4 @@
+pub mod Faults
+pub mod Kept
+pub mod Lines
+pub mod Text

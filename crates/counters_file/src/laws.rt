@@ -1,0 +1,13 @@
+//! The law of the definitions: what is read is what was written.
+
+ghost use Rattle.counters_file.specs.Text.{ReadsBack};
+
+use cells::arrays_lie_apart;
+
+/// Law: the text of arrays and values is read as these arrays, with the values of their cells. All
+/// other cells are 0.
+pub fn reads_back()
+    ensures { ReadsBack }
+{
+    arrays_lie_apart();
+}

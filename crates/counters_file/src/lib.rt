@@ -1,0 +1,39 @@
+//! A file of counters: with which arrays and values a server opens. It is text that an operator
+//! reads, copies and edits.
+//!
+//! See docs/DECISIONS.md, "Counters".
+#![tactic(auto)]
+
+// The first line names the format, the second says whether the server that wrote it was stopped.
+// Then come the arrays, in the order of their declarations, the counters that aren't 0, and a line
+// `end`, so that a file that was cut short is damaged:
+//
+//     rollout counters 1
+//     stopped
+//     array early 64 1 1000
+//     early 0 283
+//     end
+//
+// What is read is what was written (`reads_back`). A file is replaced as a whole, so that a crash
+// leaves the old one or the new one. Only one server at a time has it (`DeviceFile::lock`).
+
+mod contents;
+mod counters_fault;
+mod device_file;
+mod fields;
+mod kept_file;
+mod laws;
+mod memory_file;
+mod reading;
+mod store;
+mod writing;
+
+pub use contents::{Contents, ReadFault};
+pub use counters_fault::CountersFault;
+pub use device_file::DeviceFile;
+pub use kept_file::KeptFile;
+pub use laws::reads_back;
+pub use memory_file::MemoryFile;
+pub use reading::read_contents;
+pub use store::{commit, read_counters};
+pub use writing::file_text;
