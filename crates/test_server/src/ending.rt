@@ -6,7 +6,7 @@ use crate::loopback::{BODY, HEAD, ONE_APP, has_answer, is_replied, send, sent};
 use crate::servers::Place;
 use operator_request::OperatorRequest;
 use std::alloc::Global;
-use std::net::TcpStream;
+use std::net::{SocketAddr, TcpStream};
 use std::process::Abort;
 use std::thread;
 use std::time::Duration;
@@ -20,6 +20,9 @@ const STOPPING: &[(OperatorRequest<'static>, Option<&str>)] = &[
     (OperatorRequest::Load("no.toml"), None),
     (OperatorRequest::Stop, Some("stopping\n")),
 ];
+
+/// How many clients wait.
+const WAITING: usize = 80;
 
 /// Whether the operator's port replies as it should from the first stop on.
 fn is_stopping(rt: &HostRuntime, port: u16) -> bool {
@@ -48,12 +51,23 @@ fn are_ended(rt: &HostRuntime, port: u16, held: &[TcpStream], waiting: &[TcpStre
         && are_replied(rt.alloc(), waiting, "")
 }
 
-/// Two clients that send their bodies only after the stop, one to each worker, and two whose
+/// Clients whose requests wait: more than the queue of a server has places, so that some are still
+/// with the system.
+fn waiting<T: Abort>(own: &Impaired<'_, T>, clients: SocketAddr) -> Vec<TcpStream> {
+    let mut streams = Vec::new(own.rt.alloc());
+    for _ in 0..WAITING {
+        let added = streams.push(sent(own, clients, ONE_APP));
+        added.expect(own.handles, "memory");
+    }
+    streams
+}
+
+/// Two clients that send their bodies only after the stop, one to each worker, and others whose
 /// requests wait for a worker. The server has half a second to accept them.
 pub(crate) fn ending<T: Abort>(own: &Impaired<'_, T>, place: Place) -> bool {
     let clients = place.clients;
     let held = [sent(own, clients, HEAD), sent(own, clients, HEAD)];
-    let waiting = [sent(own, clients, ONE_APP), sent(own, clients, ONE_APP)];
+    let waiting = waiting(own, clients);
     thread::sleep(own.rt, Duration::from_millis(500));
     are_ended(own.rt, place.operator.port(), &held, &waiting)
 }

@@ -64,12 +64,13 @@ module _ {P : Type 0} (belongs : P → Type 0) (grew : P → CellEvent → P →
 
     -- All that is returned by a server that began with this pass of its operator, these workers and
     -- this control. The operator's lines, and nothing else, led from that control to the one at its
-    -- end. What was published then is also returned.
+    -- end. What was published then, and its arrays, are also returned.
     pub record ServerBack (pass : P) (staff : List (P × KnownPrefix)) (control : Controlled)
         (back : Returned P) : Type 0 where
       pub last : Controlled
       pub operator : OperatorBack back.end (pass, control) (back.operator, last)
       pub workers : WorkersBack staff back.workers.items
       pub directory : IsDirectory last.arrays
+      pub arrays_are : back.directory ≡ last.arrays
       pub published_are : back.published ≡ last.publishing.known
       pub published : IsPublished back.published back.generation

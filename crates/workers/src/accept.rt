@@ -3,6 +3,7 @@
 ghost use Rattle.std.specs.Prelude.{◌≡◌, ◌+◌, ◌-◌, ◌^◌, min, IfNone, OnSome};
 
 use crate::clock::pause;
+use crate::wake::Wake;
 use server_log::{LogQueue, note_unaccepted};
 use std::io;
 use std::net::{SocketAddr, TcpListener, TcpStream};
@@ -37,11 +38,20 @@ impl OperatorEnd {
     }
 }
 
+/// How many times a port is still accepted from once its flag is set: more than the system keeps
+/// connections for it.
+const MOST_LEFT: u8 = 255;
+
 /// A listening port, until its flag is set and one more connection is accepted.
 #[derive(Drop)]
 pub(crate) struct Port<'a> {
     listener: &'a TcpListener,
     stop: &'a AtomicBool,
+    /// The connection that is made once the flag is set. If it is known, all connections that the
+    /// system has for the port then are accepted as well.
+    wake: Option<&'a Wake>,
+    /// How many times more it is accepted from once the flag is set.
+    left: u8,
     /// The log, for connections that can't be accepted.
     log: Option<&'a LogQueue>,
     /// How many connections it has accepted. The number stays at 2^64 - 1.
@@ -53,6 +63,7 @@ impl<'a> Port<'a> {
     pub(crate) fn new(
         listener: &'a TcpListener,
         stop: &'a AtomicBool,
+        wake: Option<&'a Wake>,
         log: Option<&'a LogQueue>,
     ) -> Port<'a>
         ensures { result.accepted ≡ 0 }
@@ -60,13 +71,16 @@ impl<'a> Port<'a> {
         Port {
             listener,
             stop,
+            wake,
+            left: MOST_LEFT,
             log,
             accepted: 0,
         }
     }
 
-    /// The next connection. Returns `None` once the flag is set; the connection that was then
-    /// accepted isn't answered. A connection that can't be accepted is skipped.
+    /// The next connection. Returns `None` once the flag is set and the connection that wakes it is
+    /// accepted; if that is known, only once the system has no more. A connection that can't be
+    /// accepted is skipped.
     pub(crate) fn accept<H>(&mut self, rt: &H) -> Option<Call>
     where
         H: Wait + AllocGlobal + Clock,
@@ -76,15 +90,44 @@ impl<'a> Port<'a> {
     {
         for _ in rt.forever() {
             let accepted = self.listener.accept();
-            if self.stop.load(Ordering::SeqCst) {
+            let is_ending = self.stop.load(Ordering::SeqCst);
+            if is_ending && !self.goes_on() {
                 return None;
             }
             match accepted {
-                Ok((stream, peer)) => return Some(self.numbered(rt, stream, peer)),
-                Err(error) => self.pass_over(rt, &error),
+                Ok((stream, peer)) => {
+                    if !(is_ending && self.is_wake(rt, peer)) {
+                        return Some(self.numbered(rt, stream, peer));
+                    }
+                }
+                Err(error) => {
+                    if is_ending {
+                        return None;
+                    }
+                    self.pass_over(rt, &error);
+                }
             }
         }
         unreachable!()
+    }
+
+    // Whether it is accepted from once more although its flag is set. From then on accept doesn't
+    // wait for a connection.
+    fn goes_on(&mut self) -> bool
+        ensures { self.new.accepted ≡ self.old.accepted }
+    {
+        if self.wake.is_none() || self.left == 0 {
+            return false;
+        }
+        self.left -= 1;
+        self.listener.set_nonblocking(true).is_ok()
+    }
+
+    fn is_wake<H: Wait + Clock>(&self, rt: &H, peer: SocketAddr) -> bool {
+        match self.wake {
+            Some(wake) => wake.is_from(rt, peer),
+            None => false,
+        }
     }
 
     /// The end of the thread that answered what the port accepted.

@@ -8,6 +8,7 @@ use crate::gate::Gate;
 use crate::parts::{Crew, ServeOptions};
 use crate::queue::{WAITING, fill};
 use crate::serve_fault::ServeFault;
+use crate::stopping::StopFlags;
 use cells::CellSteps;
 use crossbeam_channel::Sender;
 use hot_swap::Watcher;
@@ -56,26 +57,27 @@ where
             let Ok(_threads) = start_workers(rt, scope, &crew, from, cells, workers) else {
                 return Err(ServeFault::Memory);
             };
-            fill(rt, listener, queue, stop, service.log);
+            fill(rt, listener, queue, stop, None, service.log);
             Ok(())
         },
     )
 }
 
-/// Starts the thread that accepts connections until `stop` is set and one more is accepted. Returns
-/// B4 if it can't be started.
+/// Starts the thread that accepts connections until the clients' side ends, and then those that the
+/// system has by then. Returns B4 if it can't be started.
 pub(crate) fn start_accepting<'s, E, H>(
     rt: &'s H,
     scope: &Scope<'s, E>,
     listener: TcpListener,
     queue: Sender<Call>,
-    stop: &'s AtomicBool,
+    ends: &'s StopFlags,
     log: Option<&'s LogQueue>,
 ) -> Result<(), ServeFault>
 where
     H: Wait + AllocGlobal + Clock + Sync,
 {
-    match scope.spawn(move || fill(rt, listener, queue, stop, log)) {
+    let (stop, wake) = (&ends.clients, Some(&ends.wake));
+    match scope.spawn(move || fill(rt, listener, queue, stop, wake, log)) {
         Ok(_) => Ok(()),
         Err(_) => Err(ServeFault::Memory),
     }

@@ -3,7 +3,8 @@
 //! One thread accepts the clients' connections and puts them into a queue, from which the worker
 //! threads take them: that is `serve`. In `run` another thread also serves the operator's port, one
 //! connection after another. The operator's `stop` ends both: a flag informs the clients' port, and
-//! one more connection wakes it; the operator's port stays open until all clients are answered.
+//! one more connection wakes it. Connections that the system had for it by then are also answered,
+//! and the operator's port stays open until all clients are answered.
 //!
 //! What the threads do is logged (`server_log`).
 //!
@@ -35,6 +36,7 @@ mod returned;
 mod running;
 mod serve_fault;
 mod stopping;
+mod wake;
 mod worker;
 
 pub use accept::OperatorEnd;

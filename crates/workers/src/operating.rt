@@ -12,7 +12,7 @@ use crate::parts::ServerParts;
 use cells::{CellSteps, growth};
 use net_io::{Counted, Timed, drain};
 use operator::{Control, Loader, OperatorReply, answer, write_reply};
-use server_log::{Recorder, note_load};
+use server_log::{Recorder, note_request, utc_now};
 use std::fmt::Display;
 use std::io;
 use std::net::{TcpListener, TcpStream};
@@ -52,7 +52,7 @@ where
         .service
         .timeout
         .min(Duration::from_secs(OPERATOR_SECONDS));
-    let mut port = Port::new(listener, stop, None);
+    let mut port = Port::new(listener, stop, None, None);
     for _ in rt.forever() {
         let Some(call) = port.accept(rt) else {
             return port.ended(control.is_stopping());
@@ -97,6 +97,7 @@ where
     let Some(reply) = answer(
         rt,
         rt.alloc(),
+        utc_now(rt),
         &mut reader,
         loader,
         control,
@@ -106,7 +107,7 @@ where
         return None;
     };
     let _sent = send(rt, stream, &reply, limit);
-    note_load(rt, log, reader.into_inner(), loader, control, &reply);
+    note_request(rt, log, reader.into_inner(), loader, control, &reply);
     Some(reply)
 }
 

@@ -3,10 +3,11 @@
 
 ghost use Rattle.std.specs.Prelude.{◌≡◌};
 
+use crate::stopping::StopFlags;
 use std::io;
 use std::net::{Ipv4Addr, Net, Shutdown, SocketAddr, TcpListener, TcpStream};
 use std::os::fd::OwnedFd;
-use std::sync::atomic::{AtomicBool, Ordering};
+use std::sync::atomic::Ordering;
 use std::time::Duration;
 
 /// How long the end of a port waits for its own connection.
@@ -119,18 +120,24 @@ pub(crate) struct PortEnd {
 
 impl PortEnd {
     /// Sets the flag that the accept loop reads after each connection, and makes one more
-    /// connection, so that it reads the flag. If the connection fails or takes over a second, the
-    /// port is shut down: then accept fails, and the loop reads the flag as well. The handle is
-    /// dropped.
-    pub(crate) fn end<H>(self, rt: &H, stop: &AtomicBool)
+    /// connection, so that it reads the flag. That is noted, so that only the others are answered.
+    /// If it fails or takes over a second, the port is shut down: then accept fails, and the loop
+    /// reads the flag as well. The handle is dropped.
+    pub(crate) fn end<H>(self, rt: &H, ends: &StopFlags)
     where
         H: Net<Stream = TcpStream>,
     {
         let PortEnd { handle, address } = self;
-        stop.store(true, Ordering::SeqCst);
+        ends.clients.store(true, Ordering::SeqCst);
         match TcpStream::connect_timeout(rt, &address, Duration::from_secs(WAKE_SECONDS)) {
-            Ok(_) => drop(handle),
-            Err(_) => shut(handle),
+            Ok(stream) => {
+                ends.wake.note(stream.local_addr().ok());
+                drop(handle);
+            }
+            Err(_) => {
+                ends.wake.note(None);
+                shut(handle);
+            }
         }
     }
 }

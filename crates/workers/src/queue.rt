@@ -4,6 +4,7 @@
 ghost use Rattle.std.specs.Prelude.{◌≡◌, ◌+◌, ◌-◌, ◌^◌, min, IfNone, OnSome};
 
 use crate::accept::{Call, Port};
+use crate::wake::Wake;
 use crossbeam_channel::{Receiver, Sender};
 use server_log::{Log, LogQueue};
 use std::net::TcpListener;
@@ -14,18 +15,20 @@ use std::time::Clock;
 /// How many accepted connections may wait for a worker.
 pub(crate) const WAITING: usize = 64;
 
-/// Puts each connection of a port into the queue, and closes both at the end.
+/// Puts each connection of a port into the queue, and closes both at the end. If the connection is
+/// known that wakes the port then, also those that the system had for it.
 pub(crate) fn fill<'x, H>(
     rt: &H,
     listener: TcpListener,
     queue: Sender<Call>,
     stop: &'x AtomicBool,
+    wake: Option<&'x Wake>,
     log: Option<&'x LogQueue>,
 )
 where
     H: Wait + AllocGlobal + Clock,
 {
-    let mut port = Port::new(&listener, stop, log);
+    let mut port = Port::new(&listener, stop, wake, log);
     for _ in rt.forever() {
         let Some(call) = port.accept(rt) else {
             break;

@@ -1,6 +1,7 @@
 //! What a server returns once it has ended.
 
 use crate::accept::OperatorEnd;
+use cells::Directory;
 use hot_swap::{Generation, Notice, Watcher};
 
 /// The passes, which are ghost tokens, and the watchers, with what was installed.
@@ -15,4 +16,6 @@ pub struct Returned<P: Drop> {
     pub published: Notice,
     /// The generation that was installed last.
     pub generation: Generation,
+    /// The arrays that were declared by then.
+    pub directory: Directory,
 }

@@ -27,6 +27,7 @@ use cells::CellSteps;
 use hot_swap::Watcher;
 use operator::{Control, Loader};
 use server_log::note_serving;
+use std::alloc::Global;
 use std::io::Write;
 use std::net::{Net, TcpListener, TcpStream};
 use std::sync::Wait;
@@ -56,32 +57,38 @@ where
         result.1 (pass, control.old) (result.0, control.new) }
 {
     let end = operate(rt, listener, parts, &mut pass, control, &ends.operator);
-    clients.end(rt, &ends.clients);
+    clients.end(rt, ends);
     reply_stopping(rt, listener, &ends.operator);
     (pass, end)
 }
 
 // What is returned once all threads have ended.
 fn returned<P: Drop>(
+    alloc: Global,
     operator: (P, OperatorEnd),
     workers: Vec<(P, Watcher)>,
-    control: &Control,
+    control: &mut Control,
 ) -> Returned<P>
     ensures operator { result.operator ≡ operator.0 }
     ensures end { result.end ≡ operator.1 }
     ensures workers { result.workers ≡ workers }
-    ensures known { result.published ≡ control.now.publishing.known }
+    ensures known { result.published ≡ control.old.publishing.known }
     ensures published { IsPublished result.published result.generation }
-    ensures directory { IsDirectory control.now.arrays }
+    ensures arrays { result.directory ≡ control.old.arrays }
+    ensures directory { IsDirectory control.old.arrays }
 {
     control.invariant_law();
     let (operator, end) = operator;
+    let published = control.tell();
+    let generation = control.generation();
+    let directory = control.take_arrays(alloc);
     Returned {
         operator,
         end,
         workers,
-        published: control.tell(),
-        generation: control.generation(),
+        published,
+        generation,
+        directory,
     }
 }
 
@@ -138,17 +145,16 @@ where
             let Ok(threads) = start_workers(rt, scope, &crew, from, parts.cells, workers) else {
                 return Err(ResourceFault::Memory);
             };
-            let stop = &ends.clients;
-            let Ok(()) = start_accepting(rt, scope, listener, queue, stop, service.log) else {
+            let Ok(()) = start_accepting(rt, scope, listener, queue, &ends, service.log) else {
                 return Err(ResourceFault::Memory);
             };
             let Ok(printed) = ready.print(control.generation()) else {
-                clients.end(rt, &ends.clients);
+                clients.end(rt, &ends);
                 return Err(ResourceFault::File);
             };
             note_serving(rt, service.log, control.generation());
             let ended = operate_then_end(rt, &operator, parts, pass, control, clients, &ends);
-            let back = returned(ended, joined(rt, threads, room), control);
+            let back = returned(rt.alloc(), ended, joined(rt, threads, room), control);
             Ok((back, printed))
         },
     )

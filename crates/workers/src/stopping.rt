@@ -3,6 +3,7 @@
 
 use crate::accept::Port;
 use crate::operating::send;
+use crate::wake::Wake;
 use operator::{OperatorReply, RequestFault};
 use std::net::TcpListener;
 use std::sync::Wait;
@@ -15,6 +16,8 @@ use std::time::{Clock, Duration};
 pub(crate) struct StopFlags {
     pub(crate) clients: AtomicBool,
     pub(crate) operator: AtomicBool,
+    /// The connection that wakes the clients' side.
+    pub(crate) wake: Wake,
 }
 
 impl StopFlags {
@@ -22,6 +25,7 @@ impl StopFlags {
         StopFlags {
             clients: AtomicBool::new(false),
             operator: AtomicBool::new(false),
+            wake: Wake::new(),
         }
     }
 }
@@ -42,7 +46,7 @@ where
     }
     let limit = Duration::from_secs(REPLY_SECONDS);
     let stopping = OperatorReply::<RequestFault>::Stopping;
-    let mut port = Port::new(listener, ended, None);
+    let mut port = Port::new(listener, ended, None, None);
     for _ in rt.forever() {
         let Some(call) = port.accept(rt) else {
             return;

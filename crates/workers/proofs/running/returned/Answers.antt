@@ -3,5 +3,5 @@ use Rattle.workers.proofs.running.returned.Goals as goal
 
 pub returns-clause-published : goal.returns-clause-published
 returns-clause-published g c =
-    is_published _ _ _ _ _ c.tell.ensures c.generation.ensures c.invariant_law.ensures.last
-    c.invariant_law.ensures.sound
+    is_published _ _ _ _ _ c.tell-published.ensures c.generation-generation.ensures
+    c.invariant_law.ensures.last c.invariant_law.ensures.sound

@@ -39,6 +39,7 @@ returns g c =
             (all_back belongs grew cells old c.in-Ok-start_workers.threads.items
             c.joined.result.items c.in-Ok-start_workers.ensures c.joined.ensures);
         directory = back.directory;
+        arrays_are = back.arrays;
         published_are = back.known;
         published = back.published;
       };
