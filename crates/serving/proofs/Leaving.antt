@@ -1,11 +1,12 @@
 -- The arrays that a server's rulesets know, when it begins and when it ends.
-use Rattle.std.proofs.Common.{◌≡◌, List, [], ◌∷◌, All, sym, subst}
+use Rattle.std.proofs.Common.{◌≡◌, ℕ, List, [], ◌∷◌, All, refl, sym, subst}
 use Rattle.std.proofs.lemmas.List.Elements.{All-cons, All-nil, All-same}
 use Rattle.cells.specs.Directory.{IsDirectory}
 use Rattle.cells.specs.declared.array.CellArray.{CellArray}
 use Rattle.thread_laws.specs.Quotas.{ThreadsGrantQuotas}
 use Rattle.cells.specs.declared.event.CellEvent.{CellEvent}
-use Rattle.shared_cells.specs.Passes.{CellsView, ClosedView, AreClosed}
+use Rattle.shared_cells.specs.Passes.{CellsView, ClosedView, AreClosed, events_made}
+use Rattle.restart_laws.specs.Servers.{EachCountsOn, IsExact}
 use Rattle.operator.specs.Control.{Controlled, Loading, KnowOnlyItsArrays}
 use Rattle.operator.specs.Leading.{AnsweredLine, LinesLead, LinesKeepToArrays}
 use Rattle.hot_swap.specs.Published.{KnownPrefix}
@@ -15,32 +16,44 @@ use Rattle.serving.proofs.Turns.{DidInTurn}
 
 -- the first ruleset knows only the arrays that it was loaded with
 pub knows_first : (control : Controlled) (arrays : List CellArray) (rules : Rules)
-    → control.arrays ≡ arrays → control.publishing.known.rulesets ≡ rules ∷ []
+    → control.arrays ≡ arrays → control.last.rules ≡ rules
+    → control.publishing.known.rulesets ≡ rules ∷ []
     → KnowsOnly arrays rules → KnowOnlyItsArrays control
-knows_first control arrays rules same listed only =
+knows_first control arrays rules same loaded listed only =
     let P = KnowsOnly control.arrays in
-    All-same P control.publishing.known.rulesets (rules ∷ []) listed
-    (All-cons P rules [] (subst (λ (a : List CellArray). KnowsOnly a rules) (sym same) only)
-    (All-nil P))
+    let knows : P rules = subst (λ (a : List CellArray). KnowsOnly a rules) (sym same) only in
+    record {
+      loaded = subst P (sym loaded) knows;
+      published = All-same P control.publishing.known.rulesets (rules ∷ []) listed
+          (All-cons P rules [] knows (All-nil P));
+    }
 
 -- and all published rulesets know only the server's arrays at its end
 pub leaves : {F : Type 0} (loads : Loading F) → LinesKeepToArrays loads → ThreadsGrantQuotas
-    → (cells : CellsView) (control end : Controlled) (lines : List (AnsweredLine F))
+    → EachCountsOn → (cells : CellsView) (control end : Controlled) (lines : List (AnsweredLine F))
     (reads : List CellEvent) (published : KnownPrefix) (closed : ClosedView)
     → AreClosed cells closed → LinesLead loads control lines reads end → IsDirectory end.arrays
     → KnowOnlyItsArrays control → published ≡ end.publishing.known
-    → All IsRuleset published.rulesets → DidInTurn control.publishing.known published closed
-    → LeavesOneWorld loads cells control closed
-leaves loads keep grant cells control end lines reads published closed own led directory knows
+    → All IsRuleset published.rulesets
+    → DidInTurn control.publishing.known published cells.opening closed
+    → LeavesOneWorld loads cells control end.arrays closed.values
+leaves loads keep grant on cells control end lines reads published closed own led directory knows
     same sound did =
     let sound_now = subst (λ (b : KnownPrefix). All IsRuleset b.rulesets) same sound in
     let now =
-    subst (λ (b : KnownPrefix). DidInTurn control.publishing.known b closed) same did in
+    subst (λ (b : KnownPrefix). DidInTurn control.publishing.known b cells.opening closed) same
+    did in
     let world = now.did in
     let only = keep control end lines reads led knows in
+    let granted = grant end.publishing.known.rulesets closed.passes 0 cells.opening
+    world.left.history closed.values (runs_by_pass now.answers) end.arrays world.world
+    world.counters sound_now only.published directory in
     record {
+      closed = closed;
       own = own;
+      values_are = refl;
       end = end;
+      arrays_are = refl;
       lines = lines;
       reads = reads;
       led = led;
@@ -50,7 +63,19 @@ leaves loads keep grant cells control end lines reads published closed own led d
       sound = sound_now;
       directory = directory;
       only = only;
-      granted = grant end.publishing.known.rulesets closed.passes 0 world.left.history
-          closed.values (runs_by_pass now.answers) end.arrays world.world world.counters
-          sound_now only directory;
+      granted = granted;
+      counts_on = λ array cell listed quota has.
+          on cell closed
+          (subst
+          (λ (c : CellsView). IsExact cell c.opening closed.values (events_made closed.passes))
+          (sym own.same) (granted array cell listed quota has).exact);
     }
+
+-- the arrays and the values that are handed back are these
+pub hands_back : {F : Type 0} (loads : Loading F) (cells : CellsView) (control : Controlled)
+    (arrays ended : List CellArray) (values closed : List ℕ) → arrays ≡ ended → values ≡ closed
+    → LeavesOneWorld loads cells control ended closed
+    → LeavesOneWorld loads cells control arrays values
+hands_back loads cells control arrays ended values closed same_arrays same_values left =
+    subst (λ (a : List CellArray). LeavesOneWorld loads cells control a values) (sym same_arrays)
+    (subst (LeavesOneWorld loads cells control ended) (sym same_values) left)

@@ -3,3 +3,4 @@ mod Ending
 mod Turns
 mod Closing
 mod Leaving
+mod Zeros

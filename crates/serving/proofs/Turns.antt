@@ -141,25 +141,27 @@ all_did from to operator others have looked = record {
 by_runs : PassesAreOneWorld → (published : List Rules) (last : Rules) (runs : List (List AppRun))
     (closed : ClosedView) → HasLast published last → All IsRuleset published
     → DidRuns (lists_of closed.passes) 0 runs → All (IsWholeRun published) (all_runs runs)
-    → AreLeftBy closed.passes closed.values → QuotasAreExact closed.passes closed.values
-    → AreLeftByOneWorld published runs closed
-by_runs world [] last runs closed is sound did whole left counters = absurd cc
-by_runs world (first ∷ later) last runs closed is sound did whole left counters =
+    → (opening : List ℕ) → AreLeftBy opening closed.passes closed.values
+    → QuotasAreExact opening closed.passes closed.values
+    → AreLeftByOneWorld published runs opening closed
+by_runs world [] last runs closed is sound did whole opening left counters = absurd cc
+by_runs world (first ∷ later) last runs closed is sound did whole opening left counters =
     let published = first ∷ later in
     record {
       left = left;
       whole = whole;
-      world = world first later closed.passes 0 closed.values left runs sound did
+      world = world first later closed.passes 0 opening closed.values left runs sound did
           (All-weaker (IsWholeRun published) (IsRunUnder published) (λ run one. one.under)
           (all_runs runs) whole);
       counters = counters;
     }
 
 -- the answers of a server's workers, in turn, and what their runs did to the counters
-pub record DidInTurn (from to : KnownPrefix) (closed : ClosedView) : Type 0 where
+pub record DidInTurn (from to : KnownPrefix) (opening : List ℕ) (closed : ClosedView)
+    : Type 0 where
   pub answers : List (List WorkerAnswer)
   pub in_turn : All (λ given. AreInTurn from given to) answers
-  pub did : AreLeftByOneWorld to.rulesets (runs_by_pass answers) closed
+  pub did : AreLeftByOneWorld to.rulesets (runs_by_pass answers) opening closed
 
 pub did_in_turn : Laws → (cells : CellsView) (from to : KnownPrefix) (last : Rules)
     (operator : PassView) (old new : List (PassView × KnownPrefix)) (closed : ClosedView)
@@ -167,8 +169,9 @@ pub did_in_turn : Laws → (cells : CellsView) (from to : KnownPrefix) (last : R
     → to.publisher ≡ from.publisher → All (IsNewWorker cells.table from) old
     → AllZip (WorkerBack (IsPassOf cells) Gained) old new
     → All (λ w. IsPrefix w.1.rulesets to.rulesets) new
-    → closed.passes ≡ passes_of operator new → AreLeftBy closed.passes closed.values
-    → QuotasAreExact closed.passes closed.values → DidInTurn from to closed
+    → closed.passes ≡ passes_of operator new → AreLeftBy cells.opening closed.passes closed.values
+    → QuotasAreExact cells.opening closed.passes closed.values
+    → DidInTurn from to cells.opening closed
 did_in_turn laws cells from to last operator old new closed is sound looked publisher fresh back
     seen same left counters =
     let others = turned new in
@@ -182,5 +185,6 @@ did_in_turn laws cells from to last operator old new closed is sound looked publ
     record {
       answers = have.answers;
       in_turn = have.in_turn;
-      did = by_runs laws.world to.rulesets last runs closed is sound did have.whole left counters;
+      did = by_runs laws.world to.rulesets last runs closed is sound did have.whole cells.opening
+          left counters;
     }

@@ -1,12 +1,15 @@
 -- What a server leaves after its end: one history of all that its threads did to its counters.
-use Rattle.std.specs.Prelude.{◌≡◌, List, [], ◌∷◌, All, map, reverse}
+use Rattle.std.specs.Prelude.{◌≡◌, ℕ, List, [], ◌∷◌, All, Contains, IsSome, map, reverse}
 use Rattle.thread_laws.specs.Quotas.{QuotasAreGranted}
 use Rattle.shared_cells.specs.Passes.{CellsView, PassView, ClosedView, IsPassOf, AreClosed}
 use Rattle.shared_cells.specs.Passes.{AreLeftBy}
 use Rattle.shared_cells.specs.Quotas.{QuotasAreExact}
+use Rattle.restart_laws.specs.Servers.{CountsOn}
 use Rattle.thread_laws.specs.Passes.{DidOneWorld, all_runs}
 use Rattle.thread_laws.specs.Runs.{AppRun, IsWholeRun}
+use Rattle.cells.specs.Arrays.{HasCell}
 use Rattle.cells.specs.Directory.{IsDirectory}
+use Rattle.cells.specs.declared.array.CellArray.{CellArray}
 use Rattle.cells.specs.declared.event.CellEvent.{CellEvent}
 use Rattle.operator.specs.Control.{Controlled, Loading, KnowOnlyItsArrays}
 use Rattle.operator.specs.Leading.{AnsweredLine, LinesLead}
@@ -17,44 +20,52 @@ use Rattle.workers.specs.Answers.{WorkerAnswer, AreInTurn}
 use Rattle.workers.specs.Runs.{runs_in_turn}
 
 -- What threads did to closed counters, given the runs of each pass. There is one legal history (a
--- linearization) of all passes, which leaves these values and has the events of each pass. The
--- first pass only read counters. Each other pass did its runs, one after the other, under the
--- rulesets. Each run ended in time, with 0 or a release. Without the reads of the first pass, that
--- history is the one of a world that does these runs. On each counter a quota is granted exactly.
+-- linearization) of all passes, from the opening values to the closed ones, which has the events of
+-- each pass. The first pass only read counters. Each other pass did its runs, one after the other,
+-- under the rulesets. Each run ended in time, with 0 or a release. Without the reads of the first
+-- pass, that history is the one of a world that does these runs. On each counter a quota is granted
+-- exactly.
 pub record AreLeftByOneWorld (published : List Rules) (runs : List (List AppRun))
-    (closed : ClosedView) : Type 0 where
-  pub left : AreLeftBy closed.passes closed.values
+    (opening : List ℕ) (closed : ClosedView) : Type 0 where
+  pub left : AreLeftBy opening closed.passes closed.values
   pub whole : All (IsWholeRun published) (all_runs runs)
-  pub world : DidOneWorld published closed.passes 0 left.history closed.values runs
-  pub counters : QuotasAreExact closed.passes closed.values
+  pub world : DidOneWorld published closed.passes 0 opening left.history closed.values runs
+  pub counters : QuotasAreExact opening closed.passes closed.values
 
 -- the runs of each pass of a server: none of the operator's pass, which is the first, and for a
 -- worker's pass those of the worker's answers
 abbrev pub runs_by_pass : List (List WorkerAnswer) → List (List AppRun)
 runs_by_pass by_worker = [] ∷ map runs_in_turn by_worker
 
--- What remains of a server that began to serve with these cells and this control. The counters are
--- its own, closed with all passes to them. Answered lines of the operator, and nothing else, led
--- from that control to the one at its end. Each worker has answers, one after the other, none under
--- an older ruleset than the one before. Each is under a published ruleset, or a refusal. What the
--- worker did to the counters is what the runs of these answers did, and the operator only read
--- counters. The published rulesets are sound and know only the arrays that the server has at its
--- end. Each quota of these arrays is granted.
+-- What remains of a server that began to serve with these cells and this control: these arrays and
+-- values. They are those of its own counters, closed with all passes to them. Answered lines of the
+-- operator, and nothing else, led from that control to the one at its end. Each worker has answers,
+-- one after the other, none under an older ruleset than the one before. Each is under a published
+-- ruleset, or a refusal. What the worker did to the counters is what the runs of these answers did,
+-- and the operator only read counters. The published rulesets are sound and know only the arrays,
+-- which are those that the server has at its end. Each quota of these is granted, and counts on if
+-- the server began with the counters that earlier ones left.
 pub record LeavesOneWorld {F : Type 0} (loads : Loading F) (cells : CellsView)
-    (control : Controlled) (closed : ClosedView) : Type 0 where
+    (control : Controlled) (arrays : List CellArray) (values : List ℕ) : Type 0 where
+  pub closed : ClosedView
   pub own : AreClosed cells closed
+  pub values_are : values ≡ closed.values
   pub end : Controlled
+  pub arrays_are : arrays ≡ end.arrays
   pub lines : List (AnsweredLine F)
   pub reads : List CellEvent
   pub led : LinesLead loads control lines reads end
   pub by_worker : List (List WorkerAnswer)
   pub in_turn :
       All (λ answers. AreInTurn control.publishing.known answers end.publishing.known) by_worker
-  pub did : AreLeftByOneWorld end.publishing.known.rulesets (runs_by_pass by_worker) closed
+  pub did :
+      AreLeftByOneWorld end.publishing.known.rulesets (runs_by_pass by_worker) cells.opening closed
   pub sound : All IsRuleset end.publishing.known.rulesets
-  pub directory : IsDirectory end.arrays
+  pub directory : IsDirectory arrays
   pub only : KnowOnlyItsArrays end
-  pub granted : QuotasAreGranted end.arrays closed.passes closed.values
+  pub granted : QuotasAreGranted arrays cells.opening closed.passes values
+  pub counts_on : (array : CellArray) (cell : ℕ) → Contains arrays array → IsSome array.quota
+      → HasCell array cell → CountsOn cell closed
 
 -- ---- steps of the proof
 

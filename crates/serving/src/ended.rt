@@ -7,28 +7,38 @@ ghost use Rattle.shared_cells.specs.Passes.{AreClosed, AreLeftBy, IsPassOf};
 ghost use Rattle.shared_cells.specs.Quotas.{QuotasAreExact};
 ghost use Rattle.serving.specs.Ended.{IsOfServer, passes_of};
 
+use cells::Directory;
 use hot_swap::{Generation, Notice, Watcher, generations_go_onwards};
 use shared_cells::{Closed, SharedCells, SharedPass};
 use workers::Returned;
 
-/// Closes the cells by all passes to them, which fit into `room`. Also returns whether each
-/// worker's watcher could be read, and has read only what was published.
+/// What is left of a server: its closed counters, and its arrays.
+#[derive(Drop)]
+pub(crate) struct Ended {
+    pub(crate) closed: Closed,
+    pub(crate) directory: Directory,
+    /// Whether each worker's watcher could be read, and has read only what was published.
+    pub(crate) is_known: bool,
+}
+
+/// Closes the cells by all passes to them, which fit into `room`.
 pub(crate) fn close_cells(
     cells: SharedCells,
     back: Returned<SharedPass>,
     mut room: Vec<SharedPass>,
-) -> (Closed, bool)
+) -> Ended
     requires all { cells.passes ≡ length back.workers.items + 1 }
     requires operator { IsPassOf cells back.operator }
     requires workers { All (IsOfServer cells back.published.publisher) back.workers.items }
     requires generation { back.generation ≡ length back.published.rulesets }
     requires empty { room.items ≡ [] }
     requires enough { length back.workers.items + 1 ≤ vec_capacity room }
-    ensures own { AreClosed cells result.0 }
-    ensures passes { result.0.passes ≡ passes_of back.operator back.workers.items }
-    ensures history { AreLeftBy result.0.passes result.0.values }
-    ensures quotas { QuotasAreExact result.0.passes result.0.values }
-    ensures prefix { IsTrue result.1
+    ensures own { AreClosed cells result.closed }
+    ensures passes { result.closed.passes ≡ passes_of back.operator back.workers.items }
+    ensures history { AreLeftBy cells.opening result.closed.passes result.closed.values }
+    ensures quotas { QuotasAreExact cells.opening result.closed.passes result.closed.values }
+    ensures arrays { result.directory ≡ back.directory }
+    ensures prefix { IsTrue result.is_known
         → All (λ worker. IsPrefix worker.1.rulesets back.published.rulesets) back.workers.items }
 {
     let Returned {
@@ -37,6 +47,7 @@ pub(crate) fn close_cells(
         mut workers,
         published,
         generation,
+        directory,
     } = back;
     room.push_reserved(operator);
     let mut is_known = true;
@@ -48,7 +59,11 @@ pub(crate) fn close_cells(
     let Ok(closed) = cells.close(room) else {
         unreachable!()
     };
-    (closed, is_known)
+    Ended {
+        closed,
+        directory,
+        is_known,
+    }
 }
 
 // The pass of a worker, and whether its watcher has read only what was published, up to this

@@ -1,7 +1,7 @@
 //! The log lines of a server's end: that it has ended, and a line for each counter that isn't 0.
 //! They wait for places in the log's queue, so that none is lost if the log is read in time.
 
-ghost use Rattle.std.specs.Prelude.{◌≡◌, ◌+◌, ◌<◌, slice_index};
+ghost use Rattle.std.specs.Prelude.{◌≡◌, ◌+◌, ◌<◌, length, slice_index};
 
 use access_log::{Counter, LogEvent};
 use cells::{CellArray, CellNo};
@@ -39,6 +39,15 @@ where
             return;
         }
     }
+}
+
+/// The last values of all cells, by their numbers, in a buffer that has a place for each.
+pub(crate) fn last_values(closed: &Closed, mut buffer: Vec<u64>) -> Vec<u64>
+    requires { length buffer.items ≡ 8192 }
+    ensures { result.items ≡ closed.now.values }
+{
+    closed.copy_values(buffer.as_mut_slice());
+    buffer
 }
 
 fn refusal_if(is_refused: bool) -> Option<&'static str> {

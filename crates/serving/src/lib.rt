@@ -1,13 +1,16 @@
 //! A server with its operator's port, from a manifest's path to its end.
 //!
-//! A ready server has its ruleset and its ports. A staffed server has all that it serves with. The
-//! operator has the publisher and the directory, and each worker has a watcher. All have passes,
-//! which are ghost tokens, to cells that they share without a lock. So whatever can fail does so
-//! before a server prints that it serves, which it does once its threads also exist (`workers`).
+//! A server begins with counters: none, or those that an earlier one left. A ready server has its
+//! ruleset, loaded over their arrays, and its ports. A staffed server has all that it serves with.
+//! The operator has the publisher and the directory, and each worker has a watcher. All have
+//! passes, which are ghost tokens, to cells that they share without a lock. So whatever can fail
+//! does so before a server prints that it serves, which it does once its threads also exist
+//! (`workers`).
 //!
 //! See docs/DECISIONS.md, "The server".
 #![tactic(auto)]
 
+mod counters;
 mod ended;
 mod last_values;
 mod manifests;
@@ -16,6 +19,7 @@ mod serving_fault;
 mod staffed;
 mod worker_list;
 
+pub use counters::Counters;
 pub use manifests::Manifests;
 pub use server::{Server, prepare};
 pub use serving_fault::ServingFault;

@@ -1,27 +1,36 @@
 //! From a manifest's path to a server that has all it needs except threads. What is wrong with the
 //! manifest or with the ports is found before threads start.
 
-ghost use Rattle.std.specs.Prelude.{◌≡◌, ◌≤◌, [], ◌∷◌, IfOk, IfErr, length};
+ghost use Rattle.std.specs.Prelude.{◌≡◌, ◌≤◌, [], ◌∷◌, IfOk, IfErr, length, string_bytes};
+ghost use Rattle.cells.specs.Events.{AreCells};
 ghost use Rattle.load.specs.Loaded.{IsLoadedFrom};
 ghost use Rattle.load.specs.Made.{IsMadeFrom};
 ghost use Rattle.ruleset.specs.Rules.{KnowsOnly};
 ghost use Rattle.serving.specs.Manifests.{RefusesToServe};
+ghost use Rattle.serving.specs.Staff.{IsLoadAtStart};
 ghost use Rattle.serving.specs.Staffed.{IsStaffFault};
 
+use crate::counters::Counters;
 use crate::serving_fault::ServingFault;
 use crate::staffed::{StaffedServer, staff};
-use cells::Directory;
+use bounded_files::ResourceFault;
 use load::{Disk, load_with_digest};
 use ruleset::LoadedRuleset;
 use std::net::{Net, TcpListener, TcpStream};
 use std::sync::Wait;
+use std::time::Clock;
 use workers::{Ports, bind};
 
 /// A server whose ruleset is loaded, and whose two ports listen.
 pub struct Server {
     ports: Ports,
     loaded: LoadedRuleset,
+    /// The path of its manifest.
+    path: String,
+    /// The values that its counters open with.
+    values: Vec<u64>,
     ghost only: { KnowsOnly loaded.directory loaded.rules },
+    ghost cells: { AreCells values.items },
 }
 
 // Not derived: a crate that drops one would prove the drop of each of its parts anew.
@@ -30,13 +39,15 @@ impl Drop for Server {
         let Self {
             ports: _ports,
             loaded: _loaded,
+            path: _path,
+            values: _values,
         } = self;
     }
 }
 
-/// Loads the manifest at a path, and binds both ports on loopback; 0 is any free port. Returns the
-/// manifest's fault, or else B6 if a port can't be bound or too few descriptors are left for a
-/// server.
+/// Loads the manifest at a path over the arrays of these counters, and binds both ports on
+/// loopback; 0 is any free port. Returns the manifest's fault, or else B4 if the path can't be
+/// copied, or B6 if a port can't be bound or too few descriptors are left for a server.
 // open: the bytes of a device's files.
 pub fn prepare<H, D>(
     rt: &H,
@@ -44,23 +55,37 @@ pub fn prepare<H, D>(
     path: &str,
     service: u16,
     operator: u16,
+    counters: Counters,
 ) -> Result<Server, ServingFault>
 where
     H: AllocGlobal + Net<Listener = TcpListener, Stream = TcpStream>,
     D: Disk,
-    ensures loaded { IfOk result
-        (λ s. IsLoadedFrom (D.known disk.now) path.now [] s.loaded.rules s.loaded.directory) }
+    requires cells { AreCells counters.values.items }
+    ensures loaded { IfOk result (λ s. IsLoadedFrom (D.known disk.now) path.now counters.directory
+        s.loaded.rules s.loaded.directory) }
     // The digest is that of the bytes that were judged.
-    ensures made { IfOk result (λ s. IsMadeFrom (D.known disk.now) path.now [] s.loaded) }
-    ensures refused { IfErr result (RefusesToServe (D.known disk.now) path.now) }
+    ensures made { IfOk result
+        (λ s. IsMadeFrom (D.known disk.now) path.now counters.directory s.loaded) }
+    ensures path { IfOk result (λ s. string_bytes s.path ≡ path.now) }
+    ensures values { IfOk result (λ s. s.values ≡ counters.values) }
+    ensures refused { IfErr result
+        (RefusesToServe (D.known disk.now) path.now counters.directory) }
 {
-    let alloc = rt.alloc();
-    let loaded = match load_with_digest(alloc, disk, path, &Directory::new(alloc)) {
+    let Counters { directory, values } = counters;
+    let loaded = match load_with_digest(rt.alloc(), disk, path, &directory) {
         Ok(loaded) => loaded,
         Err(refusal) => return Err(ServingFault::Manifest(refusal)),
     };
+    let Ok(path) = String::from_str(rt.alloc(), path) else {
+        return Err(ServingFault::Resource(ResourceFault::Memory));
+    };
     match bind(rt, service, operator) {
-        Ok(ports) => Ok(Server { ports, loaded }),
+        Ok(ports) => Ok(Server {
+            ports,
+            loaded,
+            path,
+            values,
+        }),
         Err(_) => Err(ServingFault::Bind),
     }
 }
@@ -81,12 +106,20 @@ impl Server {
         &self.loaded
     }
 
+    /// The values that its counters open with, by the numbers of their cells.
+    pub fn values(&self) -> &[u64]
+        ensures values { result.now ≡ self.now.values.items }
+        ensures cells { AreCells result.now }
+    {
+        &self.values
+    }
+
     /// The server with `workers` workers, to serve the ruleset as generation 1. Returns S1 if the
     /// counters can't be allocated, H1 if the publisher or one of its watchers can't, and B4 if
     /// other memory can't.
     pub fn staffed<H>(self, rt: &H, workers: usize) -> Result<StaffedServer, ServingFault>
     where
-        H: Wait + AllocGlobal,
+        H: Wait + AllocGlobal + Clock,
         requires some { 1 ≤ workers }
         requires few { workers ≤ 64 }
         ensures ports { IfOk result (λ s. s.ports ≡ self.ports) }
@@ -95,15 +128,18 @@ impl Server {
         ensures known { IfOk result
             (λ s. s.control.publishing.known.rulesets ≡ self.loaded.rules ∷ []) }
         ensures arrays { IfOk result (λ s. s.control.arrays ≡ self.loaded.directory) }
+        ensures last { IfOk result
+            (λ s. IsLoadAtStart self.loaded (string_bytes self.path) s.control.last) }
+        ensures opening { IfOk result (λ s. s.cells.opening ≡ self.values.items) }
         ensures workers { IfOk result (λ s. length s.workers.items ≡ workers) }
         ensures fault { IfErr result IsStaffFault }
     {
-        let Server { ports, loaded } = self;
-        let LoadedRuleset {
-            rules,
-            directory,
-            digest: _,
-        } = loaded;
-        staff(rt, ports, rules, directory, workers)
+        let Server {
+            ports,
+            loaded,
+            path,
+            values,
+        } = self;
+        staff(rt, ports, loaded, path, values, workers)
     }
 }

@@ -2,25 +2,28 @@
 //! directory of its arrays, and its workers. These are made before anything is served.
 
 ghost use Rattle.std.specs.Prelude.{◌≡◌, ◌+◌, ◌≤◌, [], ◌∷◌, IfOk, IfErr, OnOk, length};
-ghost use Rattle.std.specs.Prelude.{vec_capacity};
+ghost use Rattle.std.specs.Prelude.{string_bytes, vec_capacity};
 ghost use Rattle.std.specs.Io.KnownBytes.{Appends};
+ghost use Rattle.cells.specs.Events.{AreCells};
 ghost use Rattle.ruleset.specs.Rules.{KnowsOnly};
 ghost use Rattle.workers.specs.Texts.{serving_line};
 ghost use Rattle.operator.specs.Control.{KnowOnlyItsArrays};
 ghost use Rattle.serving.specs.Ended.{LeavesOneWorld};
-ghost use Rattle.serving.specs.Staff.{IsStaff};
+ghost use Rattle.serving.specs.Staff.{IsLoadAtStart, IsStaff};
 ghost use Rattle.serving.specs.Staffed.{IsEndFault, IsStaffFault};
 
-use crate::ended::close_cells;
-use crate::last_values::note_end;
+use crate::counters::Counters;
+use crate::ended::{Ended, close_cells};
+use crate::last_values::{last_values, note_end};
 use crate::serving_fault::ServingFault;
 use crate::worker_list::worker_list;
 use bounded_files::ResourceFault;
-use cells::Directory;
 use hot_swap::{Publisher, SwapFault, Watcher};
-use operator::{Control, Loader, loads_go_on};
-use ruleset::Ruleset;
-use shared_cells::{Closed, SharedCells, SharedPass, passes_gain_lists};
+use operator::{Control, LastLoad, Loader, loads_go_on};
+use restart_laws::servers_count_as_one;
+use ruleset::LoadedRuleset;
+use server_log::utc_now;
+use shared_cells::{SharedCells, SharedPass, passes_gain_lists};
 use std::io::Write;
 use std::net::{Net, TcpListener, TcpStream};
 use std::sync::{Arc, Wait};
@@ -40,62 +43,85 @@ pub struct StaffedServer {
     workers: Vec<(SharedPass, Watcher)>,
     /// The buffer for all passes when they are returned.
     room: Vec<SharedPass>,
+    /// The values of the counters: those that they opened with, and at the end their last ones.
+    values: Vec<u64>,
     ghost staff: { IsStaff cells pass control.publishing.known workers.items },
     ghost only: { KnowOnlyItsArrays control },
     ghost empty: { room.items ≡ [] },
     ghost enough: { length workers.items + 1 ≤ vec_capacity room },
+    ghost many: { length values.items ≡ 8192 },
 }
 
-/// A server at these ports, with `workers` workers. It serves this ruleset, whose arrays are those
-/// of the directory, as generation 1; nothing else is installed. Returns S1 if the counters can't
-/// be allocated, H1 if the publisher or one of its watchers can't, and B4 if other memory can't.
+/// A server at these ports, with `workers` workers, whose counters open with these values. It
+/// serves this ruleset, which was loaded from the path, as generation 1; nothing else is installed.
+/// Returns S1 if the counters can't be allocated, H1 if the publisher or one of its watchers can't,
+/// and B4 if other memory can't.
 // open: when B4 is returned.
 pub fn staff<H>(
     rt: &H,
     ports: Ports,
-    rules: Ruleset,
-    directory: Directory,
+    loaded: LoadedRuleset,
+    path: String,
+    values: Vec<u64>,
     workers: usize,
 ) -> Result<StaffedServer, ServingFault>
 where
-    H: Wait + AllocGlobal,
+    H: Wait + AllocGlobal + Clock,
     requires some { 1 ≤ workers }
     requires few { workers ≤ 64 }
-    requires only { KnowsOnly directory rules }
+    requires cells { AreCells values.items }
+    requires only { KnowsOnly loaded.directory loaded.rules }
     ensures ports { IfOk result (λ s. s.ports ≡ ports) }
     ensures first { IfOk result (λ s. s.control.publishing.latest.generation ≡ 1) }
-    ensures rules { IfOk result (λ s. s.control.publishing.latest.rules ≡ rules) }
-    ensures known { IfOk result (λ s. s.control.publishing.known.rulesets ≡ rules ∷ []) }
-    ensures arrays { IfOk result (λ s. s.control.arrays ≡ directory) }
+    ensures rules { IfOk result (λ s. s.control.publishing.latest.rules ≡ loaded.rules) }
+    ensures known { IfOk result (λ s. s.control.publishing.known.rulesets ≡ loaded.rules ∷ []) }
+    ensures arrays { IfOk result (λ s. s.control.arrays ≡ loaded.directory) }
+    ensures last { IfOk result (λ s. IsLoadAtStart loaded (string_bytes path) s.control.last) }
+    ensures opening { IfOk result (λ s. s.cells.opening ≡ values.items) }
     ensures workers { IfOk result (λ s. length s.workers.items ≡ workers) }
     ensures fault { IfErr result IsStaffFault }
 {
     let alloc = rt.alloc();
+    let LoadedRuleset {
+        rules,
+        directory,
+        digest,
+    } = loaded;
     let Ok(rules) = Arc::new(alloc, rules) else {
+        return Err(ServingFault::Resource(ResourceFault::Memory));
+    };
+    let Ok(served) = Arc::try_clone(&rules) else {
         return Err(ServingFault::Resource(ResourceFault::Memory));
     };
     let Ok(room) = Vec::with_capacity(alloc, workers + 1) else {
         return Err(ServingFault::Resource(ResourceFault::Memory));
     };
-    let (cells, mut passes) = match SharedCells::new(alloc, workers + 1) {
+    let (cells, mut passes) = match SharedCells::opened(alloc, &values, workers + 1) {
         Ok(made) => made,
         Err(fault) => return Err(ServingFault::Cells(fault)),
     };
     let Some(pass) = passes.pop() else {
         unreachable!()
     };
-    let mut publisher = match Publisher::new(rt, alloc, rules, workers) {
+    let mut publisher = match Publisher::new(rt, alloc, served, workers) {
         Ok(publisher) => publisher,
         Err(fault) => return Err(ServingFault::Publisher(fault)),
+    };
+    let last = LastLoad {
+        rules,
+        digest,
+        path,
+        time: utc_now(rt),
     };
     match worker_list(alloc, passes, &mut publisher) {
         Ok(workers) => Ok(StaffedServer {
             ports,
             cells,
             pass,
-            control: Control::new(publisher, directory),
+            control: Control::new(alloc, publisher, directory, last),
             workers,
             room,
+            values,
         }),
         Err(fault) => {
             publisher.close(rt);
@@ -112,17 +138,18 @@ impl StaffedServer {
         &self.ports
     }
 
-    /// Serves until the operator stops the server, and returns the counters with their last values;
-    /// those that aren't 0 have a line in the log. Once all threads exist, `out` gets the ready
-    /// line, with the generation, by one write. Later rulesets are from the loader. Returns B4 if
-    /// an allocation or a thread fails, before any client is answered and before anything is
+    /// Serves until the operator stops the server, and returns all arrays, with the counters' last
+    /// values; those that aren't 0 have a line in the log. Once all threads exist, `out` gets the
+    /// ready line, with the generation, by one write. Later rulesets are from the loader. Returns
+    /// B4 if an allocation or a thread fails, before any client is answered and before anything is
     /// written. Returns B3 if `out` can't be written, and H2 if a worker's watcher can't be read at
     /// the end: the log then has this fault and the counters.
     ///
-    /// By `world` the counters are this server's. What all threads did to them is one legal
-    /// history, that of one world, under rulesets that the operator's lines loaded one after the
-    /// other. Its runs are those of answers, one list for each worker, in turn, under rulesets that
-    /// never went back. Each run ended in time, with 0 or a release, and each quota is granted.
+    /// By `world` the counters are this server's. What all threads did to them is one legal history
+    /// from their opening values, that of one world, under rulesets that the operator's lines
+    /// loaded one after the other. Its runs are those of answers, one list for each worker, in
+    /// turn, under rulesets that never went back. Each run ended in time, with 0 or a release. Each
+    /// quota is granted, and counts on from the servers before.
     // open: when B4, B3 or H2 is returned; that the log has the last values, and that the line
     // takes one write: tests.
     pub fn serve<H, L, O>(
@@ -131,7 +158,7 @@ impl StaffedServer {
         loader: &L,
         service: ServeOptions<'_>,
         out: &mut O,
-    ) -> Result<Closed, ServingFault>
+    ) -> Result<Counters, ServingFault>
     where
         H: Threads + Wait + AllocGlobal + Clock + Sync,
         H: Net<Listener = TcpListener, Stream = TcpStream>,
@@ -139,8 +166,8 @@ impl StaffedServer {
         O: Write,
         requires some { 1 ≤ length self.workers.items }
         requires few { length self.workers.items ≤ 64 }
-        ensures world { IfOk result
-            (LeavesOneWorld (L.loads loader.now) self.cells self.control) }
+        ensures world { IfOk result (λ left. LeavesOneWorld (L.loads loader.now) self.cells
+            self.control left.directory left.values.items) }
         ensures printed { OnOk result (Appends (O.contents out.old) (O.contents out.new)
             (serving_line self.control.publishing.latest.generation)) }
         ensures fault { IfErr result IsEndFault }
@@ -149,6 +176,7 @@ impl StaffedServer {
         answers_are_runs();
         threads_are_one_world();
         threads_grant_quotas();
+        servers_count_as_one();
         loads_go_on(loader);
         let StaffedServer {
             ports,
@@ -157,6 +185,7 @@ impl StaffedServer {
             mut control,
             workers,
             room,
+            values,
         } = self;
         let parts = ServerParts {
             loader,
@@ -170,11 +199,16 @@ impl StaffedServer {
                 return Err(ServingFault::Resource(fault));
             }
         };
-        let (closed, is_known) = close_cells(cells, back, room);
-        note_end(rt, service.log, is_known, control.arrays(), &closed);
+        let Ended {
+            closed,
+            directory,
+            is_known,
+        } = close_cells(cells, back, room);
+        note_end(rt, service.log, is_known, directory.arrays(), &closed);
+        let values = last_values(&closed, values);
         control.close(rt);
         if is_known {
-            Ok(closed)
+            Ok(Counters { directory, values })
         } else {
             Err(ServingFault::Publisher(SwapFault::NoPlace))
         }
@@ -189,6 +223,7 @@ impl StaffedServer {
             control,
             workers: _workers,
             room: _room,
+            values: _values,
         } = self;
         control.close(rt);
     }

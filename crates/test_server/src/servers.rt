@@ -12,7 +12,7 @@ use crate::swaps::{FORTY, Swaps, THOUSAND, TWO, WHOLE, are_swapped};
 use crate::turns::{at_once, silent, slow};
 use bounded_files::Device;
 use operator_request::OperatorRequest;
-use serving::{Manifests, Server, prepare};
+use serving::{Counters, Manifests, Server, prepare};
 use std::io::{self, Write};
 use std::net::SocketAddr;
 use std::process::Abort;
@@ -134,7 +134,9 @@ pub(crate) fn is_served<T>(
 where
     T: Abort + Threads + Wait + Sync,
 {
-    let server = prepare(own, &Device::new(own.rt), path, 0, 0).expect(own.handles, "a server");
+    let none = Counters::none(own.rt.alloc()).expect(own.handles, "counters");
+    let server = prepare(own, &Device::new(own.rt), path, 0, 0, none);
+    let server = server.expect(own.handles, "a server");
     let place = Place {
         clients: server.ports().service(),
         operator: server.ports().operator(),

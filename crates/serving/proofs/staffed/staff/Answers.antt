@@ -1,6 +1,7 @@
 use Rattle.std.proofs.Common.{[], ◌∷◌, All, sym, ap, subst, ◌∙◌, arith}
 use Rattle.hot_swap.specs.Latest.{Publishing}
 use Rattle.hot_swap.specs.Published.{KnownPrefix}
+use Rattle.operator.specs.Control.{LastLoad}
 use Rattle.ruleset.specs.Rules.{Rules}
 use Rattle.serving.specs.Staff.{IsNewWorker}
 use Rattle.serving.proofs.Leaving.{knows_first}
@@ -9,26 +10,30 @@ use Rattle.serving.proofs.staffed.staff.Goals as goal
 
 pub invariant_of-result : goal.invariant_of-result
 invariant_of-result g c =
-    let made = c.in-Ok-new.ensures in
-    let cells = c.in-Ok-new.made.0 in
+    let made = c.in-Ok-opened.ensures in
+    let cells = c.in-Ok-opened.made.0 in
     let workers = c.in-Ok-worker_list.workers.items in
     let known = ap (λ (p : Publishing). p.known) c.new-in-Ok-worker_list.ensures.publishing
     ∙ c.in-Ok-worker_list.ensures.known in
     let is = is_staff cells c.new-in-Ok-worker_list.result.publishing.known
-    c.in-Ok-new.made.1.items c.pop.new.self.items c.in-Some.pass workers
+    c.in-Ok-opened.made.1.items c.pop.new.self.items c.in-Some.pass workers
     (made.many ∙ sym made.all) made.each c.in-Some.ensures.items
     c.in-Ok-worker_list.ensures.all
     (λ new. subst (λ (b : KnownPrefix). All (IsNewWorker cells.table b) workers) (sym known)
     (c.in-Ok-worker_list.ensures.each cells.table new)) in
-    let listed = ap (λ (b : KnownPrefix). b.rulesets) known ∙ c.in-Ok-new-2.ensures.listed
-    ∙ ap (λ (r : Rules). r ∷ []) c.in-Ok.ensures.ok in
+    let listed = ap (λ (b : KnownPrefix). b.rulesets) known ∙ c.in-Ok-new.ensures.listed
+    ∙ ap (λ (r : Rules). r ∷ []) (c.in-Ok-try_clone.ensures ∙ c.in-Ok.ensures.ok) in
     let all = is.all in
     let many = made.many in
     let room = c.in-Ok-with_capacity.ensures.capacity in
     record {
       staff = is;
-      only = knows_first c.new-in-Ok-worker_list.result c.args.directory c.args.rules
-          c.new-in-Ok-worker_list.ensures.arrays listed c.requires.only;
+      only = knows_first c.new-in-Ok-worker_list.result c.args.loaded.directory
+          c.args.loaded.rules c.new-in-Ok-worker_list.ensures.arrays
+          (ap (λ (l : LastLoad). l.rules) c.new-in-Ok-worker_list.ensures.last
+          ∙ c.in-Ok.ensures.ok)
+          listed c.requires.only;
       empty = c.in-Ok-with_capacity.ensures.items;
       enough = omega (arith, all, many, room);
+      many = c.requires.cells.count;
     }

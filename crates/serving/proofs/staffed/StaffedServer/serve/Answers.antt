@@ -2,7 +2,7 @@ use Rattle.std.proofs.Common.{◌≡◌, ℕ, ◌+◌, length, sym, ap, ◌∙�
 use Rattle.std.proofs.lemmas.Slice.Zip.{AllZip-long}
 use Rattle.hot_swap.specs.Published.{KnownPrefix}
 use Rattle.serving.proofs.Ending.{are_of_server, has_looked, new_belong}
-use Rattle.serving.proofs.Leaving.{leaves}
+use Rattle.serving.proofs.Leaving.{hands_back, leaves}
 use Rattle.serving.proofs.Turns.{did_in_turn}
 use Rattle.serving.proofs.staffed.StaffedServer.serve.Goals as goal
 
@@ -56,11 +56,15 @@ returns-then-is_known-clause-world g c =
     laws.onwards server.control back.last operator.lines operator.reads operator.led in
     let answers = c.answers_are_runs.ensures in
     let done = c.close_cells-closed.ensures in
+    let closed = c.close_cells-closed.result.closed in
     let looked = has_looked c.passes_gain_lists.ensures server.cells.table server.pass
     operator.reads c.in-Ok.back.operator server.staff.own operator.grown
     (laws.reads server.control back.last operator.lines operator.reads operator.led) in
-    leaves _ laws.only c.threads_grant_quotas.ensures server.cells server.control back.last
-    operator.lines operator.reads c.in-Ok.back.published c.close_cells-closed.result.0 done.own
+    hands_back _ server.cells server.control _ back.last.arrays _ closed.values
+    (done.arrays ∙ back.arrays_are) c.last_values-values.ensures
+    (leaves _ laws.only c.threads_grant_quotas.ensures c.servers_count_as_one.ensures.each
+    server.cells server.control back.last
+    operator.lines operator.reads c.in-Ok.back.published closed done.own
     operator.led back.directory server.only back.published_are published.sound
     (did_in_turn (record {
       gain = c.passes_gain_lists.ensures;
@@ -69,8 +73,8 @@ returns-then-is_known-clause-world g c =
       stay = answers.stay;
       world = c.threads_are_one_world.ensures;
     }) server.cells known c.in-Ok.back.published published.rules c.in-Ok.back.operator
-    server.workers.items c.in-Ok.back.workers.items c.close_cells-closed.result.0
+    server.workers.items c.in-Ok.back.workers.items closed
     published.last.rules_are published.sound looked
     (ap (λ (b : KnownPrefix). b.publisher) back.published_are ∙ onwards.publisher)
     server.staff.each back.workers (done.prefix c.if-is_known.true) done.passes done.history
-    done.quotas)
+    done.quotas))

@@ -1,0 +1,43 @@
+//! The counters of a server at its start and at its end.
+
+ghost use Rattle.std.specs.Prelude.{◌≡◌, [], IfOk, IfErr};
+ghost use Rattle.cells.specs.Events.{AreCells, AreZeros};
+ghost use Rattle.serving.specs.Staffed.{IsStaffFault};
+
+use crate::serving_fault::ServingFault;
+use bounded_files::ResourceFault;
+use cells::{CellNo, Directory};
+use std::alloc::{AllocError, Global};
+
+/// The arrays of a server, and a value for each of its 8192 cells, by their numbers.
+#[derive(Drop)]
+pub struct Counters {
+    pub directory: Directory,
+    pub values: Vec<u64>,
+}
+
+impl Counters {
+    /// No arrays, and all values 0. Returns B4 if the values can't be allocated.
+    // open: when B4 is returned.
+    pub fn none(alloc: Global) -> Result<Counters, ServingFault>
+        ensures arrays { IfOk result (λ c. c.directory ≡ []) }
+        ensures zeros { IfOk result (λ c. AreZeros 8192 c.values.items) }
+        ensures cells { IfOk result (λ c. AreCells c.values.items) }
+        ensures fault { IfErr result IsStaffFault }
+    {
+        let Ok(values) = zeros(alloc, CellNo::COUNT as usize) else {
+            return Err(ServingFault::Resource(ResourceFault::Memory));
+        };
+        Ok(Counters {
+            directory: Directory::new(alloc),
+            values,
+        })
+    }
+}
+
+// `count` zeros.
+fn zeros(alloc: Global, count: usize) -> Result<Vec<u64>, AllocError>
+    ensures { IfOk result (λ v. AreZeros count v.items) }
+{
+    Vec::from_elem(alloc, 0, count)
+}
