@@ -18,13 +18,28 @@ traces_none rows traces (command.Run run) makes = makes.untraced traces
 traces_none rows traces command makes = makes
 
 pub serves_none : (rows : List Row) → LacksPlan rows → VerbMakesNone verb.Serve rows
-serves_none rows lacks (command.Serve manifest plan) makes = lacks plan makes.1
+serves_none rows lacks (command.Serve manifest counters plan) makes = lacks plan makes.2
 serves_none rows lacks command makes = makes
 
 pub loads_none : (rows : List Row) → LacksShort (codes "operator") rows
     → VerbMakesNone verb.Load rows
 loads_none rows lacks (command.Send (sent.Load path) port) makes = lacks port makes.1
 loads_none rows lacks command makes = makes
+
+pub halts_none : (rows : List Row) → LacksShort (codes "operator") rows
+    → VerbMakesNone verb.Halt rows
+halts_none rows lacks (command.Send (sent.Halt appid) port) makes = lacks port makes.1
+halts_none rows lacks command makes = makes
+
+pub resumes_none : (rows : List Row) → LacksShort (codes "operator") rows
+    → VerbMakesNone verb.Resume rows
+resumes_none rows lacks (command.Send (sent.Resume appid) port) makes = lacks port makes.1
+resumes_none rows lacks command makes = makes
+
+pub states_none : (rows : List Row) → LacksShort (codes "operator") rows
+    → VerbMakesNone verb.State rows
+states_none rows lacks (command.Send sent.State port) makes = lacks port makes
+states_none rows lacks command makes = makes
 
 pub shows_none : (rows : List Row) → LacksShort (codes "operator") rows
     → VerbMakesNone verb.Show rows

@@ -2,7 +2,7 @@
 use Rattle.std.specs.Prelude.{pos, List, [], ◌∷◌, ◌++◌, false, codes}
 use Rattle.clap.specs.Words.{App, Rule, Text}
 use Rattle.command_line.specs.Grammar.{VerbRules, app_of_rules, app_options, arrays, bucket, file}
-use Rattle.command_line.specs.Grammar.{flag, input, manifest, names_of_rules, operator, ranged}
+use Rattle.command_line.specs.Grammar.{flag, input, manifest, names_of_rules, operator, option, ranged}
 use Rattle.command_line.specs.Grammar.{releases, required_number, verbose}
 use Rattle.command_words.specs.declared.verb.Verb.{Verb}
 use Rattle.command_words.specs.declared.verb.Verb.TheVariants as verb
@@ -23,15 +23,19 @@ verbs =
     ∷ verb_rules (codes "cells") verb.Cells (operator ∷ [])
     ∷ verb_rules (codes "compile") verb.Compile
     (input ∷ file (codes "OUT") ∷ releases ∷ arrays ∷ [])
+    ∷ verb_rules (codes "halt") verb.Halt (file (codes "APPID") ∷ operator ∷ [])
     ∷ verb_rules (codes "list") verb.List (input ∷ [])
     ∷ verb_rules (codes "load") verb.Load (file (codes "PATH") ∷ operator ∷ [])
     ∷ verb_rules (codes "replay") verb.Replay (manifest ∷ file (codes "SCRIPT") ∷ [])
+    ∷ verb_rules (codes "resume") verb.Resume (file (codes "APPID") ∷ operator ∷ [])
     ∷ verb_rules (codes "run") verb.Run
     (input ∷ releases ∷ arrays ∷ bucket ∷ flag (codes "trace") ∷ app_options)
     ∷ verb_rules (codes "serve") verb.Serve
     (manifest ∷ required_number (codes "port") 1 65535 ∷ operator
-    ∷ required_number (codes "workers") 1 64 ∷ timeout ∷ flag (codes "log") ∷ [])
+    ∷ required_number (codes "workers") 1 64 ∷ timeout ∷ option (codes "counters")
+    ∷ flag (codes "log") ∷ [])
     ∷ verb_rules (codes "show") verb.Show (operator ∷ [])
+    ∷ verb_rules (codes "state") verb.State (operator ∷ [])
     ∷ verb_rules (codes "stop") verb.Stop (operator ∷ flag (codes "wait") ∷ [])
     ∷ verb_rules (codes "verify") verb.Verify (input ∷ releases ∷ arrays ∷ []) ∷ []
 

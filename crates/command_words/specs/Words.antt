@@ -1,6 +1,6 @@
 -- Which command the arguments of each command make.
-use Rattle.std.specs.Prelude.{List, true, false, codes}
-use Rattle.clap.specs.Words.{Row}
+use Rattle.std.specs.Prelude.{◌≡◌, List, true, false, codes, option_copied}
+use Rattle.clap.specs.Words.{Row, first_of}
 use Rattle.command_line.specs.Runs.{HasRun}
 use Rattle.command_line.specs.Values.{HasFlag, HasShape, HasShort, HasText}
 use Rattle.command_line.specs.declared.run_args.RunArgs.{RunArgs}
@@ -33,15 +33,21 @@ VerbMakes verb.Assemble rows (command.Assemble text out) =
 VerbMakes verb.Cells rows (command.Send sent.Cells port) = HasShort (codes "operator") rows port
 VerbMakes verb.Compile rows (command.Compile text shape out) =
     HasText (codes "IN") rows text.now × HasText (codes "OUT") rows out.now × HasShape rows shape
+VerbMakes verb.Halt rows (command.Send (sent.Halt appid) port) =
+    HasText (codes "APPID") rows appid.now × HasShort (codes "operator") rows port
 VerbMakes verb.List rows (command.List path) = HasText (codes "IN") rows path.now
 VerbMakes verb.Load rows (command.Send (sent.Load path) port) =
     HasText (codes "PATH") rows path.now × HasShort (codes "operator") rows port
 VerbMakes verb.Replay rows (command.Replay manifest script) =
     HasText (codes "MANIFEST") rows manifest.now × HasText (codes "SCRIPT") rows script.now
+VerbMakes verb.Resume rows (command.Send (sent.Resume appid) port) =
+    HasText (codes "APPID") rows appid.now × HasShort (codes "operator") rows port
 VerbMakes verb.Run rows (command.Run run) = HasUntracedRun rows run
-VerbMakes verb.Serve rows (command.Serve manifest plan) =
-    HasText (codes "MANIFEST") rows manifest.now × HasPlan rows plan
+VerbMakes verb.Serve rows (command.Serve manifest counters plan) =
+    HasText (codes "MANIFEST") rows manifest.now
+    × (option_copied counters ≡ first_of (codes "counters") rows) × HasPlan rows plan
 VerbMakes verb.Show rows (command.Send sent.Show port) = HasShort (codes "operator") rows port
+VerbMakes verb.State rows (command.Send sent.State port) = HasShort (codes "operator") rows port
 VerbMakes verb.Stop rows (command.Send sent.Stop port) =
     HasShort (codes "operator") rows port × HasFlag (codes "wait") rows false
 VerbMakes verb.Stop rows (command.StopAndWait port) =

@@ -55,7 +55,10 @@ fn names_command(words: &[String]) -> bool {
 
 fn requests_server(words: &[String]) -> bool {
     match words {
-        [_program, name, ..] => matches!(name.as_str(), "load" | "show" | "cells" | "stop"),
+        [_program, name, ..] => matches!(
+            name.as_str(),
+            "load" | "show" | "cells" | "stop" | "halt" | "resume" | "state"
+        ),
         _ => false,
     }
 }

@@ -4,9 +4,11 @@
 #![tactic(auto)]
 
 // How words are read. `environment` adds options of the environment. `command_rows` is the table of
-// the eleven commands. By it `command_line` has `clap` parse the words, or find their first fault.
+// the commands. By it `command_line` has `clap` parse the words, or find their first fault.
 // `words` makes a command of the parsed texts.
 
+mod brake_rows;
+mod brake_words;
 mod environment;
 mod program_rows;
 mod program_words;

@@ -35,9 +35,10 @@ pub enum Command<'a> {
         request: OperatorRequest<'a>,
         port: u16,
     },
-    /// Serve the ruleset of a manifest.
+    /// Serve the ruleset of a manifest, with the counters of a file, if one is named.
     Serve {
         manifest: &'a str,
+        counters: Option<&'a str>,
         plan: Plan,
     },
     /// Stop a server, and wait until it has ended.

@@ -4,14 +4,16 @@ ghost use Rattle.std.specs.Prelude.{◌≡◌};
 ghost use Rattle.command_line.specs.Grammar.{app_of_rows, names_of};
 ghost use Rattle.command_words.specs.Grammar.{commands, names};
 
+use crate::brake_rows::{HALT, RESUME, STATE};
 use crate::program_rows::{ASSEMBLE, COMPILE, LIST, RUN, VERIFY};
 use crate::server_rows::{CELLS, LOAD, REPLAY, SERVE, SHOW, STOP};
 use crate::verb::Verb;
 use command_line::CommandRow;
 
 // Each command, in the order of their names.
-static ROWS: [CommandRow<Verb>; 11] = [
-    ASSEMBLE, CELLS, COMPILE, LIST, LOAD, REPLAY, RUN, SERVE, SHOW, STOP, VERIFY,
+static ROWS: [CommandRow<Verb>; 14] = [
+    ASSEMBLE, CELLS, COMPILE, HALT, LIST, LOAD, REPLAY, RESUME, RUN, SERVE, SHOW, STATE, STOP,
+    VERIFY,
 ];
 
 /// The row of each command, in the order of their names.

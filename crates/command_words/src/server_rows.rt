@@ -78,6 +78,12 @@ pub const SERVE: CommandRow<Verb> = CommandRow {
             "30",
             "Seconds that a connection may last: 1 to 3600",
         ),
+        CommandArgument::Text(
+            "counters",
+            "FILE",
+            "Open with the counters of this file, and write them to it\n\
+             at the end; if it isn't there, it is made, and all are 0",
+        ),
         CommandArgument::Flag(
             "log",
             "Write the log to standard error: a line of JSON for each\n\

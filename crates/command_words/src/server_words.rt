@@ -8,7 +8,7 @@ ghost use Rattle.command_words.specs.Words.{HasPlan, LacksPlan, VerbMakes, VerbM
 use crate::request::{Command, Plan};
 use crate::verb::Verb;
 use clap::ArgMatches;
-use command_line::{ArgsError, ArgumentFault, flag_of, number_of, text_of};
+use command_line::{ArgsError, ArgumentFault, flag_of, number_of, optional_text, text_of};
 use operator_request::OperatorRequest;
 
 /// The command of `replay`.
@@ -28,7 +28,11 @@ pub fn read_serve<'a>(found: &ArgMatches<'a>) -> Result<Command<'a>, ArgsError>
 {
     let manifest = text_of(found, "MANIFEST")?;
     let plan = plan_of(found)?;
-    Ok(Command::Serve { manifest, plan })
+    Ok(Command::Serve {
+        manifest,
+        counters: optional_text(found, "counters"),
+        plan,
+    })
 }
 
 // How a server is to serve, by the options.

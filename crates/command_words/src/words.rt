@@ -9,6 +9,7 @@ ghost use Rattle.command_words.specs.Grammar.{names};
 ghost use Rattle.command_words.specs.Requests.{AskFor, IsWordsFault};
 ghost use Rattle.command_words.specs.Words.{VerbMakes, VerbMakesNone};
 
+use crate::brake_words::{read_halt, read_resume, read_state};
 use crate::program_words::{read_assemble, read_compile, read_list, read_run_command, read_verify};
 use crate::request::Command;
 use crate::rows::command_rows;
@@ -64,12 +65,15 @@ fn command_with<'a>(
         Verb::Assemble => read_assemble(found),
         Verb::Cells => read_cells(found),
         Verb::Compile => read_compile(alloc, found),
+        Verb::Halt => read_halt(found),
         Verb::List => read_list(found),
         Verb::Load => read_load(found),
         Verb::Replay => read_replay(found),
+        Verb::Resume => read_resume(found),
         Verb::Run => read_run_command(alloc, found),
         Verb::Serve => read_serve(found),
         Verb::Show => read_show(found),
+        Verb::State => read_state(found),
         Verb::Stop => read_stop(found),
         Verb::Verify => read_verify(alloc, found),
     }
