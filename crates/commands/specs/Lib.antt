@@ -1,4 +1,5 @@
 pub mod Replays
 pub mod Texts
+pub mod Counters
 pub mod Outputs
 pub mod Commands

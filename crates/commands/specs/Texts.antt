@@ -8,6 +8,7 @@ use Rattle.commands.specs.declared.command_fault.Fault.{Fault}
 use Rattle.commands.specs.declared.command_fault.Fault.TheVariants as fault
 use Rattle.program_tools.specs.Texts as program
 use Rattle.bounded_files.specs.Texts.{resource_text}
+use Rattle.counters_file.specs.Faults as counters
 use Rattle.operator.specs.Texts.{request_fault_text}
 use Rattle.replay.specs.Texts.{replay_fault_text}
 use Rattle.ruleset.specs.Texts.{line}
@@ -37,5 +38,6 @@ abbrev pub fault_text : Fault → List ℕ
 fault_text (fault.Resource fault) = resource_text fault
 fault_text (fault.Program fault) = program.fault_text fault
 fault_text (fault.Replay fault) = replay_fault_text fault
+fault_text (fault.Counters fault) = counters.fault_text fault
 fault_text (fault.Serving fault) = serving_text fault
 fault_text (fault.Ask fault) = request_fault_text fault

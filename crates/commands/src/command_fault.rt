@@ -4,6 +4,7 @@ ghost use Rattle.std.specs.Prelude.{◌≡◌, Some, option_copied};
 ghost use Rattle.commands.specs.Texts.{fault_cause, fault_text};
 
 use bounded_files::ResourceFault;
+use counters_file::CountersFault;
 use operator::RequestFault;
 use program_tools::ProgramToolFault;
 use replay::ReplayFault;
@@ -19,6 +20,8 @@ pub enum Fault {
     Program(ProgramToolFault),
     /// B2 to B4, M1 to M8: a script, or a manifest of it, is refused.
     Replay(ReplayFault),
+    /// K1 to K5, B4: the file of a server's counters can't be opened or written.
+    Counters(CountersFault),
     /// A server can't be made, or can't serve.
     Serving(ServingFault),
     /// B1, B4, B5: a request can't be sent to a server, or gets no reply; or the server's refusal.
@@ -45,6 +48,7 @@ impl fmt::Display for Fault {
             Fault::Resource(fault) => write!(f, "{fault}"),
             Fault::Program(fault) => write!(f, "{fault}"),
             Fault::Replay(fault) => write!(f, "{fault}"),
+            Fault::Counters(fault) => write!(f, "{fault}"),
             Fault::Serving(fault) => write!(f, "{fault}"),
             Fault::Ask(fault) => write!(f, "{fault}"),
         }

@@ -3,8 +3,10 @@
 use crate::command_fault::Fault;
 use bounded_files::{Disk, ResourceFault};
 use command_words::{Command, Plan};
+use counters_file::CountersFault;
 use operator::RequestFault;
 use operator_request::OperatorRequest;
+use printing::Printed;
 use program_tools::ProgramToolFault;
 use refusal_details::{
     print_bind_fault, print_cause, print_connect_fault, print_load_hint, print_program_fault,
@@ -37,7 +39,11 @@ where
         Command::Send { port, .. } | Command::StopAndWait { port } => {
             print_request_fault(rt, disk, command, *port, fault, err)
         }
-        Command::Serve { manifest, plan } => {
+        Command::Serve {
+            counters: Some(path),
+            ..
+        } if matches!(fault, Fault::Counters(_)) => print_counters_fault(rt, path, fault, err),
+        Command::Serve { manifest, plan, .. } => {
             print_start_fault(rt, disk, manifest, plan, fault, err)
         }
     };
@@ -83,10 +89,45 @@ where
                 request: OperatorRequest::Load(path),
                 ..
             } => print_load_hint(rt, disk, words.as_str(), path, err),
+            Command::Send {
+                request: OperatorRequest::Halt(_) | OperatorRequest::Resume(_),
+                ..
+            } if words.starts_with("B8") => {
+                writeln!(
+                    err,
+                    "rollout show --operator {port} prints the server's apps"
+                )
+                .is_ok()
+            }
             _ => false,
         },
         _ => false,
     }
+}
+
+// The file of a server's counters.
+fn print_counters_fault<R: Files, E: Write>(
+    rt: &R,
+    path: &str,
+    fault: &Fault,
+    err: &mut E,
+) -> bool {
+    let Fault::Counters(fault) = fault else {
+        return false;
+    };
+    let reason = match fault {
+        CountersFault::File if print_read_fault(rt, path, err) => return true,
+        CountersFault::Store => return print_write_fault(rt, path, err),
+        CountersFault::Memory => return false,
+        CountersFault::InUse => "another server has it",
+        CountersFault::File => "a link, not a regular file, or over 1 MiB",
+        CountersFault::Damaged { .. } => "this line is wrong, or the file is cut short",
+        CountersFault::Crashed => {
+            "its server wasn't stopped: set its counters, then line 2 to stopped"
+        }
+    };
+    let path = Printed(path);
+    writeln!(err, "{path}: {reason}").is_ok()
 }
 
 // A server that doesn't start.

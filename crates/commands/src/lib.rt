@@ -11,8 +11,11 @@
 
 mod command_fault;
 mod details;
+mod halt_note;
+mod kept_counters;
 mod logged;
 mod output;
+mod refusing;
 mod removed_apps;
 mod replays;
 mod requests;

@@ -13,7 +13,7 @@ use load::Disk;
 use server_log::{
     LogOutput, LogQueue, Starting, note_refused_start, note_start, start_log, write_refused_start,
 };
-use serving::{Server, ServingFault};
+use serving::{Counters, Server, ServingFault};
 use std::io::Write;
 use std::net::{Net, TcpListener, TcpStream};
 use std::sync::Wait;
@@ -30,7 +30,7 @@ pub fn serve_logged<R, D, O>(
     manifest: &str,
     plan: &Plan,
     out: &mut O,
-) -> Result<(), ServingFault>
+) -> Result<Counters, ServingFault>
 where
     R: Threads + Wait + AllocGlobal + Clock + LogOutput + Copy + Drop + Send + Sync + 'static,
     R: Net<Listener = TcpListener, Stream = TcpStream>,
@@ -66,7 +66,7 @@ fn note_outcome<R>(
     rt: &R,
     queue: &LogQueue,
     starting: Starting<'_>,
-    outcome: &Result<(), ServingFault>,
+    outcome: &Result<Counters, ServingFault>,
 )
 where
     R: Wait + AllocGlobal + Clock,
@@ -86,7 +86,7 @@ pub fn note_refusal<R>(rt: &R, command: &Command<'_>, fault: &Fault)
 where
     R: AllocGlobal + Clock + LogOutput,
 {
-    let Command::Serve { manifest, plan } = command else {
+    let Command::Serve { manifest, plan, .. } = command else {
         return;
     };
     if plan.log {

@@ -1,17 +1,19 @@
 //! From a command to its output.
 
-ghost use Rattle.std.specs.Prelude.{IfOk, IfErr};
+ghost use Rattle.std.specs.Prelude.{IfOk, IfErr, IfSome, Some, option_map};
+ghost use Rattle.cells.specs.Events.{AreCells};
+ghost use Rattle.commands.specs.Counters.{IsReady, IsStartRefusal, OpensWith};
 ghost use Rattle.commands.specs.Outputs.{IsOutput, IsRefused};
 
 use crate::command_fault::Fault;
 use crate::output::CommandOutput;
 use crate::replays::replay_script;
 use command_line::RunArgs;
-use command_words::Command;
+use command_words::{Command, Plan};
 use load::Disk;
 use operator::{ask_server, stop_and_wait};
 use program_tools::{assemble_file, compile_file, list_file, run_file, verify_file};
-use serving::prepare;
+use serving::{Counters, Server, ServingFault, prepare};
 use std::alloc::Global;
 use std::fs::File;
 use std::net::{Net, TcpListener, TcpStream};
@@ -19,14 +21,21 @@ use std::rt::Files;
 use std::time::Clock;
 
 /// Does what the command requests, with files of the disk; output files are written by the runtime.
-/// For `serve`, the server of a manifest is made ready, and doesn't serve yet.
+/// For `serve`, the server of a manifest is made ready, with these counters if there are any, and
+/// doesn't serve yet.
 // open: which bytes a device's file gives: no contract can say what a device does, so the tests run
 // each command on files.
-pub fn output_of<R, D>(rt: &R, disk: &D, command: &Command<'_>) -> Result<CommandOutput, Fault>
+pub fn output_of<R, D>(
+    rt: &R,
+    disk: &D,
+    command: &Command<'_>,
+    counters: &mut Option<Counters>,
+) -> Result<CommandOutput, Fault>
 where
     R: Files<File = File> + AllocGlobal + Clock + Eprint,
     R: Net<Listener = TcpListener, Stream = TcpStream>,
     D: Disk,
+    requires { OpensWith command.now counters.old }
     ensures output { IfOk result (IsOutput (D.known disk.now) command.now) }
     ensures fault { IfErr result (IsRefused (D.known disk.now) command.now) }
 {
@@ -55,8 +64,8 @@ where
             Ok(text) => Ok(CommandOutput::Replied { text }),
             Err(fault) => Err(Fault::Ask(fault)),
         },
-        Command::Serve { manifest, plan } => {
-            match prepare(rt, disk, manifest, plan.port, plan.operator) {
+        Command::Serve { manifest, plan, .. } => {
+            match server_of(rt, disk, manifest, plan, counters) {
                 Ok(server) => Ok(CommandOutput::Ready {
                     server,
                     plan: *plan,
@@ -73,6 +82,51 @@ where
             Err(fault) => Err(Fault::Program(fault)),
         },
     }
+}
+
+// The server of a manifest, which opens with these counters, or else with none.
+fn server_of<R, D>(
+    rt: &R,
+    disk: &D,
+    manifest: &str,
+    plan: &Plan,
+    counters: &mut Option<Counters>,
+) -> Result<Server, ServingFault>
+where
+    R: AllocGlobal + Net<Listener = TcpListener, Stream = TcpStream>,
+    D: Disk,
+    requires { IfSome counters.old (λ c. AreCells c.values.items) }
+    ensures ready { let arrays = option_map (λ c. c.directory) counters.old in
+        IfOk result (IsReady (D.known disk.now) manifest.now arrays) }
+    ensures fault { let arrays = option_map (λ c. c.directory) counters.old in
+        IfErr result (IsStartRefusal (D.known disk.now) manifest.now arrays) }
+{
+    if let Some(counters) = counters.take() {
+        return prepare_with(rt, disk, manifest, plan, counters);
+    }
+    match Counters::none(rt.alloc()) {
+        Ok(none) => prepare_with(rt, disk, manifest, plan, none),
+        Err(fault) => Err(fault),
+    }
+}
+
+fn prepare_with<R, D>(
+    rt: &R,
+    disk: &D,
+    manifest: &str,
+    plan: &Plan,
+    counters: Counters,
+) -> Result<Server, ServingFault>
+where
+    R: AllocGlobal + Net<Listener = TcpListener, Stream = TcpStream>,
+    D: Disk,
+    requires { AreCells counters.values.items }
+    ensures ready { IfOk result
+        (IsReady (D.known disk.now) manifest.now (Some counters.directory)) }
+    ensures fault { IfErr result
+        (IsStartRefusal (D.known disk.now) manifest.now (Some counters.directory)) }
+{
+    prepare(rt, disk, manifest, plan.port, plan.operator, counters)
 }
 
 // The choice of a run.

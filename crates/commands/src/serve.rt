@@ -10,7 +10,7 @@ use crate::logged::serve_logged;
 use command_words::Plan;
 use load::Disk;
 use server_log::{LogOutput, LogQueue};
-use serving::{Manifests, Server, ServingFault};
+use serving::{Counters, Manifests, Server, ServingFault};
 use std::io::Write;
 use std::net::{Net, TcpListener, TcpStream};
 use std::sync::Wait;
@@ -19,7 +19,7 @@ use std::time::{Clock, Duration};
 use workers::ServeOptions;
 
 /// Makes all that a server needs, and serves by the plan until the operator stops it, with its log
-/// or without one. Once all is made, `out` gets the ready line of generation 1. Returns S1, H1 or
+/// or without one. Returns the counters that it leaves. Once all is made, `out` gets the ready line of generation 1. Returns S1, H1 or
 /// B4 if out of memory before that; B4 if an allocation or a thread fails; B3 if `out` can't be
 /// written; and H2 if a watcher can't be read after the server's end.
 // open: what a connection sends, and that a server answers: tests.
@@ -30,7 +30,7 @@ pub fn serve_until_stopped<R, D, O>(
     manifest: &str,
     plan: &Plan,
     out: &mut O,
-) -> Result<(), ServingFault>
+) -> Result<Counters, ServingFault>
 where
     R: Threads + Wait + AllocGlobal + Clock + LogOutput + Copy + Drop + Send + Sync + 'static,
     R: Net<Listener = TcpListener, Stream = TcpStream>,
@@ -58,7 +58,7 @@ pub fn serve_by<R, D, O>(
     plan: &Plan,
     log: Option<&LogQueue>,
     out: &mut O,
-) -> Result<(), ServingFault>
+) -> Result<Counters, ServingFault>
 where
     R: Threads + Wait + AllocGlobal + Clock + Sync,
     R: Net<Listener = TcpListener, Stream = TcpStream>,
@@ -73,7 +73,7 @@ where
         Err(fault) => return Err(fault),
     };
     match server.serve(rt, &Manifests::of(disk), service_of(plan, log), out) {
-        Ok(_) => Ok(()),
+        Ok(counters) => Ok(counters),
         Err(fault) => Err(fault),
     }
 }

@@ -10,6 +10,8 @@ mod failing_steps;
 #[cfg(test)]
 mod files;
 #[cfg(test)]
+mod kept_counters;
+#[cfg(test)]
 mod machine;
 #[cfg(test)]
 mod passes;

@@ -1,0 +1,46 @@
+-- The counters with which a server opens, and which it leaves.
+use Rattle.std.specs.Prelude.{◌⊎◌, ℕ, List, [], Bool, Option, Some, None}
+use Rattle.bounded_files.specs.Files.{KnownFiles}
+use Rattle.cells.specs.declared.array.CellArray.{CellArray}
+use Rattle.cells.specs.Events.{AreCells}
+use Rattle.command_words.specs.declared.request.Command.{Command}
+use Rattle.command_words.specs.declared.request.Command.TheVariants as command
+use Rattle.counters_file.specs.Text.{Contents}
+use Rattle.load.specs.Loaded.{IsLoadedFrom}
+use Rattle.load.specs.Made.{IsMadeFrom}
+use Rattle.serving.specs.Manifests.{RefusesToServe}
+use Rattle.serving.specs.Staffed.{IsStaffFault}
+use Rattle.serving.specs.declared.counters.Counters.{Counters}
+use Rattle.serving.specs.declared.server.Server.{Server}
+use Rattle.serving.specs.declared.serving_fault.ServingFault.{ServingFault}
+
+-- a server opens with counters of a file if the command names one
+abbrev pub OpensWith : Command → Option Counters → Type 0
+OpensWith (command.Serve manifest (Some path) plan) (Some c) = AreCells c.values.items
+OpensWith (command.Serve manifest (Some path) plan) None = ⊥
+OpensWith command (Some c) = ⊥
+OpensWith command None = Unit {0}
+
+-- counters as the contents of a file
+abbrev pub contents_with : (was_stopped : Bool) → Counters → Contents
+contents_with was_stopped c = record {
+  was_stopped = was_stopped;
+  counters = record { arrays = c.directory; values = c.values.items };
+}
+
+-- the arrays of counters, or none
+abbrev pub declared_by : Option (List CellArray) → List CellArray
+declared_by None = []
+declared_by (Some arrays) = arrays
+
+module _ (known : KnownFiles) (manifest : List ℕ) (arrays : Option (List CellArray)) where
+  -- the server of a manifest, which was loaded over these arrays
+  pub record IsReady (server : Server) : Type 0 where
+    pub loaded :
+        IsLoadedFrom known manifest (declared_by arrays) server.loaded.rules server.loaded.directory
+    pub made : IsMadeFrom known manifest (declared_by arrays) server.loaded
+
+  -- why there is no such server
+  abbrev pub IsStartRefusal : ServingFault → Type 0
+  IsStartRefusal fault =
+      IsStaffFault fault ⊎ RefusesToServe known manifest (declared_by arrays) fault
