@@ -3,3 +3,5 @@ mod Restored
 mod Edits
 mod Reading
 mod Undoable
+mod Left
+mod Numbers

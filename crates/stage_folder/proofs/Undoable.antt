@@ -20,7 +20,7 @@ false_or : (a b : Bool) → not (a || b) ≡ true → (not a ≡ true) × (not b
 false_or false b h = (refl, h)
 false_or true b h = absurd (true≢false (sym h))
 
-both : (a b : Bool) → (a && b) ≡ true → (a ≡ true) × (b ≡ true)
+pub both : (a b : Bool) → (a && b) ≡ true → (a ≡ true) × (b ≡ true)
 both true b h = (refl, h)
 both false b h = absurd (true≢false (sym h))
 
@@ -28,7 +28,7 @@ is_false : (a : Bool) → not a ≡ true → a ≡ false
 is_false false h = refl
 is_false true h = absurd (true≢false (sym h))
 
-none_named : (files : List ReplacedFile) (name : List ℕ)
+pub none_named : (files : List ReplacedFile) (name : List ℕ)
     → not (list_any (λ other. bytes_eq other.name name) files) ≡ true → Lacks files name
 none_named [] name h = All-nil (λ file. file.name ≢ name)
 none_named (file ∷ files) name h =
@@ -67,13 +67,13 @@ left_state file folder is =
 
 -- ---- the step
 
-put_is : (file : ReplacedFile) (folder : Folder)
+pub put_is : (file : ReplacedFile) (folder : Folder)
     → put file.name (Some file.after) folder file.name ≡ Some file.after
 put_is file folder =
     ap (λ (b : Bool). cond b (Some file.after) (folder file.name))
     ((bytes_eq-Decides file.name file.name).1 refl)
 
-still_found : (file : ReplacedFile) (files : List ReplacedFile) (folder : Folder)
+pub still_found : (file : ReplacedFile) (files : List ReplacedFile) (folder : Folder)
     → Lacks files file.name → IsFoundBy files folder
     → IsFoundBy files (put file.name (Some file.after) folder)
 still_found file files folder lacks found =

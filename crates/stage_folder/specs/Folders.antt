@@ -1,5 +1,6 @@
 -- What is known of a folder: its files by their names, and its records by their numbers.
-use Rattle.std.specs.Prelude.{◌≡◌, ◌↔◌, ℕ, ◌==◌, List, Contains, Option, Some, option_map}
+use Rattle.std.specs.Prelude.{◌≡◌, ◌↔◌, ℕ, ◌==◌, ◌≤◌, List, Contains, Option, Some, None}
+use Rattle.std.specs.Prelude.{option_map}
 use Rattle.std.specs.Prelude.{IfSome, IsSome, if◌then◌else◌}
 use Rattle.std.specs.Str.{bytes_eq}
 
@@ -47,3 +48,7 @@ GivesRecord known number found = IfSome known (λ records. records number ≡ fo
 abbrev pub GivesNumbers : KnownRecords → List ℕ → Type 0
 GivesNumbers known numbers =
     IfSome known (λ records. (n : ℕ) → Contains numbers n ↔ IsSome (records n))
+
+-- no record has this number, or a greater one
+abbrev pub IsFree : KnownRecords → (number : ℕ) → Type 0
+IsFree known number = IfSome known (λ records. (n : ℕ) → number ≤ n → records n ≡ None)

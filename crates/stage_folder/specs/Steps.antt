@@ -1,13 +1,15 @@
 -- What a step makes of a folder, and what undoing it does.
 use Rattle.std.specs.Prelude.{◌≡◌, ◌≢◌, ℕ, List, [], ◌∷◌, All, take, drop, Bool, true, false}
-use Rattle.std.specs.Prelude.{not, ◌&&◌, Option, Some, option_map}
+use Rattle.std.specs.Prelude.{find, not, ◌&&◌, Option, Some, option_map}
 use Rattle.std.specs.List.{list_any, position_from}
 use Rattle.std.specs.Str.{bytes_eq}
-use Rattle.stage_records.specs.FileStates.{state_of}
+use Rattle.stage_records.specs.FileStates.{is_same_file, state_of}
 use Rattle.stage_records.specs.Steps.{ReplacedFile}
 use Rattle.stage_records.specs.declared.file_state.FileState.{FileState}
 use Rattle.stage_records.specs.declared.file_state.FileState.TheVariants.{After, Before, Edited}
 use Rattle.stage_folder.specs.Folders.{Folder, KnownFolder, put}
+use Rattle.stage_folder.specs.declared.folder_fault.UndoFault.{UndoFault}
+use Rattle.stage_folder.specs.declared.folder_fault.UndoFault.TheVariants as fault
 
 -- each file of a step, from the first to the last, gets its bytes `after`
 abbrev pub done : List ReplacedFile → Folder → Folder
@@ -38,9 +40,27 @@ is_edited_state Before = false
 abbrev pub is_edited : Folder → ReplacedFile → Bool
 is_edited folder file = is_edited_state (state_of file (folder file.name))
 
+-- a step isn't undone, because a file was edited since
+abbrev pub IsEdited : UndoFault → Type 0
+IsEdited (fault.Edited file) = Unit {0}
+IsEdited (fault.Stopped at) = ⊥
+
 -- the place of the first edited file, counted from 0
 abbrev pub edited_place : List ReplacedFile → Folder → Option ℕ
 edited_place files folder = position_from (is_edited folder) 0 files
+
+-- ---- what a step leaves
+
+abbrev pub has_name : (name : List ℕ) → ReplacedFile → Bool
+has_name name file = bytes_eq file.name name
+
+-- the bytes that a step leaves a file of this name; none if it replaces none
+abbrev pub left_by : List ReplacedFile → (name : List ℕ) → Option (List ℕ)
+left_by files name = option_map (λ file. file.after) (find (has_name name) files)
+
+-- a step changes the bytes of a file
+abbrev pub is_change : ReplacedFile → Bool
+is_change file = not (is_same_file file.before (Some file.after))
 
 -- ---- laws
 

@@ -1,6 +1,6 @@
 //! A folder of a device.
 
-use crate::device_path::{path_in, path_of};
+use crate::device_path::{make_folder_of, path_in, path_of};
 use crate::folder::StageFolder;
 use crate::folder_fault::FolderFault;
 use crate::record_folder::{RECORDS, has_records, make_records, numbers_in};
@@ -21,7 +21,8 @@ const LOADS: &str = ".stage/loads";
 const MOST_LOADS: u32 = 0x10_0000;
 
 /// A folder of a device, about whose files and records nothing is known. A file is replaced as a
-/// whole, and keeps its owner; none is read or written through a symbolic link.
+/// whole, and keeps its owner; none is read or written through a symbolic link. A missing folder
+/// before a new file is made.
 #[derive(Drop)]
 pub struct DeviceFolder<'a, R> {
     rt: &'a R,
@@ -96,7 +97,10 @@ impl<'a, R: Files<File = File> + AllocGlobal> StageFolder for DeviceFolder<'a, R
     fn put(&mut self, name: &str, bytes: Option<&[u8]>) -> Result<(), FolderFault> {
         let path = path_in(self.rt, self.path.as_str(), name)?;
         match bytes {
-            Some(bytes) => Ok(replace_file(self.rt, path.as_str(), bytes, 0o644, IfDenied::Fail)?),
+            Some(bytes) => {
+                make_folder_of(self.rt, path.as_str())?;
+                Ok(replace_file(self.rt, path.as_str(), bytes, 0o644, IfDenied::Fail)?)
+            }
             None => Ok(remove_file(self.rt, path.as_str())?),
         }
     }

@@ -30,8 +30,6 @@ pub enum FolderFault {
     NotRegular,
     /// It has more than 16 MiB.
     TooLong,
-    /// It is neither as the step found it nor as the step left it.
-    Edited,
     /// The system's reason.
     System(ErrorKind),
     /// An allocation failed.
@@ -43,6 +41,16 @@ pub enum FolderFault {
 pub struct StepFault {
     pub file: usize,
     pub fault: FolderFault,
+}
+
+/// Why a step isn't undone, or not whole.
+#[derive(Clone, Copy, PartialEq, Eq)]
+pub enum UndoFault {
+    /// This file, counted from 0, is neither as the step found it nor as the step left it. Nothing
+    /// has changed.
+    Edited { file: usize },
+    /// A file can't be read or restored. Those after it may be restored.
+    Stopped(StepFault),
 }
 
 impl From<AllocError> for FolderFault {
@@ -104,8 +112,6 @@ fn sentence(fault: FolderFault) -> &'static str {
         FolderFault::Link => "there is a symbolic link on the way: put the file itself there",
         FolderFault::NotRegular => "it is no regular file: put one there, or give another name",
         FolderFault::TooLong => "it has more than 16 MiB: make it shorter",
-        FolderFault::Edited =>
-            "it was edited since the step: restore it by hand, or put a manifest",
         FolderFault::Memory => "out of memory: try again",
         FolderFault::NoRecord(_) => NO_RECORD,
         FolderFault::System(_) => "",

@@ -1,13 +1,13 @@
 //! Undoes a step: restores the files that it replaced, if nobody edited them since.
 
-ghost use Rattle.std.specs.Prelude.{◌≡◌, ◌⊎◌, ◌+◌, ◌<◌, ◌^◌, IfOk, IfSome, OnErr, OnOk};
+ghost use Rattle.std.specs.Prelude.{◌≡◌, ◌⊎◌, ◌+◌, ◌<◌, ◌^◌, IfErr, IfOk, IfSome, OnErr, OnOk};
 ghost use Rattle.std.specs.Prelude.{length, option_map, None};
 ghost use Rattle.stage_folder.specs.Folders.{put_known};
 ghost use Rattle.stage_records.specs.FileStates.{state_of};
-ghost use Rattle.stage_folder.specs.Steps.{IsPartlyUndone, edited_place, undone};
+ghost use Rattle.stage_folder.specs.Steps.{IsEdited, IsPartlyUndone, edited_place, undone};
 
 use crate::folder::StageFolder;
-use crate::folder_fault::{FolderFault, StepFault};
+use crate::folder_fault::{FolderFault, StepFault, UndoFault};
 use stage_records::{FileState, ReplacedFile};
 
 // How a file that a step replaced is now.
@@ -47,24 +47,26 @@ fn edited_file<F: StageFolder>(
 /// (`Edited`). After another error each file is as the step found it, or as it was before the call;
 /// so `undo` can be called again.
 // open: which fault is returned.
-pub fn undo<F: StageFolder>(folder: &mut F, files: &[ReplacedFile]) -> Result<(), StepFault>
+pub fn undo<F: StageFolder>(folder: &mut F, files: &[ReplacedFile]) -> Result<(), UndoFault>
     ensures undone { OnOk result
         (F.files folder.new ≡ option_map (undone files.now) (F.files folder.old)) }
     ensures unedited { OnOk result (IfSome (F.files folder.old)
         (λ known. edited_place files.now known ≡ None)) }
     ensures edited { IfSome (F.files folder.old) (λ known. IfSome (edited_place files.now known)
         (λ _. F.files folder.new ≡ F.files folder.old)) }
+    ensures refused { IfErr result (λ fault. IsEdited fault
+        → F.files folder.new ≡ F.files folder.old) }
     ensures failed { OnErr result
         (IsPartlyUndone files.now (F.files folder.old) (F.files folder.new)) }
     ensures records { F.records folder.new ≡ F.records folder.old }
 {
     match edited_file(folder, files) {
-        Ok(None) => restore(folder, files, 0),
-        Ok(Some(file)) => Err(StepFault {
-            file,
-            fault: FolderFault::Edited,
-        }),
-        Err(fault) => Err(fault),
+        Ok(None) => match restore(folder, files, 0) {
+            Ok(()) => Ok(()),
+            Err(fault) => Err(UndoFault::Stopped(fault)),
+        },
+        Ok(Some(file)) => Err(UndoFault::Edited { file }),
+        Err(fault) => Err(UndoFault::Stopped(fault)),
     }
 }
 
