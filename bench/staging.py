@@ -76,7 +76,8 @@ def steps(folder):
             ("halt editor", ["the files are so already\n", "generation 5\n"]),
             ("raise editor 5000", ["1 stage: editor.rule isn't raised: it halts the app"]),
             ("status", ["done step 2 of", "halted: editor\n", "generation 5, what is in place "]),
-            ("back", ["none       2.1", "undone step 2 of", "generation 6\n"]),
+            ("back", ["1 stage: this lifts the halt of editor (--anyway continues);"]),
+            ("back --anyway", ["none       2.1", "undone step 2 of", "generation 6\n"]),
             ("raise editor 100", ["lost", "1 stage: a row is lost"]),
             ("raise editor 100 --anyway --dry-run", ["would replace editor.rule\n"]),
             ("back", ["lost", "1 stage: a row is lost"]),
@@ -299,6 +300,43 @@ def one_at_a_time(folder):
         return f"--anyway: {said}"
 
 
+def in_the_way(it, name):
+    """No new file can be made next to this one: the names that a new one gets are taken."""
+    for number in range(100):
+        it.write(f"{name}.{number}.new", "")
+
+
+def stops_truly(folder):
+    """A stop that says that nothing has changed is right; one after a change says what to do."""
+    apps = [EDITOR, ('[[app]]\nappid = "other"', 'rule = "other.rule"')]
+    it = Stage(folder / "stops", apps, **{"other.rule": RULE % 500})
+    next_one = Stage(folder / "next", apps, **{"other.rule": RULE % 900, "editor.rule": RULE % 900})
+    in_the_way(it, "other.rule")
+    said = alone(it, f"put {next_one.folder}/current.toml")
+    if "1 stage: the step stopped at other.rule: " not in said:
+        return f"the second file: {said}"
+    if it.bytes("editor.rule") != (RULE % 900).encode():
+        return "the first file isn't replaced"
+    if "stopped step 1 of" not in (said := alone(it, "status")):
+        return f"status: {said}"
+    for number in range(100):
+        (it.folder / f"other.rule.{number}.new").unlink()
+    if "replaced other.rule\n" not in (said := alone(it, f"put {next_one.folder}/current.toml")):
+        return f"the rest: {said}"
+    if "stopped step 1 of" not in (said := alone(it, "status")) or "done step 2 of" not in said:
+        return f"status of both: {said}"
+    in_the_way(it, ".stage/2.json")
+    said = alone(it, "back --anyway")
+    if "1 stage: the files are restored, but .stage can't be written: " not in said:
+        return f"the record: {said}"
+    if "nothing has changed" in said or it.bytes("other.rule") != (RULE % 500).encode():
+        return f"the file isn't restored: {said}"
+    for number in range(100):
+        (it.folder / f".stage/2.json.{number}.new").unlink()
+    if "undone step 2 of" not in (said := alone(it, "back --anyway")):
+        return f"back again: {said}"
+
+
 STAGES = {
     "stage: raise, halt, back": steps,
     "stage: any rule and program is halted": halts_any_rule,
@@ -307,6 +345,7 @@ STAGES = {
     "stage: a server of another manifest": other_manifest,
     "stage: a quota that is used up": used_quota,
     "stage: a halt isn't lifted": lifted,
+    "stage: a stop says whether anything has changed": stops_truly,
     "stage: a folder that isn't there": elsewhere_stays,
     "stage: other files stay": other_files_stay,
     "stage: links": links_stay,

@@ -1,4 +1,7 @@
-pub mod Opening
-pub mod Plans
-pub mod Replacing
-pub mod Put
+mod Opening
+mod Plans
+mod Left
+mod Put
+mod PutPlan
+mod Replacing
+mod Then

@@ -1,15 +1,23 @@
 -- A step of one file, or of none, replaces that file.
 use Rattle.std.proofs.Common.{◌≡◌, ℕ, List, [], ◌∷◌, Option, Some, None, inl, inr, refl, ap, ◌∙◌}
-use Rattle.std.specs.Prelude.{option_map, option_to_list}
+use Rattle.std.proofs.Common.{subst, sym}
+use Rattle.std.specs.Prelude.{Bool, IfSome, option_map, option_to_list, false}
+use Rattle.std.proofs.lemmas.List.Elements.{All-cons, All-nil}
 use Rattle.bounded_files.specs.Files.{KnownFiles}
-use Rattle.stage_folder.specs.Folders.{KnownFolder, KnownRecords, put, put_known}
-use Rattle.stage_folder.specs.Recorded.{AreRecorded}
-use Rattle.stage_folder.specs.Steps.{done, undone}
+use Rattle.stage_folder.specs.Folders.{IsFree, KnownFolder, KnownRecords, put, put_known}
+use Rattle.stage_folder.specs.Steps.{IsFoundBy, done}
 use Rattle.stage_folder.specs.declared.records.RecordedSteps.{RecordedSteps}
 use Rattle.stage_records.specs.Steps.{ReplacedFile, StagingStep, last_step}
+use Rattle.stage_records.specs.declared.step.StepAction.{StepAction}
+use Rattle.stage_records.specs.declared.step.StepAction.TheVariants.{Halt, Raise}
 use Rattle.stage_commands.specs.Apps.{Replaces, ReplacesBy}
-use Rattle.stage_commands.specs.Backs.{HasGoneBack}
+use Rattle.stage_commands.specs.Backs.{HasGoneBack, UndoingLiftsNone, Undoes}
+use Rattle.stage_commands.specs.Puts.{HasPut}
+use Rattle.stage_commands.specs.PutPlans.{IsPutPlan}
 use Rattle.stage_commands.specs.Stages.{HasHalted, HasRaised, PlansHalt, PlansRaise}
+use Rattle.stage_commands.specs.Taken.{AreAllRead, IsTaken, Takes}
+use Rattle.stage_commands.specs.declared.puts.Plan.{Plan}
+use Rattle.stage_commands.proofs.Put.{StepsLeave, found_changes, in_place}
 
 same : (old : KnownFolder) → option_map (done []) old ≡ old
 same None = refl
@@ -29,33 +37,93 @@ pub replaces : (old new : KnownFolder) (name bytes : List ℕ) (file : Option Re
 replaces old new name bytes None has e = inr (e ∙ same old, has)
 replaces old new name bytes (Some file) by e = inl (e ∙ one old file name bytes by.0 by.1)
 
-pub halted : (known : KnownFiles) (manifest appid : List ℕ) (old new : KnownFolder)
-    (file : Option ReplacedFile) → PlansHalt known manifest appid old file
-    → new ≡ option_map (done (option_to_list file)) old → HasHalted known manifest appid old new
-halted known manifest appid old new file plans e = let plan = plans.plan in record {
-  app = plans.app;
-  is_app = plans.is_app;
-  bytes = plan.bytes;
-  halts = plan.halts;
-  replaced = replaces old new _ _ file plan.by e;
+found_file : (old : KnownFolder) (name bytes : List ℕ) (file : Option ReplacedFile)
+    → ReplacesBy old name bytes file → IfSome old (IsFoundBy (option_to_list file))
+found_file None name bytes file by = tt
+found_file (Some folder) name bytes None by = All-nil (λ f. folder f.name ≡ f.before)
+found_file (Some folder) name bytes (Some file) by =
+    All-cons (λ f. folder f.name ≡ f.before) file [] (ap folder by.0 ∙ by.2)
+    (All-nil (λ f. folder f.name ≡ f.before))
+
+done_by : (number : ℕ) (did : StepAction) (files : List ReplacedFile)
+    (old_records new_records : KnownRecords) (old new : KnownFolder)
+    → Takes number did files old_records new_records old new → new ≡ option_map (done files) old
+done_by number did files old_records new_records old new takes =
+    takes.performed.done ∙ ap (λ fs. option_map (done fs) old) takes.files_are
+
+taken : (number : ℕ) (did wanted : StepAction) (files : List ReplacedFile)
+    (old_records new_records : KnownRecords) (old new : KnownFolder) → did ≡ wanted
+    → IsFree old_records number → IfSome old (IsFoundBy files)
+    → Takes number did files old_records new_records old new
+    → IsTaken wanted files old_records new_records old new
+taken number did wanted files old_records new_records old new is free found takes = record {
+  number = number;
+  free = free;
+  found = found;
+  takes = subst (λ a. Takes number a files old_records new_records old new) is takes;
 }
 
-pub raised : (known : KnownFiles) (manifest appid : List ℕ) (buckets : ℕ)
-    (old new : KnownFolder) (file : Option ReplacedFile)
-    → PlansRaise known manifest appid buckets old file
-    → new ≡ option_map (done (option_to_list file)) old
-    → HasRaised known manifest appid buckets old new
-raised known manifest appid buckets old new file plans e = let plan = plans.plan in record {
-  app = plans.app;
-  is_app = plans.is_app;
-  text = plan.text;
-  raises = plan.raises;
-  replaced = replaces old new _ _ file plan.by e;
-}
+module _ (known : KnownFiles) (manifest appid : List ℕ) (old_records new_records : KnownRecords)
+    (old new : KnownFolder) (file : Option ReplacedFile) (number : ℕ) (owned : List ℕ) where
+  pub halted : owned ≡ appid → IsFree old_records number → PlansHalt known manifest appid old file
+      → Takes number (Halt owned) (option_to_list file) old_records new_records old new
+      → HasHalted known manifest appid old_records new_records old new
+  halted own free plans takes = let plan = plans.plan in record {
+    app = plans.app;
+    is_app = plans.is_app;
+    bytes = plan.bytes;
+    halts = plan.halts;
+    replaced = replaces old new _ _ file plan.by (done_by _ _ _ _ _ old new takes);
+    files = option_to_list file;
+    taken = taken number (Halt owned) (Halt appid) _ _ _ old new (ap (λ a. Halt a) own) free
+        (found_file old _ _ file plan.by) takes;
+  }
 
-pub gone_back : (records : KnownRecords) (old new : KnownFolder) (recorded : RecordedSteps)
-    (step : StagingStep) → AreRecorded records recorded
-    → last_step recorded.steps.items ≡ Some step → new ≡ option_map (undone step.files) old
-    → HasGoneBack records old new
-gone_back records old new recorded step are last e =
-    record { recorded = recorded; are = are; step = step; last = last; restored = e }
+  pub raised : (buckets : ℕ) → owned ≡ appid → IsFree old_records number
+      → PlansRaise known manifest appid buckets old file
+      → Takes number (Raise owned buckets) (option_to_list file) old_records new_records old new
+      → HasRaised known manifest appid buckets old_records new_records old new
+  raised buckets own free plans takes = let plan = plans.plan in record {
+    app = plans.app;
+    is_app = plans.is_app;
+    text = plan.text;
+    raises = plan.raises;
+    replaced = replaces old new _ _ file plan.by (done_by _ _ _ _ _ old new takes);
+    files = option_to_list file;
+    taken = taken number (Raise owned buckets) (Raise appid buckets) _ _ _ old new
+        (ap (λ a. Raise a buckets) own) free (found_file old _ _ file plan.by) takes;
+  }
+
+pub has_put : StepsLeave → (known : KnownFiles) (current manifest : List ℕ) (anyway : Bool)
+    (old_records new_records : KnownRecords) (old new : KnownFolder) (plan : Plan)
+    → IsPutPlan known current manifest anyway old_records old plan
+    → Takes plan.number plan.action plan.files.items old_records new_records old new
+    → HasPut known current manifest anyway old_records new_records old new
+has_put laws known current manifest anyway old_records new_records old new plan is takes =
+    record {
+      recorded = is.recorded;
+      are = is.are;
+      files = plan.files.items;
+      plan = is.files;
+      taken = taken plan.number plan.action _ _ _ _ old new is.action_is is.number_is
+          (found_changes old _ _ _ is.files.changes) takes;
+      in_place = in_place laws old new _ _ plan.files.items is.files.changes
+          (done_by _ _ _ _ _ old new takes);
+    }
+
+pub gone_back : (known : KnownFiles) (current : List ℕ) (anyway : Bool)
+    (old_records new_records : KnownRecords) (old new : KnownFolder) (recorded : RecordedSteps)
+    (step : StagingStep) (are : AreAllRead old_records recorded)
+    (last : Some step ≡ last_step recorded.steps.items)
+    → (anyway ≡ false → IfSome (last_step recorded.steps.items)
+    (UndoingLiftsNone known current recorded.steps.items))
+    → Undoes step old_records new_records old new
+    → HasGoneBack known current anyway old_records new_records old new
+gone_back known current anyway old_records new_records old new recorded step are last lifts undoes =
+    record {
+      step = step;
+      last = record { recorded = recorded; are = are; last = sym last };
+      lifts_none = λ plain. subst (λ o. IfSome o
+          (UndoingLiftsNone known current recorded.steps.items)) (sym last) (lifts plain);
+      undoes = undoes;
+    }

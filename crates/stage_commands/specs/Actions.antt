@@ -1,4 +1,4 @@
--- What an action of `stage` does to the files of a folder.
+-- What an action of `stage` does to the files and records of a folder.
 use Rattle.std.specs.Prelude.{◌≡◌, List, ℕ, Bool}
 use Rattle.bounded_files.specs.Files.{KnownFiles}
 use Rattle.stage_folder.specs.Folders.{KnownFolder, KnownRecords}
@@ -8,13 +8,22 @@ use Rattle.stage_commands.specs.Stages.{HasHalted, HasRaised}
 use Rattle.stage_commands.specs.declared.options.StageAction.{StageAction}
 use Rattle.stage_commands.specs.declared.options.StageAction.TheVariants as action
 
+-- nothing has changed
+abbrev pub IsUnchanged : (old_records new_records : KnownRecords) → (old new : KnownFolder)
+    → Type 0
+IsUnchanged old_records new_records old new = (new ≡ old) × (new_records ≡ old_records)
+
 module _ (known : KnownFiles) (manifest : List ℕ) (anyway : Bool) where
-  -- from the files and records before to the files after
-  abbrev pub IsStaged : StageAction → KnownRecords → (old new : KnownFolder) → Type 0
-  IsStaged (action.Halt appid) records old new = HasHalted known manifest appid.now old new
-  IsStaged (action.Raise appid buckets) records old new =
-      HasRaised known manifest appid.now buckets old new
-  IsStaged action.Back records old new = HasGoneBack records old new
-  IsStaged (action.Put next) records old new =
-      HasPut known manifest next.now anyway records old new
-  IsStaged action.Status records old new = new ≡ old
+  -- from the records and files before to those after
+  abbrev pub IsStaged : StageAction → (old_records new_records : KnownRecords)
+      → (old new : KnownFolder) → Type 0
+  IsStaged (action.Halt appid) old_records new_records old new =
+      HasHalted known manifest appid.now old_records new_records old new
+  IsStaged (action.Raise appid buckets) old_records new_records old new =
+      HasRaised known manifest appid.now buckets old_records new_records old new
+  IsStaged action.Back old_records new_records old new =
+      HasGoneBack known manifest anyway old_records new_records old new
+  IsStaged (action.Put next) old_records new_records old new =
+      HasPut known manifest next.now anyway old_records new_records old new
+  IsStaged action.Status old_records new_records old new =
+      IsUnchanged old_records new_records old new

@@ -23,7 +23,8 @@ pub record IsAppOf (known : KnownFiles) (path appid : List ℕ) (app : AppSource
 -- what replaces a file by these bytes: nothing, if it has them already
 abbrev pub ReplacesBy : KnownFolder → (name bytes : List ℕ) → Option ReplacedFile → Type 0
 ReplacesBy known name bytes None = GivesFile known name (Some bytes)
-ReplacesBy known name bytes (Some file) = (file.name ≡ name) × (file.after ≡ bytes)
+ReplacesBy known name bytes (Some file) =
+    (file.name ≡ name) × (file.after ≡ bytes) × GivesFile known name file.before
 
 -- the file of this name is replaced by these bytes, and no other file changes; or it has them
 -- already, and nothing changes

@@ -1,16 +1,59 @@
--- What `back` does to the files of a folder.
-use Rattle.std.specs.Prelude.{◌≡◌, Some, option_map}
+-- What `back` does to the files of a folder, and what it doesn't undo.
+use Rattle.std.specs.Prelude.{◌≡◌, ℕ, List, Bool, true, false, Option, Some, None, IfSome}
+use Rattle.std.specs.Prelude.{option_map}
+use Rattle.bounded_files.specs.Files.{KnownFiles}
+use Rattle.load.specs.Opened.{IsCollected}
+use Rattle.load.specs.declared.opened.CollectedManifest.{CollectedManifest}
 use Rattle.stage_folder.specs.Folders.{KnownFolder, KnownRecords}
-use Rattle.stage_folder.specs.Recorded.{AreRecorded}
-use Rattle.stage_folder.specs.Steps.{undone}
-use Rattle.stage_folder.specs.declared.records.RecordedSteps.{RecordedSteps}
-use Rattle.stage_records.specs.Steps.{StagingStep, last_step}
+use Rattle.stage_folder.specs.Recorded.{IsRecorded}
+use Rattle.stage_folder.specs.Steps.{edited_place, undone}
+use Rattle.stage_records.specs.Steps.{StagingStep}
+use Rattle.staging.specs.InForce.{app_of_halt, lifted_halt}
+use Rattle.stage_commands.specs.Befores.{WasCollected}
+use Rattle.stage_commands.specs.Taken.{IsLast}
 
--- the files of the last recorded step that isn't undone are as that step found them, and all
--- others are as before
-pub record HasGoneBack (records : KnownRecords) (old new : KnownFolder) : Type 0 where
-  pub recorded : RecordedSteps
-  pub are : AreRecorded records recorded
-  pub step : StagingStep
-  pub last : last_step recorded.steps.items ≡ Some step
+-- undoing a step lifts no halt of these steps: by the manifests in place and before it; or one of
+-- these can't be gathered, and the step isn't a halt
+pub data UndoingLiftsNone (known : KnownFiles) (current : List ℕ) (steps : List StagingStep)
+    (step : StagingStep) : Type 0 where
+  none_lifted : (present before : CollectedManifest) → IsCollected known current present
+      → WasCollected known current step.files before
+      → lifted_halt steps present.sources.apps.items before.sources.apps.items ≡ None
+      → UndoingLiftsNone known current steps step
+  no_halt : app_of_halt step.action ≡ None → UndoingLiftsNone known current steps step
+
+-- the app of a halt that undoing a step lifts; if a manifest can't be gathered, a halt counts as
+-- lifted
+abbrev pub lifted_by_undoing : List StagingStep → StagingStep
+    → (present before : Option CollectedManifest) → Option (List ℕ)
+lifted_by_undoing steps step (Some present) (Some before) =
+    lifted_halt steps present.sources.apps.items before.sources.apps.items
+lifted_by_undoing steps step present before = app_of_halt step.action
+
+-- a step as it is recorded once it is undone
+abbrev pub as_undone : StagingStep → StagingStep
+as_undone step = record {
+  number = step.number;
+  time = step.time;
+  action = step.action;
+  files = step.files;
+  is_undone = true;
+}
+
+-- no file was edited since the step; each of its files is as it found it, all others are as
+-- before, and its record says that it is undone
+pub record Undoes (step : StagingStep) (old_records new_records : KnownRecords)
+    (old new : KnownFolder) : Type 0 where
+  pub unedited : IfSome old (λ folder. edited_place step.files folder ≡ None)
   pub restored : new ≡ option_map (undone step.files) old
+  pub recorded : IsRecorded (as_undone step) old_records new_records
+
+module _ (known : KnownFiles) (current : List ℕ) (anyway : Bool) where
+  -- the last step is undone, and without `--anyway` that lifts no halt
+  pub record HasGoneBack (old_records new_records : KnownRecords) (old new : KnownFolder)
+      : Type 0 where
+    pub step : StagingStep
+    pub last : IsLast old_records step
+    pub lifts_none : anyway ≡ false
+        → UndoingLiftsNone known current last.recorded.steps.items step
+    pub undoes : Undoes step old_records new_records old new

@@ -1,6 +1,10 @@
 pub mod Apps
+pub mod Befores
 pub mod Compared
+pub mod Counters
+pub mod Taken
 pub mod Stages
 pub mod Puts
+pub mod PutPlans
 pub mod Backs
 pub mod Actions

@@ -3,11 +3,13 @@ use Rattle.std.specs.Prelude.{◌≡◌, ℕ, List, Option, Some}
 use Rattle.bounded_files.specs.Files.{KnownFiles}
 use Rattle.load.specs.declared.sources.AppSources.{AppSources}
 use Rattle.manifest.specs.App.{file_of}
-use Rattle.stage_folder.specs.Folders.{GivesFile, KnownFolder}
+use Rattle.stage_folder.specs.Folders.{GivesFile, KnownFolder, KnownRecords}
 use Rattle.staging.specs.Halts.{Halts, halting_file}
 use Rattle.staging.specs.Raises.{IsRaised}
 use Rattle.stage_records.specs.Steps.{ReplacedFile}
+use Rattle.stage_records.specs.declared.step.StepAction.TheVariants.{Halt, Raise}
 use Rattle.stage_commands.specs.Apps.{IsAppOf, Replaces, ReplacesBy}
+use Rattle.stage_commands.specs.Taken.{IsTaken}
 
 -- ---- halt
 
@@ -30,13 +32,16 @@ module _ (known : KnownFiles) (manifest appid : List ℕ) where
     pub plan : PlansHaltOf folder app file
 
   -- the app's file, as the manifest in place has it, then halts the app; all other files are as
-  -- before
-  pub record HasHalted (old new : KnownFolder) : Type 0 where
+  -- before, and the step is recorded
+  pub record HasHalted (old_records new_records : KnownRecords) (old new : KnownFolder)
+      : Type 0 where
     pub app : AppSources
     pub is_app : IsAppOf known manifest appid app
     pub bytes : List ℕ
     pub halts : HaltsBy app bytes
     pub replaced : Replaces old new (file_of app.entry.source) bytes
+    pub files : List ReplacedFile
+    pub taken : IsTaken (Halt appid) files old_records new_records old new
 
 -- ---- raise
 
@@ -61,10 +66,13 @@ module _ (known : KnownFiles) (manifest appid : List ℕ) (buckets : ℕ) where
     pub plan : PlansRaiseOf folder app buckets file
 
   -- the app's rule is then the one before with this number in its threshold; all other files are
-  -- as before
-  pub record HasRaised (old new : KnownFolder) : Type 0 where
+  -- as before, and the step is recorded
+  pub record HasRaised (old_records new_records : KnownRecords) (old new : KnownFolder)
+      : Type 0 where
     pub app : AppSources
     pub is_app : IsAppOf known manifest appid app
     pub text : List ℕ
     pub raises : RaisesTo old app buckets text
     pub replaced : Replaces old new (file_of app.entry.source) text
+    pub files : List ReplacedFile
+    pub taken : IsTaken (Raise appid buckets) files old_records new_records old new

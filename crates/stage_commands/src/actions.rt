@@ -1,7 +1,8 @@
 //! One action of `stage`, from the folder to the servers.
 
-ghost use Rattle.std.specs.Prelude.{◌≡◌, IfOk, OnOk, false, true};
-ghost use Rattle.stage_commands.specs.Actions.{IsStaged};
+ghost use Rattle.std.specs.Prelude.{◌≡◌, IfErr, IfOk, OnOk, false, true};
+ghost use Rattle.stage_commands.specs.Actions.{IsStaged, IsUnchanged};
+ghost use Rattle.stage_commands.specs.Taken.{LeftBy};
 
 use crate::backs::go_back;
 use crate::halts::halt;
@@ -33,9 +34,12 @@ where
     F: StageFolder,
     ensures done { OnOk result (call.now.options.now.dry_run ≡ false
         → IsStaged (D.known call.now.disk.now) call.now.manifest.now call.now.options.now.anyway
-        action.now (F.records folder.old) (F.files folder.old) (F.files folder.new)) }
-    ensures unchanged { call.now.options.now.dry_run ≡ true
-        → F.files folder.new ≡ F.files folder.old }
+        action.now (F.records folder.old) (F.records folder.new) (F.files folder.old)
+        (F.files folder.new)) }
+    ensures stopped { IfErr result (λ stop. LeftBy stop (F.records folder.old)
+        (F.records folder.new) (F.files folder.old) (F.files folder.new)) }
+    ensures unchanged { call.now.options.now.dry_run ≡ true → IsUnchanged (F.records folder.old)
+        (F.records folder.new) (F.files folder.old) (F.files folder.new) }
 {
     match *action {
         StageAction::Halt { appid } => halt(call, folder, appid, lines),
@@ -48,6 +52,7 @@ where
 
 // Prints the status; or changes the files, and has the servers load the manifest. Returns whether
 // all is done.
+#[tactic(auto, using(crate::proofs::Left::unchanged_by))]
 fn act<R, D, F>(
     call: &StageCall<'_, R, D>,
     folder: &mut F,
@@ -60,12 +65,18 @@ where
     F: StageFolder,
     ensures done { OnOk result (call.now.options.now.dry_run ≡ false
         → IsStaged (D.known call.now.disk.now) call.now.manifest.now call.now.options.now.anyway
-        action.now (F.records folder.old) (F.files folder.old) (F.files folder.new)) }
-    ensures unchanged { call.now.options.now.dry_run ≡ true
-        → F.files folder.new ≡ F.files folder.old }
+        action.now (F.records folder.old) (F.records folder.new) (F.files folder.old)
+        (F.files folder.new)) }
+    ensures stopped { IfErr result (λ stop. LeftBy stop (F.records folder.old)
+        (F.records folder.new) (F.files folder.old) (F.files folder.new)) }
+    ensures unchanged { call.now.options.now.dry_run ≡ true → IsUnchanged (F.records folder.old)
+        (F.records folder.new) (F.files folder.old) (F.files folder.new) }
 {
     if let StageAction::Status = action {
-        return push_status(call, folder, lines);
+        return match push_status(call, folder, lines) {
+            Ok(is_served) => Ok(is_served),
+            Err(stop) => Err(stop),
+        };
     }
     match change_files(call, folder, action, lines) {
         Ok(()) => Ok(load_all(call, &*folder, lines)),
@@ -76,8 +87,8 @@ where
 /// Does an action in a folder that is opened and locked, and has the servers load its manifest,
 /// whose path is given. The outcome says what is done, or why not and what to do.
 // open: whether an allocation fails, its one error; what is printed, what a server does, and which
-// stops there are: bench/outside. After a stop some files of a step may be replaced; `status` names
-// them, and `back` restores them.
+// stops there are: bench/outside. After a stop some files of a recorded step may be replaced, or
+// restored; `status` names them, and `back` restores them.
 pub fn stage_in<R, D, F>(
     rt: &R,
     disk: &D,
@@ -92,8 +103,9 @@ where
     F: StageFolder,
     ensures done { IfOk result (λ outcome. outcome.is_done ≡ true → options.now.dry_run ≡ false
         → IsStaged (D.known disk.now) manifest.now options.now.anyway action.now
-        (F.records folder.old) (F.files folder.old) (F.files folder.new)) }
-    ensures unchanged { options.now.dry_run ≡ true → F.files folder.new ≡ F.files folder.old }
+        (F.records folder.old) (F.records folder.new) (F.files folder.old) (F.files folder.new)) }
+    ensures unchanged { options.now.dry_run ≡ true → IsUnchanged (F.records folder.old)
+        (F.records folder.new) (F.files folder.old) (F.files folder.new) }
 {
     let call = StageCall {
         rt,

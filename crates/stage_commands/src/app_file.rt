@@ -104,7 +104,27 @@ fn has_bytes(before: &Option<Vec<u8>>, bytes: &[u8]) -> bool
     }
 }
 
-/// What replaces a file that had these bytes, if there was one; nothing if it has the new ones.
+/// What replaces a file that had these bytes, if there was one.
+pub(crate) fn replaced_file(
+    alloc: Global,
+    name: &str,
+    before: Option<Vec<u8>>,
+    bytes: &[u8],
+) -> Result<ReplacedFile, AllocError>
+    ensures name { IfOk result (λ file. file.name ≡ name.now) }
+    ensures before { IfOk result (λ file. file.before ≡ option_map (λ b. b.items) before) }
+    ensures after { IfOk result (λ file. file.after ≡ bytes.now) }
+{
+    let name = Text::new(String::from_str(alloc, name)?);
+    let after = Vec::from_slice(alloc, bytes)?;
+    Ok(ReplacedFile {
+        name,
+        before,
+        after,
+    })
+}
+
+/// The same; nothing if the file has the new bytes.
 pub(crate) fn replacement(
     alloc: Global,
     name: &str,
@@ -118,13 +138,8 @@ pub(crate) fn replacement(
     if has_bytes(&before, bytes) {
         return Ok(None);
     }
-    let name = Text::new(String::from_str(alloc, name)?);
-    let after = Vec::from_slice(alloc, bytes)?;
-    Ok(Some(ReplacedFile {
-        name,
-        before,
-        after,
-    }))
+    let file = replaced_file(alloc, name, before, bytes)?;
+    Ok(Some(file))
 }
 
 /// The file, if there is one.

@@ -1,19 +1,23 @@
 //! `stage back`: the last step that isn't undone is undone.
 
-ghost use Rattle.std.specs.Prelude.{◌≡◌, OnOk, false, option_map, true};
+ghost use Rattle.std.specs.Prelude.{◌≡◌, IfErr, IfOk, IfSome, OnOk, Some, None, false, option_map};
+ghost use Rattle.std.specs.Prelude.{true};
+ghost use Rattle.stage_commands.specs.Actions.{IsUnchanged};
+ghost use Rattle.stage_commands.specs.Backs.{HasGoneBack, UndoingLiftsNone, Undoes, as_undone};
+ghost use Rattle.stage_commands.specs.Taken.{LeftBy, LeftByUndo, MayChange};
+ghost use Rattle.stage_folder.specs.Recorded.{IsRecorded};
+ghost use Rattle.stage_folder.specs.Steps.{edited_place, undone};
 ghost use Rattle.stage_records.specs.Steps.{last_step};
-ghost use Rattle.stage_commands.specs.Backs.{HasGoneBack};
-ghost use Rattle.stage_folder.specs.Steps.{undone};
 
 use crate::options::StageCall;
 use crate::outcome::{Lines, Stop};
 use crate::restored::compare_restored;
 use crate::step_lines::push_step;
-use crate::steps::{RECORDS, name_at, read_steps};
-use crate::stop_texts::{NOTHING_TO_UNDO, in_folder, not_undone, refused};
+use crate::steps::{name_at, read_steps};
+use crate::stop_texts::{EDITED, NOTHING_TO_UNDO, not_noted, not_undone, refusal_of, refused};
 use bounded_files::Disk;
-use stage_folder::{FolderFault, StageFolder, StepFault, undo, write_record};
-use stage_records::StagingStep;
+use stage_folder::{StageFolder, StepFault, UndoFault, undo, write_record};
+use stage_records::{StagingStep, last_step};
 use std::alloc::Global;
 use std::net::{Net, TcpStream};
 use std::time::Clock;
@@ -31,55 +35,88 @@ fn take_last(steps: Vec<StagingStep>) -> Option<StagingStep>
     None
 }
 
-// Why a step isn't undone. If a file is edited, nothing has changed.
-fn stop_at(alloc: Global, step: &StagingStep, at: StepFault) -> Stop {
-    let name = name_at(&step.files, at.file);
-    if at.fault == FolderFault::Edited {
-        return in_folder(alloc, name, at.fault);
+// Restores the files of a step.
+#[tactic(auto, using(crate::proofs::Left::unchanged_undo, crate::proofs::Left::partly_undone_by))]
+fn restore_files<F: StageFolder>(
+    alloc: Global,
+    folder: &mut F,
+    step: &StagingStep,
+) -> Result<(), Stop>
+    ensures unedited { OnOk result (IfSome (F.files folder.old)
+        (λ known. edited_place step.now.files known ≡ None)) }
+    ensures restored { OnOk result
+        (F.files folder.new ≡ option_map (undone step.now.files) (F.files folder.old)) }
+    ensures stopped { IfErr result (λ stop.
+        LeftByUndo stop step.now.files (F.files folder.old) (F.files folder.new)) }
+    ensures records { F.records folder.new ≡ F.records folder.old }
+{
+    match undo(folder, &step.files) {
+        Ok(()) => Ok(()),
+        Err(UndoFault::Edited { file }) => {
+            Err(refusal_of(alloc, name_at(&step.files, file), EDITED))
+        }
+        Err(UndoFault::Stopped(StepFault { file, fault })) => {
+            Err(not_undone(alloc, name_at(&step.files, file), fault))
+        }
     }
-    not_undone(alloc, name, at.fault)
+}
+
+// Records that a step is undone.
+fn note_undone<F: StageFolder>(
+    alloc: Global,
+    folder: &mut F,
+    step: &mut StagingStep,
+) -> Result<(), Stop>
+    ensures recorded { OnOk result
+        (IsRecorded (as_undone step.old) (F.records folder.old) (F.records folder.new)) }
+    ensures stopped { IfErr result MayChange }
+    ensures files { F.files folder.new ≡ F.files folder.old }
+{
+    step.is_undone = true;
+    match write_record(alloc, folder, &*step) {
+        Ok(()) => Ok(()),
+        Err(fault) => Err(not_noted(alloc, fault)),
+    }
 }
 
 // Undoes a step, and records that.
+#[tactic(auto, using(crate::proofs::Left::undoes, crate::proofs::Left::restored_by))]
 fn undo_step<F: StageFolder>(
     alloc: Global,
     folder: &mut F,
     step: &mut StagingStep,
 ) -> Result<(), Stop>
-    ensures { OnOk result
-        (F.files folder.new ≡ option_map (undone step.old.files) (F.files folder.old)) }
+    ensures done { OnOk result (Undoes step.old (F.records folder.old) (F.records folder.new)
+        (F.files folder.old) (F.files folder.new)) }
+    ensures stopped { IfErr result (λ stop.
+        LeftByUndo stop step.old.files (F.files folder.old) (F.files folder.new)) }
 {
-    if let Err(at) = undo(folder, &step.files) {
-        return Err(stop_at(alloc, &*step, at));
+    if let Err(stop) = restore_files(alloc, folder, &*step) {
+        return Err(stop);
     }
-    step.is_undone = true;
-    match write_record(alloc, folder, &*step) {
+    match note_undone(alloc, folder, step) {
         Ok(()) => Ok(()),
-        Err(fault) => Err(in_folder(alloc, RECORDS, fault)),
+        Err(stop) => Err(stop),
     }
 }
 
-// Undoes a step once what changes is compared; for `--dry-run` it only prints the step.
-fn undo_compared<R, D, F>(
-    call: &StageCall<'_, R, D>,
+// The same; for `--dry-run` it only prints the step.
+#[tactic(auto, using(crate::proofs::Left::unchanged_undo))]
+fn undo_unless_dry<F: StageFolder>(
+    alloc: Global,
     folder: &mut F,
     step: &mut StagingStep,
+    dry_run: bool,
     lines: &mut Lines,
 ) -> Result<(), Stop>
-where
-    R: AllocGlobal + Clock + Net<Stream = TcpStream>,
-    D: Disk,
-    F: StageFolder,
-    ensures done { OnOk result (call.now.options.now.dry_run ≡ false
-        → F.files folder.new ≡ option_map (undone step.old.files) (F.files folder.old)) }
-    ensures unchanged { call.now.options.now.dry_run ≡ true
-        → F.files folder.new ≡ F.files folder.old }
+    ensures done { OnOk result (dry_run ≡ false → Undoes step.old (F.records folder.old)
+        (F.records folder.new) (F.files folder.old) (F.files folder.new)) }
+    ensures stopped { IfErr result (λ stop.
+        LeftByUndo stop step.old.files (F.files folder.old) (F.files folder.new)) }
+    ensures unchanged { dry_run ≡ true → IsUnchanged (F.records folder.old)
+        (F.records folder.new) (F.files folder.old) (F.files folder.new) }
 {
-    if let Err(stop) = compare_restored(call, &*step, lines) {
-        return Err(stop);
-    }
-    let alloc = call.rt.alloc();
-    if call.options.dry_run {
+    if dry_run {
         push_step(alloc, &mut lines.text, "would undo", &*step);
         return Ok(());
     }
@@ -95,9 +132,28 @@ where
     }
 }
 
+// Prints what changes if the last of these steps is undone.
+fn compare_last<R, D>(
+    call: &StageCall<'_, R, D>,
+    steps: &[StagingStep],
+    lines: &mut Lines,
+) -> Result<(), Stop>
+where
+    R: AllocGlobal + Clock + Net<Stream = TcpStream>,
+    D: Disk,
+    ensures { OnOk result (call.now.options.now.anyway ≡ false
+        → IfSome (last_step steps.now) (UndoingLiftsNone (D.known call.now.disk.now)
+        call.now.manifest.now steps.now)) }
+{
+    match last_step(steps) {
+        Some(step) => compare_restored(call, steps, step, lines),
+        None => Err(refused(call.rt.alloc(), NOTHING_TO_UNDO)),
+    }
+}
+
 /// Compares what changes, and then undoes the last step that isn't undone, even one that stopped in
 /// its middle.
-#[tactic(auto, using(crate::proofs::Replacing::gone_back))]
+#[tactic(auto, using(crate::proofs::Left::unchanged_by))]
 pub(crate) fn go_back<R, D, F>(
     call: &StageCall<'_, R, D>,
     folder: &mut F,
@@ -108,17 +164,30 @@ where
     D: Disk,
     F: StageFolder,
     ensures done { OnOk result (call.now.options.now.dry_run ≡ false → HasGoneBack
-        (F.records folder.old) (F.files folder.old) (F.files folder.new)) }
-    ensures unchanged { call.now.options.now.dry_run ≡ true
-        → F.files folder.new ≡ F.files folder.old }
+        (D.known call.now.disk.now) call.now.manifest.now call.now.options.now.anyway
+        (F.records folder.old) (F.records folder.new) (F.files folder.old)
+        (F.files folder.new)) }
+    ensures stopped { IfErr result (λ stop. LeftBy stop (F.records folder.old)
+        (F.records folder.new) (F.files folder.old) (F.files folder.new)) }
+    ensures unchanged { call.now.options.now.dry_run ≡ true → IsUnchanged (F.records folder.old)
+        (F.records folder.new) (F.files folder.old) (F.files folder.new) }
 {
     let alloc = call.rt.alloc();
-    let recorded = read_steps(alloc, folder)?;
+    let recorded = match read_steps(alloc, folder) {
+        Ok(recorded) => recorded,
+        Err(stop) => return Err(stop),
+    };
+    if let Err(stop) = compare_last(call, &recorded.steps, lines) {
+        return Err(stop);
+    }
     let Some(step) = take_last(recorded.steps) else {
         return Err(refused(alloc, NOTHING_TO_UNDO));
     };
     let mut step = step;
-    let gone_back = undo_compared(call, folder, &mut step, lines);
+    let gone_back = undo_unless_dry(alloc, folder, &mut step, call.options.dry_run, lines);
     drop(step);
-    gone_back
+    match gone_back {
+        Ok(()) => Ok(()),
+        Err(stop) => Err(stop),
+    }
 }

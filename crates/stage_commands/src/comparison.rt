@@ -1,18 +1,16 @@
-//! For whom the next manifest changes what the present one gives, with the counters of a server.
+//! For whom the next manifest changes what the present one gives, with the counters of the servers.
 
 ghost use Rattle.manifest_diff.specs.Opened.{AreKept};
 ghost use Rattle.stage_commands.specs.Compared.{AreAllJudged};
 
-use crate::options::{StageCall, StageOptions};
+use crate::counters::least_counters;
+use crate::options::StageCall;
 use crate::outcome::{Lines, Stop};
-use crate::quota_lines::push_quotas;
 use crate::stop_texts::{LOSES, not_compared, refused};
 use attrs::Elapsed;
 use cell_assignments::{CellAssignment, read_assignments};
 use load::JudgedManifest;
 use manifest_diff::{DiffOptions, DiffOutput, OpenedBoth, diff_manifests};
-use operator::ask_server;
-use operator_request::OperatorRequest;
 use printing::TextBuffer;
 use std::net::{Net, TcpStream};
 use std::time::{Clock, SystemTime, UNIX_EPOCH};
@@ -32,29 +30,6 @@ pub(crate) fn now_of<R: Clock>(rt: &R) -> u64 {
 fn today<R: Clock>(rt: &R) -> u32 {
     let second = i64::try_from(now_of(rt)).unwrap_or(0);
     Elapsed::at(second).days
-}
-
-// The lines of the first server's counters; none without a reply.
-fn counters<R>(rt: &R, options: &StageOptions<'_>, stderr: &mut TextBuffer) -> String
-where
-    R: AllocGlobal + Net<Stream = TcpStream>,
-{
-    if options.no_load {
-        return String::new(rt.alloc());
-    }
-    let Some(port) = options.ports().first() else {
-        return String::new(rt.alloc());
-    };
-    match ask_server(rt, OperatorRequest::Cells, *port) {
-        Ok(reply) => reply,
-        Err(fault) => {
-            stderr.push_number("stage: no counters of the server at ", *port as u64, " (");
-            stderr.push_value(&fault);
-            stderr.push("): all quotas count as open\n");
-            drop(fault);
-            String::new(rt.alloc())
-        }
-    }
 }
 
 // Adds the rows of the comparison. Returns whether somebody may lose a release.
@@ -83,22 +58,24 @@ where
     }
 }
 
-// The same after the quotas that are used, by the lines of a server's counters.
-fn push_comparison<R>(
-    rt: &R,
+// The same after the quotas that each server has used, with the least values of their counters.
+fn push_comparison<R, D>(
+    call: &StageCall<'_, R, D>,
     both: &OpenedBoth,
-    reply: &str,
-    text: &mut TextBuffer,
+    lines: &mut Lines,
 ) -> Result<bool, Stop>
 where
-    R: AllocGlobal + Clock,
+    R: AllocGlobal + Clock + Net<Stream = TcpStream>,
     requires { AreKept both.now }
 {
-    let Ok(cells) = read_assignments(rt.alloc(), reply) else {
+    let counters = match least_counters(call, &both.new.arrays, lines) {
+        Ok(counters) => counters,
+        Err(stop) => return Err(stop),
+    };
+    let Ok(cells) = read_assignments(call.rt.alloc(), counters.as_str()) else {
         return Err(Stop::Memory);
     };
-    push_quotas(text, &both.new.arrays, &cells);
-    push_rows(rt, both, &cells, text)
+    push_rows(call.rt, both, &cells, &mut lines.text)
 }
 
 /// Prints what changes from today on. A lost row, or an app that isn't compared, is a refusal,
@@ -116,9 +93,7 @@ where
     requires new { AreAllJudged new }
 {
     let both = OpenedBoth { old, new };
-    let reply = counters(call.rt, call.options, &mut lines.stderr);
-    let lost = push_comparison(call.rt, &both, reply.as_str(), &mut lines.text);
-    drop(reply);
+    let lost = push_comparison(call, &both, lines);
     drop(both);
     match lost {
         Ok(true) => lines.go_on_if(call.options.anyway, refused(call.rt.alloc(), LOSES)),

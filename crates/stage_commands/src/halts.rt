@@ -1,16 +1,19 @@
 //! `stage halt`: the app's file is replaced by the one that offers no release.
 
-ghost use Rattle.std.specs.Prelude.{◌≡◌, IfOk, OnOk, false, true};
+ghost use Rattle.std.specs.Prelude.{◌≡◌, IfErr, IfOk, OnOk, false, true};
 ghost use Rattle.bounded_files.specs.Files.{KnownFiles};
 ghost use Rattle.load.specs.Opened.{IsCollected};
+ghost use Rattle.stage_commands.specs.Actions.{IsUnchanged};
 ghost use Rattle.stage_commands.specs.Stages.{HasHalted, PlansHalt, PlansHaltOf};
+ghost use Rattle.stage_commands.specs.Taken.{LeftBy};
 
 use crate::app_file::{app_to_change, replacement};
 use crate::collected::collected_at;
 use crate::options::StageCall;
 use crate::outcome::{Lines, Stop};
-use crate::steps::{number_in, owned_text, take_file};
+use crate::steps::{number_in, owned_text};
 use crate::stop_texts::in_folder;
+use crate::taking::take_file;
 use bounded_files::Disk;
 use load::{AppSources, CollectedManifest};
 use stage_folder::StageFolder;
@@ -82,8 +85,8 @@ where
     Ok(file?)
 }
 
-/// Halts an app.
-#[tactic(auto, using(crate::proofs::Replacing::halted))]
+/// Halts an app. No earlier record has to be readable.
+#[tactic(auto, using(crate::proofs::Replacing::halted, crate::proofs::Left::unchanged_by))]
 pub(crate) fn halt<R, D, F>(
     call: &StageCall<'_, R, D>,
     folder: &mut F,
@@ -96,9 +99,12 @@ where
     F: StageFolder,
     ensures done { OnOk result (call.now.options.now.dry_run ≡ false
         → HasHalted (D.known call.now.disk.now) call.now.manifest.now appid.now
-        (F.files folder.old) (F.files folder.new)) }
-    ensures unchanged { call.now.options.now.dry_run ≡ true
-        → F.files folder.new ≡ F.files folder.old }
+        (F.records folder.old) (F.records folder.new) (F.files folder.old)
+        (F.files folder.new)) }
+    ensures stopped { IfErr result (λ stop. LeftBy stop (F.records folder.old)
+        (F.records folder.new) (F.files folder.old) (F.files folder.new)) }
+    ensures unchanged { call.now.options.now.dry_run ≡ true → IsUnchanged (F.records folder.old)
+        (F.records folder.new) (F.files folder.old) (F.files folder.new) }
 {
     let alloc = call.rt.alloc();
     let number = match number_in(alloc, folder) {

@@ -8,7 +8,7 @@
 // replaced is planned first, and nothing is changed meanwhile: the file that halts an app
 // (`halts.rt`), a rule with another number (`raises.rt`), the files of another manifest
 // (`puts.rt`). A raise and another manifest are compared with what is in place (`comparison.rt`).
-// The plan is a step, which is recorded and then performed (`steps.rt`). Then each server loads
+// The plan is a step, which is recorded and then performed (`taking.rt`). Then each server loads
 // the manifest (`loads.rt`), also if nothing had to be replaced. Its reply is noted
 // (`load_notes.rt`): by it a status knows what the server serves (`servers.rt`).
 //
@@ -20,8 +20,10 @@ mod app_file;
 mod backs;
 mod collected;
 mod comparison;
+mod counters;
 mod digest_line;
 mod halts;
+mod lifting;
 mod load_notes;
 mod loads;
 mod options;
@@ -39,6 +41,7 @@ mod status;
 mod step_lines;
 mod steps;
 mod stop_texts;
+mod taking;
 
 pub use actions::{stage, stage_in};
 pub use options::{StageAction, StageOptions};

@@ -1,12 +1,15 @@
 //! The files that `stage put` replaces.
 
-ghost use Rattle.std.specs.Prelude.{◌≡◌, ◌++◌, ◌∷◌, [], All, IfOk, OnOk};
-ghost use Rattle.stage_commands.specs.Puts.{AddsAppFile, AddsFile, AreFilesOf, IsAmongFiles};
+ghost use Rattle.std.specs.Prelude.{◌≡◌, ◌++◌, ◌∷◌, [], IfOk, None, OnOk, filter, find};
+ghost use Rattle.stage_commands.specs.PutPlans.{IsContent};
+ghost use Rattle.stage_commands.specs.Puts.{AddsAppFile, AddsFile, AreChangesTo, AreFilesOf};
+ghost use Rattle.stage_commands.specs.Puts.{AreFilesSoFar};
+ghost use Rattle.stage_folder.specs.Steps as specs;
 
-use crate::app_file::replacement;
+use crate::app_file::replaced_file;
 use crate::outcome::Stop;
 use crate::replaced_files::file_named;
-use crate::stop_texts::in_folder;
+use crate::stop_texts::{TWO_CONTENTS, in_folder, refusal_of};
 use load::{AppSources, whole_file};
 use stage_folder::StageFolder;
 use stage_records::ReplacedFile;
@@ -15,8 +18,55 @@ use std::alloc::{AllocError, Global};
 // The name of the manifest in place.
 const CURRENT: &str = "current.toml";
 
-// Adds a file, unless one of its name is among them, or it has these bytes already.
-#[tactic(auto, using(crate::proofs::Put::adds_none))]
+// What the files have under a name.
+enum Content {
+    /// No file of this name.
+    Missing,
+    /// A file that is to get these bytes.
+    Same,
+    /// A file that is to get other bytes.
+    Other,
+}
+
+fn content_of(files: &[ReplacedFile], name: &str, bytes: &[u8]) -> Content
+    ensures { IsContent files.now name.now bytes.now result }
+{
+    match file_named(files, name) {
+        None => Content::Missing,
+        Some(file) => {
+            if file.after.as_slice() == bytes {
+                Content::Same
+            } else {
+                Content::Other
+            }
+        }
+    }
+}
+
+// Adds a file of a name that is missing among them.
+#[tactic(auto, using(crate::proofs::Put::adds))]
+fn add_new<F: StageFolder>(
+    alloc: Global,
+    folder: &F,
+    files: &mut Vec<ReplacedFile>,
+    name: &str,
+    bytes: &[u8],
+) -> Result<(), Stop>
+    requires { find (specs.has_name name.now) files.old.items ≡ None }
+    ensures { OnOk result
+        (AddsFile (F.files folder.now) name.now bytes.now files.old.items files.new.items) }
+{
+    let before = match folder.read(name) {
+        Ok(before) => before,
+        Err(fault) => return Err(in_folder(alloc, name, fault)),
+    };
+    let file = replaced_file(alloc, name, before, bytes)?;
+    push_file(files, file)?;
+    Ok(())
+}
+
+// Adds a file, unless it is among them. Two contents of one name are a refusal.
+#[tactic(auto, using(crate::proofs::Put::there))]
 fn add_file<F: StageFolder>(
     alloc: Global,
     folder: &F,
@@ -24,18 +74,13 @@ fn add_file<F: StageFolder>(
     name: &str,
     bytes: &[u8],
 ) -> Result<(), Stop>
-    ensures { OnOk result (AddsFile name.now bytes.now files.old.items files.new.items) }
+    ensures { OnOk result
+        (AddsFile (F.files folder.now) name.now bytes.now files.old.items files.new.items) }
 {
-    if file_named(files, name).is_some() {
-        return Ok(());
-    }
-    let before = match folder.read(name) {
-        Ok(before) => before,
-        Err(fault) => return Err(in_folder(alloc, name, fault)),
-    };
-    match replacement(alloc, name, before, bytes)? {
-        Some(file) => Ok(push_file(files, file)?),
-        None => Ok(()),
+    match content_of(files, name, bytes) {
+        Content::Missing => add_new(alloc, folder, files, name, bytes),
+        Content::Same => Ok(()),
+        Content::Other => Err(refusal_of(alloc, name, TWO_CONTENTS)),
     }
 }
 
@@ -46,7 +91,7 @@ fn push_file(files: &mut Vec<ReplacedFile>, file: ReplacedFile) -> Result<(), Al
     Ok(())
 }
 
-// Adds the file of an app.
+// Adds the file of an app, if it was gathered whole.
 #[tactic(auto, using(crate::proofs::Put::app_none, crate::proofs::Put::app_one))]
 fn add_app_file<F: StageFolder>(
     alloc: Global,
@@ -54,23 +99,25 @@ fn add_app_file<F: StageFolder>(
     files: &mut Vec<ReplacedFile>,
     app: &AppSources,
 ) -> Result<(), Stop>
-    ensures { OnOk result (AddsAppFile app.now files.old.items files.new.items) }
+    ensures { OnOk result
+        (AddsAppFile (F.files folder.now) app.now files.old.items files.new.items) }
 {
-    let Some(bytes) = whole_file(&app.kept) else {
-        return Ok(());
+    let bytes = match whole_file(&app.kept) {
+        Some(bytes) => bytes,
+        None => return Ok(()),
     };
     add_file(alloc, folder, files, app.entry.source().file(), bytes)?;
     Ok(())
 }
 
-// The files of these apps that differ from those in place.
-#[tactic(auto, using(crate::proofs::Put::start, crate::proofs::Put::all))]
+// The files of these apps, each once.
+#[tactic(auto, using(crate::proofs::Put::start, crate::proofs::Put::all_apps))]
 fn app_files<F: StageFolder>(
     alloc: Global,
     folder: &F,
     apps: &[AppSources],
 ) -> Result<Vec<ReplacedFile>, Stop>
-    ensures { IfOk result (λ files. All (IsAmongFiles apps.now) files.items) }
+    ensures { IfOk result (λ files. AreFilesSoFar (F.files folder.now) apps.now [] files.items) }
 {
     let mut files = Vec::new(alloc);
     let mut left = apps;
@@ -81,16 +128,54 @@ fn app_files<F: StageFolder>(
     Ok(files)
 }
 
+// All files of a manifest, and then the manifest.
+fn all_files<F: StageFolder>(
+    alloc: Global,
+    folder: &F,
+    manifest: &[u8],
+    apps: &[AppSources],
+) -> Result<Vec<ReplacedFile>, Stop>
+    ensures { IfOk result (λ all. AreFilesOf (F.files folder.now) manifest.now apps.now all.items) }
+{
+    let mut files = app_files(alloc, folder, apps)?;
+    add_file(alloc, folder, &mut files, CURRENT, manifest)?;
+    Ok(files)
+}
+
+// Whether a step changes the bytes of a file.
+fn is_change(file: &ReplacedFile) -> bool
+    ensures { result ≡ specs.is_change file.now }
+{
+    match &file.before {
+        Some(before) => before.as_slice() != file.after.as_slice(),
+        None => true,
+    }
+}
+
+fn changes_in(alloc: Global, all: Vec<ReplacedFile>) -> Result<Vec<ReplacedFile>, AllocError>
+    ensures { IfOk result (λ files. files.items ≡ filter specs.is_change all.items) }
+{
+    let mut files = Vec::new(alloc);
+    for file in all {
+        if is_change(&file) {
+            files.push(file)?;
+        }
+    }
+    Ok(files)
+}
+
 /// The files of a manifest that differ from those in place, and then the manifest, if it does.
+#[tactic(auto, using(crate::proofs::Put::changes_of))]
 pub(crate) fn files_to_put<F: StageFolder>(
     alloc: Global,
     folder: &F,
     manifest: &[u8],
     apps: &[AppSources],
 ) -> Result<Vec<ReplacedFile>, Stop>
-    ensures { IfOk result (λ files. AreFilesOf manifest.now apps.now files.items) }
+    ensures { IfOk result
+        (λ files. AreChangesTo (F.files folder.now) manifest.now apps.now files.items) }
 {
-    let mut files = app_files(alloc, folder, apps)?;
-    add_file(alloc, folder, &mut files, CURRENT, manifest)?;
+    let all = all_files(alloc, folder, manifest, apps)?;
+    let files = changes_in(alloc, all)?;
     Ok(files)
 }

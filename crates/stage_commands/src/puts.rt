@@ -1,89 +1,146 @@
 //! `stage put`: a manifest from elsewhere, and the files that it names, replace those in place.
 
-ghost use Rattle.std.specs.Prelude.{◌≡◌, IfOk, IsOk, None, OnOk, false, option_copied, true};
+ghost use Rattle.std.specs.Prelude.{◌≡◌, IfErr, IfOk, None, OnOk, false, option_copied, option_map};
+ghost use Rattle.std.specs.Prelude.{true};
+ghost use Rattle.stage_commands.specs.Actions.{IsUnchanged};
 ghost use Rattle.stage_commands.specs.Compared.{AreAllJudged};
+ghost use Rattle.stage_commands.specs.PutPlans.{IsLiftedBy, IsPresent, IsPutPlan, IsUnrefused};
 ghost use Rattle.stage_commands.specs.Puts.{HasPut, PlansPut};
-ghost use Rattle.staging.specs.InForce as specs;
+ghost use Rattle.stage_commands.specs.Taken.{LeftBy};
+ghost use Rattle.stage_folder.specs.Folders.{GivesFile};
 
 use crate::collected::{collected_at, judged_at};
 use crate::comparison::compare;
+use crate::lifting::stop_if_lifted;
 use crate::options::StageCall;
 use crate::outcome::{Lines, Stop};
 use crate::put_files::files_to_put;
-use crate::steps::{next_number, owned_text, read_steps, take_step};
-use crate::stop_texts::lifts;
+use crate::steps::{number_in, owned_text, read_steps};
+use crate::taking::take_step;
 use bounded_files::Disk;
 use load::{AppSources, CollectedManifest, JudgedManifest};
-use stage_folder::StageFolder;
+use stage_folder::{StageFolder, steps_leave};
 use stage_records::{ReplacedFile, StagingStep, StepAction};
 use staging::lifted_halt;
-use std::alloc::Global;
 use std::net::{Net, TcpStream};
 use std::time::Clock;
+
+/// The name of the manifest in place.
+const CURRENT: &str = "current.toml";
+
+/// What is said in place of a comparison.
+const NOTHING_IN_PLACE: &str = "no manifest is in place yet, so nothing is compared\n";
+
+// The manifest in place.
+#[derive(Drop)]
+enum Present {
+    /// There is none.
+    Nothing,
+    Manifest(CollectedManifest),
+    /// It can't be gathered.
+    Refused(Stop),
+}
+
+fn is_missing<F: StageFolder>(folder: &F, name: &str) -> bool
+    ensures { result ≡ true → GivesFile (F.files folder.now) name.now None }
+{
+    match folder.read(name) {
+        Ok(found) => is_nothing(found),
+        Err(_) => false,
+    }
+}
+
+fn is_nothing(found: Option<Vec<u8>>) -> bool
+    ensures { result ≡ true → option_map (λ bytes. bytes.items) found ≡ None }
+{
+    match found {
+        Some(_) => false,
+        None => true,
+    }
+}
+
+fn present_manifest<R, D, F>(call: &StageCall<'_, R, D>, folder: &F) -> Present
+where
+    R: AllocGlobal,
+    D: Disk,
+    F: StageFolder,
+    ensures { IsPresent (D.known call.now.disk.now) call.now.manifest.now (F.files folder.now)
+        result }
+{
+    if is_missing(folder, CURRENT) {
+        return Present::Nothing;
+    }
+    match collected_at(call.rt.alloc(), call.disk, call.manifest) {
+        Ok(collected) => Present::Manifest(collected),
+        Err(stop) => Present::Refused(stop),
+    }
+}
 
 // The app of a halt in force that the next manifest lifts, by the manifest in place.
 fn lifted_by<'a>(
     steps: &'a [StagingStep],
-    present: &Result<CollectedManifest, Stop>,
+    present: &Present,
     next: &[AppSources],
 ) -> Option<&'a str>
-    ensures { IfOk present.now (λ manifest. option_copied result
-        ≡ specs.lifted_halt steps.now manifest.sources.apps.items next.now) }
+    ensures { IsLiftedBy steps.now present.now next.now (option_copied result) }
 {
     match present {
-        Ok(present) => lifted_halt(steps, &present.sources.apps, next),
-        Err(_) => None,
+        Present::Nothing => lifted_halt(steps, &[], next),
+        Present::Manifest(present) => lifted_halt(steps, &present.sources.apps, next),
+        Present::Refused(_) => None,
     }
 }
 
-// Refuses to lift a halt that is in force in place, unless `--anyway` is given.
-fn stop_if_lifted(
-    alloc: Global,
-    lifted: Option<&str>,
-    anyway: bool,
-    lines: &mut Lines,
-) -> Result<(), Stop>
-    ensures { OnOk result (anyway ≡ false → option_copied lifted.entry ≡ None) }
-{
-    match lifted {
-        Some(appid) => lines.go_on_if(anyway, lifts(alloc, appid)),
-        None => Ok(()),
-    }
-}
-
-// Compares the next manifest with the one in place. A manifest in place that can't be gathered or
-// judged, a halt that is lifted, and a lost row are refusals, unless `--anyway` is given.
-fn compare_next<R, D>(
+// Compares the next manifest with the one in place, which is judged first.
+fn compare_judged<R, D>(
     call: &StageCall<'_, R, D>,
-    present: Result<CollectedManifest, Stop>,
-    lifted: Option<&str>,
+    present: CollectedManifest,
     next: JudgedManifest,
     lines: &mut Lines,
 ) -> Result<(), Stop>
 where
     R: AllocGlobal + Clock + Net<Stream = TcpStream>,
     requires { AreAllJudged next }
-    ensures { OnOk result (call.now.options.now.anyway ≡ false
-        → IsOk present × (option_copied lifted.entry ≡ None)) }
 {
-    let (alloc, anyway) = (call.rt.alloc(), call.options.anyway);
-    let CollectedManifest { bytes, sources } = match present {
-        Ok(present) => present,
+    let CollectedManifest { bytes, sources } = present;
+    match judged_at(call.rt.alloc(), call.manifest, &bytes, sources) {
+        Ok(present) => compare(call, present, next, lines),
         Err(stop) => {
             drop(next);
-            lines.go_on_if(anyway, stop)?;
-            return Ok(());
-        }
-    };
-    stop_if_lifted(alloc, lifted, anyway, lines)?;
-    match judged_at(alloc, call.manifest, &bytes, sources) {
-        Ok(present) => compare(call, present, next, lines)?,
-        Err(stop) => {
-            drop(next);
-            lines.go_on_if(anyway, stop)?;
+            lines.go_on_if(call.options.anyway, stop)
         }
     }
-    Ok(())
+}
+
+// Compares the next manifest with the one in place, if there is one. A manifest in place that can't
+// be gathered or judged, and a lost row, are refusals, unless `--anyway` is given.
+fn compare_next<R, D>(
+    call: &StageCall<'_, R, D>,
+    present: Present,
+    next: JudgedManifest,
+    lines: &mut Lines,
+) -> Result<(), Stop>
+where
+    R: AllocGlobal + Clock + Net<Stream = TcpStream>,
+    requires { AreAllJudged next }
+    ensures { OnOk result (call.now.options.now.anyway ≡ false → IsUnrefused present) }
+{
+    match present {
+        Present::Nothing => {
+            drop(next);
+            lines.text.push(NOTHING_IN_PLACE);
+            Ok(())
+        }
+        Present::Manifest(present) => {
+            compare_judged(call, present, next, lines)?;
+            Ok(())
+        }
+        Present::Refused(stop) => {
+            drop(next);
+            lines.go_on_if(call.options.anyway, stop)?;
+            Ok(())
+        }
+    }
 }
 
 // What is put in place, once it is judged, and compared with what is there.
@@ -99,21 +156,57 @@ where
     D: Disk,
     F: StageFolder,
     ensures { IfOk result (λ files. PlansPut (D.known call.now.disk.now) call.now.manifest.now
-        manifest.now steps.now call.now.options.now.anyway files.items) }
+        manifest.now (F.files folder.now) steps.now call.now.options.now.anyway files.items) }
 {
     let alloc = call.rt.alloc();
     let next = collected_at(alloc, call.disk, manifest)?;
     let files = files_to_put(alloc, folder, &next.bytes, &next.sources.apps);
-    let present = collected_at(alloc, call.disk, call.manifest);
+    let present = present_manifest(call, folder);
     let lifted = lifted_by(steps, &present, &next.sources.apps);
     let CollectedManifest { bytes, sources } = next;
     let next = judged_at(alloc, manifest, &bytes, sources)?;
     let files = files?;
-    compare_next(call, present, lifted, next, lines)?;
+    stop_if_lifted(alloc, lifted, call.options.anyway, lines)?;
+    compare_next(call, present, next, lines)?;
     Ok(files)
 }
 
+// A step that is to be taken.
+struct Plan {
+    number: u32,
+    action: StepAction,
+    files: Vec<ReplacedFile>,
+}
+
+// The step that puts the manifest at a path in place.
+fn plan_of<R, D, F>(
+    call: &StageCall<'_, R, D>,
+    folder: &F,
+    manifest: &str,
+    lines: &mut Lines,
+) -> Result<Plan, Stop>
+where
+    R: AllocGlobal + Clock + Net<Stream = TcpStream>,
+    D: Disk,
+    F: StageFolder,
+    ensures { IfOk result (IsPutPlan (D.known call.now.disk.now) call.now.manifest.now
+        manifest.now call.now.options.now.anyway (F.records folder.now) (F.files folder.now)) }
+{
+    let alloc = call.rt.alloc();
+    let owned = owned_text(alloc, manifest)?;
+    let recorded = read_steps(alloc, folder)?;
+    let number = number_in(alloc, folder)?;
+    let files = planned_files(call, folder, manifest, &recorded.steps, lines)?;
+    drop(recorded);
+    Ok(Plan {
+        number,
+        action: StepAction::Put { manifest: owned },
+        files,
+    })
+}
+
 /// Puts the manifest at a path, and the files that it names, in place.
+#[tactic(auto, using(crate::proofs::Left::unchanged_by))]
 pub(crate) fn put<R, D, F>(
     call: &StageCall<'_, R, D>,
     folder: &mut F,
@@ -126,19 +219,25 @@ where
     F: StageFolder,
     ensures done { OnOk result (call.now.options.now.dry_run ≡ false
         → HasPut (D.known call.now.disk.now) call.now.manifest.now manifest.now
-        call.now.options.now.anyway (F.records folder.old) (F.files folder.old)
-        (F.files folder.new)) }
-    ensures unchanged { call.now.options.now.dry_run ≡ true
-        → F.files folder.new ≡ F.files folder.old }
+        call.now.options.now.anyway (F.records folder.old) (F.records folder.new)
+        (F.files folder.old) (F.files folder.new)) }
+    ensures stopped { IfErr result (λ stop. LeftBy stop (F.records folder.old)
+        (F.records folder.new) (F.files folder.old) (F.files folder.new)) }
+    ensures unchanged { call.now.options.now.dry_run ≡ true → IsUnchanged (F.records folder.old)
+        (F.records folder.new) (F.files folder.old) (F.files folder.new) }
 {
-    let alloc = call.rt.alloc();
-    let Ok(owned) = owned_text(alloc, manifest) else {
-        return Err(Stop::Memory);
-    };
-    let steps = read_steps(alloc, folder)?;
-    let files = planned_files(call, folder, manifest, &steps.steps, lines)?;
-    let number = next_number(&steps.steps);
-    drop(steps);
-    let action = StepAction::Put { manifest: owned };
-    take_step(call, folder, number, action, files, lines)
+    steps_leave();
+    match plan_of(call, &*folder, manifest, lines) {
+        Ok(
+            Plan {
+                number,
+                action,
+                files,
+            },
+        ) => match take_step(call, folder, number, action, files, lines) {
+            Ok(()) => Ok(()),
+            Err(stop) => Err(stop),
+        },
+        Err(stop) => Err(stop),
+    }
 }

@@ -14,10 +14,11 @@ fn quota_of(arrays: &[ArrayDeclaration], cell: &CellAssignment<'_>) -> Option<u6
     None
 }
 
-/// Adds a line for each cell of an array with a quota: how many takes the server has counted, of
-/// how many that it grants.
+/// Adds a line for each cell of an array with a quota: how many takes the server at an operator's
+/// port has counted, of how many that it grants.
 pub(crate) fn push_quotas(
     text: &mut TextBuffer,
+    port: u16,
     arrays: &[ArrayDeclaration],
     cells: &[CellAssignment<'_>],
 ) {
@@ -25,6 +26,7 @@ pub(crate) fn push_quotas(
         if let Some(quota) = quota_of(arrays, cell) {
             let value = cell.value();
             let end = if value < quota { "\n" } else { ": used up\n" };
+            text.push_number("server at ", port as u64, ": ");
             text.push(cell.array());
             text.push_number("[", cell.index() as u64, "] ");
             text.push_number("", value, " of ");

@@ -1,12 +1,14 @@
 //! `stage raise`: the number of the one threshold in the app's rule is changed.
 
-ghost use Rattle.std.specs.Prelude.{◌≡◌, IfOk, OnOk, Some, false, string_bytes, true};
+ghost use Rattle.std.specs.Prelude.{◌≡◌, IfErr, IfOk, OnOk, Some, false, string_bytes, true};
 ghost use Rattle.bounded_files.specs.Files.{KnownFiles};
 ghost use Rattle.load.specs.Opened.{IsCollected};
 ghost use Rattle.manifest.specs.App.{file_of};
 ghost use Rattle.staging.specs.Raises.{IsRaised};
 ghost use Rattle.stage_commands.specs.Compared.{AreAllJudged};
+ghost use Rattle.stage_commands.specs.Actions.{IsUnchanged};
 ghost use Rattle.stage_commands.specs.Stages.{HasRaised, PlansRaise, PlansRaiseOf};
+ghost use Rattle.stage_commands.specs.Taken.{LeftBy};
 ghost use Rattle.stage_folder.specs.Folders.{GivesFile};
 
 use crate::app_file::{app_to_change, replacement};
@@ -15,10 +17,11 @@ use crate::comparison::compare;
 use crate::options::StageCall;
 use crate::outcome::{Lines, Stop};
 use crate::replaced_files::sources_with;
-use crate::steps::{number_in, owned_text, take_file};
+use crate::steps::{number_in, owned_text, read_steps};
 use crate::stop_texts::{
     HAS_PROGRAM, IS_HALTED, NO_TEXT, in_folder, next_refused, not_raised, refusal_of,
 };
+use crate::taking::take_file;
 use bounded_files::Disk;
 use load::{AppSources, CollectedManifest, JudgedManifest};
 use manifest::ProgramSource;
@@ -198,7 +201,7 @@ where
 }
 
 /// Raises the rule of an app, once the next manifest is judged and compared with the present one.
-#[tactic(auto, using(crate::proofs::Replacing::raised))]
+#[tactic(auto, using(crate::proofs::Replacing::raised, crate::proofs::Left::unchanged_by))]
 pub(crate) fn raise<R, D, F>(
     call: &StageCall<'_, R, D>,
     folder: &mut F,
@@ -212,11 +215,17 @@ where
     F: StageFolder,
     ensures done { OnOk result (call.now.options.now.dry_run ≡ false
         → HasRaised (D.known call.now.disk.now) call.now.manifest.now appid.now buckets
-        (F.files folder.old) (F.files folder.new)) }
-    ensures unchanged { call.now.options.now.dry_run ≡ true
-        → F.files folder.new ≡ F.files folder.old }
+        (F.records folder.old) (F.records folder.new) (F.files folder.old)
+        (F.files folder.new)) }
+    ensures stopped { IfErr result (λ stop. LeftBy stop (F.records folder.old)
+        (F.records folder.new) (F.files folder.old) (F.files folder.new)) }
+    ensures unchanged { call.now.options.now.dry_run ≡ true → IsUnchanged (F.records folder.old)
+        (F.records folder.new) (F.files folder.old) (F.files folder.new) }
 {
     let alloc = call.rt.alloc();
+    if let Err(stop) = read_steps(alloc, folder) {
+        return Err(stop);
+    }
     let number = match number_in(alloc, folder) {
         Ok(number) => number,
         Err(stop) => return Err(stop),

@@ -1,5 +1,11 @@
 //! The files of a manifest, of which a step's are as before it, or as after it.
 
+ghost use Rattle.std.specs.Prelude.{◌≡◌, [], IfOk, option_copied};
+ghost use Rattle.load.specs.Folder.{files_in_folder};
+ghost use Rattle.load.specs.Sources.{AreSources};
+ghost use Rattle.stage_commands.specs.Befores.{bytes_then, files_then};
+ghost use Rattle.stage_commands.specs.Befores as specs;
+
 use bounded_files::{Disk, ResourceFault};
 use cells::Directory;
 use load::{Files, FolderFiles, LoadFault, Sources, collect_sources};
@@ -16,11 +22,15 @@ struct WithReplaced<'a, L> {
 }
 
 /// The file of this name.
-pub(crate) fn file_named<'a>(files: &'a [ReplacedFile], name: &str) -> Option<&'a ReplacedFile> {
-    for file in files {
+pub(crate) fn file_named<'a>(files: &'a [ReplacedFile], name: &str) -> Option<&'a ReplacedFile>
+    ensures { option_copied result ≡ specs.file_named files.now name.now }
+{
+    let mut left = files;
+    while let [file, others @ ..] = left {
         if file.name.as_str() == name {
             return Some(file);
         }
+        left = others;
     }
     None
 }
@@ -31,7 +41,9 @@ pub(crate) fn bytes_of(
     alloc: Global,
     file: &ReplacedFile,
     is_after: bool,
-) -> Result<Vec<u8>, AllocError> {
+) -> Result<Vec<u8>, AllocError>
+    ensures { IfOk result (λ bytes. bytes.items ≡ bytes_then is_after file.now) }
+{
     if is_after {
         return Vec::from_slice(alloc, &file.after);
     }
@@ -41,21 +53,21 @@ pub(crate) fn bytes_of(
     }
 }
 
-// What is read isn't stated: manifests are compared by the bytes that were gathered.
 impl<'a, L: Files> Files for WithReplaced<'a, L> {
-    ghost use Rattle.std.specs.Prelude.{None};
+    ghost use Rattle.stage_commands.specs.Befores.{files_then};
 
-    ghost known = { λ _. None };
+    ghost known = { λ files. files_then files.is_after files.replaced.now (L.known files.files) };
 
     ghost failed = { λ files. L.failed files.files };
 
+    #[tactic(auto, using(crate::proofs::Then::gives_replaced, crate::proofs::Then::reads_other))]
     fn bytes(&mut self, name: &str) -> Result<Vec<u8>, ResourceFault> {
-        let Some(file) = file_named(self.replaced, name) else {
-            return self.files.bytes(name);
-        };
-        match bytes_of(self.alloc, file, self.is_after) {
-            Ok(bytes) => Ok(bytes),
-            Err(_) => Err(ResourceFault::Memory),
+        match file_named(self.replaced, name) {
+            Some(file) => match bytes_of(self.alloc, file, self.is_after) {
+                Ok(bytes) => Ok(bytes),
+                Err(_) => Err(ResourceFault::Memory),
+            },
+            None => self.files.bytes(name),
         }
     }
 
@@ -73,7 +85,10 @@ pub(crate) fn sources_with<D: Disk>(
     bytes: &[u8],
     replaced: &[ReplacedFile],
     is_after: bool,
-) -> Result<Sources, LoadFault> {
+) -> Result<Sources, LoadFault>
+    ensures { IfOk result (AreSources (files_then is_after replaced.now
+        (files_in_folder (D.known disk.now) manifest.now)) [] bytes.now) }
+{
     let files = FolderFiles::in_folder_of(alloc, disk, manifest);
     let mut files = WithReplaced {
         alloc,

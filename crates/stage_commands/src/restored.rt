@@ -1,16 +1,24 @@
-//! What changes if a step is undone: the manifest in place, compared with the one before the step.
+//! What changes if a step is undone: the manifest in place, compared with the one before the step;
+//! and which halt that lifts.
 
-ghost use Rattle.std.specs.Prelude.{IfSome};
+ghost use Rattle.std.specs.Prelude.{◌≡◌, IfSome, OnOk, codes, false, option_copied};
+ghost use Rattle.load.specs.Opened.{IsCollected};
+ghost use Rattle.stage_commands.specs.Backs.{UndoingLiftsNone, lifted_by_undoing};
+ghost use Rattle.stage_commands.specs.Befores.{GivesBefore, WasCollected};
+ghost use Rattle.stage_commands.specs.Befores as specs;
 ghost use Rattle.stage_commands.specs.Compared.{AreAllJudged};
+ghost use Rattle.staging.specs.InForce as in_force;
 
 use crate::collected::judged;
 use crate::comparison::compare;
+use crate::lifting::stop_if_lifted;
 use crate::options::StageCall;
 use crate::outcome::{Lines, Stop};
 use crate::replaced_files::{bytes_of, file_named, sources_with};
 use bounded_files::Disk;
 use load::{CollectedManifest, JudgedManifest, collect_manifest, manifest_bytes};
-use stage_records::{ReplacedFile, StagingStep};
+use stage_records::{ReplacedFile, StagingStep, StepAction};
+use staging::lifted_halt;
 use std::alloc::Global;
 use std::net::{Net, TcpStream};
 use std::time::Clock;
@@ -21,20 +29,91 @@ const CURRENT: &str = "current.toml";
 /// What is said in place of a comparison.
 const NOT_COMPARED: &str = "stage: a manifest is refused, so what changes isn't compared\n";
 
-// The manifest as it was before a step.
+// The bytes of the manifest as it was before a step.
+fn bytes_before<D: Disk>(
+    alloc: Global,
+    disk: &D,
+    manifest: &str,
+    restored: &[ReplacedFile],
+) -> Option<Vec<u8>>
+    ensures { IfSome result (λ bytes. GivesBefore (D.known disk.now) manifest.now
+        (specs.file_named restored.now (codes "current.toml")) bytes.items) }
+{
+    match file_named(restored, CURRENT) {
+        Some(file) => match bytes_of(alloc, file, false) {
+            Ok(bytes) => Some(bytes),
+            Err(_) => None,
+        },
+        None => match manifest_bytes(disk, manifest) {
+            Ok(bytes) => Some(bytes),
+            Err(_) => None,
+        },
+    }
+}
+
+// The manifest as it was before a step, if it can be gathered.
 fn collected_before<D: Disk>(
     alloc: Global,
     disk: &D,
     manifest: &str,
     restored: &[ReplacedFile],
-) -> Option<CollectedManifest> {
-    let bytes = match file_named(restored, CURRENT) {
-        Some(file) => bytes_of(alloc, file, false).ok()?,
-        None => manifest_bytes(disk, manifest).ok()?,
+) -> Option<CollectedManifest>
+    ensures { IfSome result (WasCollected (D.known disk.now) manifest.now restored.now) }
+{
+    let Some(bytes) = bytes_before(alloc, disk, manifest, restored) else {
+        return None;
     };
-    let sources = sources_with(alloc, disk, manifest, &bytes, restored, false).ok()?;
-    Some(CollectedManifest { bytes, sources })
+    match sources_with(alloc, disk, manifest, &bytes, restored, false) {
+        Ok(sources) => Some(CollectedManifest { bytes, sources }),
+        Err(_) => {
+            drop(bytes);
+            None
+        }
+    }
 }
+
+// The manifest in place, if it can be gathered.
+fn collected_now<D: Disk>(alloc: Global, disk: &D, manifest: &str) -> Option<CollectedManifest>
+    ensures { IfSome result (IsCollected (D.known disk.now) manifest.now) }
+{
+    match collect_manifest(alloc, disk, manifest) {
+        Ok(collected) => Some(collected),
+        Err(_) => None,
+    }
+}
+
+// ---- halts
+
+// The app that a step halts.
+fn app_of_halt(action: &StepAction) -> Option<&str>
+    ensures { option_copied result ≡ in_force.app_of_halt action.now }
+{
+    match action {
+        StepAction::Halt { appid } => Some(appid.as_str()),
+        StepAction::Raise { .. } | StepAction::Put { .. } => None,
+    }
+}
+
+// The app of a halt in force that undoing a step lifts. If a manifest can't be gathered, so that
+// this isn't known, a halt is taken to be lifted.
+fn lifted_by_undoing<'a>(
+    steps: &'a [StagingStep],
+    step: &'a StagingStep,
+    present: &Option<CollectedManifest>,
+    before: &Option<CollectedManifest>,
+) -> Option<&'a str>
+    ensures { option_copied result
+        ≡ lifted_by_undoing steps.now step.now present.now before.now }
+{
+    match (present, before) {
+        (Some(present), Some(before)) => {
+            lifted_halt(steps, &present.sources.apps, &before.sources.apps)
+        }
+        _ => app_of_halt(&step.action),
+    }
+}
+
+// ---- the comparison
 
 // A manifest, judged, if it can be.
 fn judged_if(alloc: Global, collected: Option<CollectedManifest>) -> Option<JudgedManifest>
@@ -50,28 +129,58 @@ fn judged_if(alloc: Global, collected: Option<CollectedManifest>) -> Option<Judg
     }
 }
 
-/// Prints what changes if a step is undone. A lost row, or an app that isn't compared, is a
-/// refusal, unless `--anyway` is given. A manifest that a server would refuse, as after a step that
-/// stopped in its middle, isn't compared, and doesn't stop it.
-pub(crate) fn compare_restored<R, D>(
+// Prints what changes from one manifest to another, if both can be judged.
+fn compare_if<R, D>(
     call: &StageCall<'_, R, D>,
-    step: &StagingStep,
+    present: Option<CollectedManifest>,
+    before: Option<CollectedManifest>,
     lines: &mut Lines,
 ) -> Result<(), Stop>
 where
     R: AllocGlobal + Clock + Net<Stream = TcpStream>,
-    D: Disk,
 {
-    let (alloc, disk) = (call.rt.alloc(), call.disk);
-    let Some(old) = judged_if(alloc, collect_manifest(alloc, disk, call.manifest).ok()) else {
+    let alloc = call.rt.alloc();
+    let Some(old) = judged_if(alloc, present) else {
+        drop(before);
         lines.stderr.push(NOT_COMPARED);
         return Ok(());
     };
-    let before = collected_before(alloc, disk, call.manifest, &step.files);
     let Some(new) = judged_if(alloc, before) else {
         drop(old);
         lines.stderr.push(NOT_COMPARED);
         return Ok(());
     };
     compare(call, old, new, lines)
+}
+
+/// Prints what changes if one of these steps is undone. A halt that is lifted, a lost row, or an
+/// app that isn't compared, is a refusal, unless `--anyway` is given. A manifest that a server
+/// would refuse, as after a step that stopped in its middle, isn't compared, and doesn't stop it.
+pub(crate) fn compare_restored<R, D>(
+    call: &StageCall<'_, R, D>,
+    steps: &[StagingStep],
+    step: &StagingStep,
+    lines: &mut Lines,
+) -> Result<(), Stop>
+where
+    R: AllocGlobal + Clock + Net<Stream = TcpStream>,
+    D: Disk,
+    ensures { OnOk result (call.now.options.now.anyway ≡ false → UndoingLiftsNone
+        (D.known call.now.disk.now) call.now.manifest.now steps.now step.now) }
+{
+    let (alloc, disk) = (call.rt.alloc(), call.disk);
+    let present = collected_now(alloc, disk, call.manifest);
+    let before = collected_before(alloc, disk, call.manifest, &step.files);
+    let lifted = lifted_by_undoing(steps, step, &present, &before);
+    match stop_if_lifted(alloc, lifted, call.options.anyway, lines) {
+        Ok(()) => {
+            compare_if(call, present, before, lines)?;
+            Ok(())
+        }
+        Err(stop) => {
+            drop(present);
+            drop(before);
+            Err(stop)
+        }
+    }
 }

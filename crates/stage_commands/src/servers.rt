@@ -77,7 +77,7 @@ where
     let Ok(cells) = read_assignments(rt.alloc(), reply.as_str()) else {
         return Err(RequestFault::Memory);
     };
-    push_quotas(text, &collected.sources.arrays, &cells);
+    push_quotas(text, port, &collected.sources.arrays, &cells);
     Ok(())
 }
 

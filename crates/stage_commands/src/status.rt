@@ -5,6 +5,7 @@
 use crate::collected::collected_at;
 use crate::options::StageCall;
 use crate::outcome::{Lines, Stop};
+use crate::replaced_files::file_named;
 use crate::servers::{push_log, push_servers};
 use crate::step_lines::push_step;
 use crate::steps::RECORDS;
@@ -19,24 +20,61 @@ use std::alloc::Global;
 use std::net::{Net, TcpStream};
 use std::rt::Files;
 
+fn state_of<F: StageFolder>(folder: &F, file: &ReplacedFile) -> FileState {
+    match folder.read(file.name.as_str()) {
+        Ok(found) => file.state(found.as_deref()),
+        Err(_) => FileState::Edited,
+    }
+}
+
+// How a step left a file: as the next step that replaces it found it, or else as it is now.
+fn state_left<F: StageFolder>(folder: &F, file: &ReplacedFile, later: &[StagingStep]) -> FileState {
+    for step in later {
+        if let Some(next) = file_named(&step.files, file.name.as_str()) {
+            return file.state(next.before.as_deref());
+        }
+    }
+    state_of(folder, file)
+}
+
+// Whether a step stopped before all its files were replaced.
+fn has_stopped<F: StageFolder>(folder: &F, step: &StagingStep, later: &[StagingStep]) -> bool {
+    for file in &step.files {
+        if let FileState::Before = state_left(folder, file, later) {
+            return true;
+        }
+    }
+    false
+}
+
+// What became of a step, before these later ones.
+fn word_of<F: StageFolder>(folder: &F, step: &StagingStep, later: &[StagingStep]) -> &'static str {
+    if step.is_undone {
+        return "undone";
+    }
+    if has_stopped(folder, step, later) {
+        return "stopped";
+    }
+    "done"
+}
+
 // A line for each step, and for each record that isn't one.
-fn push_steps(alloc: Global, recorded: &RecordedSteps, lines: &mut Lines) {
-    for step in &recorded.steps {
-        let word = if step.is_undone { "undone" } else { "done" };
-        push_step(alloc, &mut lines.text, word, step);
+fn push_steps<F: StageFolder>(
+    alloc: Global,
+    folder: &F,
+    recorded: &RecordedSteps,
+    lines: &mut Lines,
+) {
+    let mut left = recorded.steps.as_slice();
+    while let [step, later @ ..] = left {
+        push_step(alloc, &mut lines.text, word_of(folder, step, later), step);
+        left = later;
     }
     for number in &recorded.unread {
         let end = ".json is no record of a step: move it away\n";
         lines.stderr.push("stage: ");
         lines.stderr.push(RECORDS);
         lines.stderr.push_number("/", *number as u64, end);
-    }
-}
-
-fn state_of<F: StageFolder>(folder: &F, file: &ReplacedFile) -> FileState {
-    match folder.read(file.name.as_str()) {
-        Ok(found) => file.state(found.as_deref()),
-        Err(_) => FileState::Edited,
     }
 }
 
@@ -126,7 +164,7 @@ where
         Ok(recorded) => recorded,
         Err(fault) => return Err(in_folder(alloc, RECORDS, fault)),
     };
-    push_steps(alloc, &recorded, lines);
+    push_steps(alloc, folder, &recorded, lines);
     let is_whole = push_states(folder, last_step(&recorded.steps), &mut lines.stderr);
     let in_place = push_in_place(call, folder, &recorded.steps, lines);
     let are_read = recorded.unread.is_empty();

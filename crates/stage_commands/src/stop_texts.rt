@@ -1,8 +1,12 @@
 //! The sentences that say why a stage stops, and what to do.
 
-// No contract says what they are: bench/outside tests them.
+// No contract says what they are: bench/outside tests them. Those after which something may have
+// changed don't say that nothing has.
+
+ghost use Rattle.stage_commands.specs.Taken.{MayChange};
 
 use crate::outcome::Stop;
+use crate::steps::RECORDS;
 use load::{AppSources, LoadFault, PathFault};
 use manifest_diff::DiffFault;
 use printing::TextBuffer;
@@ -26,6 +30,14 @@ pub(crate) const HAS_PROGRAM: &str = " is a program: make another one, and put i
 
 /// An app has no file with a text.
 pub(crate) const NO_TEXT: &str = " isn't a text, or isn't there: put a rule in place";
+
+/// What follows the name of a file: it was edited since the step that is to be undone.
+pub(crate) const EDITED: &str =
+    ": it was edited since the step: restore it by hand, or put a manifest";
+
+/// What follows the name of a file: a manifest gives it two contents.
+pub(crate) const TWO_CONTENTS: &str = " would get two contents: give each file of the manifest its \
+    own name, and call it again";
 
 /// The rule is the one of a halt.
 pub(crate) const IS_HALTED: &str = " isn't raised: it halts the app: lift that halt first";
@@ -154,8 +166,20 @@ pub(crate) fn in_folder(alloc: Global, name: &str, fault: FolderFault) -> Stop {
     refusal(text)
 }
 
+// What happened, and what to do.
+fn failure(text: TextBuffer) -> Stop
+    ensures { MayChange result }
+{
+    match text.finish() {
+        Ok(text) => Stop::Failed(text),
+        Err(_) => Stop::Memory,
+    }
+}
+
 // A failure at a file: what happened to the step, and what to do.
-fn failure_at(alloc: Global, what: &str, name: &str, fault: FolderFault, advice: &str) -> Stop {
+fn failure_at(alloc: Global, what: &str, name: &str, fault: FolderFault, advice: &str) -> Stop
+    ensures { MayChange result }
+{
     let mut text = TextBuffer::new(alloc);
     text.push("the step ");
     text.push(what);
@@ -163,18 +187,32 @@ fn failure_at(alloc: Global, what: &str, name: &str, fault: FolderFault, advice:
     text.push_value(&fault);
     text.push("; call stage back ");
     text.push(advice);
-    match text.finish() {
-        Ok(text) => Stop::Failed(text),
-        Err(_) => Stop::Memory,
-    }
+    failure(text)
 }
 
 /// A step stopped at a file.
-pub(crate) fn stopped_at(alloc: Global, name: &str, fault: FolderFault) -> Stop {
+pub(crate) fn stopped_at(alloc: Global, name: &str, fault: FolderFault) -> Stop
+    ensures { MayChange result }
+{
     failure_at(alloc, "stopped", name, fault, "to undo it")
 }
 
 /// Undoing a step stopped at a file.
-pub(crate) fn not_undone(alloc: Global, name: &str, fault: FolderFault) -> Stop {
+pub(crate) fn not_undone(alloc: Global, name: &str, fault: FolderFault) -> Stop
+    ensures { MayChange result }
+{
     failure_at(alloc, "isn't undone", name, fault, "again")
+}
+
+/// The files of a step are restored, but its record can't say so.
+pub(crate) fn not_noted(alloc: Global, fault: FolderFault) -> Stop
+    ensures { MayChange result }
+{
+    let mut text = TextBuffer::new(alloc);
+    text.push("the files are restored, but ");
+    text.push(RECORDS);
+    text.push(" can't be written: ");
+    text.push_value(&fault);
+    text.push("; mend that, and call stage back again");
+    failure(text)
 }

@@ -14,4 +14,4 @@ pub returns-in-Put-clause-done : goal.returns-in-Put-clause-done
 returns-in-Put-clause-done g c = rw c.in-Put.is c.put.ensures.done
 
 pub returns-in-Status-clause-done : goal.returns-in-Status-clause-done
-returns-in-Status-clause-done g c = rw c.in-Status.is (λ dry. refl)
+returns-in-Status-clause-done g c = rw c.in-Status.is (λ dry. (refl, refl))

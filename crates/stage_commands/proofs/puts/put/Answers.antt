@@ -1,8 +1,9 @@
-use Rattle.stage_commands.proofs.Put.{has_put, on_ok}
+use Rattle.stage_commands.proofs.Replacing.{has_put}
 use Rattle.stage_commands.proofs.puts.put.Goals as goal
 
-pub returns-clause-done : goal.returns-clause-done
-returns-clause-done g c =
-    let plan = rw c.deref.ensures.value at c.in_ok-files.ensures in
-    on_ok c.take_step.result _ _ (λ done dry. has_put _ _ _ _ _ _ _ c.in_ok-steps.steps
-    c.in_ok-files.files.items c.in_ok-steps.ensures plan (done dry)) c.take_step.ensures.done
+pub returns-in-Ok-take_step-clause-done : goal.returns-in-Ok-take_step-clause-done
+returns-in-Ok-take_step-clause-done g c = λ wet.
+    has_put
+    (record { left = c.steps_leave.ensures.left; changes = c.steps_leave.ensures.changes })
+    _ _ _ _ _ _ _ _ _ (rw c.in-Ok.field-0-is at c.in-Ok.ensures)
+    (c.in-Ok-take_step.ensures.done wet)

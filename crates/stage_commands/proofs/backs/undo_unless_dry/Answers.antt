@@ -1,0 +1,8 @@
+use Rattle.std.proofs.Common.{refl}
+use Rattle.stage_commands.specs.declared.outcome.Stop.TheVariants as stop
+use Rattle.stage_commands.proofs.Left.{unchanged_undo}
+use Rattle.stage_commands.proofs.backs.undo_unless_dry.Goals as goal
+
+pub returns-then-not-are_complete-clause-stopped :
+    goal.returns-then-not-are_complete-clause-stopped
+returns-then-not-are_complete-clause-stopped g c = unchanged_undo stop.Memory _ _ _ refl

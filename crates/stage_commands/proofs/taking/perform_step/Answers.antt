@@ -1,0 +1,14 @@
+use Rattle.stage_commands.proofs.Left.{partly_done_by, performs}
+use Rattle.stage_commands.proofs.taking.perform_step.Goals as goal
+
+pub returns-in-Err-replace_files-clause-stopped : goal.returns-in-Err-replace_files-clause-stopped
+returns-in-Err-replace_files-clause-stopped g c =
+    partly_done_by _ c.args.step.now _ _ _ _ _ _ c.in-Ok.ensures.recorded
+    c.in-Err-replace_files.ensures.records c.in-Ok.ensures.files
+    c.in-Err-replace_files.ensures.says c.in-Err-replace_files.ensures.stopped
+
+pub returns-in-Ok-replace_files-clause-done : goal.returns-in-Ok-replace_files-clause-done
+returns-in-Ok-replace_files-clause-done g c =
+    performs c.args.step.now _ _ _ _ _ _ c.in-Ok.ensures.recorded
+    c.in-Ok-replace_files.ensures.records c.in-Ok.ensures.distinct c.in-Ok.ensures.files
+    c.in-Ok-replace_files.ensures.done

@@ -1,0 +1,77 @@
+-- A step that is recorded and performed, and what a stop leaves.
+use Rattle.std.specs.Prelude.{◌≡◌, ◌⊎◌, ℕ, List, [], true, false, Some, IfSome, option_map}
+use Rattle.stage_folder.specs.Folders.{IsFree, KnownFolder, KnownRecords}
+use Rattle.stage_folder.specs.Recorded.{AreRecorded, IsRecorded, IsStepAt}
+use Rattle.stage_folder.specs.Steps.{IsFoundBy, IsPartlyDone, IsPartlyUndone, done}
+use Rattle.stage_folder.specs.Steps.{has_distinct_names}
+use Rattle.stage_folder.specs.declared.records.RecordedSteps.{RecordedSteps}
+use Rattle.stage_records.specs.Steps.{ReplacedFile, StagingStep, last_step}
+use Rattle.stage_records.specs.declared.step.StepAction.{StepAction}
+use Rattle.stage_commands.specs.declared.outcome.Stop.{Stop}
+use Rattle.stage_commands.specs.declared.outcome.Stop.TheVariants as stop
+
+-- all records are read, and each is a step's
+pub record AreAllRead (records : KnownRecords) (recorded : RecordedSteps) : Type 0 where
+  pub are : AreRecorded records recorded
+  pub all_read : recorded.unread.items ≡ []
+
+-- the last recorded step that isn't undone
+pub record IsLast (records : KnownRecords) (step : StagingStep) : Type 0 where
+  pub recorded : RecordedSteps
+  pub are : AreAllRead records recorded
+  pub last : last_step recorded.steps.items ≡ Some step
+
+-- ---- a step
+
+-- a step that replaces files is recorded, and then performed; one that replaces none does nothing
+pub record Performs (step : StagingStep) (old_records new_records : KnownRecords)
+    (old new : KnownFolder) : Type 0 where
+  pub recorded : ((step.files ≡ []) × (new_records ≡ old_records))
+      ⊎ IsRecorded step old_records new_records
+  pub distinct : has_distinct_names step.files ≡ true
+  pub done : new ≡ option_map (done step.files) old
+
+-- a step of this number that does this and replaces these files
+pub record Takes (number : ℕ) (action : StepAction) (files : List ReplacedFile)
+    (old_records new_records : KnownRecords) (old new : KnownFolder) : Type 0 where
+  pub step : StagingStep
+  pub number_is : step.number ≡ number
+  pub action_is : step.action ≡ action
+  pub files_are : step.files ≡ files
+  pub not_undone : step.is_undone ≡ false
+  pub performed : Performs step old_records new_records old new
+
+-- no earlier record had its number, and it has the bytes that each file had before
+pub record IsTaken (action : StepAction) (files : List ReplacedFile)
+    (old_records new_records : KnownRecords) (old new : KnownFolder) : Type 0 where
+  pub number : ℕ
+  pub free : IsFree old_records number
+  pub found : IfSome old (IsFoundBy files)
+  pub takes : Takes number action files old_records new_records old new
+
+-- ---- a stop
+
+-- nothing has changed; or the files of a recorded step are replaced in part; or those of the last
+-- step that isn't undone are restored in part
+pub data IsLeft (old_records new_records : KnownRecords) (old new : KnownFolder) : Type 0 where
+  unchanged : new ≡ old → IsLeft old_records new_records old new
+  partly_done : (step : StagingStep) → IsStepAt new_records step.number (Some step)
+      → IsPartlyDone step.files old new → IsLeft old_records new_records old new
+  partly_undone : (step : StagingStep) → IsLast old_records step
+      → IsPartlyUndone step.files old new → IsLeft old_records new_records old new
+
+-- what says that nothing has changed is so
+abbrev pub LeftBy : Stop → (old_records new_records : KnownRecords) → (old new : KnownFolder)
+    → Type 0
+LeftBy (stop.Refused reason) old_records new_records old new = new ≡ old
+LeftBy other old_records new_records old new = IsLeft old_records new_records old new
+
+-- it doesn't say so
+abbrev pub MayChange : Stop → Type 0
+MayChange (stop.Refused reason) = ⊥
+MayChange other = Unit {0}
+
+-- the same of a step that is to be undone
+abbrev pub LeftByUndo : Stop → List ReplacedFile → (old new : KnownFolder) → Type 0
+LeftByUndo (stop.Refused reason) files old new = new ≡ old
+LeftByUndo other files old new = IsPartlyUndone files old new

@@ -1,0 +1,201 @@
+//! Recording a step, and performing it.
+
+ghost use Rattle.std.specs.Prelude.{◌≡◌, [], IfErr, OnErr, OnOk, false, option_map, option_to_list};
+ghost use Rattle.std.specs.Prelude.{true};
+ghost use Rattle.stage_commands.specs.Actions.{IsUnchanged};
+ghost use Rattle.stage_commands.specs.Taken.{LeftBy, MayChange, Performs, Takes};
+ghost use Rattle.stage_folder.specs.Recorded.{IsRecorded};
+ghost use Rattle.stage_folder.specs.Steps.{IsPartlyDone, done, has_distinct_names};
+
+use crate::app_file::files_of;
+use crate::comparison::now_of;
+use crate::options::StageCall;
+use crate::outcome::{Lines, Stop};
+use crate::steps::{RECORDS, name_at};
+use crate::stop_texts::{in_folder, stopped_at};
+use printing::TextBuffer;
+use stage_folder::{StageFolder, StepFault, perform, write_record};
+use stage_records::{ReplacedFile, StagingStep, StepAction};
+use std::alloc::Global;
+use std::time::Clock;
+
+// A line for each file that is replaced, or would be.
+fn push_files(text: &mut TextBuffer, verb: &str, files: &[ReplacedFile]) {
+    for file in files {
+        text.push(verb);
+        text.push_printed(" ", file.name.as_str(), "\n");
+    }
+}
+
+// Records a step that is about to be performed.
+fn record_step<F: StageFolder>(
+    alloc: Global,
+    folder: &mut F,
+    step: &StagingStep,
+) -> Result<(), Stop>
+    ensures recorded { OnOk result
+        (IsRecorded step.now (F.records folder.old) (F.records folder.new)) }
+    ensures distinct { OnOk result (has_distinct_names step.now.files ≡ true) }
+    ensures files { F.files folder.new ≡ F.files folder.old }
+{
+    match write_record(alloc, folder, step) {
+        Ok(()) => Ok(()),
+        Err(fault) => Err(in_folder(alloc, RECORDS, fault)),
+    }
+}
+
+// Replaces the files of a recorded step.
+fn replace_files<F: StageFolder>(
+    alloc: Global,
+    folder: &mut F,
+    step: &StagingStep,
+) -> Result<(), Stop>
+    ensures done { OnOk result
+        (F.files folder.new ≡ option_map (done step.now.files) (F.files folder.old)) }
+    ensures says { IfErr result MayChange }
+    ensures stopped { OnErr result
+        (IsPartlyDone step.now.files (F.files folder.old) (F.files folder.new)) }
+    ensures records { F.records folder.new ≡ F.records folder.old }
+{
+    match perform(folder, &step.files) {
+        Ok(()) => Ok(()),
+        Err(StepFault { file, fault }) => {
+            Err(stopped_at(alloc, name_at(&step.files, file), fault))
+        }
+    }
+}
+
+fn are_none(files: &[ReplacedFile]) -> bool
+    ensures { result ≡ true → files.now ≡ [] }
+{
+    files.is_empty()
+}
+
+// Records a step, unless it replaces no file, and performs it.
+#[tactic(auto, using(crate::proofs::Left::unchanged_by, crate::proofs::Left::performs_none))]
+fn perform_step<F: StageFolder>(
+    alloc: Global,
+    folder: &mut F,
+    step: &StagingStep,
+) -> Result<(), Stop>
+    ensures done { OnOk result (Performs step.now (F.records folder.old) (F.records folder.new)
+        (F.files folder.old) (F.files folder.new)) }
+    ensures stopped { IfErr result (λ stop. LeftBy stop (F.records folder.old)
+        (F.records folder.new) (F.files folder.old) (F.files folder.new)) }
+{
+    if are_none(&step.files) {
+        return Ok(());
+    }
+    match record_step(alloc, folder, step) {
+        Ok(()) => match replace_files(alloc, folder, step) {
+            Ok(()) => Ok(()),
+            Err(stop) => Err(stop),
+        },
+        Err(stop) => Err(stop),
+    }
+}
+
+// The same, and says which files are replaced; for `--dry-run` it only says so.
+#[tactic(auto, using(crate::proofs::Left::unchanged_by))]
+fn take<F: StageFolder>(
+    alloc: Global,
+    folder: &mut F,
+    step: &StagingStep,
+    dry_run: bool,
+    lines: &mut Lines,
+) -> Result<(), Stop>
+    ensures done { OnOk result (dry_run ≡ false → Performs step.now (F.records folder.old)
+        (F.records folder.new) (F.files folder.old) (F.files folder.new)) }
+    ensures stopped { IfErr result (λ stop. LeftBy stop (F.records folder.old)
+        (F.records folder.new) (F.files folder.old) (F.files folder.new)) }
+    ensures unchanged { dry_run ≡ true → IsUnchanged (F.records folder.old)
+        (F.records folder.new) (F.files folder.old) (F.files folder.new) }
+{
+    if step.files.is_empty() {
+        lines.text.push("the files are so already\n");
+    }
+    if dry_run {
+        push_files(&mut lines.text, "would replace", &step.files);
+        return Ok(());
+    }
+    if !lines.are_complete() {
+        return Err(Stop::Memory);
+    }
+    match perform_step(alloc, folder, step) {
+        Ok(()) => {
+            push_files(&mut lines.text, "replaced", &step.files);
+            Ok(())
+        }
+        Err(stop) => Err(stop),
+    }
+}
+
+/// Records and performs a step of this number that replaces these files. It does nothing for
+/// `--dry-run`, and records none that replaces no file.
+#[tactic(auto, using(crate::proofs::Left::takes_by))]
+pub(crate) fn take_step<R, D, F>(
+    call: &StageCall<'_, R, D>,
+    folder: &mut F,
+    number: u32,
+    action: StepAction,
+    files: Vec<ReplacedFile>,
+    lines: &mut Lines,
+) -> Result<(), Stop>
+where
+    R: AllocGlobal + Clock,
+    F: StageFolder,
+    ensures done { OnOk result (call.now.options.now.dry_run ≡ false → Takes number action
+        files.items (F.records folder.old) (F.records folder.new) (F.files folder.old)
+        (F.files folder.new)) }
+    ensures stopped { IfErr result (λ stop. LeftBy stop (F.records folder.old)
+        (F.records folder.new) (F.files folder.old) (F.files folder.new)) }
+    ensures unchanged { call.now.options.now.dry_run ≡ true → IsUnchanged (F.records folder.old)
+        (F.records folder.new) (F.files folder.old) (F.files folder.new) }
+{
+    let step = StagingStep {
+        number,
+        time: now_of(call.rt),
+        action,
+        files,
+        is_undone: false,
+    };
+    let taken = take(call.rt.alloc(), folder, &step, call.options.dry_run, lines);
+    drop(step);
+    match taken {
+        Ok(()) => Ok(()),
+        Err(stop) => Err(stop),
+    }
+}
+
+/// The same for at most one file.
+#[tactic(auto, using(crate::proofs::Left::unchanged_by, crate::proofs::Left::takes_files))]
+pub(crate) fn take_file<R, D, F>(
+    call: &StageCall<'_, R, D>,
+    folder: &mut F,
+    number: u32,
+    action: StepAction,
+    file: Option<ReplacedFile>,
+    lines: &mut Lines,
+) -> Result<(), Stop>
+where
+    R: AllocGlobal + Clock,
+    F: StageFolder,
+    ensures done { OnOk result (call.now.options.now.dry_run ≡ false → Takes number action
+        (option_to_list file) (F.records folder.old) (F.records folder.new) (F.files folder.old)
+        (F.files folder.new)) }
+    ensures stopped { IfErr result (λ stop. LeftBy stop (F.records folder.old)
+        (F.records folder.new) (F.files folder.old) (F.files folder.new)) }
+    ensures unchanged { call.now.options.now.dry_run ≡ true → IsUnchanged (F.records folder.old)
+        (F.records folder.new) (F.files folder.old) (F.files folder.new) }
+{
+    match files_of(call.rt.alloc(), file) {
+        Ok(files) => match take_step(call, folder, number, action, files, lines) {
+            Ok(()) => Ok(()),
+            Err(stop) => Err(stop),
+        },
+        Err(_) => {
+            drop(action);
+            Err(Stop::Memory)
+        }
+    }
+}
