@@ -1,1 +1,3 @@
 pub mod Continue
+pub mod Noted
+pub mod Kept

@@ -5,12 +5,14 @@
 // are compared, and what doesn't agree isn't returned. So no lemma is about texts of JSON.
 
 mod laws;
+mod noting;
 mod places;
 mod spelling;
 mod state_reader;
 mod state_writer;
 
-pub use laws::counts_continue;
+pub use laws::{counts_continue, keeping_is_transitive};
+pub use noting::note_place;
 pub use places::LogPlace;
 pub use state_reader::{ReportState, read_state};
 pub use state_writer::state_text;

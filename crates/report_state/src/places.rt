@@ -1,10 +1,15 @@
 //! The part of a log that was counted before, and its record in a state.
 
+ghost use Rattle.std.specs.Prelude.{IfOk, IfSome};
+ghost use Rattle.report_state.specs.Places.{AreApart};
+
+use crate::noting::note_place;
 use hex::FromHexError;
 use json_value::ObjectBuilder;
 use report::{list_in, number_in, text_in};
 use serde_json::Value;
 use std::alloc::{AllocError, Global};
+use std::marker::Model;
 
 /// The place in a log up to which its lines are counted.
 #[derive(Drop)]
@@ -13,6 +18,14 @@ pub struct LogPlace {
     pub beginning: Vec<u8>,
     /// The number of counted bytes.
     pub counted: u64,
+}
+
+impl Model for LogPlace {
+    ghost use Rattle.report_state.specs.Places as specs;
+
+    ghost Value = { specs.LogPlace };
+
+    ghost view = { λ p. record { beginning = p.beginning.items; counted = p.counted } };
 }
 
 // Adds the place that a value says, and returns whether it says one.
@@ -33,8 +46,8 @@ fn add_place(alloc: Global, places: &mut Vec<LogPlace>, value: &Value) -> Result
     }
 }
 
-/// The places of a state's member `logs`; none if one of them is malformed.
-pub(crate) fn places_in(alloc: Global, state: &Value) -> Result<Option<Vec<LogPlace>>, AllocError> {
+// The places that values say; none if one of them is malformed.
+fn said_places(alloc: Global, state: &Value) -> Result<Option<Vec<LogPlace>>, AllocError> {
     let Some(values) = list_in(state, "logs") else {
         return Ok(None);
     };
@@ -45,6 +58,29 @@ pub(crate) fn places_in(alloc: Global, state: &Value) -> Result<Option<Vec<LogPl
         }
     }
     Ok(Some(places))
+}
+
+// The places in their order, those that begin alike joined into one.
+fn apart(alloc: Global, said: Vec<LogPlace>) -> Result<Vec<LogPlace>, AllocError>
+    ensures { IfOk result (λ places. AreApart places.items) }
+{
+    let mut places = Vec::new(alloc);
+    let mut left = said;
+    while let Some(place) = left.pop() {
+        places = note_place(alloc, places, place)?;
+    }
+    Ok(places)
+}
+
+/// The places of a state's member `logs`; none if one of them is malformed. States of earlier
+/// versions may have two places in one log.
+pub(crate) fn places_in(alloc: Global, state: &Value) -> Result<Option<Vec<LogPlace>>, AllocError>
+    ensures { IfOk result (λ o. IfSome o (λ places. AreApart places.items)) }
+{
+    match said_places(alloc, state)? {
+        Some(said) => Ok(Some(apart(alloc, said)?)),
+        None => Ok(None),
+    }
 }
 
 fn place_value(alloc: Global, place: &LogPlace) -> Result<Value, AllocError> {

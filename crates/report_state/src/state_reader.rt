@@ -2,6 +2,7 @@
 
 ghost use Rattle.std.specs.Prelude.{IfOk, IfSome};
 ghost use Rattle.serde_json.specs.View.{view};
+ghost use Rattle.report_state.specs.Places.{AreApart};
 ghost use Rattle.report_state.specs.States.{HasCounts, SpellsCounts};
 
 use crate::places::{LogPlace, places_in};
@@ -88,7 +89,9 @@ fn report_of(alloc: Global, state: &Value) -> Result<Option<Report>, AllocError>
 }
 
 fn state_of(alloc: Global, state: &Value) -> Result<Option<ReportState>, AllocError>
-    ensures { IfOk result (λ o. IfSome o (λ s. HasCounts s.report (view state.now))) }
+    ensures counts { IfOk result
+        (λ o. IfSome o (λ s. HasCounts s.report (view state.now))) }
+    ensures apart { IfOk result (λ o. IfSome o (λ s. AreApart s.places.items)) }
 {
     let Some(places) = places_in(alloc, state)? else {
         return Ok(None);
@@ -99,10 +102,14 @@ fn state_of(alloc: Global, state: &Value) -> Result<Option<ReportState>, AllocEr
     }
 }
 
-/// The state that these bytes spell; none if they spell no state, or one with other limits.
-// open: whether an allocation fails, its one error; the places; and whether there is none.
+/// The state that these bytes spell; none if they spell no state, or one with other limits. Of
+/// places in one log the last counts.
+// open: whether an allocation fails, its one error; which places there are; and whether there is
+// none.
 pub fn read_state(alloc: Global, bytes: &[u8]) -> Result<Option<ReportState>, AllocError>
-    ensures { IfOk result (λ o. IfSome o (λ state. SpellsCounts bytes.now state.report)) }
+    ensures counts { IfOk result
+        (λ o. IfSome o (λ state. SpellsCounts bytes.now state.report)) }
+    ensures apart { IfOk result (λ o. IfSome o (λ state. AreApart state.places.items)) }
 {
     match read_json(alloc, bytes)? {
         Some(value) => {
