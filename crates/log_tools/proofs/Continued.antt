@@ -3,6 +3,7 @@ use Rattle.std.proofs.Common.{◌≡◌, ℕ, List, Option, None}
 use Rattle.report.specs.declared.counting.Report.{Report}
 use Rattle.report.specs.declared.metrics.MetricKind.TheVariants.{Counter}
 use Rattle.report.specs.declared.window.Window.{Window}
+use Rattle.report_state.specs.Places.{AreApart, KeepsApart, LogPlace}
 use Rattle.report_state.specs.States.{SpellsCounts}
 use Rattle.log_tools.specs.Continued.{BeginsFrom, Continues, HasContinued}
 use Rattle.log_tools.specs.Reports.{CountsLogs, IsWindowOf, text_by}
@@ -11,8 +12,9 @@ use Rattle.log_tools.specs.declared.report_form.ReportForm.{ReportForm}
 pub continues : (n : ℕ) (form : ReportForm) (begun report : Report) (text state : List ℕ)
     (window : Window) → IsWindowOf None None window → CountsLogs window n begun report
     → text ≡ text_by form Counter report → SpellsCounts state report
-    → Continues n form begun report text
-continues n form begun report text state window all reads text_is spelled = record {
+    → (old new : List LogPlace) → KeepsApart old new
+    → Continues n form begun report old text
+continues n form begun report text state window all reads text_is spelled old new kept = record {
   window = window;
   window_is = all;
   parts = reads.logs;
@@ -21,15 +23,19 @@ continues n form begun report text state window all reads text_is spelled = reco
   text_is = text_is;
   new_state = state;
   spelled = spelled;
+  new = new;
+  kept = kept;
 }
 
 pub has_continued : (n : ℕ) (form : ReportForm) (text : List ℕ) (state : Option (List ℕ))
-    (begun report : Report) → BeginsFrom state begun → Continues n form begun report text
-    → HasContinued n form text
-has_continued n form text state begun report begins continues = record {
+    (begun report : Report) (old : List LogPlace) → BeginsFrom state begun → AreApart old
+    → Continues n form begun report old text → HasContinued n form text
+has_continued n form text state begun report old begins apart continues = record {
   state = state;
   begun = begun;
   begins = begins;
+  old = old;
+  apart = apart;
   report = report;
   continues = continues;
 }

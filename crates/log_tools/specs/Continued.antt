@@ -7,6 +7,7 @@ use Rattle.report.specs.Reading.{CountsLines}
 use Rattle.report.specs.declared.counting.Report.{Report}
 use Rattle.report.specs.declared.metrics.MetricKind.TheVariants.{Counter}
 use Rattle.report.specs.declared.window.Window.{Window}
+use Rattle.report_state.specs.Places.{AreApart, KeepsApart, LogPlace}
 use Rattle.report_state.specs.States.{SpellsCounts}
 use Rattle.log_tools.specs.Reports.{IsWindowOf, text_by}
 use Rattle.log_tools.specs.declared.report_form.ReportForm.{ReportForm}
@@ -17,8 +18,9 @@ BeginsFrom None r = (window : Window) → Counts window [] false r
 BeginsFrom (Some bytes) r = SpellsCounts bytes r
 
 -- The report that counts what `begun` counted, and then the lines of a part of each of `n` logs. The
--- new state spells it.
-pub record Continues (n : ℕ) (form : ReportForm) (begun report : Report) (text : List ℕ) : Type 0 where
+-- new state spells it. Its places are `old` after these parts, up to 1000 unless more logs are named.
+pub record Continues (n : ℕ) (form : ReportForm) (begun report : Report) (old : List LogPlace)
+    (text : List ℕ) : Type 0 where
   pub window : Window
   pub window_is : IsWindowOf None None window
   pub parts : List (List ℕ)
@@ -27,11 +29,15 @@ pub record Continues (n : ℕ) (form : ReportForm) (begun report : Report) (text
   pub text_is : text ≡ text_by form Counter report
   pub new_state : List ℕ
   pub spelled : SpellsCounts new_state report
+  pub new : List LogPlace
+  pub kept : KeepsApart old new
 
 -- it begins from a state
 pub record HasContinued (n : ℕ) (form : ReportForm) (text : List ℕ) : Type 0 where
   pub state : Option (List ℕ)
   pub begun : Report
   pub begins : BeginsFrom state begun
+  pub old : List LogPlace
+  pub apart : AreApart old
   pub report : Report
-  pub continues : Continues n form begun report text
+  pub continues : Continues n form begun report old text

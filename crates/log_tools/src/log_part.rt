@@ -1,13 +1,14 @@
 //! The part of a log that isn't counted yet. It begins at the last report's end, and ends with the
 //! last line feed.
 
-ghost use Rattle.std.specs.Prelude.{◌≤◌, length};
+ghost use Rattle.std.specs.Prelude.{◌≤◌, IfOk, length};
+ghost use Rattle.report_state.specs.Places.{KeepsApart};
 
 use memchr::memrchr;
-use report_state::LogPlace;
-use std::alloc::{AllocError, Global};
+use report_state::{LogPlace, keeping_is_transitive, note_place};
+use std::alloc::Global;
 use std::fs::OpenFile;
-use std::io::{self, Read, Seek, SeekFrom};
+use std::io::{self, Error, ErrorKind, Read, Seek, SeekFrom};
 
 /// How many of a log's first bytes are kept, by which it is found again.
 const BEGINNING: u64 = 256;
@@ -15,106 +16,118 @@ const BEGINNING: u64 = 256;
 /// How many bytes are searched at a time for a line feed.
 const PIECE: u64 = 0x1_0000;
 
-/// How many places a state has, unless a call names more logs. A log that was left out for the
-/// longest time goes first.
-const MOST_PLACES: usize = 1000;
-
-/// A part of a log, by the numbers of bytes before its first byte and up to its last one.
+/// A part of a log that isn't counted yet: `length` bytes from `start` on; and the place after it.
 #[derive(Drop)]
 struct LogPart {
-    /// The first bytes of the log.
-    beginning: Vec<u8>,
     start: u64,
-    end: u64,
+    length: u64,
+    place: LogPlace,
 }
 
-/// Moves to the part of a log that isn't counted, by the old and the new places, and returns its
-/// length. Adds the place after it to the new ones.
+/// The places in logs, and the length of a part of a log.
+#[derive(Drop)]
+pub(crate) struct BegunPart {
+    pub(crate) places: Vec<LogPlace>,
+    pub(crate) length: u64,
+}
+
+/// Moves to the part of a log that isn't counted, by the places so far, and returns its length.
+/// Notes the place after it. The log must be a regular file.
 pub(crate) fn begin_part<F: Read + Seek + OpenFile>(
     alloc: Global,
     file: &mut F,
-    old: &[LogPlace],
-    new: &mut Vec<LogPlace>,
-) -> io::Result<u64> {
-    let part = part_of(alloc, file, &[old, new.as_slice()])?;
-    let length = part.end.saturating_sub(part.start);
-    new.push(LogPlace {
-        beginning: part.beginning,
-        counted: part.end,
-    })?;
-    file.seek(SeekFrom::Start(part.start))?;
-    Ok(length)
+    places: Vec<LogPlace>,
+) -> io::Result<BegunPart>
+    ensures { IfOk result (λ begun. KeepsApart places.items begun.places.items) }
+{
+    let Some(part) = part_of(alloc, file, places.as_slice())? else {
+        keeping_is_transitive();
+        return Ok(BegunPart { places, length: 0 });
+    };
+    let LogPart {
+        start,
+        length,
+        place,
+    } = part;
+    let places = note_place(alloc, places, place)?;
+    file.seek(SeekFrom::Start(start))?;
+    Ok(BegunPart { places, length })
 }
 
 // The part that isn't counted, by these places. A log that begins like a place continues there. If
-// it isn't longer, it may be a copy that isn't finished, and nothing of it is read.
+// it isn't longer, it may be a copy that isn't finished, and nothing of it is read. The same
+// holds of a log without lines, and of one whose lines are only the first ones of a known log.
 fn part_of<F: Read + Seek + OpenFile>(
     alloc: Global,
     file: &mut F,
-    places: &[&[LogPlace]],
-) -> io::Result<LogPart> {
-    let length = file.metadata()?.len();
+    places: &[LogPlace],
+) -> io::Result<Option<LogPart>> {
+    let found = file.metadata()?;
+    if !found.is_file() {
+        return Err(Error::from(ErrorKind::InvalidInput));
+    }
+    let length = found.len();
     let mut beginning = bytes_at(alloc, file, 0, BEGINNING)?;
     let start = match place_of(places, beginning.as_slice()) {
-        Some(place) if length <= place.counted => return part_at(alloc, place),
+        Some(place) if length <= place.counted => return empty_part(alloc, place),
         Some(place) => place.counted,
         None => 0,
     };
     let end = end_of_lines(alloc, file, start, length)?;
     beginning.truncate(end.min(BEGINNING) as usize);
-    Ok(LogPart {
-        beginning,
+    if beginning.is_empty() || begins_one(places, beginning.as_slice()) {
+        return Ok(None);
+    }
+    Ok(Some(LogPart {
         start,
-        end,
-    })
+        length: end.saturating_sub(start),
+        place: LogPlace {
+            beginning,
+            counted: end,
+        },
+    }))
 }
 
 // The empty part at a place.
-fn part_at(alloc: Global, place: &LogPlace) -> io::Result<LogPart> {
-    Ok(LogPart {
-        beginning: Vec::from_slice(alloc, place.beginning.as_slice())?,
+fn empty_part(alloc: Global, place: &LogPlace) -> io::Result<Option<LogPart>> {
+    Ok(Some(LogPart {
         start: place.counted,
-        end: place.counted,
-    })
+        length: 0,
+        place: LogPlace {
+            beginning: Vec::from_slice(alloc, place.beginning.as_slice())?,
+            counted: place.counted,
+        },
+    }))
 }
 
-/// Appends the old places in logs that aren't among these. So a log that a call leaves out isn't
-/// counted again by a later one.
-pub(crate) fn keep_others(
-    alloc: Global,
-    old: &[LogPlace],
-    places: &mut Vec<LogPlace>,
-) -> Result<(), AllocError> {
-    for place in old {
-        let beginning = place.beginning.as_slice();
-        if places.len() < MOST_PLACES && place_of(&[places.as_slice()], beginning).is_none() {
-            places.push(LogPlace {
-                beginning: Vec::from_slice(alloc, beginning)?,
-                counted: place.counted,
-            })?;
-        }
-    }
-    Ok(())
-}
-
-// Of the places in a log with these first bytes the one with the most counted bytes.
-fn place_of<'a>(places: &[&'a [LogPlace]], first: &[u8]) -> Option<&'a LogPlace> {
+// Of the places in a log with these first bytes the one with the most counted bytes; none in a log
+// without bytes.
+fn place_of<'a>(places: &'a [LogPlace], first: &[u8]) -> Option<&'a LogPlace> {
     let mut found = None;
     let mut counted = 0;
-    for list in places {
-        for place in *list {
-            if begins_alike(place.beginning.as_slice(), first) && place.counted > counted {
-                counted = place.counted;
-                found = Some(place);
-            }
+    for place in places {
+        if begins_alike(place.beginning.as_slice(), first) && place.counted > counted {
+            counted = place.counted;
+            found = Some(place);
         }
     }
     found
 }
 
-// Whether one is a prefix of the other.
+// Whether neither is empty, and one is a prefix of the other.
 fn begins_alike(one: &[u8], other: &[u8]) -> bool {
-    one.starts_with(other) || other.starts_with(one)
+    !one.is_empty() && !other.is_empty() && (one.starts_with(other) || other.starts_with(one))
+}
+
+// Whether a known log begins with these bytes, and more of it is known.
+fn begins_one(places: &[LogPlace], first: &[u8]) -> bool {
+    for place in places {
+        let beginning = place.beginning.as_slice();
+        if beginning.len() > first.len() && beginning.starts_with(first) {
+            return true;
+        }
+    }
+    false
 }
 
 // The number of bytes up to the last line feed between the two places; `start` if there is none.

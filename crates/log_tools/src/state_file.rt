@@ -1,6 +1,7 @@
 //! The file of a state.
 
 ghost use Rattle.std.specs.Prelude.{IfOk};
+ghost use Rattle.report_state.specs.Places.{AreApart};
 ghost use Rattle.log_tools.specs.Continued.{BeginsFrom};
 ghost use Rattle.std.specs.Prelude.{option_map};
 
@@ -16,19 +17,51 @@ use std::rt::Files;
 /// The most bytes of a state: 256 MiB.
 const MOST_STATE: u32 = 0x1000_0000;
 
-/// Locks the file of a state until the result is dropped. A file that doesn't exist is made, empty.
-/// Returns B10 if another report has the lock, or has just replaced the file.
-pub(crate) fn lock_state<R: Files<File = File>>(rt: &R, path: &str) -> Result<File, ReportFault> {
-    let mut options = OpenOptions::new();
-    options.read(true).write(true).create(true);
-    let Ok(file) = options.open(rt, path) else {
+/// The locked file of a state.
+#[derive(Drop)]
+pub(crate) struct StateLock {
+    _file: File,
+    is_made: bool,
+}
+
+/// Locks the file of a state. A file that doesn't exist is made, empty. Returns B10 if another report
+/// has the lock, or has just replaced the file.
+pub(crate) fn lock_state<R: Files<File = File>>(
+    rt: &R,
+    path: &str,
+) -> Result<StateLock, ReportFault> {
+    let made = state_options().create_new(true).open(rt, path);
+    let is_made = made.is_ok();
+    let opened = match made {
+        Ok(file) => Ok(file),
+        Err(_) => state_options().open(rt, path),
+    };
+    let Ok(file) = opened else {
         return Err(ReportFault::Resource(ResourceFault::File));
     };
     match file.try_lock() {
-        Ok(()) if is_at(rt, &file, path) => Ok(file),
+        Ok(()) if is_at(rt, &file, path) => Ok(StateLock {
+            _file: file,
+            is_made,
+        }),
         Ok(()) => Err(ReportFault::Locked),
         Err(TryLockError::WouldBlock) => Err(ReportFault::Locked),
         Err(_) => Err(ReportFault::Resource(ResourceFault::File)),
+    }
+}
+
+fn state_options() -> OpenOptions {
+    let mut options = OpenOptions::new();
+    options.read(true).write(true);
+    options
+}
+
+impl StateLock {
+    /// Ends the lock. If the report is refused, a file that was made for it is removed.
+    pub(crate) fn release<R: Files>(self, rt: &R, path: &str, is_done: bool) {
+        if self.is_made && !is_done {
+            let _gone = fs::remove_file(rt, path);
+        }
     }
 }
 
@@ -55,8 +88,9 @@ pub(crate) fn found_state<R: Files + AllocGlobal>(
 
 /// The state with which a report begins. Returns B9 if the bytes spell none.
 pub(crate) fn begun_state(alloc: Global, found: Option<Vec<u8>>) -> Result<ReportState, ReportFault>
-    ensures { IfOk result
+    ensures counts { IfOk result
         (λ state. BeginsFrom (option_map (λ bytes. bytes.items) found) state.report) }
+    ensures apart { IfOk result (λ state. AreApart state.places.items) }
 {
     let Some(bytes) = found else {
         let Ok(report) = Report::new(alloc, false) else {

@@ -1,6 +1,8 @@
+use Rattle.report_state.specs.Places.{KeepsApart}
 use Rattle.log_tools.specs.Reports.{CountsLogs}
 use Rattle.log_tools.proofs.continuing.count_parts.Given as goal
 
--- the parts of the logs so far are counted
+-- the parts of the logs so far are counted, and no place is forgotten
 abbrev pub invariant-loop-path : goal.invariant-loop-path
 invariant-loop-path g l = CountsLogs l.window l.path-index l.fn.report l.report
+    × KeepsApart l.initial.places.items l.places.items
