@@ -10,7 +10,7 @@ use crate::comparing::compare_app;
 use crate::opened::OpenedBoth;
 use crate::outcome::{AppChange, AppOutcome};
 use load::{JudgedApp, JudgedManifest};
-use rule_space::{Bounds, CellBound};
+use rule_space::{Bounds, CellBound, Work};
 use std::alloc::{AllocError, Global};
 
 /// The comparison of an app.
@@ -61,6 +61,7 @@ fn diff_app(
     both: &OpenedBoth,
     within: &Within<'_>,
     appid: &str,
+    work: &mut Work,
 ) -> Result<AppDiff, AllocError>
     requires { AreKept both.now }
     ensures diff { IfOk result (specs.IsAppDiff both.now within.now.from_day
@@ -76,7 +77,7 @@ fn diff_app(
     };
     let appid = String::from_str(alloc, appid)?;
     let change = AppChange::of(old, new);
-    let outcome = compare_app(alloc, &bounds, old, new)?;
+    let outcome = compare_app(alloc, &bounds, old, new, work)?;
     Ok(AppDiff {
         appid,
         change,
@@ -92,6 +93,7 @@ fn add_app(
     within: &Within<'_>,
     only: Option<&str>,
     appid: &str,
+    work: &mut Work,
 ) -> Result<(), AllocError>
     requires { AreKept both.now }
     ensures { OnOk result (adding.AddsDiffs both.now within.now.from_day within.now.used.now
@@ -100,7 +102,7 @@ fn add_app(
     if !is_reported(only, appid) {
         return Ok(());
     }
-    let diff = diff_app(alloc, both, within, appid)?;
+    let diff = diff_app(alloc, both, within, appid, work)?;
     diffs.push(diff)?;
     Ok(())
 }
@@ -112,6 +114,7 @@ fn add_new(
     both: &OpenedBoth,
     within: &Within<'_>,
     only: Option<&str>,
+    work: &mut Work,
 ) -> Result<(), AllocError>
     requires { AreKept both.now }
     ensures { OnOk result (adding.AddsDiffs both.now within.now.from_day within.now.used.now
@@ -120,7 +123,15 @@ fn add_new(
 {
     let mut left: &[JudgedApp] = &both.new.apps;
     while let [app, others @ ..] = left {
-        add_app(alloc, diffs, both, within, only, app.sources.entry.appid())?;
+        add_app(
+            alloc,
+            diffs,
+            both,
+            within,
+            only,
+            app.sources.entry.appid(),
+            work,
+        )?;
         left = others;
     }
     Ok(())
@@ -133,6 +144,7 @@ fn add_gone(
     both: &OpenedBoth,
     within: &Within<'_>,
     only: Option<&str>,
+    work: &mut Work,
 ) -> Result<(), AllocError>
     requires { AreKept both.now }
     ensures { OnOk result (adding.AddsDiffs both.now within.now.from_day within.now.used.now
@@ -142,14 +154,23 @@ fn add_gone(
     let mut left: &[JudgedApp] = &both.old.apps;
     while let [app, others @ ..] = left {
         if !has_appid(&both.new, app.sources.entry.appid()) {
-            add_app(alloc, diffs, both, within, only, app.sources.entry.appid())?;
+            add_app(
+                alloc,
+                diffs,
+                both,
+                within,
+                only,
+                app.sources.entry.appid(),
+                work,
+            )?;
         }
         left = others;
     }
     Ok(())
 }
 
-/// The comparison of all apps, or of one: the apps of NEW, and then those that are gone.
+/// The comparison of all apps, or of one: the apps of NEW, and then those that are gone. They share
+/// the work that a call may take.
 #[tactic(auto, using(crate::proofs::Reported::are_diffs))]
 pub(crate) fn diff_apps(
     alloc: Global,
@@ -162,8 +183,9 @@ pub(crate) fn diff_apps(
         within.now.used.now (option_copied only.entry) v.items) }
 {
     let mut diffs = Vec::new(alloc);
-    add_new(alloc, &mut diffs, both, within, only)?;
-    add_gone(alloc, &mut diffs, both, within, only)?;
+    let mut work = Work::of_call();
+    add_new(alloc, &mut diffs, both, within, only, &mut work)?;
+    add_gone(alloc, &mut diffs, both, within, only, &mut work)?;
     Ok(diffs)
 }
 

@@ -15,7 +15,7 @@ use cells::Shape;
 use diff_text::{AppRows, app_rows};
 use load::JudgedApp;
 use rule_diff::{Contents, compare, contents_of};
-use rule_space::{Bounds, RuleSide};
+use rule_space::{Bounds, RuleSide, Work};
 use std::alloc::{AllocError, Global};
 
 // The rows of two sides, as they are shown; none if the search gave up.
@@ -26,6 +26,7 @@ fn rows_of(
     old: Option<&JudgedApp>,
     new: Option<&JudgedApp>,
     contents: &Contents,
+    work: &mut Work,
 ) -> Result<Option<AppRows>, AllocError>
     requires contents { HasContents (option_copied old) (option_copied new)
         contents.now }
@@ -36,7 +37,7 @@ fn rows_of(
     ensures { IfOk result (λ rows. IfSome rows (specs.ShowsRows (scope_of bounds.now)
         (option_copied old.entry) (option_copied new.entry))) }
 {
-    let Some(diff) = compare(alloc, bounds, sides.0, sides.1)? else {
+    let Some(diff) = compare(alloc, bounds, sides.0, sides.1, work)? else {
         return Ok(None);
     };
     let shown = app_rows(
@@ -59,6 +60,7 @@ fn rows_if_any<'x>(
     old: Option<&'x JudgedApp>,
     new: Option<&'x JudgedApp>,
     contents: &'x Contents,
+    work: &mut Work,
 ) -> Result<Option<AppRows>, AllocError>
     requires { HasContents (option_copied old) (option_copied new) contents.now }
     ensures { IfOk result (λ rows. IfSome rows (specs.ShowsRows (scope_of bounds.now)
@@ -71,7 +73,15 @@ fn rows_if_any<'x>(
     let Some(new_side) = side_in(&plain, new, &contents.new) else {
         return Ok(None);
     };
-    rows_of(alloc, bounds, (&old_side, &new_side), old, new, contents)
+    rows_of(
+        alloc,
+        bounds,
+        (&old_side, &new_side),
+        old,
+        new,
+        contents,
+        work,
+    )
 }
 
 // Whether both manifests have the app with the same rule.
@@ -98,12 +108,14 @@ fn have_same_program(old: Option<&JudgedApp>, new: Option<&JudgedApp>, contents:
     }
 }
 
-/// The outcome for an app. Equal rules are found without a search, however large they are.
+/// The outcome for an app, within the work that is left. Equal rules are found without a search,
+/// however large they are.
 pub(crate) fn compare_app(
     alloc: Global,
     bounds: &Bounds<'_>,
     old: Option<&JudgedApp>,
     new: Option<&JudgedApp>,
+    work: &mut Work,
 ) -> Result<AppOutcome, AllocError>
     requires old { IfSome (option_copied old) IsJudgedApp }
     requires new { IfSome (option_copied new) IsJudgedApp }
@@ -114,7 +126,7 @@ pub(crate) fn compare_app(
     if have_same_rule(old, new, &contents) {
         return Ok(AppOutcome::Same);
     }
-    match rows_if_any(alloc, bounds, old, new, &contents)? {
+    match rows_if_any(alloc, bounds, old, new, &contents, work)? {
         Some(rows) => Ok(AppOutcome::Rows(rows)),
         None => {
             if have_same_program(old, new, &contents) {

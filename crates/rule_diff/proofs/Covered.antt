@@ -3,10 +3,10 @@
 use Rattle.std.proofs.Common.{◌≡◌, ℕ, ◌+◌, ◌<◌, ◌≤◌, List, [], ◌∷◌, ◌++◌, length}
 use Rattle.std.proofs.Common.{Bor}
 use Rattle.std.proofs.Common.{inl, inr, ⊎_elim, refl, sym, subst, arith}
-use Rattle.std.specs.Prelude.{◌⊎◌, All, true, false, Some}
+use Rattle.std.specs.Prelude.{◌⊎◌, All, Bool, Option, true, false, Some}
 use Rattle.std.specs.Prelude.{nat_le, slice_get, slice_index, slice_set}
 use Rattle.std.specs.Slice.{IsItemAt}
-use Rattle.std.proofs.lemmas.Bool.{both_ways, cases_eq, false≢true}
+use Rattle.std.proofs.lemmas.Bool.{cases_eq, false≢true}
 use Rattle.std.proofs.lemmas.List.Elements.{Contains-append_left, Contains-push}
 use Rattle.std.proofs.lemmas.List.Elements.{Contains-push_cases, All-weaker}
 use Rattle.std.proofs.lemmas.List.Sums.{count_by-le-length}
@@ -24,10 +24,10 @@ use Rattle.rule_diff.specs.declared.plan_run.PlanRun.{PlanRun}
 use Rattle.rule_diff.specs.declared.plan_run.PlanRun.TheVariants.{Gives, Needs, Unclear}
 use Rattle.rule_diff.specs.Classes.{Agrees, Class, Covers}
 use Rattle.rule_diff.specs.Search.{LosesNoMachine, IsPending, HasTuples}
-use Rattle.rule_diff.specs.Search.{pair_run, may_have}
+use Rattle.rule_diff.specs.Search.{is_possible, pair_run}
 use Rattle.rule_diff.specs.Stack.{plan_run}
 use Rattle.rule_diff.specs.Truths.{PartialPlace}
-use Rattle.rule_diff.proofs.PartialPlaces.{agrees_more, may_have_place}
+use Rattle.rule_diff.proofs.PartialPlaces.{agrees_more}
 use Rattle.rule_diff.proofs.PlanRuns.{run_is}
 use Rattle.rule_diff.proofs.Tests.{place_at}
 
@@ -58,14 +58,6 @@ is_added left partial more d segment is place agrees here =
     has_newest left more place (subst (λ (k : PartialPlace). Agrees place k) (sym is)
     (agrees_more place partial d segment agrees here))
 
-pub not_added : (groups : List Group) (partial more : PartialPlace) (d segment : ℕ)
-    → more ≡ slice_set partial d (Some segment) → may_have d groups more ≡ false → (place : List ℕ)
-    → Agrees place partial → HasTuples groups place → slice_index place d ≡ segment → ⊥
-not_added groups partial more d segment is none place agrees tuples here =
-    let may = may_have_place place more (subst (λ (k : PartialPlace). Agrees place k) (sym is)
-    (agrees_more place partial d segment agrees here)) d groups tuples in
-    both_ways (may_have d groups more) none may
-
 -- it is left, or agrees with the newest
 newest_or_left : (left : List PartialPlace) (k : PartialPlace) (place : List ℕ)
     → IsPending (left ++ k ∷ []) place → IsPending left place ⊎ Agrees place k
@@ -80,37 +72,38 @@ has_nothing place has = let h = has.there.1 in absurd (omega (arith, h))
 -- ---- the segments of a dimension
 
 -- places that were left are left, and so is the partial place with each
--- segment from `from` on
-pub record IsSplit (groups : List Group) (partial : PartialPlace) (d segments from : ℕ)
+-- possible segment from `from` on
+pub record IsSplit (possible : Option (List Bool)) (partial : PartialPlace) (d segments from : ℕ)
     (old new : List PartialPlace)
     : Type 0 where
   pub kept : (place : List ℕ) → IsPending old place → IsPending new place
-  pub all : (place : List ℕ) → Agrees place partial → HasTuples groups place
+  pub all : (place : List ℕ) → Agrees place partial
+      → is_possible possible (slice_index place d) ≡ true
       → from ≤ slice_index place d → slice_index place d < segments → IsPending new place
 
-pub split_none : (groups : List Group) (partial : PartialPlace) (d segments : ℕ)
+pub split_none : (possible : Option (List Bool)) (partial : PartialPlace) (d segments : ℕ)
     (old : List PartialPlace)
-    → IsSplit groups partial d segments segments old old
-split_none groups partial d segments old = record {
+    → IsSplit possible partial d segments segments old old
+split_none possible partial d segments old = record {
   kept = λ place has. has;
-  all = λ place agrees tuples from to. absurd (omega (arith, from, to));
+  all = λ place agrees may from to. absurd (omega (arith, from, to));
 }
 
 above : (m next n : ℕ) → next ≡ m + 1 → m ≤ n → (n ≡ m → ⊥) → next ≤ n
 above m next n one low apart = omega (arith, one, low, apart)
 
-pub split_one : (groups : List Group) (partial : PartialPlace) (d segments from next : ℕ)
+pub split_one : (possible : Option (List Bool)) (partial : PartialPlace) (d segments from next : ℕ)
     (old mid new : List PartialPlace) → next ≡ from + 1
-    → IsSplit groups partial d segments next old mid
+    → IsSplit possible partial d segments next old mid
     → ((place : List ℕ) → IsPending mid place → IsPending new place)
-    → ((place : List ℕ) → Agrees place partial → HasTuples groups place
+    → ((place : List ℕ) → Agrees place partial → is_possible possible (slice_index place d) ≡ true
     → slice_index place d ≡ from → IsPending new place)
-    → IsSplit groups partial d segments from old new
-split_one groups partial d segments from next old mid new one is kept here = record {
+    → IsSplit possible partial d segments from old new
+split_one possible partial d segments from next old mid new one is kept here = record {
   kept = λ place has. kept place (is.kept place has);
-  all = λ place agrees tuples low high. ⊎_elim
-      (λ (same : slice_index place d ≡ from). here place agrees tuples same)
-      (λ apart. kept place (is.all place agrees tuples
+  all = λ place agrees may low high. ⊎_elim
+      (λ (same : slice_index place d ≡ from). here place agrees may same)
+      (λ apart. kept place (is.all place agrees may
       (above from next (slice_index place d) one low apart) high))
       (cases_eq (slice_index place d) from);
 }

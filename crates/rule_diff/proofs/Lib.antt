@@ -3,6 +3,7 @@ pub mod Tests
 pub mod Runs
 pub mod PlanRuns
 pub mod PartialPlaces
+pub mod Marked
 pub mod Covered
 pub mod Checked
 pub mod Positions

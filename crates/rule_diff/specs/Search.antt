@@ -1,11 +1,11 @@
 -- The search for classes: a list of partial places whose classes are still to be made. No promise
 -- uses this.
 use Rattle.std.specs.Prelude.{ℕ, ◌⊎◌, List, [], ◌∷◌, All, Contains, Option, Some, None}
-use Rattle.std.specs.Prelude.{Bool, true, ◌&&◌, ◌==◌, if◌then◌else◌}
-use Rattle.std.specs.List.{list_all, list_any}
+use Rattle.std.specs.Prelude.{Bool, true, false, ◌&&◌, ◌==◌, if◌then◌else◌}
+use Rattle.std.specs.Prelude.{slice_index_or, slice_set}
 use Rattle.attrs.specs.Attributes.{Attributes}
 use Rattle.rule_space.specs.Coordinates.{place_of}
-use Rattle.rule_space.specs.Groups.{Group, HasTuple, all_cells, cells_at}
+use Rattle.rule_space.specs.Groups.{Group, HasTuple, cells_at}
 use Rattle.rule_space.specs.Machines.{Side, State}
 use Rattle.rule_space.specs.Scopes.{IsWithin, Scope}
 use Rattle.rule_space.specs.Spaces.{IsSpaceOf, Space}
@@ -36,19 +36,35 @@ fits (d ∷ ds) [] partial = true
 fits (d ∷ ds) (segment ∷ segments) partial =
     fits_segment (partial_at partial d) segment && fits ds segments partial
 
--- a tuple of the group has the segments of the partial place
-abbrev pub some_fits : PartialPlace → Group → Bool
-some_fits partial group =
-    list_any (λ segments. fits group.dimensions segments partial) (all_cells group.tuples)
+-- ---- the possible segments of a dimension
 
--- the segment of the dimension is new, so only a group with this dimension may have no tuple left
-abbrev pub may_fit : (dimension : ℕ) → PartialPlace → Group → Bool
-may_fit dimension partial group =
-    if list_any (λ d. d == dimension) group.dimensions then some_fits partial group else true
+-- the segment of a dimension in a tuple
+abbrev pub segment_in : (dimensions segments : List ℕ) → (dimension : ℕ) → Option ℕ
+segment_in [] segments d = None
+segment_in (e ∷ ds) [] d = None
+segment_in (e ∷ ds) (segment ∷ segments) d =
+    if e == d then Some segment else segment_in ds segments d
 
--- each group may have a tuple with the segments
-abbrev pub may_have : (dimension : ℕ) → List Group → PartialPlace → Bool
-may_have dimension groups partial = list_all (may_fit dimension partial) groups
+abbrev pub mark_if : List Bool → Option ℕ → List Bool
+mark_if marks (Some segment) = slice_set marks segment true
+mark_if marks None = marks
+
+-- a tuple with the segments of the partial place marks that of the dimension
+abbrev pub marked_by : (dimensions : List ℕ) → PartialPlace → (dimension : ℕ) → List Bool
+    → (segments : List ℕ) → List Bool
+marked_by ds partial d marks segments =
+    if fits ds segments partial then mark_if marks (segment_in ds segments d) else marks
+
+abbrev pub marked_by_all : (dimensions : List ℕ) → PartialPlace → (dimension : ℕ) → List Bool
+    → (tuples : List (List ℕ)) → List Bool
+marked_by_all ds partial d marks [] = marks
+marked_by_all ds partial d marks (segments ∷ tuples) =
+    marked_by_all ds partial d (marked_by ds partial d marks segments) tuples
+
+-- the segment is marked; without marks each one is possible
+abbrev pub is_possible : Option (List Bool) → (segment : ℕ) → Bool
+is_possible (Some marks) segment = slice_index_or marks segment false
+is_possible None segment = true
 
 -- each group has the tuple of the place
 abbrev pub HasTuples : List Group → (place : List ℕ) → Type 0

@@ -9,7 +9,7 @@ ghost use Rattle.rule_space.specs.Spaces.{IsSpaceOf};
 
 use crate::plan_run::{PairRun, run_pair};
 use crate::splitting::{Pending, split_at};
-use rule_space::Space;
+use rule_space::{Plan, PlanStatement, Space, Work};
 use std::alloc::{AllocError, Global};
 use std::marker::Model;
 
@@ -59,6 +59,7 @@ fn advance(
     classes: &mut Vec<Class>,
     left: &mut Vec<Pending>,
     pending: Pending,
+    work: &mut Work,
 ) -> Result<bool, AllocError>
     ensures { IfOk result (λ done. done ≡ true → specs.LosesNoMachine space.now classes.old.items
         (left.old.items ++ pending ∷ []) classes.new.items left.new.items) }
@@ -68,7 +69,7 @@ fn advance(
             add_class(classes, pending, now, next)?;
             Ok(true)
         }
-        PairRun::Needs(dimension) => split_at(alloc, space, left, &pending, dimension),
+        PairRun::Needs(dimension) => split_at(alloc, space, left, &pending, dimension, work),
         PairRun::Unclear => Ok(false),
     }
 }
@@ -85,7 +86,7 @@ fn first_pending(alloc: Global, space: &Space) -> Result<Pending, AllocError>
 fn step_cost(space: &Space) -> usize
     ensures { 1 ≤ result }
 {
-    let mut cost = space.dimensions.len() / 100;
+    let mut cost = space.dimensions.len() / 50;
     for group in &space.groups {
         let segments = group.tuples.len().saturating_mul(group.dimensions.len());
         cost = cost.saturating_add(segments / 8192);
@@ -93,11 +94,30 @@ fn step_cost(space: &Space) -> usize
     cost.saturating_add(1)
 }
 
+// How much is looked at in a run of both rules.
+fn run_work(space: &Space) -> usize {
+    steps_in(&space.old)
+        .saturating_add(steps_in(&space.new))
+        .saturating_mul(8)
+}
+
+fn steps_in(plan: &Plan) -> usize {
+    let mut count: usize = 30;
+    for statement in plan.statements() {
+        count = count.saturating_add(match statement {
+            PlanStatement::Count { .. } => 1,
+            PlanStatement::When { condition, .. } => condition.steps().len(),
+        });
+    }
+    count
+}
+
 fn find_all(
     alloc: Global,
     space: &Space,
     most: usize,
     first: Pending,
+    work: &mut Work,
 ) -> Result<Option<Vec<Class>>, AllocError>
     ensures { IfOk result (λ o. IfSome o (λ classes. specs.LosesNoMachine space.now [] (first ∷ [])
         classes.items [])) }
@@ -105,13 +125,14 @@ fn find_all(
     let mut classes = Vec::new(alloc);
     let mut left = Vec::new(alloc);
     left.push(first)?;
+    let each = run_work(space);
     let mut count = 0;
     while let Some(pending) = left.pop() {
-        if count >= most {
+        if count >= most || !work.spend(each) {
             return Ok(None);
         }
         count += 1;
-        if !advance(alloc, space, &mut classes, &mut left, pending)? {
+        if !advance(alloc, space, &mut classes, &mut left, pending, work)? {
             return Ok(None);
         }
     }
@@ -119,17 +140,19 @@ fn find_all(
 }
 
 /// The classes of a space, in the order of their segments; `None` if the search takes more than
-/// `most` steps, or if segments don't decide a test. With many tuples a step counts several times.
+/// `most` steps or the work that is left, or if segments don't decide a test. With many tuples a
+/// step counts several times.
 pub(crate) fn classes_of(
     alloc: Global,
     space: &Space,
     most: usize,
+    work: &mut Work,
 ) -> Result<Option<Vec<Class>>, AllocError>
     ensures { (x : Scope) (old new : Side) → IsSpaceOf x old new space.now
         → IfOk result (λ o. IfSome o (λ classes. Covers x old new space.now classes.items)) }
 {
     let first = first_pending(alloc, space)?;
-    let Some(classes) = find_all(alloc, space, most / step_cost(space), first)? else {
+    let Some(classes) = find_all(alloc, space, most / step_cost(space), first, work)? else {
         return Ok(None);
     };
     Ok(Some(classes))

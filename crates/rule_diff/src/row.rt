@@ -40,11 +40,11 @@ impl Model for Row {
     ghost view = { λ r. record { current = r.current; next = r.next; sets = r.sets.items } };
 }
 
-/// Whether one of the segments is this one.
+/// Whether one of the segments is this one. In rising segments it is found soon.
 pub(crate) fn has_segment(segments: &[u16], segment: u16) -> bool
     ensures { result ≡ rows.has_segment segments.now segment }
 {
-    segments.contains(&segment)
+    segments.binary_search(&segment).is_ok() || segments.contains(&segment)
 }
 
 fn rise_from(last: usize, first: u16, others: &[u16]) -> bool

@@ -1,12 +1,12 @@
 //! Splits a place by the segments of one more dimension.
 
 ghost use Rattle.std.specs.Prelude.{◌≡◌, ◌++◌, ◌∷◌, [], IfOk, OnOk, List, ℕ, true, Some};
-ghost use Rattle.std.specs.Prelude.{◌<◌, ◌≤◌, slice_index, slice_set};
+ghost use Rattle.std.specs.Prelude.{◌<◌, ◌≤◌, option_map, slice_index, slice_set};
 ghost use Rattle.rule_diff.specs.Classes.{Agrees};
 ghost use Rattle.rule_diff.specs.Search as specs;
 
-use crate::possible::may_have;
-use rule_space::{Group, Space};
+use crate::possible::{is_possible, possible_segments};
+use rule_space::{Group, Space, Work};
 use std::alloc::{AllocError, Global};
 use std::marker::Model;
 
@@ -41,10 +41,10 @@ fn with_segment(
     Ok(Pending { partial: more })
 }
 
-// Adds the place with one more segment, if some machine may have it.
+// Adds the place with one more segment, if that is possible.
 fn add_segment(
     alloc: Global,
-    groups: &[Group],
+    possible: &Option<Vec<bool>>,
     left: &mut Vec<Pending>,
     partial: &[Option<u16>],
     dimension: usize,
@@ -53,13 +53,14 @@ fn add_segment(
     ensures kept { OnOk result ((place : List ℕ) → specs.IsPending left.old.items place
         → specs.IsPending left.new.items place) }
     ensures here { OnOk result ((place : List ℕ) → Agrees place partial.now
-        → specs.HasTuples groups.now place → slice_index place dimension ≡ segment
-        → specs.IsPending left.new.items place) }
+        → specs.is_possible (option_map (λ marks. marks.items) possible.now)
+        (slice_index place dimension) ≡ true
+        → slice_index place dimension ≡ segment → specs.IsPending left.new.items place) }
 {
-    let more = with_segment(alloc, partial, dimension, segment)?;
-    if !may_have(dimension, groups, &more.partial) {
+    if !is_possible(possible, segment) {
         return Ok(());
     }
+    let more = with_segment(alloc, partial, dimension, segment)?;
     left.push(more)?;
     Ok(())
 }
@@ -67,8 +68,46 @@ fn add_segment(
 /// The most segments of a dimension.
 const MOST_SEGMENTS: usize = 65535;
 
-// Adds the place with each segment of a dimension; the first segment is added last.
+// Adds the place with each possible segment of a dimension; the first segment is added last.
 fn split(
+    alloc: Global,
+    possible: &Option<Vec<bool>>,
+    left: &mut Vec<Pending>,
+    partial: &[Option<u16>],
+    dimension: usize,
+    segments: usize,
+) -> Result<(), AllocError>
+    requires { segments ≤ 65535 }
+    ensures kept { OnOk result ((place : List ℕ) → specs.IsPending left.old.items place
+        → specs.IsPending left.new.items place) }
+    ensures all { OnOk result ((place : List ℕ) → Agrees place partial.now
+        → specs.is_possible (option_map (λ marks. marks.items) possible.now)
+        (slice_index place dimension) ≡ true
+        → slice_index place dimension < segments → specs.IsPending left.new.items place) }
+{
+    let mut segment = segments;
+    while segment > 0 {
+        segment -= 1;
+        add_segment(alloc, possible, left, partial, dimension, segment as u16)?;
+    }
+    Ok(())
+}
+
+// How much is looked at to split a place: the tuples of the dimension's group, and a copy of the
+// place for each segment.
+fn split_work(space: &Space, dimension: usize, segments: usize) -> usize {
+    let copies = space.dimensions.len().saturating_add(30);
+    let mut work = copies.saturating_mul(segments);
+    for group in &space.groups {
+        if group.dimensions.contains(&dimension) {
+            work = work.saturating_add(group.tuples.len().saturating_mul(4));
+        }
+    }
+    work
+}
+
+// Adds the place with each possible segment of a dimension.
+fn split_within(
     alloc: Global,
     groups: &[Group],
     left: &mut Vec<Pending>,
@@ -83,21 +122,19 @@ fn split(
         → specs.HasTuples groups.now place → slice_index place dimension < segments
         → specs.IsPending left.new.items place) }
 {
-    let mut segment = segments;
-    while segment > 0 {
-        segment -= 1;
-        add_segment(alloc, groups, left, partial, dimension, segment as u16)?;
-    }
-    Ok(())
+    let possible = possible_segments(alloc, groups, partial, dimension, segments)?;
+    split(alloc, &possible, left, partial, dimension, segments)
 }
 
-/// Adds the place with each segment of a dimension, if there is this dimension.
+/// Adds the place with each segment of a dimension that some machine may have besides, if there is
+/// this dimension, and enough work is left.
 pub(crate) fn split_at(
     alloc: Global,
     space: &Space,
     left: &mut Vec<Pending>,
     pending: &Pending,
     dimension: usize,
+    work: &mut Work,
 ) -> Result<bool, AllocError>
     ensures { (classes : _) → IfOk result (λ done. done ≡ true → specs.LosesNoMachine space.now
         classes (left.old.items ++ pending.now ∷ []) classes left.new.items) }
@@ -106,10 +143,10 @@ pub(crate) fn split_at(
         None => Ok(false),
         Some(of) => {
             let segments = of.cells();
-            if segments > MOST_SEGMENTS {
+            if segments > MOST_SEGMENTS || !work.spend(split_work(space, dimension, segments)) {
                 return Ok(false);
             }
-            split(
+            split_within(
                 alloc,
                 &space.groups,
                 left,

@@ -63,7 +63,8 @@ fn is_place(other: Option<usize>, place: usize) -> bool
     }
 }
 
-fn is_member(family: Family, place: usize, of: &Coordinate) -> bool
+/// Whether a dimension at a place belongs to the family.
+pub(crate) fn is_member(family: Family, place: usize, of: &Coordinate) -> bool
     ensures { result ≡ specs.is_member family place of.now }
 {
     match of {

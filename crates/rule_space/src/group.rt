@@ -1,11 +1,12 @@
 //! Groups of dimensions that depend on each other. A group lists the tuples of cells that a machine
 //! can have in them.
 
-ghost use Rattle.std.specs.Prelude.{◌≡◌, Contains, IfOk, IfSome, true};
+ghost use Rattle.std.specs.Prelude.{◌≡◌, Contains, IfOk, OnOk, true};
 ghost use Rattle.rule_space.specs.Groups.{all_cells};
 ghost use Rattle.rule_space.specs.Families.{HasAdded};
 
 use std::alloc::{AllocError, Global};
+use std::collections::BTreeMap;
 use std::marker::Model;
 
 /// The cells of a group's dimensions in their order, and the buckets that have them, in rising
@@ -29,8 +30,8 @@ impl Model for Tuple {
 pub struct Group {
     pub dimensions: Vec<usize>,
     pub tuples: Vec<Tuple>,
-    // The place after the tuple that was added last: buckets add tuples in much the same order.
-    next: usize,
+    // The places of tuples by hashes of their cells.
+    places: BTreeMap<u64, usize>,
 }
 
 impl Model for Group {
@@ -58,39 +59,30 @@ fn is_tuple_at(tuples: &[Tuple], place: usize, cells: &[u16]) -> bool
     are_same(&tuple.cells, cells)
 }
 
-// The place of the tuple with these cells.
-fn find_tuple(tuples: &[Tuple], cells: &[u16]) -> Option<usize>
-    ensures { IfSome result (λ place. Contains (all_cells tuples.now) cells.now) }
-{
-    let mut place: usize = 0;
-    let mut left = tuples;
-    while let [tuple, others @ ..] = left {
-        if are_same(&tuple.cells, cells) {
-            return Some(place);
-        }
-        place = place.saturating_add(1);
-        left = others;
+fn hash_of(cells: &[u16]) -> u64 {
+    let mut hash: u64 = 14695981039346656037;
+    for cell in cells {
+        hash = (hash ^ *cell as u64).wrapping_mul(1099511628211);
     }
-    None
+    hash
 }
 
-// The place of the tuple with these cells; it is added unless it is there. The place `next` is tried
-// first.
+// The place of the tuple with these cells; it is added unless it is found there by its hash.
 fn add_tuple(
     alloc: Global,
     tuples: &mut Vec<Tuple>,
-    next: usize,
+    places: &mut BTreeMap<u64, usize>,
     cells: Vec<u16>,
 ) -> Result<usize, AllocError>
     ensures { IfOk result (λ place. HasAdded tuples.old.items tuples.new.items cells.items) }
 {
-    if is_tuple_at(tuples, next, &cells) {
-        return Ok(next);
-    }
-    if let Some(place) = find_tuple(tuples, &cells) {
-        return Ok(place);
+    let hash = hash_of(&cells);
+    let known = places.get(&hash).copied().unwrap_or(tuples.len());
+    if is_tuple_at(tuples, known, &cells) {
+        return Ok(known);
     }
     let place = tuples.len();
+    let _before = places.insert(hash, place)?;
     let buckets = Vec::new(alloc);
     tuples.push(Tuple { cells, buckets })?;
     Ok(place)
@@ -118,30 +110,30 @@ fn add_bucket(tuples: &mut Vec<Tuple>, place: usize, bucket: u16) -> Result<(), 
     Ok(())
 }
 
-// Adds a tuple, unless it is there, and its bucket, if there is one. Returns the tuple's place.
+// Adds a tuple, unless it is there, and its bucket, if there is one.
 fn add_cells(
     alloc: Global,
     tuples: &mut Vec<Tuple>,
-    next: usize,
+    places: &mut BTreeMap<u64, usize>,
     cells: Vec<u16>,
     bucket: Option<u16>,
-) -> Result<usize, AllocError>
-    ensures { IfOk result (λ place. HasAdded tuples.old.items tuples.new.items cells.items) }
+) -> Result<(), AllocError>
+    ensures { OnOk result (HasAdded tuples.old.items tuples.new.items cells.items) }
 {
-    let place = add_tuple(alloc, tuples, next, cells)?;
+    let place = add_tuple(alloc, tuples, places, cells)?;
     match bucket {
         Some(bucket) => {
             add_bucket(tuples, place, bucket)?;
-            Ok(place)
+            Ok(())
         }
-        None => Ok(place),
+        None => Ok(()),
     }
 }
 
 impl Group {
     ghost use Rattle.rule_space.specs.Groups.{HasTuple};
     ghost use Rattle.rule_space.specs.Families.{GrowsTo};
-    ghost use Rattle.std.specs.Prelude.{[], OnOk};
+    ghost use Rattle.std.specs.Prelude.{[]};
 
     /// A group of these dimensions without tuples.
     pub(crate) fn new(alloc: Global, dimensions: Vec<usize>) -> Group
@@ -150,7 +142,7 @@ impl Group {
         Group {
             dimensions,
             tuples: Vec::new(alloc),
-            next: 0,
+            places: BTreeMap::new(alloc),
         }
     }
 
@@ -171,8 +163,6 @@ impl Group {
         ensures grows { OnOk result (GrowsTo self.old self.new) }
         ensures has { OnOk result (HasTuple self.new cells.items) }
     {
-        let place = add_cells(alloc, &mut self.tuples, self.next, cells, bucket)?;
-        self.next = place.saturating_add(1);
-        Ok(())
+        add_cells(alloc, &mut self.tuples, &mut self.places, cells, bucket)
     }
 }

@@ -11,7 +11,7 @@ ghost use Rattle.rule_space.specs.Scopes.{IsWithin, Scope};
 
 use crate::combination::{Combination, cells_of, is_possible};
 use crate::dimension::Dimension;
-use crate::family::{Family, GroupKind, family_of, line_at, members_of, texts_at};
+use crate::family::{Family, GroupKind, family_of, is_member, line_at, members_of, texts_at};
 use crate::group::Group;
 use crate::number_line::MOST_CELLS;
 use attrs::Bucket;
@@ -140,4 +140,33 @@ pub(crate) fn group_of(
         return Ok(None);
     }
     Ok(Some(make_group(alloc, dimensions, family, members)?))
+}
+
+/// The most dimensions of buckets: each bucket has a cell in each of them.
+const MOST_MEMBERS: usize = 400;
+
+/// How many cells and texts are looked at to make the group of a kind.
+pub(crate) fn group_work(dimensions: &[Dimension], kind: GroupKind) -> usize {
+    let family = family_of(dimensions, kind);
+    let mut members: usize = 0;
+    let mut cells: usize = 0;
+    for place in 0..dimensions.len() {
+        let dimension = &dimensions[place];
+        if is_member(family, place, &dimension.of) {
+            members = members.saturating_add(1);
+            cells = cells.saturating_add(dimension.cells());
+        }
+    }
+    if members == 0 {
+        return 0;
+    }
+    if members > MOST_MEMBERS {
+        return usize::MAX;
+    }
+    let texts = texts_at(dimensions, family.text).len().saturating_add(1);
+    let each = texts.saturating_mul(50);
+    let each = each
+        .saturating_add(cells)
+        .saturating_add(members.saturating_mul(20));
+    each.saturating_mul(count_of(dimensions, family) as usize)
 }

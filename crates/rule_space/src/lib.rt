@@ -32,6 +32,7 @@ mod plan;
 mod plan_test;
 mod space;
 mod test_line;
+mod work;
 
 pub use bounds::{Bounds, CellBound, RuleSide};
 pub use coordinate::Coordinate;
@@ -42,3 +43,4 @@ pub use plan::{Plan, PlanCondition, PlanStatement, PlanStep};
 pub use plan_test::{PlanTest, number_comparison_at};
 pub use space::{Space, space_of};
 pub use test_line::NumberComparison;
+pub use work::Work;

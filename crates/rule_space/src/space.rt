@@ -10,9 +10,11 @@ use crate::bounds::{Bounds, RuleSide};
 use crate::dimension::{Dimension, is_line};
 use crate::family::GroupKind;
 use crate::group::Group;
-use crate::grouping::group_of;
+use crate::grouping::{group_of, group_work};
 use crate::naming::{add_rule, add_takes};
 use crate::plan::{Plan, plan_of};
+use crate::work::Work;
+use rule_lang::Statement;
 use std::alloc::{AllocError, Global};
 use std::marker::Model;
 
@@ -94,19 +96,45 @@ fn groups_of(alloc: Global, dimensions: &[Dimension]) -> Result<Vec<Group>, Allo
     Ok(groups)
 }
 
+fn tests_in(rule: &RuleSide<'_>) -> usize {
+    let mut count: usize = 0;
+    for statement in rule.statements {
+        if let Statement::When { condition, .. } = statement {
+            count = count.saturating_add(condition.steps().len());
+        }
+    }
+    count
+}
+
+// Whether there is enough left to find the dimension of each test twice.
+fn may_name(old: &RuleSide<'_>, new: &RuleSide<'_>, work: &mut Work) -> bool {
+    let tests = tests_in(old).saturating_add(tests_in(new));
+    work.spend(tests.saturating_mul(tests))
+}
+
+// Whether there is enough left to make the groups.
+fn may_group(dimensions: &[Dimension], work: &mut Work) -> bool {
+    work.spend(group_work(dimensions, GroupKind::Version))
+        && work.spend(group_work(dimensions, GroupKind::Bucket))
+}
+
 /// The space of two rules; none if the dimensions don't decide each test, for example if that takes
-/// over 65535 cells.
+/// over 65535 cells, or if it takes more work than is left.
 // open: whether an allocation fails, its one error; for which rules it returns none; which
-// buckets a tuple has.
+// buckets a tuple has; how much work it takes.
 pub fn space_of(
     alloc: Global,
     bounds: &Bounds<'_>,
     old: &RuleSide<'_>,
     new: &RuleSide<'_>,
+    work: &mut Work,
 ) -> Result<Option<Space>, AllocError>
     ensures { IfOk result (λ o. IfSome o (λ space.
         IsSpaceOf (scope_of bounds.now) (side_of old.now) (side_of new.now) space)) }
 {
+    if !may_name(old, new, work) {
+        return Ok(None);
+    }
     let dimensions = dimensions_of(alloc, bounds, old, new)?;
     if !are_lines(bounds, &dimensions) {
         return Ok(None);
@@ -117,6 +145,9 @@ pub fn space_of(
     let Some(new) = plan_of(alloc, bounds, &dimensions, new)? else {
         return Ok(None);
     };
+    if !may_group(dimensions.as_slice(), work) {
+        return Ok(None);
+    }
     let groups = groups_of(alloc, &dimensions)?;
     Ok(Some(Space {
         dimensions,

@@ -1,20 +1,18 @@
-use Rattle.std.proofs.Common.{◌∙◌, ap, sym}
-use Rattle.rule_diff.specs.Search.{may_have}
-use Rattle.rule_diff.proofs.Covered.{has_same, is_added, not_added}
+use Rattle.std.proofs.Common.{ap, option_map, sym, ◌∙◌}
+use Rattle.std.proofs.lemmas.Bool.{both_ways}
+use Rattle.rule_diff.specs.Search.{is_possible}
+use Rattle.rule_diff.proofs.Covered.{has_same, is_added}
 use Rattle.rule_diff.proofs.splitting.add_segment.Goals as goal
 
-pub returns-then-not-may_have-clause-here : goal.returns-then-not-may_have-clause-here
-returns-then-not-may_have-clause-here c = λ place agrees tuples here.
-    let groups = c.args.groups.now in
-    let d = c.args.dimension in
-    let same = c.deref.ensures.value ∙ c.more.view_is in
-    let none = ap (may_have d groups) (sym same) ∙ sym c.may_have.ensures
-    ∙ c.if-not-may_have.true in
-    absurd (not_added groups c.args.partial.now c.in_ok-more.more d c.args.segment
-    c.in_ok-more.ensures none place agrees tuples here)
+pub returns-then-not-is_possible-clause-here : goal.returns-then-not-is_possible-clause-here
+returns-then-not-is_possible-clause-here c = λ place agrees may here.
+    let possible = option_map (λ marks. marks.items) c.args.possible.now in
+    absurd (both_ways (is_possible possible c.args.segment)
+    (sym c.is_possible.ensures ∙ c.if-not-is_possible.true)
+    (ap (is_possible possible) (sym here) ∙ may))
 
 pub returns-clause-here : goal.returns-clause-here
-returns-clause-here c = λ place agrees tuples here.
+returns-clause-here c = λ place agrees may here.
     has_same _ c.push.new.self.items place c.in_ok-push.ensures.items
     (is_added c.args.left.now.items c.args.partial.now c.in_ok-more.more c.args.dimension
     c.args.segment c.in_ok-more.ensures place agrees here)

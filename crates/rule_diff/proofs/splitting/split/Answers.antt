@@ -1,4 +1,4 @@
-use Rattle.std.proofs.Common.{arith}
+use Rattle.std.proofs.Common.{arith, option_map}
 use Rattle.rule_diff.proofs.Covered.{split_none, split_one}
 use Rattle.rule_diff.proofs.splitting.split.Goals as goal
 
@@ -8,7 +8,7 @@ loop-segment-init c = (omega arith, split_none _ _ _ _ _)
 pub loop-segment-preserved : goal.loop-segment-preserved
 loop-segment-preserved c = (
   omega arith,
-  split_one c.args.groups.now c.args.partial.now c.args.dimension c.args.segments _ _ _ _ _
+  split_one (option_map (λ marks. marks.items) c.args.possible.now) c.args.partial.now c.args.dimension c.args.segments _ _ _ _ _
       (omega arith) c.loop-segment.invariant.1 c.in_ok-add_segment.ensures.kept
       c.in_ok-add_segment.ensures.here,
 )

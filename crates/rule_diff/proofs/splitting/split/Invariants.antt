@@ -1,4 +1,4 @@
-use Rattle.std.proofs.Common.{◌≤◌}
+use Rattle.std.proofs.Common.{◌≤◌, option_map}
 use Rattle.rule_diff.proofs.Covered.{IsSplit}
 use Rattle.rule_diff.proofs.splitting.split.Given as goal
 
@@ -6,7 +6,8 @@ use Rattle.rule_diff.proofs.splitting.split.Given as goal
 abbrev pub invariant-loop-segment : goal.invariant-loop-segment
 invariant-loop-segment l =
     (l.segment ≤ l.segments)
-    × IsSplit l.groups l.partial l.dimension l.segments l.segment l.initial.left.items l.left.items
+    × IsSplit (option_map (λ marks. marks.items) l.possible) l.partial l.dimension l.segments
+    l.segment l.initial.left.items l.left.items
 
 abbrev pub decreases-loop-segment : goal.decreases-loop-segment
 decreases-loop-segment l = l.segment
