@@ -3,6 +3,7 @@
 use crate::tool_fault::Fault;
 use bounded_files::ResourceFault;
 use dry_run::DryRunFault;
+use load::{LoadFault, PathFault};
 use manifest_diff::DiffFault;
 use manifest_tools::ManifestToolFault;
 use operator::RequestFault;
@@ -47,9 +48,19 @@ pub(crate) fn subject_of<'x>(command: &'x ToolCommand<'x>, fault: &Fault) -> Sub
     }
 }
 
+// A manifest that gives no ruleset; nothing if memory ran out, of which it isn't the cause.
+fn manifest<'x>(path: Option<&'x str>, fault: &PathFault) -> Subject<'x> {
+    match fault {
+        PathFault::Resource(ResourceFault::Memory) | PathFault::Load(LoadFault::Memory) => {
+            Subject::Nothing
+        }
+        _ => Subject::Manifest(path),
+    }
+}
+
 fn ask_subject<'x>(args: &'x AskArgs<'x>, fault: &Fault) -> Subject<'x> {
     match fault {
-        Fault::DryRun(DryRunFault::Manifest(_)) => Subject::Manifest(Some(args.manifest)),
+        Fault::DryRun(DryRunFault::Manifest(fault)) => manifest(Some(args.manifest), fault),
         Fault::DryRun(DryRunFault::Resource(_)) => Subject::Request(args.request),
         Fault::DryRun(DryRunFault::Cell) => Subject::Arrays(args.manifest, args.manifest),
         Fault::Ask(RequestFault::Connect) => Subject::Server(args.operator),
@@ -59,8 +70,8 @@ fn ask_subject<'x>(args: &'x AskArgs<'x>, fault: &Fault) -> Subject<'x> {
 
 fn diff_subject<'x>(args: &'x DiffArgs<'x>, fault: &Fault) -> Subject<'x> {
     match fault {
-        Fault::Diff(DiffFault::Old(_)) => Subject::Manifest(Some(args.old)),
-        Fault::Diff(DiffFault::New(_)) => Subject::Manifest(Some(args.new)),
+        Fault::Diff(DiffFault::Old(fault)) => manifest(Some(args.old), fault),
+        Fault::Diff(DiffFault::New(fault)) => manifest(Some(args.new), fault),
         Fault::Diff(DiffFault::Cell) => Subject::Arrays(args.old, args.new),
         Fault::Diff(DiffFault::NoApp) => Subject::Apps(args.old, args.new),
         Fault::Ask(RequestFault::Connect) => Subject::Server(args.operator),
@@ -70,8 +81,8 @@ fn diff_subject<'x>(args: &'x DiffArgs<'x>, fault: &Fault) -> Subject<'x> {
 
 fn simulate_subject<'x>(args: &'x SimulateArgs<'x>, fault: &Fault) -> Subject<'x> {
     match fault {
-        Fault::Manifest(ManifestToolFault::Load(_)) => Subject::Manifest(Some(args.manifest)),
-        Fault::Manifest(ManifestToolFault::Against(_)) => Subject::Manifest(args.against),
+        Fault::Manifest(ManifestToolFault::Load(fault)) => manifest(Some(args.manifest), fault),
+        Fault::Manifest(ManifestToolFault::Against(fault)) => manifest(args.against, fault),
         Fault::Manifest(ManifestToolFault::NoApp) => Subject::Apps(args.manifest, args.manifest),
         Fault::Manifest(ManifestToolFault::Resource(ResourceFault::File)) => {
             Subject::Picture(args.picture)
