@@ -70,14 +70,15 @@ impl Background {
     }
 }
 
-/// Waits until a port accepts connections, for at most five seconds.
-fn await_port(rt: &HostRuntime, port: u16) {
-    for _ in 0..500 {
+/// Waits until a port accepts connections, for at most half a minute.
+fn await_port(rt: &HostRuntime, port: u16) -> io::Result<()> {
+    for _ in 0..3000 {
         if TcpStream::connect(rt, (Ipv4Addr::LOCALHOST, port)).is_ok() {
-            break;
+            return Ok(());
         }
         thread::sleep(rt, Duration::from_millis(10));
     }
+    Err(Error::other("nothing listens at its port"))
 }
 
 /// The reply to a request whose end is sent half a second later.
@@ -157,7 +158,7 @@ fn task_of(rt: &HostRuntime, mark: u8, port: u16, text: &str) -> io::Result<Task
 }
 
 /// Starts what the mark says, by a port and what follows it. After a command it waits until
-/// something listens at the port.
+/// something listens at the port; it is an error if nothing does.
 pub(crate) fn start<T: Handles + 'static>(
     rt: &Logging<T>,
     background: &mut Vec<Background>,
@@ -172,7 +173,7 @@ pub(crate) fn start<T: Handles + 'static>(
     let own = *rt;
     let thread = thread::spawn(&rt.threads, move || performed(&own, task))?;
     if mark == b'&' {
-        await_port(&rt.rt, port);
+        await_port(&rt.rt, port)?;
     }
     Ok(background.push(Background {
         place,

@@ -1,46 +1,60 @@
 //! Texts of one line: what their escapes spell, and the words of a command.
 
-ghost use Rattle.std.specs.Prelude.{◌≤◌};
+ghost use Rattle.std.specs.Prelude.{◌≤◌, IfSome};
 
 use crate::printed::text_of;
 use std::alloc::{AllocError, Global};
+use std::io::{self, Error};
 
-/// The value of a hexadecimal digit; 0 for any other byte.
-fn digit(byte: u8) -> u8
-    ensures { result ≤ 15 }
+/// The value of a hexadecimal digit.
+fn digit(byte: u8) -> Option<u8>
+    ensures { IfSome result (λ value. value ≤ 15) }
 {
     match byte {
-        b'0'..=b'9' => byte - b'0',
-        b'a'..=b'f' => byte - b'a' + 10,
-        b'A'..=b'F' => byte - b'A' + 10,
-        _ => 0,
+        b'0'..=b'9' => Some(byte - b'0'),
+        b'a'..=b'f' => Some(byte - b'a' + 10),
+        b'A'..=b'F' => Some(byte - b'A' + 10),
+        _ => None,
     }
 }
 
+/// The byte that two hexadecimal digits spell.
+fn byte_of(high: u8, low: u8) -> Option<u8> {
+    let high = digit(high)?;
+    let low = digit(low)?;
+    Some(16 * high + low)
+}
+
 /// The first byte that a text spells, and the bytes after it: ` / ` and `\n` are a line feed; `\r`,
-/// `\t`, `\\` and `\xHH` are one byte each.
-fn spelled(left: &[u8]) -> (u8, &[u8]) {
+/// `\t`, `\\` and `\xHH` are one byte each. None after a backslash with anything else.
+fn spelled(left: &[u8]) -> Option<(u8, &[u8])> {
     match left {
-        [] => (0, left),
-        [b'\\', b'n', after @ ..] => (b'\n', after),
-        [b'\\', b'r', after @ ..] => (b'\r', after),
-        [b'\\', b't', after @ ..] => (b'\t', after),
-        [b'\\', b'\\', after @ ..] => (b'\\', after),
-        [b'\\', b'x', high, low, after @ ..] => (16 * digit(*high) + digit(*low), after),
-        [b' ', b'/', b' ', after @ ..] => (b'\n', after),
-        [byte, after @ ..] => (*byte, after),
+        [] => None,
+        [b'\\', b'n', after @ ..] => Some((b'\n', after)),
+        [b'\\', b'r', after @ ..] => Some((b'\r', after)),
+        [b'\\', b't', after @ ..] => Some((b'\t', after)),
+        [b'\\', b'\\', after @ ..] => Some((b'\\', after)),
+        [b'\\', b'x', high, low, after @ ..] => match byte_of(*high, *low) {
+            Some(byte) => Some((byte, after)),
+            None => None,
+        },
+        [b'\\', ..] => None,
+        [b' ', b'/', b' ', after @ ..] => Some((b'\n', after)),
+        [byte, after @ ..] => Some((*byte, after)),
     }
 }
 
 /// The bytes that a text spells.
-pub(crate) fn unescape(alloc: Global, text: &str) -> Result<Vec<u8>, AllocError> {
+pub(crate) fn unescape(alloc: Global, text: &str) -> io::Result<Vec<u8>> {
     let mut bytes = Vec::new(alloc);
     let mut left = text.as_bytes();
     for _ in 0..text.len() {
         if left.is_empty() {
             break;
         }
-        let (byte, after) = spelled(left);
+        let Some((byte, after)) = spelled(left) else {
+            return Err(Error::other("it has an unknown escape"));
+        };
         bytes.push(byte)?;
         left = after;
     }
@@ -54,9 +68,9 @@ fn push_word(alloc: Global, words: &mut Vec<String>, word: &str) -> Result<(), A
 }
 
 /// Appends the word that a quoted text spells.
-fn push_spelled(alloc: Global, words: &mut Vec<String>, text: &str) -> Result<(), AllocError> {
+fn push_spelled(alloc: Global, words: &mut Vec<String>, text: &str) -> io::Result<()> {
     let word = unescape(alloc, text)?;
-    push_word(alloc, words, text_of(&word))
+    Ok(push_word(alloc, words, text_of(&word))?)
 }
 
 /// Appends the words that spaces divide.
@@ -68,7 +82,7 @@ fn push_divided(alloc: Global, words: &mut Vec<String>, text: &str) -> Result<()
 }
 
 /// Appends the words of a command: spaces divide them, and two single quotes enclose one word.
-fn push_words(alloc: Global, words: &mut Vec<String>, line: &str) -> Result<(), AllocError> {
+fn push_words(alloc: Global, words: &mut Vec<String>, line: &str) -> io::Result<()> {
     push_word(alloc, words, "rollout")?;
     let mut is_quoted = false;
     for text in line.split('\'') {
@@ -79,11 +93,14 @@ fn push_words(alloc: Global, words: &mut Vec<String>, line: &str) -> Result<(), 
         }
         is_quoted = !is_quoted;
     }
-    Ok(())
+    if is_quoted {
+        return Ok(());
+    }
+    Err(Error::other("it has a quote without its second one"))
 }
 
 /// The words of a command, after the name of a program.
-pub(crate) fn words_of(alloc: Global, line: &str) -> Result<Vec<String>, AllocError> {
+pub(crate) fn words_of(alloc: Global, line: &str) -> io::Result<Vec<String>> {
     let mut words = Vec::new(alloc);
     push_words(alloc, &mut words, line)?;
     Ok(words)

@@ -5,7 +5,7 @@ use crate::printed::{Printed, text_of};
 use std::alloc::{AllocError, Global};
 use std::fs;
 use std::io::{self, Error, Read, Write};
-use std::net::{Ipv4Addr, TcpListener, TcpStream};
+use std::net::{Ipv4Addr, Shutdown, TcpListener, TcpStream};
 use std::time::Clock;
 
 /// A free port, which the listener that is added takes.
@@ -96,13 +96,18 @@ pub(crate) fn sent(rt: &HostRuntime, port: u16, bytes: &[u8]) -> io::Result<TcpS
     Ok(stream)
 }
 
-/// What comes back for the bytes of a file, by a port and the file's name.
+/// What comes back for the bytes of a file, by a port and the file's name. If the word `end` follows,
+/// nothing more is sent after them.
 pub(crate) fn reply_of(rt: &HostRuntime, text: &str) -> io::Result<Printed> {
-    let (port, name) = first_word(text);
+    let (port, text) = first_word(text);
+    let (name, end) = first_word(text);
     let port = port_of(port)?;
     let bytes = fs::read(rt, name)?;
     let stream = sent(rt, port, &bytes);
     drop(bytes);
     let stream = stream?;
+    if end == "end" {
+        stream.shutdown(Shutdown::Write)?;
+    }
     replied(rt.alloc(), &stream)
 }

@@ -81,14 +81,18 @@ fn has_parts(printed: &Printed, parts: &str) -> bool {
     true
 }
 
-/// Whether the bytes are the wanted ones, in which `...` at the end of a line is any text.
+/// Whether the bytes are the wanted ones, in which `...` at the end of a line is any text: what is
+/// before it and what is after it are two parts of the bytes.
 fn is_wanted(bytes: &[u8], wanted: &[u8]) -> bool {
     let Ok(text) = str::from_utf8(bytes) else {
         return false;
     };
     let wanted = text_of(wanted);
     match wanted.rsplit_once("...\n") {
-        Some((beginning, end)) => text.starts_with(beginning) && text.ends_with(end),
+        Some((beginning, end)) => match text.strip_prefix(beginning) {
+            Some(after) => after.ends_with(end),
+            None => false,
+        },
         None => text == wanted,
     }
 }

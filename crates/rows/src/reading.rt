@@ -2,7 +2,8 @@
 //!
 //! ```text
 //! -- NAME        writes the file NAME: its text is the lines below, up to the next line that
-//!                begins with a mark of a file or of a command
+//!                begins with a mark of a file or of a command. No line of it begins with the first
+//!                character of another mark
 //! + NAME TEXT    writes the file NAME with this text, in which ` / ` and `\n` are a line feed, and
 //!                `\r`, `\t`, `\\` and `\xHH` one byte each; nothing else ends it
 //! * N TEXT       appends this text, with the same escapes, N times to the last file
@@ -11,7 +12,8 @@
 //! @ NAME TARGET  makes NAME a symbolic link that leads to TARGET
 //! < NAME         a row: the text of the file NAME, as if a command printed it
 //! > PORT NAME    a row: the bytes of the file NAME are sent to this port, and what comes back is
-//!                as if a command printed it, with `\r` for a carriage return
+//!                as if a command printed it, with `\r` for a carriage return. If the word `end`
+//!                follows, the sending side is ended after them
 //! ^ WORDS        a row: a command whose standard output takes only ten bytes, which aren't
 //!                compared; without words, both programs' refusals if memory for words is refused
 //! & PORT WORDS   a row: a command that runs in the background up to its line `)`, which compares
@@ -34,7 +36,8 @@
 //! # TEXT         a comment, but not in the text of a file
 //! each           the lines up to `rows` are read once for each line of the table below `rows`,
 //! rows           which an empty line ends; in them `<1>` to `<12>` are the columns of that line,
-//!                which ` | ` divides; a line of the table that begins with `# ` is a comment
+//!                which ` | ` divides, all that the block names and no more; a line of the table
+//!                that begins with `# ` is a comment
 //! ```
 //!
 //! Spaces divide the words; two single quotes enclose one word, in which the escapes of `+` hold.
@@ -43,11 +46,15 @@
 //! last such mark, and ends with what is after it. All files of one file of rows are in one folder,
 //! and stay there until they are written again. A `/` in a file's name makes the folder before it.
 //!
+//! Each file of rows has a row, each table a line, and whatever begins in the background has a line
+//! `)`. A backslash with anything but an escape after it is an error.
+//!
 //! In the whole text `<port1>` to `<port12>` are free ports, and with these `<day>` is the number
 //! of days from 2007-01-01 to today; in a text without ports `<folder>` is the path of its folder.
 //! The log of a server is appended to the file `log`, but its lines of connections to the file
 //! `connections`; each line begins after its `"kind":`.
 
+use crate::marks::marked;
 use crate::steps::{Step, read_marked};
 use anyhow::{Result, bail};
 use std::alloc::{AllocError, Global};
@@ -85,7 +92,7 @@ fn filled(alloc: Global, line: &str, columns: &[&str]) -> Result<String, AllocEr
     Ok(line)
 }
 
-/// Reads a line of a block with these columns. It may name no further one.
+/// Reads a line of a block with these columns.
 fn read_filled(
     alloc: Global,
     steps: &mut Vec<Step>,
@@ -93,13 +100,21 @@ fn read_filled(
     line: &str,
     columns: &[&str],
 ) -> io::Result<()> {
-    if let Some(further) = COLUMNS.get(columns.len()) {
-        if line.contains(*further) {
-            return Err(Error::other("it has fewer columns than its block names"));
-        }
-    }
     let line = filled(alloc, line, columns)?;
     read_marked(alloc, steps, number, line.as_str())
+}
+
+/// The number of the last column that a block names.
+fn last_column(block: &[&str]) -> usize {
+    let mut last: usize = 0;
+    for (place, name) in COLUMNS.iter().enumerate() {
+        for line in block {
+            if (*line).contains(*name) {
+                last = place.saturating_add(1);
+            }
+        }
+    }
+    last
 }
 
 /// Reads a block for a line of its table.
@@ -114,6 +129,9 @@ fn read_block(
         return Ok(());
     }
     let columns: Vec<&str> = row.split(" | ").collect(alloc)?;
+    if columns.len() != last_column(block) {
+        return Err(Error::other("it has another number of columns than its block names"));
+    }
     for line in block {
         read_filled(alloc, steps, number, line, columns.as_slice())?;
     }
@@ -124,9 +142,14 @@ fn read_block(
 fn read_lines(alloc: Global, steps: &mut Vec<Step>, text: &str) -> Result<()> {
     let mut block: Vec<&str> = Vec::new(alloc);
     let mut part = Part::Plain;
+    let mut is_empty = false;
     for (number, line) in text.lines().enumerate() {
         let number = number.saturating_add(1);
         if let Some(begun) = part_begun(part, line) {
+            if is_empty && matches!(part, Part::Table) {
+                bail!("line {number}: the table before it has no line")
+            }
+            is_empty = true;
             part = begun;
             if line == "each" {
                 block.clear();
@@ -139,7 +162,10 @@ fn read_lines(alloc: Global, steps: &mut Vec<Step>, text: &str) -> Result<()> {
                 Ok(()) => Ok(()),
                 Err(error) => Err(Error::from(error)),
             },
-            Part::Table => read_block(alloc, steps, block.as_slice(), number, line),
+            Part::Table => {
+                is_empty = false;
+                read_block(alloc, steps, block.as_slice(), number, line)
+            }
         };
         if let Err(error) = read {
             bail!("line {number}: {error}")
@@ -148,6 +174,38 @@ fn read_lines(alloc: Global, steps: &mut Vec<Step>, text: &str) -> Result<()> {
     if matches!(part, Part::Block) {
         bail!("the last block has no line `rows`")
     }
+    if is_empty && matches!(part, Part::Table) {
+        bail!("the last table has no line")
+    }
+    Ok(())
+}
+
+/// Refuses steps without a row, and those that begin something in the background and don't end it.
+fn require_ends(steps: &[Step]) -> Result<()> {
+    let mut rows: usize = 0;
+    let mut begun: usize = 0;
+    for step in steps {
+        if let Step::Run(row) = step {
+            if row.is_compared {
+                rows = rows.saturating_add(1);
+            }
+            let (mark, line) = (marked(row.words.as_str()).0, row.line);
+            if mark == b')' && begun == 0 {
+                bail!("line {line}: nothing runs in the background")
+            }
+            match mark {
+                b'&' | b'(' | b':' => begun = begun.saturating_add(1),
+                b')' => begun = begun.saturating_sub(1),
+                _ => {}
+            }
+        }
+    }
+    if begun > 0 {
+        bail!("{begun} lines `)` are missing")
+    }
+    if rows == 0 {
+        bail!("it has no rows")
+    }
     Ok(())
 }
 
@@ -155,5 +213,6 @@ fn read_lines(alloc: Global, steps: &mut Vec<Step>, text: &str) -> Result<()> {
 pub(crate) fn read_steps(alloc: Global, text: &str) -> Result<Vec<Step>> {
     let mut steps = Vec::new(alloc);
     read_lines(alloc, &mut steps, text)?;
+    require_ends(steps.as_slice())?;
     Ok(steps)
 }

@@ -6,6 +6,9 @@ use crate::printed::{Printed, Row, push_line};
 use std::alloc::{AllocError, Global};
 use std::io::{self, Error};
 
+/// The bytes of marks, but not of those with which the lines of a text may begin.
+const MARKS: &[u8] = b"+*%$@<>^&(:)|.!=?~";
+
 /// A file that is written.
 #[derive(Drop)]
 pub(crate) struct WrittenFile {
@@ -91,13 +94,13 @@ fn repeat(alloc: Global, steps: &mut Vec<Step>, text: &str) -> io::Result<()> {
     };
     file.is_text = false;
     match times.parse::<u32>() {
-        Ok(times) => Ok(extend(alloc, &mut file.bytes, times, text)?),
+        Ok(times) => extend(alloc, &mut file.bytes, times, text),
         Err(_) => Err(Error::other("it has no number of times")),
     }
 }
 
 /// Appends what a text spells as often as this.
-fn extend(alloc: Global, bytes: &mut Vec<u8>, times: u32, text: &str) -> Result<(), AllocError> {
+fn extend(alloc: Global, bytes: &mut Vec<u8>, times: u32, text: &str) -> io::Result<()> {
     let more = unescape(alloc, text)?;
     for _ in 0..times {
         bytes.extend_from_slice(&more)?;
@@ -108,9 +111,19 @@ fn extend(alloc: Global, bytes: &mut Vec<u8>, times: u32, text: &str) -> Result<
 /// Reads a line that belongs to the last step.
 fn go_on(steps: &mut Vec<Step>, line: &str) -> io::Result<()> {
     match steps.last_mut() {
-        Some(Step::Write(file)) if file.is_text => Ok(push_line(&mut file.bytes, line)?),
+        Some(Step::Write(file)) if file.is_text => push_text(file, line),
         Some(Step::Run(row)) if row.is_compared => want(row, line),
         _ => pass_over(line),
+    }
+}
+
+/// Adds a line to the text of a file. Whatever begins like a mark is one that lacks its blank.
+fn push_text(file: &mut WrittenFile, line: &str) -> io::Result<()> {
+    match line.as_bytes() {
+        [byte, ..] if MARKS.contains(byte) => {
+            Err(Error::other("it is the text of a file, and begins like a mark"))
+        }
+        _ => Ok(push_line(&mut file.bytes, line)?),
     }
 }
 
