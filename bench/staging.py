@@ -175,6 +175,8 @@ def other_manifest(folder):
         said = it.run("ROLLOUT_OPERATOR=1 rollout stage status --operator 8081")
         if "generation 2, what is in place unless restarted since\n" not in said:
             return f"--operator: {said!r}"
+        if "server at 1:" in said:
+            return f"ROLLOUT_OPERATOR beside --operator: {said!r}"
         it.write("wrong.toml", "server = 1\n")
         said = it.run("rollout load /etc/rollout/wrong.toml --operator 8081")
         if said != "1 refused M2 Field\nserver: a text\n":

@@ -9,7 +9,7 @@ use crate::logged::is_requested;
 use crate::loopback::has_answer;
 use crate::manifests::write_files;
 use crate::swaps::{FORTY, Swaps, THOUSAND, TWO, WHOLE, are_swapped};
-use crate::turns::{at_once, silent, slow};
+use crate::turns::{at_once, silent, silent_operator, slow};
 use bounded_files::Device;
 use operator_request::OperatorRequest;
 use serving::{Counters, Manifests, Server, prepare};
@@ -35,6 +35,8 @@ pub(crate) enum PortTask {
     AtOnce,
     /// A client and an operator send nothing, and others follow them.
     Silent,
+    /// An operator sends nothing, and another one follows.
+    SilentOperator,
     /// A client sends slowly, and another one needs the only worker.
     Slow,
     /// An app is halted and resumed, and rulesets are loaded.
@@ -100,6 +102,7 @@ where
     match task {
         PortTask::AtOnce => at_once(own, place.clients),
         PortTask::Silent => silent(own, place),
+        PortTask::SilentOperator => silent_operator(own, place),
         PortTask::Slow => slow(own, place.clients),
         PortTask::Halted => halted(own, place),
         PortTask::Ending => ending(own, place),
@@ -160,6 +163,13 @@ const SERVED: &[(PortTask, &str, usize, u64, &str)] = &[
         "two are served at once",
     ),
     (PortTask::Silent, "no.toml", 1, 1, "silent ones are dropped"),
+    (
+        PortTask::SilentOperator,
+        "no.toml",
+        1,
+        30,
+        "a silent operator is dropped after five seconds",
+    ),
     (PortTask::Slow, "no.toml", 1, 1, "a slow one is dropped"),
     (PortTask::Halted, "yes.toml", 2, 10, "a halt holds"),
     (

@@ -42,6 +42,17 @@ pub(crate) fn silent<T: Abort>(own: &Impaired<'_, T>, place: Place) -> bool {
     are_served && elapsed < Duration::from_secs(30)
 }
 
+/// An operator that sends nothing, and another one that has its reply well before the time limit of
+/// half a minute: an operator's line has to arrive within five seconds.
+pub(crate) fn silent_operator<T: Abort>(own: &Impaired<'_, T>, place: Place) -> bool {
+    let begun = Instant::now(own.rt).expect(own.handles, "a clock");
+    let _operator = sent(own, place.operator, "");
+    let port = place.operator.port();
+    let is_shown = has_answer(own.rt, port, OperatorRequest::Show, Some(SHOWN));
+    let elapsed = begun.elapsed(own.rt).expect(own.handles, "a clock");
+    is_shown && elapsed < Duration::from_secs(15)
+}
+
 /// Sends a byte now and then for three seconds.
 fn send_slowly(rt: &HostRuntime, stream: &TcpStream) {
     for _ in 0..15 {
