@@ -7,7 +7,7 @@ use Rattle.std.proofs.lemmas.List.Kept.{AllPairs-cons, AllPairs-filter}
 use Rattle.report_state.specs.Places.{LogPlace, begins_with, are_alike, AreApart, GoesOn, Keeps, KeepsApart}
 use Rattle.report_state.specs.Places.{join, joined_with}
 
--- ---- beginnings
+-- ---- prefixes
 
 begins_self : (a : List ℕ) → begins_with a a ≡ true
 begins_self [] = refl
@@ -25,7 +25,7 @@ begins_trans (x ∷ a) (y ∷ b) (z ∷ c) one other =
     let same : x ≡ z = eqb-true x y ones.0 ∙ eqb-true y z others.0 in
     grind (arith, rest, eq-eqb x z same)
 
--- two beginnings of one text begin alike
+-- two prefixes of one text begin alike
 begin_both : (a b c : List ℕ) → begins_with a b ≡ true → begins_with a c ≡ true
     → (begins_with b c || begins_with c b) ≡ true
 begin_both a b [] one other = refl
@@ -98,7 +98,7 @@ goes_on p (q ∷ others) =
     goes_on_on p (joined_if (are_alike p q) p q) _ (goes_on_if p q (are_alike p q) refl)
     (goes_on (joined_if (are_alike p q) p q) others)
 
--- what is alike a place joined with it goes on there
+-- what is alike the joined place is continued by it
 first_goes_on : (p q joined : LogPlace) (b : Bool) → b ≡ are_alike p q
     → GoesOn (joined_if b p q) joined → are_alike joined q ≡ true → GoesOn q joined
 first_goes_on p q joined true is goes alike =
@@ -127,7 +127,7 @@ any_more P x y xs (zero, e, below, is, holds) = (zero, e, omega arith, is, holds
 any_more P x y xs (suc k, e, below, is, holds) =
     (suc (suc k), e, omega (arith, below), is, holds)
 
--- each place goes on in the joined one, or is among those that begin otherwise
+-- the joined place continues each other one, or that begins otherwise
 kept : (joined : LogPlace) (old : List LogPlace)
     → All (λ q. are_alike joined q ≡ true → GoesOn q joined) old
     → All (λ q. Any (GoesOn q) (joined ∷ filter (Unlike joined) old)) old

@@ -38,7 +38,7 @@ pub record KeepsApart (old new : List LogPlace) : Type 0 where
 
 -- ---- how a place is noted
 
--- of two that begin alike the longer beginning, and the greater number of bytes
+-- of two that begin alike the longer text, and the greater number of bytes
 abbrev pub join : (one other : LogPlace) → LogPlace
 join one other = record {
   beginning = if begins_with one.beginning other.beginning then one.beginning

@@ -33,7 +33,7 @@ impl LogPlace {
             || begins_with(&other.beginning, &self.beginning)
     }
 
-    // Of two that begin alike the longer beginning, and the greater number of bytes.
+    // Of two that begin alike the longer text, and the greater number of bytes.
     fn join(self, alloc: Global, other: &LogPlace) -> Result<LogPlace, AllocError>
         ensures { IfOk result (λ joined. joined ≡ specs.join self other.now) }
     {
