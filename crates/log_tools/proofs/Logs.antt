@@ -14,7 +14,7 @@ use Rattle.report.specs.Lines.{lines_in}
 use Rattle.report.specs.Reading.{CountsLines, ReadsLog}
 use Rattle.report.specs.declared.counting.Report.{Report}
 use Rattle.report.specs.declared.window.Window.{Window}
-use Rattle.svg.specs.WellFormed.{HasPicture}
+use Rattle.markup.specs.WellFormed.{HasPicture}
 
 module _ (window : Window) where
   counts_none : (r : Report) → CountsLines window [] r r

@@ -12,7 +12,7 @@ use Rattle.report.specs.declared.counting.Report.{Report}
 use Rattle.report.specs.declared.metrics.MetricKind.{MetricKind}
 use Rattle.report.specs.declared.metrics.MetricKind.TheVariants.{Counter, Gauge}
 use Rattle.report.specs.declared.window.Window.{Window}
-use Rattle.svg.specs.WellFormed.{HasPicture}
+use Rattle.markup.specs.WellFormed.{HasPicture}
 use Rattle.log_tools.specs.declared.report_form.ReportForm.{ReportForm}
 use Rattle.log_tools.specs.declared.reporting.ReportOutput.{ReportOutput}
 

@@ -4,7 +4,7 @@ ghost use Rattle.std.specs.Prelude.{◌≡◌, [], IfOk, OnOk, is_some, length};
 ghost use Rattle.std.specs.String.{string_bytes};
 ghost use Rattle.report.specs.Counts.{Counts};
 ghost use Rattle.log_tools.specs.Reports.{CountsLogs, HasReported, kind_of, text_by};
-ghost use Rattle.svg.specs.WellFormed.{HasPicture};
+ghost use Rattle.markup.specs.WellFormed.{HasPicture};
 
 use crate::picture_file::{require_drawable, write_picture};
 use crate::progress_lines::ProgressLines;

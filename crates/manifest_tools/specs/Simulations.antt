@@ -10,7 +10,7 @@ use Rattle.simulate.specs.Picked.{HasPicked}
 use Rattle.simulate.specs.Shown.{Simulation}
 use Rattle.simulate.specs.Course.{IsSimulated}
 use Rattle.simulate.specs.declared.client.Client.{Client}
-use Rattle.svg.specs.WellFormed.{HasPicture}
+use Rattle.markup.specs.WellFormed.{HasPicture}
 use Rattle.load.specs.Loaded.{IsLoadedFrom, RefusesPath}
 use Rattle.bounded_files.specs.Files.{KnownFiles}
 use Rattle.bounded_files.specs.declared.resource_fault.ResourceFault.TheVariants as resource

@@ -5,7 +5,7 @@ ghost use Rattle.std.specs.String.{string_bytes};
 ghost use Rattle.manifest_tools.specs.ClientLines.{client_line};
 ghost use Rattle.manifest_tools.specs.Simulations as specs;
 ghost use Rattle.simulate.specs.declared.client.Client as the_client;
-ghost use Rattle.svg.specs.WellFormed.{HasPicture};
+ghost use Rattle.markup.specs.WellFormed.{HasPicture};
 
 use simulate::{Simulated, draw, is_lossy, moves_json, push_moves, push_shares, shares_json};
 use std::alloc::{AllocError, Global};

@@ -6,15 +6,15 @@ use crate::labels::release_count;
 use ruleset::App;
 use std::fmt;
 use std::fmt::{Display, Formatter, Write};
-use svg::{Picture, SvgAttribute, Tag};
+use markup::{Attribute, Document, Tag};
 
 /// Draws the square of an app, with a path for each release that some bucket gets. A bucket is 4 by
 /// 4 pixels.
-pub(crate) fn draw_square(picture: &mut Picture, app: &App, choices: &Choices) {
+pub(crate) fn draw_square(picture: &mut Document, app: &App, choices: &Choices) {
     draw_background(picture);
     picture.open(Tag::Group);
-    picture.attribute(SvgAttribute::Transform, "translate(0,32) scale(4)");
-    picture.attribute(SvgAttribute::ShapeRendering, "crispEdges");
+    picture.attribute(Attribute::Transform, "translate(0,32) scale(4)");
+    picture.attribute(Attribute::ShapeRendering, "crispEdges");
     picture.line();
     let counts = count_buckets(choices);
     for choice in 1..release_count(Some(app)) + 1 {
@@ -26,21 +26,21 @@ pub(crate) fn draw_square(picture: &mut Picture, app: &App, choices: &Choices) {
     picture.line();
 }
 
-fn draw_background(picture: &mut Picture) {
+fn draw_background(picture: &mut Document) {
     picture.open(Tag::Rect);
-    picture.attribute(SvgAttribute::Y, "30");
-    picture.attribute(SvgAttribute::Width, "400");
-    picture.attribute(SvgAttribute::Height, "400");
-    picture.colour(SvgAttribute::Fill, 0);
+    picture.attribute(Attribute::Y, "30");
+    picture.attribute(Attribute::Width, "400");
+    picture.attribute(Attribute::Height, "400");
+    picture.colour(Attribute::Fill, 0);
     picture.close();
     picture.line();
 }
 
 // The buckets that get a release.
-fn draw_buckets(picture: &mut Picture, choices: &[u8], choice: usize) {
+fn draw_buckets(picture: &mut Document, choices: &[u8], choice: usize) {
     picture.open(Tag::Path);
-    picture.colour(SvgAttribute::Stroke, choice);
-    picture.attribute(SvgAttribute::D, BucketPath { choices, choice });
+    picture.colour(Attribute::Stroke, choice);
+    picture.attribute(Attribute::D, BucketPath { choices, choice });
     picture.close();
     picture.line();
 }

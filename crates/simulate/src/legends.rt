@@ -4,10 +4,10 @@ use crate::choices::Choices;
 use crate::counts::count_buckets;
 use crate::labels::{ChoiceLabel, release_count};
 use ruleset::App;
-use svg::{Picture, SvgAttribute, Tag};
+use markup::{Attribute, Document, Tag};
 
 /// Draws the legend of an app.
-pub(crate) fn draw_legend(picture: &mut Picture, app: &App, choices: &Choices) {
+pub(crate) fn draw_legend(picture: &mut Document, app: &App, choices: &Choices) {
     let counts = count_buckets(choices);
     let mut top: u64 = 32;
     for choice in 0..release_count(Some(app)) + 1 {
@@ -19,7 +19,7 @@ pub(crate) fn draw_legend(picture: &mut Picture, app: &App, choices: &Choices) {
 }
 
 // The row of a choice: its colour, its name, and how many buckets make it.
-fn draw_row(picture: &mut Picture, app: &App, top: u64, choice: usize, count: u32) {
+fn draw_row(picture: &mut Document, app: &App, top: u64, choice: usize, count: u32) {
     draw_patch(picture, top, choice);
     let y = top.saturating_add(11);
     picture.label(450, y, ChoiceLabel { app, choice });
@@ -30,12 +30,12 @@ fn draw_row(picture: &mut Picture, app: &App, top: u64, choice: usize, count: u3
     picture.line();
 }
 
-fn draw_patch(picture: &mut Picture, top: u64, choice: usize) {
+fn draw_patch(picture: &mut Document, top: u64, choice: usize) {
     picture.open(Tag::Rect);
-    picture.attribute(SvgAttribute::Width, "12");
-    picture.attribute(SvgAttribute::Height, "12");
-    picture.attribute(SvgAttribute::X, "430");
-    picture.attribute(SvgAttribute::Y, top);
-    picture.colour(SvgAttribute::Fill, choice);
+    picture.attribute(Attribute::Width, "12");
+    picture.attribute(Attribute::Height, "12");
+    picture.attribute(Attribute::X, "430");
+    picture.attribute(Attribute::Y, top);
+    picture.colour(Attribute::Fill, choice);
     picture.close();
 }

@@ -1,7 +1,7 @@
 //! The whole picture.
 
 ghost use Rattle.std.specs.Prelude.{IfOk, string_bytes};
-ghost use Rattle.svg.specs.WellFormed.{IsDocument};
+ghost use Rattle.markup.specs.WellFormed.{IsDocument};
 
 use crate::bucket_square::draw_square;
 use crate::choices::Choices;
@@ -10,7 +10,7 @@ use crate::legends::draw_legend;
 use crate::simulated::Simulated;
 use ruleset::App;
 use std::alloc::{AllocError, Global};
-use svg::{Picture, SvgAttribute, Tag};
+use markup::{Attribute, Document, Tag};
 
 /// The height of what is above the first app, in pixels.
 const HEAD: u64 = 20;
@@ -20,7 +20,7 @@ const HEAD: u64 = 20;
 pub fn draw(alloc: Global, simulated: &Simulated) -> Result<String, AllocError>
     ensures { IfOk result (λ text. IsDocument (string_bytes text)) }
 {
-    let mut picture = Picture::new(alloc, height_of(simulated.apps()))?;
+    let mut picture = Document::picture(alloc, height_of(simulated.apps()))?;
     let mut top = HEAD;
     for (app, choices) in simulated.apps().iter().zip(simulated.chosen().iter()) {
         draw_panel(&mut picture, top, app, choices);
@@ -43,13 +43,13 @@ fn panel_height(app: &App) -> u64 {
     (20 * rows + 20).max(400) + 60
 }
 
-fn draw_panel(picture: &mut Picture, top: u64, app: &App, choices: &Choices) {
+fn draw_panel(picture: &mut Document, top: u64, app: &App, choices: &Choices) {
     let appid = app.appid();
     picture.open(Tag::Group);
-    picture.attribute(SvgAttribute::Transform, format_args!("translate(20,{top})"));
+    picture.attribute(Attribute::Transform, format_args!("translate(20,{top})"));
     picture.line();
     picture.open(Tag::Text);
-    picture.attribute(SvgAttribute::Y, "20");
+    picture.attribute(Attribute::Y, "20");
     picture.text(format_args!("app {appid}"));
     picture.close();
     picture.line();

@@ -10,7 +10,7 @@ use crate::strips::draw_strips;
 use crate::versions::versions_in_rows;
 use std::alloc::{AllocError, Global};
 use std::collections::BTreeMap;
-use svg::{Picture, SvgAttribute, Tag};
+use markup::{Attribute, Document, Tag};
 
 /// The data of a chart.
 #[derive(Clone, Copy)]
@@ -32,7 +32,7 @@ pub(crate) fn panels_height(apps: usize, versions: usize) -> u64 {
 /// Draws the panel of an app at the height `top`, and returns the height at which it ends.
 pub(crate) fn draw_panel(
     alloc: Global,
-    picture: &mut Picture,
+    picture: &mut Document,
     source: &PictureSource<'_>,
     top: u64,
     app: &str,
@@ -41,7 +41,7 @@ pub(crate) fn draw_panel(
 {
     let versions = versions_in_rows(alloc, source.versions, app)?;
     picture.open(Tag::Group);
-    picture.attribute(SvgAttribute::Transform, format_args!("translate(0,{top})"));
+    picture.attribute(Attribute::Transform, format_args!("translate(0,{top})"));
     picture.line();
     picture.label(20, 20, format_args!("app {app}"));
     picture.line();

@@ -6,7 +6,7 @@ ghost use Rattle.timeline.specs.Bins.{AreBins};
 use crate::bins::Bins;
 use crate::marks::LAST_MINUTE;
 use moments::CivilDate;
-use svg::{Picture, SvgAttribute, Tag};
+use markup::{Attribute, Document, Tag};
 
 /// The steps between ticks, in minutes.
 const STEPS: [u64; 18] = [
@@ -26,7 +26,7 @@ pub(crate) fn across(bins: &Bins, minute: u64) -> u128
 }
 
 /// Draws the ticks: at most 8, at multiples of a step, and none after the bins or the year 9999.
-pub(crate) fn draw_axis(picture: &mut Picture, bins: &Bins)
+pub(crate) fn draw_axis(picture: &mut Document, bins: &Bins)
     requires { AreBins bins.now }
 {
     let step = step_for(bins.span);
@@ -48,21 +48,21 @@ fn step_for(span: u64) -> u64
     span / 7 + 1
 }
 
-fn draw_tick(picture: &mut Picture, bins: &Bins, minute: u64)
+fn draw_tick(picture: &mut Document, bins: &Bins, minute: u64)
     requires some { 0 < bins.now.span }
     requires early { minute ≤ 4223371679 }
 {
     let x = across(bins, minute);
     picture.open(Tag::Path);
-    picture.attribute(SvgAttribute::Stroke, "rgb(90,90,90)");
-    picture.attribute(SvgAttribute::D, format_args!("M{x} 390v6"));
+    picture.attribute(Attribute::Stroke, "rgb(90,90,90)");
+    picture.attribute(Attribute::D, format_args!("M{x} 390v6"));
     picture.close();
     draw_time(picture, x, minute);
     picture.line();
 }
 
 // The time of day, such as `08:00`, and below it the date, such as `2026-11-25`.
-fn draw_time(picture: &mut Picture, x: u128, minute: u64)
+fn draw_time(picture: &mut Document, x: u128, minute: u64)
     requires { minute ≤ 4223371679 }
 {
     let hour = minute / 60 % 24;

@@ -7,7 +7,7 @@ use crate::counts::raise_by_version;
 use crate::marks::Series;
 use std::alloc::{AllocError, Global};
 use std::fmt::Write;
-use svg::{Picture, SvgAttribute, Tag};
+use markup::{Attribute, Document, Tag};
 
 /// The height of a bin, in hundredths of a percent.
 const WHOLE: u128 = 10000;
@@ -16,7 +16,7 @@ const WHOLE: u128 = 10000;
 /// above the layers before it, whose counts by bin are in `below`, and reaches to the top.
 pub(crate) fn draw_layers<'a>(
     alloc: Global,
-    picture: &mut Picture,
+    picture: &mut Document,
     source: &PictureSource<'_>,
     drawn: Series<'a>,
     versions: &'a [String],
@@ -43,15 +43,15 @@ pub(crate) fn next_colour(colour: usize) -> usize {
 /// Draws the white layer above these counts, if a bin has more in total.
 pub(crate) fn draw_rest(
     alloc: Global,
-    picture: &mut Picture,
+    picture: &mut Document,
     totals: &[u64],
     below: &[u64],
 ) -> Result<(), AllocError> {
     let bars = bars(alloc, totals, below)?;
     if !bars.is_empty() {
         picture.open(Tag::Path);
-        picture.attribute(SvgAttribute::Fill, "rgb(255,255,255)");
-        picture.attribute(SvgAttribute::D, bars.as_str());
+        picture.attribute(Attribute::Fill, "rgb(255,255,255)");
+        picture.attribute(Attribute::D, bars.as_str());
         picture.close();
         picture.line();
     }
@@ -60,15 +60,15 @@ pub(crate) fn draw_rest(
 
 fn draw_layer(
     alloc: Global,
-    picture: &mut Picture,
+    picture: &mut Document,
     colour: usize,
     totals: &[u64],
     below: &[u64],
 ) -> Result<(), AllocError> {
     let bars = bars(alloc, totals, below)?;
     picture.open(Tag::Path);
-    picture.colour(SvgAttribute::Fill, colour);
-    picture.attribute(SvgAttribute::D, bars.as_str());
+    picture.colour(Attribute::Fill, colour);
+    picture.attribute(Attribute::D, bars.as_str());
     picture.close();
     picture.line();
     Ok(())

@@ -7,7 +7,7 @@ use crate::layers::next_colour;
 use crate::marks::{Series, drawn_count};
 use std::alloc::AllocError;
 use std::collections::BTreeMap;
-use svg::{Picture, SvgAttribute, Tag};
+use markup::{Attribute, Document, Tag};
 
 /// The update checks, offers, ended installs and failed installs of a version.
 #[derive(Clone, Copy)]
@@ -20,7 +20,7 @@ pub(crate) struct VersionCounts {
 
 /// Draws a row for each version, from colour 1 on.
 pub(crate) fn draw_legend<'a>(
-    picture: &mut Picture,
+    picture: &mut Document,
     rows: &BTreeMap<String, u64>,
     app: &'a str,
     versions: &'a [String],
@@ -57,13 +57,13 @@ fn counts_of_version<'a>(
     })
 }
 
-fn draw_row(picture: &mut Picture, top: u64, colour: usize, version: &str, counts: VersionCounts) {
+fn draw_row(picture: &mut Document, top: u64, colour: usize, version: &str, counts: VersionCounts) {
     picture.open(Tag::Rect);
-    picture.attribute(SvgAttribute::Width, "12");
-    picture.attribute(SvgAttribute::Height, "12");
-    picture.attribute(SvgAttribute::X, "60");
-    picture.attribute(SvgAttribute::Y, top);
-    picture.colour(SvgAttribute::Fill, colour);
+    picture.attribute(Attribute::Width, "12");
+    picture.attribute(Attribute::Height, "12");
+    picture.attribute(Attribute::X, "60");
+    picture.attribute(Attribute::Y, top);
+    picture.colour(Attribute::Fill, colour);
     picture.close();
     let y = top.saturating_add(11);
     picture.label(80, y, version);

@@ -9,11 +9,11 @@ use crate::marks::{added, first, rest};
 use moments::minute_in;
 use std::alloc::AllocError;
 use std::collections::BTreeMap;
-use svg::{Picture, SvgAttribute, Tag};
+use markup::{Attribute, Document, Tag};
 
 /// Draws a line for each load within the bins, with its generation above it, unless that would
 /// begin before the last label ends. A label takes 70 pixels.
-pub(crate) fn draw_loads(picture: &mut Picture, bins: &Bins, loads: &BTreeMap<String, u64>)
+pub(crate) fn draw_loads(picture: &mut Document, bins: &Bins, loads: &BTreeMap<String, u64>)
     requires { 0 < bins.now.span }
 {
     let mut free: u128 = 0;
@@ -70,25 +70,25 @@ fn minute_within(bins: &Bins, minute: u64) -> Option<u64>
 }
 
 // A dashed line across the three strips, over a white line.
-fn draw_line(picture: &mut Picture, x: u128) {
+fn draw_line(picture: &mut Document, x: u128) {
     picture.open(Tag::Path);
-    picture.attribute(SvgAttribute::Stroke, "rgb(255,255,255)");
-    picture.attribute(SvgAttribute::D, format_args!("M{x} 60v90m0 30v90m0 30v90"));
+    picture.attribute(Attribute::Stroke, "rgb(255,255,255)");
+    picture.attribute(Attribute::D, format_args!("M{x} 60v90m0 30v90m0 30v90"));
     picture.close();
     picture.open(Tag::Path);
-    picture.attribute(SvgAttribute::Stroke, "rgb(0,0,0)");
-    picture.attribute(SvgAttribute::StrokeDasharray, "4 3");
-    picture.attribute(SvgAttribute::D, format_args!("M{x} 60v90m0 30v90m0 30v90"));
+    picture.attribute(Attribute::Stroke, "rgb(0,0,0)");
+    picture.attribute(Attribute::StrokeDasharray, "4 3");
+    picture.attribute(Attribute::D, format_args!("M{x} 60v90m0 30v90m0 30v90"));
     picture.close();
     picture.line();
 }
 
-fn draw_label(picture: &mut Picture, x: u128, generation: &str) {
+fn draw_label(picture: &mut Document, x: u128, generation: &str) {
     picture.open(Tag::Text);
-    picture.attribute(SvgAttribute::TextAnchor, "middle");
-    picture.attribute(SvgAttribute::FontSize, "12");
-    picture.attribute(SvgAttribute::Y, "36");
-    picture.attribute(SvgAttribute::X, x);
+    picture.attribute(Attribute::TextAnchor, "middle");
+    picture.attribute(Attribute::FontSize, "12");
+    picture.attribute(Attribute::Y, "36");
+    picture.attribute(Attribute::X, x);
     picture.text(format_args!("load {generation}"));
     picture.close();
     picture.line();

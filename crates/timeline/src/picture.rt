@@ -1,7 +1,7 @@
 //! The whole chart.
 
 ghost use Rattle.std.specs.Prelude.{◌≡◌, IfOk, string_bytes};
-ghost use Rattle.svg.specs.WellFormed.{IsDocument};
+ghost use Rattle.markup.specs.WellFormed.{IsDocument};
 ghost use Rattle.timeline.specs.Bins.{AreBins};
 ghost use Rattle.timeline.specs.Loads as specs;
 
@@ -12,7 +12,7 @@ use crate::marks::{added, first};
 use report::{AppQuestion, ChartQuestion, LineQuestion, Question, Report, Tally};
 use std::alloc::{AllocError, Global};
 use std::collections::BTreeMap;
-use svg::{Picture, SvgAttribute, Tag};
+use markup::{Attribute, Document, Tag};
 
 /// The longest time for a chart by minute: 200 bins of half an hour.
 const MOST_MINUTES: u64 = 6000;
@@ -88,7 +88,7 @@ fn is_fine(by_minute: &Tally) -> bool {
 fn draw_none(alloc: Global) -> Result<String, AllocError>
     ensures { IfOk result (λ text. IsDocument (string_bytes text)) }
 {
-    let mut picture = Picture::new(alloc, HEAD)?;
+    let mut picture = Document::picture(alloc, HEAD)?;
     picture.label(
         20,
         30,
@@ -153,7 +153,7 @@ fn draw_panels(
     requires { AreBins source.now.bins }
     ensures { IfOk result (λ text. IsDocument (string_bytes text)) }
 {
-    let mut picture = Picture::new(alloc, height_of(source, apps))?;
+    let mut picture = Document::picture(alloc, height_of(source, apps))?;
     draw_heading(&mut picture, &source.bins);
     draw_undrawn(&mut picture, undrawn);
     let mut top = HEAD;
@@ -173,11 +173,11 @@ fn height_of(source: &PictureSource<'_>, apps: &BTreeMap<String, u64>) -> u64 {
     HEAD.saturating_add(panels_height(apps.len(), versions))
 }
 
-fn draw_heading(picture: &mut Picture, bins: &Bins) {
+fn draw_heading(picture: &mut Document, bins: &Bins) {
     let minutes = bins.width.saturating_mul(bins.unit);
     picture.open(Tag::Text);
-    picture.attribute(SvgAttribute::X, "20");
-    picture.attribute(SvgAttribute::Y, "30");
+    picture.attribute(Attribute::X, "20");
+    picture.attribute(Attribute::Y, "30");
     picture.text("The share of each version (grey: those beyond 256); dashed lines are loads. ");
     picture.text(format_args!("Times are in UTC. Minutes a bin: {minutes}"));
     picture.close();
@@ -185,13 +185,13 @@ fn draw_heading(picture: &mut Picture, bins: &Bins) {
 }
 
 // What the chart leaves out, if anything.
-fn draw_undrawn(picture: &mut Picture, undrawn: Undrawn) {
+fn draw_undrawn(picture: &mut Document, undrawn: Undrawn) {
     if undrawn.counts == 0 && undrawn.asks == 0 && undrawn.loads == 0 {
         return;
     }
     picture.open(Tag::Text);
-    picture.attribute(SvgAttribute::X, "20");
-    picture.attribute(SvgAttribute::Y, "50");
+    picture.attribute(Attribute::X, "20");
+    picture.attribute(Attribute::Y, "50");
     picture.text("Not drawn:");
     draw_undrawn_number(picture, undrawn.counts, " counts");
     draw_undrawn_number(picture, undrawn.asks, " asks of other apps");
@@ -201,7 +201,7 @@ fn draw_undrawn(picture: &mut Picture, undrawn: Undrawn) {
 }
 
 // A number that the chart leaves out, unless it is 0.
-fn draw_undrawn_number(picture: &mut Picture, n: u64, what: &str) {
+fn draw_undrawn_number(picture: &mut Document, n: u64, what: &str) {
     if n > 0 {
         picture.text(format_args!(" {n}{what}"));
     }

@@ -9,7 +9,7 @@ use crate::counts::{counts_by_bin, no_counts};
 use crate::layers::{draw_layers, draw_rest};
 use crate::marks::{Series, drawn_count};
 use std::alloc::{AllocError, Global};
-use svg::{Picture, SvgAttribute, Tag};
+use markup::{Attribute, Document, Tag};
 
 /// The width and the height of a strip, and its distance from the left, in pixels.
 const WIDTH: u64 = 780;
@@ -22,7 +22,7 @@ const LEFT: u64 = 60;
 /// the rate of failures.
 pub(crate) fn draw_strips<'a>(
     alloc: Global,
-    picture: &mut Picture,
+    picture: &mut Document,
     source: &PictureSource<'_>,
     app: &'a str,
     versions: &'a [String],
@@ -51,7 +51,7 @@ pub(crate) fn draw_strips<'a>(
 // A version's share in each bin is its part of all counts of the series.
 fn draw_shares<'a>(
     alloc: Global,
-    picture: &mut Picture,
+    picture: &mut Document,
     source: &PictureSource<'_>,
     drawn: Series<'a>,
     versions: &'a [String],
@@ -69,7 +69,7 @@ fn draw_shares<'a>(
 // The rate of failures in each bin: of the installs that ended, those that failed, by version.
 fn draw_rates<'a>(
     alloc: Global,
-    picture: &mut Picture,
+    picture: &mut Document,
     source: &PictureSource<'_>,
     app: &'a str,
     versions: &'a [String],
@@ -93,7 +93,7 @@ fn draw_rates<'a>(
 // The versions of a series, as parts of the counts of another or of the same.
 fn draw_strip<'a>(
     alloc: Global,
-    picture: &mut Picture,
+    picture: &mut Document,
     source: &PictureSource<'_>,
     whole: Series<'a>,
     drawn: Series<'a>,
@@ -119,7 +119,7 @@ fn draw_strip<'a>(
 // The parts that versions have of the totals in each bin. What is above all parts is white.
 fn draw_parts<'a>(
     alloc: Global,
-    picture: &mut Picture,
+    picture: &mut Document,
     source: &PictureSource<'_>,
     drawn: Series<'a>,
     versions: &'a [String],
@@ -148,27 +148,27 @@ fn draw_parts<'a>(
 }
 
 // A bin is 1 unit wide, and 10000 units high.
-fn open_strip(picture: &mut Picture, bins: &Bins, top: u64) {
+fn open_strip(picture: &mut Document, bins: &Bins, top: u64) {
     let count = bins.count;
     picture.open(Tag::Svg);
-    picture.attribute(SvgAttribute::X, LEFT);
-    picture.attribute(SvgAttribute::Width, WIDTH);
-    picture.attribute(SvgAttribute::Height, HEIGHT);
-    picture.attribute(SvgAttribute::PreserveAspectRatio, "none");
-    picture.attribute(SvgAttribute::Y, top);
-    picture.attribute(SvgAttribute::ViewBox, format_args!("0 0 {count} 10000"));
-    picture.attribute(SvgAttribute::ShapeRendering, "crispEdges");
+    picture.attribute(Attribute::X, LEFT);
+    picture.attribute(Attribute::Width, WIDTH);
+    picture.attribute(Attribute::Height, HEIGHT);
+    picture.attribute(Attribute::PreserveAspectRatio, "none");
+    picture.attribute(Attribute::Y, top);
+    picture.attribute(Attribute::ViewBox, format_args!("0 0 {count} 10000"));
+    picture.attribute(Attribute::ShapeRendering, "crispEdges");
     picture.line();
 }
 
-fn draw_border(picture: &mut Picture, top: u64) {
+fn draw_border(picture: &mut Document, top: u64) {
     picture.open(Tag::Rect);
-    picture.attribute(SvgAttribute::Y, top);
-    picture.attribute(SvgAttribute::X, LEFT);
-    picture.attribute(SvgAttribute::Width, WIDTH);
-    picture.attribute(SvgAttribute::Height, HEIGHT);
-    picture.attribute(SvgAttribute::Fill, "none");
-    picture.attribute(SvgAttribute::Stroke, "rgb(150,150,150)");
+    picture.attribute(Attribute::Y, top);
+    picture.attribute(Attribute::X, LEFT);
+    picture.attribute(Attribute::Width, WIDTH);
+    picture.attribute(Attribute::Height, HEIGHT);
+    picture.attribute(Attribute::Fill, "none");
+    picture.attribute(Attribute::Stroke, "rgb(150,150,150)");
     picture.close();
     picture.line();
     picture.small_label("end", 54, top.saturating_add(11), "100 %");

@@ -1,8 +1,8 @@
 use Rattle.std.proofs.Common.{◌≡◌, ◌++◌, IsUtf8, chars, string_bytes}
 use Rattle.std.specs.List.{flat_map}
 use Rattle.std.specs.Str.Iter.{chars_rest}
-use Rattle.svg.specs.Xml.{xml_char, xml_text}
-use Rattle.svg.proofs.xml.push_xml.Given as goal
+use Rattle.markup.specs.Xml.{xml_char, xml_text}
+use Rattle.markup.proofs.xml.push_xml.Given as goal
 
 -- the text so far and the remaining characters make the whole
 abbrev pub invariant-loop-c : goal.invariant-loop-c

@@ -2,7 +2,7 @@
 
 ghost use Rattle.std.specs.Prelude.{OnOk};
 ghost use Rattle.printing.specs.Pushed.{Puts};
-ghost use Rattle.svg.specs.Xml.{xml_char, xml_text};
+ghost use Rattle.markup.specs.Xml.{xml_char, xml_text};
 
 use std::alloc::AllocError;
 
@@ -28,6 +28,8 @@ fn push_char(text: &mut String, c: char) -> Result<(), AllocError>
         text.push_str("&gt;")
     } else if c == '"' {
         text.push_str("&quot;")
+    } else if c == '\'' {
+        text.push_str("&#39;")
     } else if c < '\u{20}' || c == '\u{7f}' || c == '\u{fffe}' || c == '\u{ffff}' {
         text.push_str("?")
     } else {

@@ -1,3 +1,4 @@
+pub mod Classes
 pub mod Names
 pub mod WellFormed
 pub mod Xml

@@ -1,10 +1,10 @@
 //! Texts at places, and colours by number.
 
-use crate::names::{SvgAttribute, Tag};
-use crate::picture::Picture;
+use crate::document::Document;
+use crate::names::{Attribute, Tag};
 use std::fmt::Display;
 
-impl Picture {
+impl Document {
     /// Adds a text that begins at a place, in pixels.
     // open: what is written.
     pub fn label<T: Display + Drop>(&mut self, x: u64, y: u64, text: T) {
@@ -16,7 +16,7 @@ impl Picture {
     // open: what is written.
     pub fn end_label<T: Display + Drop>(&mut self, x: u64, y: u64, text: T) {
         self.open(Tag::Text);
-        self.attribute(SvgAttribute::TextAnchor, "end");
+        self.attribute(Attribute::TextAnchor, "end");
         self.label_at(u128::from(x), y, text);
     }
 
@@ -24,14 +24,14 @@ impl Picture {
     // open: what is written.
     pub fn small_label<T: Display + Drop>(&mut self, anchor: &str, x: u128, y: u64, text: T) {
         self.open(Tag::Text);
-        self.attribute(SvgAttribute::TextAnchor, anchor);
-        self.attribute(SvgAttribute::FontSize, "12");
+        self.attribute(Attribute::TextAnchor, anchor);
+        self.attribute(Attribute::FontSize, "12");
         self.label_at(x, y, text);
     }
 
     fn label_at<T: Display + Drop>(&mut self, x: u128, y: u64, text: T) {
-        self.attribute(SvgAttribute::X, x);
-        self.attribute(SvgAttribute::Y, y);
+        self.attribute(Attribute::X, x);
+        self.attribute(Attribute::Y, y);
         self.text(text);
         self.close();
     }
@@ -39,7 +39,7 @@ impl Picture {
     /// Gives the last opened element a colour: light grey for 0, and a different one for each
     /// number from 1 to 64.
     // open: what is written.
-    pub fn colour(&mut self, attribute: SvgAttribute, number: usize) {
+    pub fn colour(&mut self, attribute: Attribute, number: usize) {
         if number == 0 {
             self.attribute(attribute, "rgb(232,232,232)");
             return;

@@ -1,7 +1,7 @@
 use Rattle.std.proofs.lemmas.Str.{IsUtf8-past_char, chars_past_char}
-use Rattle.svg.proofs.Written.{characters_done, one_further}
-use Rattle.svg.specs.Xml.{xml_char}
-use Rattle.svg.proofs.xml.push_xml.Goals as goal
+use Rattle.markup.proofs.Written.{characters_done, one_further}
+use Rattle.markup.specs.Xml.{xml_char}
+use Rattle.markup.proofs.xml.push_xml.Goals as goal
 
 pub loop-c-preserved : goal.loop-c-preserved
 loop-c-preserved c =

@@ -3,22 +3,23 @@
 ghost use Rattle.std.specs.Prelude.{◌≡◌, ◌++◌, codes, OnOk};
 ghost use Rattle.std.specs.Str.{bytes_eq};
 ghost use Rattle.printing.specs.Pushed.{Puts};
-ghost use Rattle.svg.specs.Names.{attribute_name};
-ghost use Rattle.svg.specs.WellFormed as specs;
-ghost use Rattle.svg.specs.Xml.{xml_text};
+ghost use Rattle.markup.specs.Names.{attribute_name};
+ghost use Rattle.markup.specs.WellFormed as specs;
+ghost use Rattle.markup.specs.Xml.{xml_text};
 
-use crate::names::{SvgAttribute, Tag};
+use crate::classes::Class;
+use crate::names::{Attribute, Tag};
 use crate::xml::push_xml;
 use std::alloc::AllocError;
 
 /// Whether a start tag with these attributes has one of this name.
-pub(crate) fn is_given(given: &[SvgAttribute], attribute: SvgAttribute) -> bool
+pub(crate) fn is_given(given: &[Attribute], attribute: Attribute) -> bool
     ensures { result ≡ specs.is_given given.now attribute }
 {
     given.iter().any(|other| is_same(*other, attribute))
 }
 
-fn is_same(attribute: SvgAttribute, other: SvgAttribute) -> bool
+fn is_same(attribute: Attribute, other: Attribute) -> bool
     ensures { result ≡ bytes_eq (attribute_name attribute) (attribute_name other) }
 {
     attribute.name() == other.name()
@@ -47,9 +48,25 @@ pub(crate) fn push_opening(text: &mut String, in_tag: bool, tag: Tag) -> Result<
     text.push_str(tag.name())
 }
 
+pub(crate) fn push_opening_as(
+    text: &mut String,
+    in_tag: bool,
+    tag: Tag,
+    class: Class,
+) -> Result<(), AllocError>
+    ensures { OnOk result (Puts text.old text.new (specs.opening_as in_tag tag class)) }
+{
+    text.push_str(tag_end(in_tag))?;
+    text.push_str("<")?;
+    text.push_str(tag.name())?;
+    text.push_str(" class=\"")?;
+    text.push_str(class.name())?;
+    text.push_str("\"")
+}
+
 pub(crate) fn push_attribute(
     text: &mut String,
-    attribute: SvgAttribute,
+    attribute: Attribute,
     value: &str,
 ) -> Result<(), AllocError>
     ensures { OnOk result (Puts text.old text.new (specs.attribute_text attribute value.now)) }
@@ -78,9 +95,10 @@ pub(crate) fn push_line_end(text: &mut String, in_tag: bool) -> Result<(), Alloc
 pub(crate) fn push_closing(text: &mut String, in_tag: bool, tag: Tag) -> Result<(), AllocError>
     ensures { OnOk result (Puts text.old text.new (specs.closing in_tag tag)) }
 {
-    if in_tag {
+    if in_tag && tag.is_svg() {
         return text.push_str("/>");
     }
+    text.push_str(tag_end(in_tag))?;
     text.push_str("</")?;
     text.push_str(tag.name())?;
     text.push_str(">")

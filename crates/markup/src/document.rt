@@ -1,11 +1,13 @@
-//! A picture that is written element by element.
+//! A picture, or the content of a page, that is written element by element.
 
-ghost use Rattle.std.specs.Prelude.{IfOk, string_bytes};
-ghost use Rattle.svg.specs.WellFormed.{IsDocument};
+ghost use Rattle.std.specs.Prelude.{◌≡◌, ◌++◌, IfOk, string_bytes};
+ghost use Rattle.markup.specs.WellFormed as specs;
 
-use crate::names::{SvgAttribute, Tag};
+use crate::classes::Class;
+use crate::names::{Attribute, Tag};
 use crate::pieces::{
-    is_given, push_attribute, push_closing, push_content, push_line_end, push_opening, root_opening,
+    is_given, push_attribute, push_closing, push_content, push_line_end, push_opening,
+    push_opening_as, root_opening,
 };
 use std::alloc::{AllocError, Global};
 use std::fmt::Display;
@@ -14,59 +16,80 @@ use std::marker::Model;
 /// The width of a picture in pixels.
 const WIDTH: u64 = 880;
 
-/// The text of an SVG file that is being written: each element is opened, gets its attributes and
-/// then its content, and is closed. Whatever is called, the text is a prefix of a well-formed
-/// document. If an allocation fails, or a call is out of place, writing has failed, and `finish`
-/// reports it.
+/// What is written: a file with the root `svg`, or what a page has in its `body`.
+#[derive(Clone, Copy)]
+pub enum Kind {
+    Picture,
+    Content,
+}
+
+/// A text of markup that is being written: each element is opened, gets its attributes and then its
+/// content, and is closed. Whatever is called, the text is a prefix of a well-formed one. If an
+/// allocation fails, or a call is out of place, writing has failed, and the last call reports it.
 #[derive(Drop)]
-pub struct Picture {
+pub struct Document {
+    kind: Kind,
     text: String,
-    /// The open elements inside the root, the innermost last.
+    /// The open elements, the innermost last; a picture's root isn't among them.
     tags: Vec<Tag>,
     /// The attributes of the last start tag, and whether it can get more.
-    given: Vec<SvgAttribute>,
+    given: Vec<Attribute>,
     in_tag: bool,
     failed: bool,
 }
 
-impl Model for Picture {
+impl Model for Document {
     ghost use Rattle.std.specs.Prelude.{Bool, string_bytes};
-    ghost use Rattle.svg.specs.WellFormed.{IsWritten};
+    ghost use Rattle.markup.specs.WellFormed.{IsWritten};
 
     ghost Value = { Bool };
 
-    ghost view = { λ p. p.failed };
+    ghost view = { λ d. d.failed };
 
-    ghost invariant = { λ p.
-        IsWritten p.failed p.tags.items p.given.items p.in_tag (string_bytes p.text) };
+    ghost invariant = { λ d.
+        IsWritten d.failed d.kind d.tags.items d.given.items d.in_tag (string_bytes d.text) };
 }
 
-impl Picture {
+impl Document {
     /// A picture 880 pixels wide and `height` pixels high, with a white background.
     // open: whether an allocation fails; what is written.
-    pub fn new(alloc: Global, height: u64) -> Result<Picture, AllocError> {
-        let mut picture = Picture::root(alloc)?;
-        picture.attribute(SvgAttribute::Width, WIDTH);
-        picture.attribute(SvgAttribute::Height, height);
-        picture.attribute(SvgAttribute::FontFamily, "sans-serif");
-        picture.attribute(SvgAttribute::FontSize, "14");
+    pub fn picture(alloc: Global, height: u64) -> Result<Document, AllocError> {
+        let mut picture = Document::root(alloc)?;
+        picture.attribute(Attribute::Width, WIDTH);
+        picture.attribute(Attribute::Height, height);
+        picture.attribute(Attribute::FontFamily, "sans-serif");
+        picture.attribute(Attribute::FontSize, "14");
         picture.line();
         picture.open(Tag::Rect);
-        picture.attribute(SvgAttribute::Width, WIDTH);
-        picture.attribute(SvgAttribute::Height, height);
-        picture.attribute(SvgAttribute::Fill, "rgb(255,255,255)");
+        picture.attribute(Attribute::Width, WIDTH);
+        picture.attribute(Attribute::Height, height);
+        picture.attribute(Attribute::Fill, "rgb(255,255,255)");
         picture.close();
         picture.line();
         Ok(picture)
     }
 
+    /// The content of a page, which is empty so far.
+    // open: what is written.
+    pub fn content(alloc: Global) -> Document {
+        Document {
+            kind: Kind::Content,
+            text: String::new(alloc),
+            tags: Vec::new(alloc),
+            given: Vec::new(alloc),
+            in_tag: false,
+            failed: false,
+        }
+    }
+
     // The root's start tag, before its attributes.
     #[tactic(auto, using(crate::proofs::Steps::rooted))]
-    fn root(alloc: Global) -> Result<Picture, AllocError> {
+    fn root(alloc: Global) -> Result<Document, AllocError> {
         let text = String::from_str(alloc, root_opening())?;
         let mut given = Vec::new(alloc);
-        given.push(SvgAttribute::Xmlns)?;
-        Ok(Picture {
+        given.push(Attribute::Xmlns)?;
+        Ok(Document {
+            kind: Kind::Picture,
             text,
             tags: Vec::new(alloc),
             given,
@@ -81,10 +104,16 @@ impl Picture {
         let _opened = self.try_open(tag);
     }
 
+    /// Opens an element of a class.
+    // open: what is written.
+    pub fn open_as(&mut self, tag: Tag, class: Class) {
+        let _opened = self.try_open_as(tag, class);
+    }
+
     /// Gives the element that was opened last an attribute, before its content, and only once. The
     /// value's markup is escaped.
     // open: what is written.
-    pub fn attribute<T: Display + Drop>(&mut self, attribute: SvgAttribute, value: T) {
+    pub fn attribute<T: Display + Drop>(&mut self, attribute: Attribute, value: T) {
         let _given = self.try_attribute(attribute, value);
     }
 
@@ -106,14 +135,41 @@ impl Picture {
         let _closed = self.try_close();
     }
 
-    /// The whole file. Returns `AllocError` if an allocation has failed, if a call was out of
-    /// place, or if an element is open.
+    /// The whole file of a picture. Returns `AllocError` if an allocation has failed, if a call was
+    /// out of place, if an element is open, or if this is the content of a page.
     // open: when it fails; that the text is what was written.
     pub fn finish(self) -> Result<String, AllocError>
-        ensures { IfOk result (λ text. IsDocument (string_bytes text)) }
+        ensures { IfOk result (λ text. specs.IsDocument (string_bytes text)) }
     {
-        let Picture {
-            mut text,
+        let EndedText { kind, mut text } = self.end()?;
+        match kind {
+            Kind::Picture => {
+                text.push_str("</svg>\n")?;
+                Ok(text)
+            }
+            Kind::Content => Err(AllocError),
+        }
+    }
+
+    /// The whole content of a page. Returns `AllocError` as `finish` does, and if this is a picture.
+    // open: when it fails; that the text is what was written.
+    pub fn finish_content(self) -> Result<String, AllocError>
+        ensures { IfOk result (λ text. specs.IsContent (string_bytes text)) }
+    {
+        let EndedText { kind, text } = self.end()?;
+        match kind {
+            Kind::Content => Ok(text),
+            Kind::Picture => Err(AllocError),
+        }
+    }
+
+    // What was written, if no element is open.
+    fn end(self) -> Result<EndedText, AllocError>
+        ensures { IfOk result (λ ended. specs.IsEnded ended.kind (string_bytes ended.text)) }
+    {
+        let Document {
+            kind,
+            text,
             tags,
             given: _given,
             in_tag,
@@ -122,8 +178,7 @@ impl Picture {
         if failed || in_tag || !tags.is_empty() {
             return Err(AllocError);
         }
-        text.push_str("</svg>\n")?;
-        Ok(text)
+        Ok(EndedText { kind, text })
     }
 
     // ---- each step; writing has failed unless it succeeds
@@ -140,10 +195,22 @@ impl Picture {
         Ok(())
     }
 
+    #[tactic(auto, using(crate::proofs::Steps::opened_as))]
+    fn try_open_as(&mut self, tag: Tag, class: Class) -> Result<(), AllocError> {
+        let failed = self.failed;
+        self.failed = true;
+        push_opening_as(&mut self.text, self.in_tag, tag, class)?;
+        self.tags.push(tag)?;
+        self.given.clear();
+        self.in_tag = true;
+        self.failed = failed;
+        Ok(())
+    }
+
     #[tactic(auto, using(crate::proofs::Steps::given_one))]
     fn try_attribute<T: Display + Drop>(
         &mut self,
-        attribute: SvgAttribute,
+        attribute: Attribute,
         value: T,
     ) -> Result<(), AllocError> {
         let failed = self.failed;
@@ -193,4 +260,11 @@ impl Picture {
         self.failed = failed;
         Ok(())
     }
+}
+
+// A text without open elements.
+#[derive(Drop)]
+struct EndedText {
+    kind: Kind,
+    text: String,
 }

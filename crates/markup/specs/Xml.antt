@@ -9,13 +9,14 @@ use Rattle.std.specs.Str.{chars}
 abbrev pub is_unprintable : ℕ → Bool
 is_unprintable c = nat_lt c 32 || (c == 127) || (c == 65534) || (c == 65535)
 
--- an entity for & < > ", and a question mark or the character itself for any other
+-- an entity for & < > " ', and a question mark or the character itself for any other
 abbrev pub xml_char : ℕ → List ℕ
 xml_char c =
     if c == 38 then codes "&amp;"
     else if c == 60 then codes "&lt;"
     else if c == 62 then codes "&gt;"
     else if c == 34 then codes "&quot;"
+    else if c == 39 then codes "&#39;"
     else if is_unprintable c then codes "?"
     else encode_utf8 c
 
