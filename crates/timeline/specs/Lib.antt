@@ -1,4 +1,6 @@
 pub mod Bins
+pub mod Courses
 pub mod Loads
 pub mod Marks
+pub mod Newest
 pub mod Versions

@@ -8,9 +8,9 @@ use crate::legend::draw_legend;
 use crate::load_marks::draw_loads;
 use crate::strips::draw_strips;
 use crate::versions::versions_in_rows;
+use markup::{Attribute, Document, Tag};
 use std::alloc::{AllocError, Global};
 use std::collections::BTreeMap;
-use markup::{Attribute, Document, Tag};
 
 /// The data of a chart.
 #[derive(Clone, Copy)]

@@ -5,8 +5,8 @@ ghost use Rattle.timeline.specs.Bins.{AreBins};
 
 use crate::bins::Bins;
 use crate::marks::LAST_MINUTE;
-use moments::CivilDate;
 use markup::{Attribute, Document, Tag};
+use moments::CivilDate;
 
 /// The steps between ticks, in minutes.
 const STEPS: [u64; 18] = [
@@ -36,8 +36,8 @@ pub(crate) fn draw_axis(picture: &mut Document, bins: &Bins)
     }
 }
 
-// The first step that gives at most 8 ticks, or else one that does.
-fn step_for(span: u64) -> u64
+/// The first step that gives at most 8 ticks, or else one that does.
+pub(crate) fn step_for(span: u64) -> u64
     ensures { 0 < result }
 {
     for step in STEPS {

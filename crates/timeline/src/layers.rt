@@ -5,9 +5,9 @@ ghost use Rattle.std.specs.Prelude.{◌≡◌, ◌<◌, length};
 use crate::app_panel::PictureSource;
 use crate::counts::raise_by_version;
 use crate::marks::Series;
+use markup::{Attribute, Document, Tag};
 use std::alloc::{AllocError, Global};
 use std::fmt::Write;
-use markup::{Attribute, Document, Tag};
 
 /// The height of a bin, in hundredths of a percent.
 const WHOLE: u128 = 10000;
@@ -38,24 +38,6 @@ pub(crate) fn draw_layers<'a>(
 /// The colour of the next version: from 1 to 64, and then 1 again.
 pub(crate) fn next_colour(colour: usize) -> usize {
     colour % 64 + 1
-}
-
-/// Draws the white layer above these counts, if a bin has more in total.
-pub(crate) fn draw_rest(
-    alloc: Global,
-    picture: &mut Document,
-    totals: &[u64],
-    below: &[u64],
-) -> Result<(), AllocError> {
-    let bars = bars(alloc, totals, below)?;
-    if !bars.is_empty() {
-        picture.open(Tag::Path);
-        picture.attribute(Attribute::Fill, "rgb(255,255,255)");
-        picture.attribute(Attribute::D, bars.as_str());
-        picture.close();
-        picture.line();
-    }
-    Ok(())
 }
 
 fn draw_layer(

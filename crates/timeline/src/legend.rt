@@ -5,13 +5,13 @@ ghost use Rattle.timeline.specs.Versions as specs;
 
 use crate::layers::next_colour;
 use crate::marks::{Series, drawn_count};
+use markup::{Attribute, Document, Tag};
 use std::alloc::AllocError;
 use std::collections::BTreeMap;
-use markup::{Attribute, Document, Tag};
 
 /// The update checks, offers, ended installs and failed installs of a version.
 #[derive(Clone, Copy)]
-pub(crate) struct VersionCounts {
+pub struct VersionCounts {
     pub asks: u64,
     pub offers: u64,
     pub installs: u64,
@@ -41,7 +41,8 @@ pub(crate) fn draw_legend<'a>(
     Ok(())
 }
 
-fn counts_of_version<'a>(
+/// The counts of a version. Also returns `AllocError` if a number overflows 64 bits.
+pub(crate) fn counts_of_version<'a>(
     rows: &BTreeMap<String, u64>,
     app: &'a str,
     version: &'a str,

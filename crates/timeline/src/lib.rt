@@ -1,5 +1,6 @@
 //! The chart of a server's log over time, in SVG. For each bin of time it shows the share of each
-//! version in an app's update checks and offers, and the rate of failed installs. Loads are marked.
+//! version in an app's update checks and offers, and which share of its own installs failed. Loads
+//! are marked.
 //!
 //! See docs/PROGRAM.md, "report".
 #![tactic(auto)]
@@ -9,16 +10,29 @@
 // each bin are added up. A version's layer begins above the layers before it and reaches to the
 // top, and the next layer covers what is above the version's share.
 
+mod app_axis;
+mod app_layers;
 mod app_panel;
+mod app_strips;
 mod axis;
 mod bins;
 mod counts;
+mod course;
 mod layers;
 mod legend;
 mod load_marks;
 mod marks;
+mod newest;
+mod page_strip;
 mod picture;
+mod steps;
 mod strips;
+mod version_course;
 mod versions;
 
+pub use app_strips::draw_app;
+pub use legend::VersionCounts;
+pub use newest::Outcomes;
+pub use page_strip::class_of;
 pub use picture::draw_course;
+pub use version_course::{VersionCourse, versions_of_app};

@@ -6,10 +6,10 @@ ghost use Rattle.timeline.specs.Loads as specs;
 use crate::axis::across;
 use crate::bins::Bins;
 use crate::marks::{added, first, rest};
+use markup::{Attribute, Document, Tag};
 use moments::minute_in;
 use std::alloc::AllocError;
 use std::collections::BTreeMap;
-use markup::{Attribute, Document, Tag};
 
 /// Draws a line for each load within the bins, with its generation above it, unless that would
 /// begin before the last label ends. A label takes 70 pixels.
@@ -50,8 +50,8 @@ fn outside(bins: &Bins, name: &str, n: u64) -> u64
     }
 }
 
-// The minute of a load, if it is within the bins.
-fn load_minute(bins: &Bins, name: &str) -> Option<u64>
+/// The minute of a load, if it is within the bins.
+pub(crate) fn load_minute(bins: &Bins, name: &str) -> Option<u64>
     ensures { result ≡ specs.load_minute bins.now name.now }
 {
     match minute_in(first(name)) {

@@ -6,16 +6,14 @@ ghost use Rattle.timeline.specs.Bins.{AreBins};
 ghost use Rattle.timeline.specs.Loads as specs;
 
 use crate::app_panel::{PictureSource, draw_panel, panels_height};
-use crate::bins::{Bins, Reach, bins_over, reach_of};
+use crate::bins::Bins;
+use crate::course::{Course, course_of, source_of};
 use crate::load_marks::loads_outside;
 use crate::marks::{added, first};
-use report::{AppQuestion, ChartQuestion, LineQuestion, Question, Report, Tally};
+use markup::{Attribute, Document, Tag};
+use report::{Report, Tally};
 use std::alloc::{AllocError, Global};
 use std::collections::BTreeMap;
-use markup::{Attribute, Document, Tag};
-
-/// The longest time for a chart by minute: 200 bins of half an hour.
-const MOST_MINUTES: u64 = 6000;
 
 /// The height of what is above the panels, in pixels.
 const HEAD: u64 = 60;
@@ -31,57 +29,16 @@ pub(crate) struct Undrawn {
     pub loads: u64,
 }
 
-// The tables of a report for its chart.
-#[derive(Clone, Copy)]
-struct ChartTables<'a> {
-    update_checks: &'a Tally,
-    loads: &'a Tally,
-    versions: &'a Tally,
-    by_minute: &'a Tally,
-    by_hour: &'a Tally,
-}
-
-fn tables_of<'a>(report: &'a Report) -> Option<ChartTables<'a>> {
-    Some(ChartTables {
-        update_checks: report.tally(Question::App(AppQuestion::UpdateCheck))?,
-        loads: report.tally(Question::Line(LineQuestion::Load))?,
-        versions: report.tally(Question::Chart(ChartQuestion::Versions))?,
-        by_minute: report.tally(Question::Chart(ChartQuestion::ByMinute))?,
-        by_hour: report.tally(Question::Chart(ChartQuestion::ByHour))?,
-    })
-}
-
 /// The chart of a report's counts over time, as the text of an SVG file. Also returns `AllocError`
 /// if a number overflows 64 bits.
 // open: when it fails; which numbers the chart shows (rows compare it).
 pub fn draw_course(alloc: Global, report: &Report) -> Result<String, AllocError>
     ensures { IfOk result (λ text. IsDocument (string_bytes text)) }
 {
-    let Some(tables) = tables_of(report) else {
-        return draw_none(alloc);
-    };
-    if tables.update_checks.rows().is_empty() {
-        return draw_none(alloc);
-    }
-    let by_hour = !is_fine(tables.by_minute);
-    let tally = if by_hour {
-        tables.by_hour
-    } else {
-        tables.by_minute
-    };
-    match reach_of(tally.rows()) {
-        Some(reach) => draw_over(alloc, tables, tally, reach, by_hour),
+    match course_of(report) {
+        Some(course) => draw_over(alloc, course),
         None => draw_none(alloc),
     }
-}
-
-// Whether the table by minute is complete, and its time is short.
-fn is_fine(by_minute: &Tally) -> bool {
-    let short = match reach_of(by_minute.rows()) {
-        Some(reach) => reach.greatest.saturating_sub(reach.least) < MOST_MINUTES,
-        None => true,
-    };
-    short && by_minute.others() == 0
 }
 
 // An empty chart.
@@ -98,32 +55,18 @@ fn draw_none(alloc: Global) -> Result<String, AllocError>
     picture.finish()
 }
 
-fn draw_over<'a>(
-    alloc: Global,
-    tables: ChartTables<'a>,
-    tally: &'a Tally,
-    reach: Reach,
-    by_hour: bool,
-) -> Result<String, AllocError>
+fn draw_over<'a>(alloc: Global, course: Course<'a>) -> Result<String, AllocError>
+    requires { AreBins course.bins }
     ensures { IfOk result (λ text. IsDocument (string_bytes text)) }
 {
-    let Some(bins) = bins_over(reach, by_hour) else {
-        return Err(AllocError);
-    };
-    let undrawn = undrawn_of(tables.update_checks, tables.loads, tally, &bins)?;
-    let source = source_of(tables, tally, bins);
-    draw_panels(alloc, &source, tables.update_checks.rows(), undrawn)
-}
-
-fn source_of<'a>(tables: ChartTables<'a>, tally: &'a Tally, bins: Bins) -> PictureSource<'a>
-    ensures { result.bins ≡ bins }
-{
-    PictureSource {
-        rows: tally.rows(),
-        bins,
-        versions: tables.versions.rows(),
-        loads: tables.loads.rows(),
-    }
+    let undrawn = undrawn_of(
+        course.update_checks,
+        course.loads,
+        course.counts,
+        &course.bins,
+    )?;
+    let source = source_of(course);
+    draw_panels(alloc, &source, course.update_checks.rows(), undrawn)
 }
 
 fn undrawn_of(

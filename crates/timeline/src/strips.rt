@@ -6,10 +6,11 @@ ghost use Rattle.timeline.specs.Bins.{AreBins};
 use crate::app_panel::PictureSource;
 use crate::bins::Bins;
 use crate::counts::{counts_by_bin, no_counts};
-use crate::layers::{draw_layers, draw_rest};
+use crate::layers::{draw_layers, next_colour};
 use crate::marks::{Series, drawn_count};
-use std::alloc::{AllocError, Global};
+use crate::steps::{Step, areas, edges, steps_of};
 use markup::{Attribute, Document, Tag};
+use std::alloc::{AllocError, Global};
 
 /// The width and the height of a strip, and its distance from the left, in pixels.
 const WIDTH: u64 = 780;
@@ -19,7 +20,7 @@ const HEIGHT: u64 = 90;
 const LEFT: u64 = 60;
 
 /// Draws the strips of an app: the shares of versions in its update checks and in its offers, and
-/// the rate of failures.
+/// its failures.
 pub(crate) fn draw_strips<'a>(
     alloc: Global,
     picture: &mut Document,
@@ -63,10 +64,10 @@ fn draw_shares<'a>(
     let count = drawn_count(source.rows, drawn)?;
     picture.label(LEFT, top.saturating_sub(6), format_args!("{what}: {count}"));
     picture.line();
-    draw_strip(alloc, picture, source, drawn, drawn, versions, top)
+    draw_strip(alloc, picture, source, drawn, versions, top)
 }
 
-// The rate of failures in each bin: of the installs that ended, those that failed, by version.
+// The failures of each version, as shares of its own installs.
 fn draw_rates<'a>(
     alloc: Global,
     picture: &mut Document,
@@ -77,58 +78,79 @@ fn draw_rates<'a>(
 ) -> Result<(), AllocError>
     requires { AreBins source.now.bins }
 {
-    let installs = Series::of_all("installs", app);
-    let failures = Series::of_all("failures", app);
-    let ended = drawn_count(source.rows, installs)?;
-    let failed = drawn_count(source.rows, failures)?;
+    let ended = drawn_count(source.rows, Series::of_all("installs", app))?;
+    let failed = drawn_count(source.rows, Series::of_all("failures", app))?;
     picture.label(
         LEFT,
         top.saturating_sub(6),
-        format_args!("failures: {failed} of {ended} installs"),
+        format_args!("failures by version, of its own installs: {failed} of {ended}"),
     );
     picture.line();
-    draw_strip(alloc, picture, source, installs, failures, versions, top)
+    open_strip(picture, &source.bins, top);
+    let mut colour = 1;
+    for version in versions {
+        let steps = steps_of_version(alloc, source, app, version.as_str())?;
+        draw_steps(alloc, picture, colour, steps.as_slice())?;
+        colour = next_colour(colour);
+    }
+    picture.close();
+    picture.line();
+    draw_border(picture, top);
+    Ok(())
 }
 
-// The versions of a series, as parts of the counts of another or of the same.
+fn draw_steps(
+    alloc: Global,
+    picture: &mut Document,
+    colour: usize,
+    steps: &[Step],
+) -> Result<(), AllocError> {
+    if steps.is_empty() {
+        return Ok(());
+    }
+    let areas = areas(alloc, steps, 10000)?;
+    let edges = edges(alloc, steps, 10000)?;
+    picture.open(Tag::Path);
+    picture.colour(Attribute::Fill, colour);
+    picture.attribute(Attribute::FillOpacity, "0.3");
+    picture.attribute(Attribute::D, areas.as_str());
+    picture.close();
+    picture.open(Tag::Path);
+    picture.colour(Attribute::Fill, colour);
+    picture.attribute(Attribute::D, edges.as_str());
+    picture.close();
+    picture.line();
+    Ok(())
+}
+
+/// The steps of a version's installs.
+pub(crate) fn steps_of_version<'a>(
+    alloc: Global,
+    source: &PictureSource<'_>,
+    app: &'a str,
+    version: &'a str,
+) -> Result<Vec<Step>, AllocError>
+    requires { AreBins source.now.bins }
+{
+    let installs = Series::of_all("installs", app).of_version(version);
+    let failures = Series::of_all("failures", app).of_version(version);
+    let installs = counts_by_bin(alloc, source.rows, installs, &source.bins)?;
+    let failures = counts_by_bin(alloc, source.rows, failures, &source.bins)?;
+    steps_of(alloc, installs.as_slice(), failures.as_slice())
+}
+
+// The parts that versions have of all counts of a series in each bin.
 fn draw_strip<'a>(
     alloc: Global,
     picture: &mut Document,
     source: &PictureSource<'_>,
-    whole: Series<'a>,
     drawn: Series<'a>,
     versions: &'a [String],
     top: u64,
 ) -> Result<(), AllocError>
     requires { AreBins source.now.bins }
 {
-    let totals = counts_by_bin(alloc, source.rows, whole, &source.bins)?;
-    let parts = counts_by_bin(alloc, source.rows, drawn, &source.bins)?;
-    draw_parts(
-        alloc,
-        picture,
-        source,
-        drawn,
-        versions,
-        totals.as_slice(),
-        parts.as_slice(),
-        top,
-    )
-}
-
-// The parts that versions have of the totals in each bin. What is above all parts is white.
-fn draw_parts<'a>(
-    alloc: Global,
-    picture: &mut Document,
-    source: &PictureSource<'_>,
-    drawn: Series<'a>,
-    versions: &'a [String],
-    totals: &[u64],
-    parts: &[u64],
-    top: u64,
-) -> Result<(), AllocError>
-    requires { AreBins source.now.bins }
-{
+    let totals = counts_by_bin(alloc, source.rows, drawn, &source.bins)?;
     let mut below = no_counts(alloc, &source.bins)?;
     open_strip(picture, &source.bins, top);
     draw_layers(
@@ -137,10 +159,9 @@ fn draw_parts<'a>(
         source,
         drawn,
         versions,
-        totals,
+        totals.as_slice(),
         below.as_mut_slice(),
     )?;
-    draw_rest(alloc, picture, totals, parts)?;
     picture.close();
     picture.line();
     draw_border(picture, top);

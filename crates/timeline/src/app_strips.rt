@@ -1,0 +1,153 @@
+//! The course of an app in a page, as strips over time. A page's style gives them their size and
+//! their colours.
+
+ghost use Rattle.timeline.specs.Bins.{AreBins};
+
+use crate::app_axis::{draw_axis, draw_heading};
+use crate::app_layers::{draw_offers, draw_shares};
+use crate::app_panel::PictureSource;
+use crate::bins::Bins;
+use crate::course::{course_of, source_of};
+use crate::page_strip::{caption, class_of, close_strip, open_strip};
+use crate::steps::{Step, areas, edges, share_of, steps_if};
+use crate::strips::steps_of_version;
+use crate::versions::versions_in_rows;
+use markup::{Attribute, Class, Document, Tag};
+use report::Report;
+use std::alloc::{AllocError, Global};
+
+/// Draws the course of an app: for each version the share of its own installs that failed, its
+/// offers, and its share of the update checks. Nothing if no update check has a readable time. Also
+/// returns `AllocError` if a number overflows 64 bits.
+// open: what is drawn: people look at it.
+pub fn draw_app(
+    alloc: Global,
+    page: &mut Document,
+    report: &Report,
+    app: &str,
+) -> Result<(), AllocError> {
+    match course_of(report) {
+        Some(course) => draw_strips(alloc, page, &source_of(course), app),
+        None => Ok(()),
+    }
+}
+
+fn draw_strips(
+    alloc: Global,
+    page: &mut Document,
+    source: &PictureSource<'_>,
+    app: &str,
+) -> Result<(), AllocError>
+    requires { AreBins source.now.bins }
+{
+    let versions = versions_in_rows(alloc, source.versions, app)?;
+    let versions = versions.as_slice();
+    draw_heading(page, &source.bins);
+    page.open_as(Tag::Division, Class::Course);
+    draw_failures(alloc, page, source, app, versions)?;
+    draw_offers(alloc, page, source, app, versions)?;
+    draw_shares(alloc, page, source, app, versions)?;
+    draw_axis(page, &source.bins);
+    page.close();
+    page.line();
+    Ok(())
+}
+
+fn draw_failures(
+    alloc: Global,
+    page: &mut Document,
+    source: &PictureSource<'_>,
+    app: &str,
+    versions: &[String],
+) -> Result<(), AllocError>
+    requires { AreBins source.now.bins }
+{
+    let top = scale_of(alloc, source, app, versions)?;
+    let percent = top / 100;
+    caption(
+        page,
+        format_args!("Failed, of each version's own installs: 0 to {percent} %"),
+    );
+    open_strip(page, &source.bins);
+    draw_limit(page, &source.bins, top);
+    let mut index: usize = 0;
+    for version in versions {
+        let steps = steps_of_version(alloc, source, app, version.as_str())?;
+        draw_steps(alloc, page, class_of(index), steps.as_slice(), top)?;
+        index = index.wrapping_add(1);
+    }
+    close_strip(alloc, page, source)
+}
+
+// The height of the strip in hundredths of a percent: 25, 50 or 100 percent.
+fn scale_of(
+    alloc: Global,
+    source: &PictureSource<'_>,
+    app: &str,
+    versions: &[String],
+) -> Result<u128, AllocError>
+    requires { AreBins source.now.bins }
+{
+    let mut most = 0;
+    for version in versions {
+        let steps = steps_of_version(alloc, source, app, version.as_str())?;
+        most = highest(steps.as_slice(), most);
+    }
+    if most <= 2500 {
+        return Ok(2500);
+    }
+    Ok(if most <= 5000 { 5000 } else { 10000 })
+}
+
+fn highest(steps: &[Step], least: u128) -> u128 {
+    let mut most = least;
+    for step in steps {
+        most = most.max(share_of(*step));
+    }
+    most
+}
+
+// A line at 5 percent.
+fn draw_limit(page: &mut Document, bins: &Bins, top: u128) {
+    let count = bins.count;
+    let y = 10000_u128.saturating_sub(5_000_000 / top.max(500));
+    page.open_as(Tag::Path, Class::Limit);
+    page.attribute(Attribute::D, format_args!("M0 {y}H{count}"));
+    page.close();
+}
+
+// The steps of a version in its colour; those that are high in the colour of what is bad.
+fn draw_steps(
+    alloc: Global,
+    page: &mut Document,
+    class: Class,
+    steps: &[Step],
+    top: u128,
+) -> Result<(), AllocError> {
+    let low = steps_if(alloc, steps, false)?;
+    let high = steps_if(alloc, steps, true)?;
+    draw_areas(alloc, page, class, low.as_slice(), top)?;
+    draw_areas(alloc, page, Class::Bad, high.as_slice(), top)
+}
+
+fn draw_areas(
+    alloc: Global,
+    page: &mut Document,
+    class: Class,
+    steps: &[Step],
+    top: u128,
+) -> Result<(), AllocError> {
+    if steps.is_empty() {
+        return Ok(());
+    }
+    let areas = areas(alloc, steps, top)?;
+    let edges = edges(alloc, steps, top)?;
+    page.open_as(Tag::Path, class);
+    page.attribute(Attribute::FillOpacity, "0.4");
+    page.attribute(Attribute::D, areas.as_str());
+    page.close();
+    page.open_as(Tag::Path, class);
+    page.attribute(Attribute::D, edges.as_str());
+    page.close();
+    Ok(())
+}

@@ -1,0 +1,78 @@
+//! The counts of a report over time: its tables for a chart, and the bins of its time.
+
+ghost use Rattle.std.specs.Prelude.{◌≡◌, IfSome};
+ghost use Rattle.timeline.specs.Bins.{AreBins};
+
+use crate::app_panel::PictureSource;
+use crate::bins::{Bins, bins_over, reach_of};
+use report::{AppQuestion, ChartQuestion, LineQuestion, Question, Report, Tally};
+
+/// The longest time for a chart by minute: 200 bins of half an hour.
+const MOST_MINUTES: u64 = 6000;
+
+/// The tables for a chart; `counts` has the rows by minute or by hour, which the bins divide.
+#[derive(Clone, Copy)]
+pub(crate) struct Course<'a> {
+    pub update_checks: &'a Tally,
+    pub loads: &'a Tally,
+    pub versions: &'a Tally,
+    pub counts: &'a Tally,
+    pub bins: Bins,
+}
+
+/// The course of a report; `None` if no update check has a readable time.
+pub(crate) fn course_of<'a>(report: &'a Report) -> Option<Course<'a>>
+    ensures { IfSome result (λ course. AreBins course.bins) }
+{
+    let update_checks = report.tally(Question::App(AppQuestion::UpdateCheck))?;
+    let loads = report.tally(Question::Line(LineQuestion::Load))?;
+    let versions = report.tally(Question::Chart(ChartQuestion::Versions))?;
+    let by_minute = report.tally(Question::Chart(ChartQuestion::ByMinute))?;
+    let by_hour = report.tally(Question::Chart(ChartQuestion::ByHour))?;
+    if update_checks.rows().is_empty() {
+        return None;
+    }
+    let fine = is_fine(by_minute);
+    let counts = if fine { by_minute } else { by_hour };
+    match bins_of_rows(counts, !fine) {
+        Some(bins) => Some(Course {
+            update_checks,
+            loads,
+            versions,
+            counts,
+            bins,
+        }),
+        None => None,
+    }
+}
+
+// The bins over the times of a table's rows.
+fn bins_of_rows(counts: &Tally, by_hour: bool) -> Option<Bins>
+    ensures { IfSome result AreBins }
+{
+    match reach_of(counts.rows()) {
+        Some(reach) => bins_over(reach, by_hour),
+        None => None,
+    }
+}
+
+// Whether the table by minute is complete, and its time is short.
+fn is_fine(by_minute: &Tally) -> bool {
+    let short = match reach_of(by_minute.rows()) {
+        Some(reach) => reach.greatest.saturating_sub(reach.least) < MOST_MINUTES,
+        None => true,
+    };
+    short && by_minute.others() == 0
+}
+
+/// The data that is drawn.
+pub(crate) fn source_of<'a>(course: Course<'a>) -> PictureSource<'a>
+    ensures { result.bins ≡ course.entry.bins }
+{
+    PictureSource {
+        rows: course.counts.rows(),
+        bins: course.bins,
+        versions: course.versions.rows(),
+        loads: course.loads.rows(),
+    }
+}

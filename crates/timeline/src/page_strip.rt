@@ -1,0 +1,75 @@
+//! A strip of a page: its caption, its picture, and the loads in it.
+
+ghost use Rattle.std.specs.Prelude.{◌<◌};
+
+use crate::app_panel::PictureSource;
+use crate::bins::Bins;
+use crate::load_marks::load_minute;
+use markup::{Attribute, Class, Document, Tag};
+use std::alloc::{AllocError, Global};
+use std::fmt::{Display, Write};
+
+/// The classes of versions, in turn.
+const CLASSES: [Class; 5] = [
+    Class::Version1,
+    Class::Version2,
+    Class::Version3,
+    Class::Version4,
+    Class::Version5,
+];
+
+/// The class of the version with this index.
+pub fn class_of(index: usize) -> Class {
+    CLASSES[index % 5]
+}
+
+/// Adds a paragraph above a strip.
+pub(crate) fn caption<T: Display + Drop>(page: &mut Document, text: T) {
+    page.open_as(Tag::Paragraph, Class::Muted);
+    page.text(text);
+    page.close();
+    page.line();
+}
+
+/// Opens a strip. A bin is 1 unit wide and 10000 units high.
+pub(crate) fn open_strip(page: &mut Document, bins: &Bins) {
+    let count = bins.count;
+    page.open_as(Tag::Svg, Class::Strip);
+    page.attribute(Attribute::Xmlns, "http://www.w3.org/2000/svg");
+    page.attribute(Attribute::ViewBox, format_args!("0 0 {count} 10000"));
+    page.attribute(Attribute::PreserveAspectRatio, "none");
+    page.attribute(Attribute::AriaHidden, "true");
+    page.line();
+}
+
+/// Closes a strip after the loads within its bins.
+pub(crate) fn close_strip(
+    alloc: Global,
+    page: &mut Document,
+    source: &PictureSource<'_>,
+) -> Result<(), AllocError>
+    requires { 0 < source.now.bins.span }
+{
+    let mut path = String::new(alloc);
+    for (name, _count) in source.loads.iter() {
+        if let Some(minute) = load_minute(&source.bins, name.as_str()) {
+            let x = part_of(&source.bins, minute, source.bins.count);
+            write!(path, "M{x} 0V10000")?;
+        }
+    }
+    if !path.is_empty() {
+        page.open_as(Tag::Path, Class::Load);
+        page.attribute(Attribute::D, path.as_str());
+        page.close();
+    }
+    page.close();
+    page.line();
+    Ok(())
+}
+
+/// How far a minute is from the first, if all bins together take `whole`.
+pub(crate) fn part_of(bins: &Bins, minute: u64, whole: u64) -> u128
+    requires { 0 < bins.now.span }
+{
+    minute.saturating_sub(bins.start) as u128 * whole as u128 / bins.span as u128
+}
