@@ -1,0 +1,75 @@
+//! Elements of a page that have only a text.
+
+use markup::{Class, Document, Tag};
+use std::fmt::Display;
+
+/// Adds an element with this text.
+pub(crate) fn put<T: Display + Drop>(page: &mut Document, tag: Tag, text: T) {
+    page.open(tag);
+    page.text(text);
+    page.close();
+}
+
+/// Adds an element of a class with this text.
+pub(crate) fn put_as<T: Display + Drop>(page: &mut Document, tag: Tag, class: Class, text: T) {
+    page.open_as(tag, class);
+    page.text(text);
+    page.close();
+}
+
+/// Adds a muted paragraph.
+pub(crate) fn remark<T: Display + Drop>(page: &mut Document, text: T) {
+    put_as(page, Tag::Paragraph, Class::Muted, text);
+    page.line();
+}
+
+/// Opens a table with these heads of columns. Those from the place `numbers` on are of numbers.
+pub(crate) fn open_table(page: &mut Document, heads: &[&str], numbers: usize) {
+    page.open_as(Tag::Division, Class::Wide);
+    page.open(Tag::Table);
+    page.open(Tag::TableHead);
+    page.open(Tag::TableRow);
+    for (place, head) in heads.iter().enumerate() {
+        if place < numbers {
+            put(page, Tag::TableHeading, *head);
+        } else {
+            put_as(page, Tag::TableHeading, Class::Number, *head);
+        }
+    }
+    page.close();
+    page.close();
+    page.line();
+    page.open(Tag::TableBody);
+    page.line();
+}
+
+/// Closes the table that was opened last.
+pub(crate) fn close_table(page: &mut Document) {
+    page.close();
+    page.close();
+    page.close();
+    page.line();
+}
+
+/// Adds the cell of a number.
+pub(crate) fn number_cell<T: Display + Drop>(page: &mut Document, n: T) {
+    put_as(page, Tag::TableCell, Class::Number, n);
+}
+
+/// Adds the cell of a share, such as `0.78 %`; an empty cell if the whole is 0.
+pub(crate) fn share_cell(page: &mut Document, class: Class, n: u64, whole: u64) {
+    page.open_as(Tag::TableCell, class);
+    put_share(page, n, whole);
+    page.close();
+}
+
+/// Adds a share to the innermost element, cut after two digits; nothing if the whole is 0.
+pub(crate) fn put_share(page: &mut Document, n: u64, whole: u64) {
+    if whole == 0 {
+        return;
+    }
+    let hundredths = n as u128 * 10000 / whole as u128;
+    let percent = hundredths / 100;
+    let rest = hundredths % 100;
+    page.text(format_args!("{percent}.{rest:02} %"));
+}

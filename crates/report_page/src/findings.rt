@@ -1,0 +1,134 @@
+//! What a report finds: what is wrong, the worst first.
+
+ghost use Rattle.std.specs.Prelude.{◌≡◌};
+
+use report::{AppQuestion, LineQuestion, Question, Report, Tally};
+use std::alloc::{AllocError, Global};
+use timeline::{Outcomes, VersionCourse, versions_of_app};
+
+/// An app with its versions.
+#[derive(Drop)]
+pub(crate) struct AppCourse {
+    pub appid: String,
+    pub update_checks: u64,
+    pub versions: Vec<VersionCourse>,
+}
+
+/// A version that fails.
+#[derive(Clone, Copy)]
+pub(crate) struct Failing<'a> {
+    pub appid: &'a str,
+    pub version: &'a str,
+    pub newest: Outcomes,
+}
+
+/// Something that isn't as it should be.
+#[derive(Clone, Copy)]
+pub(crate) enum Finding<'a> {
+    Fails(Failing<'a>),
+    /// Requests that got a status from 500 on.
+    Errors(u64),
+    /// Lines that the log lost.
+    Lost(u64),
+    /// Update checks of apps that the server doesn't know.
+    Unknown(u64),
+    /// Lines that aren't the server's.
+    Foreign(u64),
+}
+
+impl<'a> Finding<'a> {
+    /// Whether an operator has to act.
+    pub(crate) fn is_urgent(self) -> bool {
+        match self {
+            Finding::Fails(_) | Finding::Errors(_) => true,
+            _ => false,
+        }
+    }
+}
+
+/// The apps of a report, each with its versions.
+pub(crate) fn apps_of(alloc: Global, report: &Report) -> Result<Vec<AppCourse>, AllocError> {
+    let mut apps = Vec::new(alloc);
+    if let Some(update_checks) = report.tally(Question::App(AppQuestion::UpdateCheck)) {
+        for (appid, count) in update_checks.rows().iter() {
+            let appid = appid.as_str();
+            let versions = versions_of_app(alloc, report, appid)?;
+            apps.push(AppCourse {
+                appid: String::from_str(alloc, appid)?,
+                update_checks: *count,
+                versions,
+            })?;
+        }
+    }
+    Ok(apps)
+}
+
+/// The findings, the worst first.
+pub(crate) fn findings_of<'a>(
+    alloc: Global,
+    report: &Report,
+    apps: &'a [AppCourse],
+) -> Result<Vec<Finding<'a>>, AllocError> {
+    let mut findings = Vec::new(alloc);
+    for app in apps {
+        for version in app.versions.as_slice() {
+            if version.newest.fails() {
+                findings.push(Finding::Fails(failing_of(app, version)))?;
+            }
+        }
+    }
+    note(&mut findings, Finding::Errors(errors_in(report)))?;
+    note(&mut findings, Finding::Lost(report.lost))?;
+    note(&mut findings, Finding::Unknown(unknown_in(report)))?;
+    note(&mut findings, Finding::Foreign(report.foreign))?;
+    Ok(findings)
+}
+
+fn failing_of<'a>(app: &'a AppCourse, version: &'a VersionCourse) -> Failing<'a> {
+    Failing {
+        appid: app.appid.as_str(),
+        version: version.version.as_str(),
+        newest: version.newest,
+    }
+}
+
+// Adds a finding, unless its number is 0.
+fn note<'a>(findings: &mut Vec<Finding<'a>>, finding: Finding<'a>) -> Result<(), AllocError> {
+    let empty = match finding {
+        Finding::Errors(n) | Finding::Lost(n) | Finding::Unknown(n) | Finding::Foreign(n) => n == 0,
+        Finding::Fails(_) => false,
+    };
+    if !empty {
+        findings.push(finding)?;
+    }
+    Ok(())
+}
+
+// The requests that were refused with a status from 500 on.
+fn errors_in(report: &Report) -> u64 {
+    let mut errors: u64 = 0;
+    if let Some(refusals) = report.tally(Question::Line(LineQuestion::Refusal)) {
+        for (name, count) in refusals.rows().iter() {
+            if name.as_str().starts_with('5') {
+                errors = errors.saturating_add(*count);
+            }
+        }
+    }
+    errors
+}
+
+fn unknown_in(report: &Report) -> u64 {
+    match report.tally(Question::App(AppQuestion::Unknown)) {
+        Some(unknown) => all_of(unknown),
+        None => 0,
+    }
+}
+
+// All counts of a table.
+fn all_of(tally: &Tally) -> u64 {
+    let mut count = tally.others();
+    for (_name, n) in tally.rows().iter() {
+        count = count.saturating_add(*n);
+    }
+    count
+}

@@ -1,0 +1,118 @@
+//! The sections of loads and of requests, and the whole report.
+
+use crate::elements::{close_table, number_cell, open_table, put, remark};
+use markup::{Class, Document, Tag};
+use report::{LineQuestion, Question, Report, report_text};
+use std::alloc::{AllocError, Global};
+use std::collections::BTreeMap;
+
+/// Draws the loads.
+pub(crate) fn draw_loads(page: &mut Document, report: &Report) {
+    page.open(Tag::Section);
+    put(page, Tag::Heading, "Loads");
+    page.line();
+    match report.tally(Question::Line(LineQuestion::Load)) {
+        Some(loads) if !loads.rows().is_empty() => {
+            open_table(
+                page,
+                &["Time, in UTC", "Generation", "Manifest", "Number"],
+                3,
+            );
+            draw_rows(page, loads.rows());
+            close_table(page);
+            draw_others(page, loads.others());
+        }
+        _ => remark(page, "The log has no load."),
+    }
+    page.close();
+    page.line();
+}
+
+/// Draws the numbers of lines and of requests.
+pub(crate) fn draw_requests(page: &mut Document, report: &Report) {
+    page.open(Tag::Section);
+    put(page, Tag::Heading, "Requests");
+    page.line();
+    match report.tally(Question::Line(LineQuestion::Refusal)) {
+        Some(refusals) if !refusals.rows().is_empty() => {
+            open_table(page, &["Status", "Rule", "Number"], 2);
+            draw_rows(page, refusals.rows());
+            close_table(page);
+            draw_others(page, refusals.others());
+        }
+        _ => remark(page, "No request was refused."),
+    }
+    open_table(page, &["Lines of the log", "Number"], 1);
+    draw_number(page, "counted", report.lines);
+    draw_number(page, "not the server's", report.foreign);
+    draw_number(page, "lost", report.lost);
+    draw_number(page, "apps left out", report.left_out);
+    draw_number(page, "offers left out", report.offers_left_out);
+    if let Some(kinds) = report.tally(Question::Line(LineQuestion::Kind)) {
+        draw_rows(page, kinds.rows());
+    }
+    close_table(page);
+    page.close();
+    page.line();
+}
+
+fn draw_number(page: &mut Document, what: &str, n: u64) {
+    page.open(Tag::TableRow);
+    put(page, Tag::TableCell, what);
+    number_cell(page, n);
+    page.close();
+    page.line();
+}
+
+// A row for each name: its texts, and then its count.
+fn draw_rows(page: &mut Document, rows: &BTreeMap<String, u64>) {
+    for (name, n) in rows.iter() {
+        page.open(Tag::TableRow);
+        for text in name.as_str().split('\t') {
+            put(page, Tag::TableCell, text);
+        }
+        number_cell(page, *n);
+        page.close();
+        page.line();
+    }
+}
+
+fn draw_others(page: &mut Document, others: u64) {
+    if others > 0 {
+        remark(page, format_args!("{others} more have no row."));
+    }
+}
+
+/// Draws the text of the report, folded.
+pub(crate) fn draw_whole(
+    alloc: Global,
+    page: &mut Document,
+    report: &Report,
+) -> Result<(), AllocError> {
+    let text = report_text(alloc, true, report)?;
+    page.open(Tag::Section);
+    page.open(Tag::Details);
+    put(page, Tag::Summary, "The whole report");
+    page.open(Tag::Preformatted);
+    for line in text.as_str().lines() {
+        draw_line(page, line);
+    }
+    page.close();
+    page.close();
+    page.close();
+    page.line();
+    Ok(())
+}
+
+// A line of the report; four spaces for each tab.
+fn draw_line(page: &mut Document, line: &str) {
+    let mut first = true;
+    for text in line.split('\t') {
+        if !first {
+            page.text("    ");
+        }
+        page.text(text);
+        first = false;
+    }
+    page.line();
+}
