@@ -1,7 +1,7 @@
 -- The lines of one more log are counted.
 use Rattle.std.proofs.Common.{◌≡◌, ◌∙◌, refl, sym, subst, ℕ, ◌+◌, List, [], ◌∷◌, ◌++◌}
 use Rattle.std.proofs.Common.{append_assoc, append-nil, flat_map, Option, arith}
-use Rattle.std.proofs.Common.{Bool, is_some, string_bytes}
+use Rattle.std.proofs.Common.{Bool, ◌||◌, is_some, string_bytes}
 use Rattle.std.proofs.lemmas.Grind.{flat_map-append}
 use Rattle.std.proofs.lemmas.List.{length-append}
 use Rattle.std.proofs.lemmas.List.Concat.{flat_map-cons}
@@ -15,6 +15,7 @@ use Rattle.report.specs.Reading.{CountsLines, ReadsLog}
 use Rattle.report.specs.declared.counting.Report.{Report}
 use Rattle.report.specs.declared.window.Window.{Window}
 use Rattle.markup.specs.WellFormed.{HasPicture}
+use Rattle.report_page.specs.Pages.{HasPage}
 
 module _ (window : Window) where
   counts_none : (r : Report) → CountsLines window [] r r
@@ -58,21 +59,22 @@ module _ (window : Window) where
         first.counted last.counted);
   }
 
-pub has_reported : (n : ℕ) (since until : Option NamedTime) (form : ReportForm) (drawn : Bool)
-    (output : ReportOutput) (window : Window) (start last : Report)
+pub has_reported : (n : ℕ) (since until : Option NamedTime) (form : ReportForm)
+    (pictured paged : Bool) (output : ReportOutput) (window : Window) (start last : Report)
     → is_some window.since ≡ is_some since → is_some window.until ≡ is_some until
-    → Counts window [] drawn start → CountsLogs window n start last
+    → Counts window [] (pictured || paged) start → CountsLogs window n start last
     → string_bytes output.text ≡ text_by form (kind_of since until) last
-    → HasPicture drawn output.picture
-    → HasReported n since until form drawn output
-has_reported n since until form drawn output window start last from to none reads text picture =
-    record {
+    → HasPicture pictured output.picture → HasPage paged output.page
+    → HasReported n since until form pictured paged output
+has_reported n since until form pictured paged output window start last from to none reads text
+    picture page = record {
       window = window;
       window_is = record { since_is = from; until_is = to };
       logs = reads.logs;
       each = reads.each;
       report = last;
-      counted = reads.counted.extends drawn [] none;
+      counted = reads.counted.extends (pictured || paged) [] none;
       text_is = text;
       picture = picture;
+      page = page;
     }

@@ -1,6 +1,6 @@
 -- A report on logs. Nothing is known about the files of a device, so each log has some bytes. Nor
 -- is anything known about its clock, so the window is between some times.
-use Rattle.std.specs.Prelude.{◌≡◌, ℕ, List, Option, None, length, flat_map, is_some, Bool}
+use Rattle.std.specs.Prelude.{◌≡◌, ℕ, List, Option, None, length, flat_map, is_some, Bool, ◌||◌}
 use Rattle.std.specs.Prelude.{if◌then◌else◌, string_bytes}
 use Rattle.moments.specs.declared.moment.NamedTime.{NamedTime}
 use Rattle.report.specs.Counts.{Counts}
@@ -13,6 +13,7 @@ use Rattle.report.specs.declared.metrics.MetricKind.{MetricKind}
 use Rattle.report.specs.declared.metrics.MetricKind.TheVariants.{Counter, Gauge}
 use Rattle.report.specs.declared.window.Window.{Window}
 use Rattle.markup.specs.WellFormed.{HasPicture}
+use Rattle.report_page.specs.Pages.{HasPage}
 use Rattle.log_tools.specs.declared.report_form.ReportForm.{ReportForm}
 use Rattle.log_tools.specs.declared.reporting.ReportOutput.{ReportOutput}
 
@@ -39,12 +40,13 @@ kind_of since until = Gauge
 
 -- the report that counts the lines of `n` logs, each from its first byte to its last
 pub record HasReported (n : ℕ) (since until : Option NamedTime) (form : ReportForm)
-    (drawn : Bool) (output : ReportOutput) : Type 0 where
+    (pictured paged : Bool) (output : ReportOutput) : Type 0 where
   pub window : Window
   pub window_is : IsWindowOf since until window
   pub logs : List (List ℕ)
   pub each : length logs ≡ n
   pub report : Report
-  pub counted : Counts window (flat_map lines_in logs) drawn report
+  pub counted : Counts window (flat_map lines_in logs) (pictured || paged) report
   pub text_is : string_bytes output.text ≡ text_by form (kind_of since until) report
-  pub picture : HasPicture drawn output.picture
+  pub picture : HasPicture pictured output.picture
+  pub page : HasPage paged output.page

@@ -3,6 +3,7 @@
 
 mod continuing;
 mod log_part;
+mod page_file;
 mod picture_file;
 mod progress_lines;
 mod report_fault;
@@ -11,6 +12,7 @@ mod reporting;
 mod state_file;
 
 pub use continuing::report_on_state;
+pub use page_file::may_be_page;
 pub use report_fault::ReportFault;
 pub use report_form::ReportForm;
 pub use reporting::{ReportOutput, report_logs};

@@ -25,20 +25,20 @@ pub(crate) fn require_drawable<R: Files>(
     Ok(())
 }
 
-/// Writes the picture into the named file, if there are both.
-pub(crate) fn write_picture<R: Files<File = File> + AllocGlobal>(
+/// Writes a text into the named file, if there are both.
+pub(crate) fn write_if<R: Files<File = File> + AllocGlobal>(
     rt: &R,
     file: Option<&str>,
-    picture: &Option<String>,
+    text: &Option<String>,
 ) -> Result<(), ResourceFault> {
-    match (file, picture) {
-        (Some(path), Some(picture)) => write_file(rt, path, picture.as_bytes()),
+    match (file, text) {
+        (Some(path), Some(text)) => write_file(rt, path, text.as_bytes()),
         _ => Ok(()),
     }
 }
 
-// Whether a path leads to one of the logs, links followed.
-fn is_among<R: Files>(rt: &R, path: &str, logs: &[&str]) -> bool {
+/// Whether a path leads to one of the logs, links followed.
+pub(crate) fn is_among<R: Files>(rt: &R, path: &str, logs: &[&str]) -> bool {
     let Ok(found) = fs::metadata(rt, path) else {
         return false;
     };

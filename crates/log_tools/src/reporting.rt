@@ -1,18 +1,21 @@
 //! `report`: counts the lines of logs.
 
-ghost use Rattle.std.specs.Prelude.{◌≡◌, [], IfOk, OnOk, is_some, length};
+ghost use Rattle.std.specs.Prelude.{◌≡◌, ◌||◌, [], IfOk, OnOk, is_some, length};
 ghost use Rattle.std.specs.String.{string_bytes};
 ghost use Rattle.report.specs.Counts.{Counts};
 ghost use Rattle.log_tools.specs.Reports.{CountsLogs, HasReported, kind_of, text_by};
 ghost use Rattle.markup.specs.WellFormed.{HasPicture};
+ghost use Rattle.report_page.specs.Pages.{HasPage};
 
-use crate::picture_file::{require_drawable, write_picture};
+use crate::page_file::require_page;
+use crate::picture_file::{require_drawable, write_if};
 use crate::progress_lines::ProgressLines;
 use crate::report_form::{ReportForm, text_by};
 use bounded_files::ResourceFault;
 use jiff_core::Timestamp;
 use moments::{NamedTime, time_text};
 use report::{MetricKind, Report, Window, count_log};
+use report_page::page_text;
 use std::alloc::{AllocError, Global};
 use std::fs::{self, File};
 use std::io::{self, Error, ErrorKind};
@@ -23,43 +26,68 @@ use timeline::draw_course;
 /// The file of standard input, which is read in blocks.
 const STANDARD_INPUT: &str = "/dev/stdin";
 
-/// A report on logs: a text, and a picture as the text of an SVG file, if a file is named for it.
+/// A report on logs: a text, and if files are named for them a picture, as the text of an SVG file,
+/// and a page, as that of an HTML file.
 #[derive(Drop)]
 pub struct ReportOutput {
     pub text: String,
     pub picture: Option<String>,
+    pub page: Option<String>,
 }
 
 /// The report on the logs' lines from `since` on and before `until`, in this form. A log named `-`
-/// is standard input. If `file` names a file, a picture of the lines' course is written into it
-/// once all logs are read.
+/// is standard input. If `picture` names a file, a picture of the lines' course is written into
+/// it once all logs are read, and then the page into the file that `page` names.
 ///
-/// Returns B3 if the picture would overwrite a log, or a file that isn't empty and isn't a picture;
-/// if a log can't be read; if a moment is given and the clock can't be read; or if the picture
-/// can't be written. Returns B4 if an allocation fails. A read that takes over a second prints its
-/// progress, if standard error is a terminal.
-// open: whether an allocation fails; which progress is printed; that the file gets the picture.
+/// Returns B3 if the picture would overwrite a log, or a file that isn't empty and isn't a picture,
+/// and likewise for the page; if a log can't be read; if a moment is given, or a page written, and
+/// the clock can't be read; or if the picture or the page can't be written. Returns B4 if an
+/// allocation fails. A read that takes over a second prints its progress, if standard error is a
+/// terminal.
+// open: whether an allocation fails; which progress is printed; that the files get the picture and
+// the page.
 pub fn report_logs<R>(
     rt: &R,
     logs: &[&str],
     since: Option<NamedTime>,
     until: Option<NamedTime>,
     form: ReportForm,
-    file: Option<&str>,
+    picture: Option<&str>,
+    page: Option<&str>,
 ) -> Result<ReportOutput, ResourceFault>
 where
     R: Files<File = File> + AllocGlobal + Clock + Eprint,
     ensures { IfOk result
-        (HasReported (length logs.now) since until form (is_some file.entry)) }
+        (HasReported (length logs.now) since until form (is_some picture.entry)
+        (is_some page.entry)) }
 {
-    require_drawable(rt, logs, file)?;
-    let drawn = file.is_some();
-    let mut report = new_report(rt.alloc(), drawn)?;
+    require_drawable(rt, logs, picture)?;
+    require_page(rt, logs, page)?;
+    let drawn = Drawn {
+        picture: picture.is_some(),
+        page: page.is_some(),
+    };
+    let mut report = new_report(rt.alloc(), is_drawn(drawn))?;
     let output = output_of_logs(rt, logs, since, until, form, drawn, &mut report);
     drop(report);
     let output = output?;
-    write_picture(rt, file, &output.picture)?;
+    write_if(rt, picture, &output.picture)?;
+    write_if(rt, page, &output.page)?;
     Ok(output)
+}
+
+// Which files a report has besides its text.
+#[derive(Clone, Copy)]
+struct Drawn {
+    picture: bool,
+    page: bool,
+}
+
+// Whether a report counts what its files draw.
+fn is_drawn(drawn: Drawn) -> bool
+    ensures { result ≡ drawn.picture || drawn.page }
+{
+    drawn.picture || drawn.page
 }
 
 // A report on no lines.
@@ -79,13 +107,14 @@ fn output_of_logs<R>(
     since: Option<NamedTime>,
     until: Option<NamedTime>,
     form: ReportForm,
-    drawn: bool,
+    drawn: Drawn,
     report: &mut Report,
 ) -> Result<ReportOutput, ResourceFault>
 where
     R: Files + AllocGlobal + Clock + Eprint,
-    requires { (window : Window) → Counts window [] drawn report.old }
-    ensures { IfOk result (HasReported (length logs.now) since until form drawn) }
+    requires { (window : Window) → Counts window [] (drawn.picture || drawn.page) report.old }
+    ensures { IfOk result
+        (HasReported (length logs.now) since until form drawn.picture drawn.page) }
 {
     let kind = kind_of(since, until);
     let since = time_of(rt, since)?;
@@ -95,7 +124,8 @@ where
         until: text_of(&until),
     };
     count_logs(rt, logs, &window, report)?;
-    match output_of(rt.alloc(), form, kind, drawn, report) {
+    let written = time_of(rt, moment_if(drawn.page))?;
+    match output_of(rt.alloc(), form, kind, drawn, text_of(&written), report) {
         Ok(output) => Ok(output),
         Err(_) => Err(ResourceFault::Memory),
     }
@@ -105,20 +135,53 @@ fn output_of(
     alloc: Global,
     form: ReportForm,
     kind: MetricKind,
-    drawn: bool,
+    drawn: Drawn,
+    written: Option<&str>,
     report: &Report,
 ) -> Result<ReportOutput, AllocError>
     ensures text { IfOk result
         (λ output. string_bytes output.text ≡ text_by form kind report.now) }
-    ensures picture { IfOk result (λ output. HasPicture drawn output.picture) }
+    ensures picture { IfOk result (λ output. HasPicture drawn.picture output.picture) }
+    ensures page { IfOk result (λ output. HasPage drawn.page output.page) }
 {
+    let picture = picture_if(alloc, drawn.picture, report)?;
+    let page = page_if(alloc, drawn.page, written, report)?;
     let text = text_by(alloc, form, kind, report)?;
-    let picture = if drawn {
-        Some(draw_course(alloc, report)?)
+    Ok(ReportOutput {
+        text,
+        picture,
+        page,
+    })
+}
+
+fn picture_if(alloc: Global, drawn: bool, report: &Report) -> Result<Option<String>, AllocError>
+    ensures { IfOk result (HasPicture drawn) }
+{
+    if drawn {
+        Ok(Some(draw_course(alloc, report)?))
     } else {
-        None
-    };
-    Ok(ReportOutput { text, picture })
+        Ok(None)
+    }
+}
+
+// The present, if a page is written.
+fn moment_if(drawn: bool) -> Option<NamedTime> {
+    if drawn { Some(NamedTime::Ago(0)) } else { None }
+}
+
+fn page_if(
+    alloc: Global,
+    drawn: bool,
+    written: Option<&str>,
+    report: &Report,
+) -> Result<Option<String>, AllocError>
+    ensures { IfOk result (HasPage drawn) }
+{
+    if drawn {
+        Ok(Some(page_text(alloc, report, written)?))
+    } else {
+        Ok(None)
+    }
 }
 
 // In a window of time the counts go up and down.

@@ -71,7 +71,7 @@ module _ (known : KnownFiles) where
       IsOrderedFrom known path.now program.items
   IsOutput (command.Report args) (output.Reported report counters) =
       HasReported (length args.logs.items) args.since args.until (form_of args)
-      (is_some args.picture) report
+      (is_some args.picture) (is_some args.page) report
       × HasCounters args (string_bytes counters)
   IsOutput (command.Report args) (output.Continued text counters) =
       IsSome args.state × HasContinued (length args.logs.items) (form_of args) (string_bytes text)

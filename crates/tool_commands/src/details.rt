@@ -5,7 +5,7 @@ use crate::manifest_names::{print_app_names, print_arrays};
 use crate::subject::{Subject, subject_of};
 use crate::tool_fault::Fault;
 use bounded_files::{Disk, ResourceFault, may_write_over};
-use log_tools::ReportFault;
+use log_tools::{ReportFault, may_be_page};
 use operator::RequestFault;
 use printing::Printed;
 use refusal_details::{
@@ -98,6 +98,23 @@ fn print_picture_fault<R: Files, E: Write>(rt: &R, path: &str, err: &mut E) -> b
     .is_ok()
 }
 
+// Why no page can be written at a path, if that shows, likewise.
+fn print_page_fault<R, E>(rt: &R, path: &str, err: &mut E) -> bool
+where
+    R: Files + AllocGlobal,
+    E: Write,
+{
+    if may_be_page(rt, path) {
+        return print_write_fault(rt, path, err);
+    }
+    let path = Printed(path);
+    writeln!(
+        err,
+        "{path}: a file that isn't empty and isn't a page of a report"
+    )
+    .is_ok()
+}
+
 // A server whose counters are requested and that doesn't reply.
 fn print_server_fault<R, E>(rt: &R, port: Option<u16>, fault: &RequestFault, err: &mut E) -> bool
 where
@@ -110,31 +127,11 @@ where
     }
 }
 
-// The first log that isn't a regular file, of which a report can't continue.
-fn print_irregular_log<R: Files, E: Write>(rt: &R, logs: &[&str], err: &mut E) -> bool {
-    for path in logs {
-        if is_irregular(rt, *path) {
-            let path = Printed(*path);
-            return writeln!(err, "{path}: it is no regular file").is_ok();
-        }
-    }
-    false
-}
-
-// Whether a log's file isn't regular; a hyphen is standard input.
-fn is_irregular<R: Files>(rt: &R, log: &str) -> bool {
-    let path = if log == "-" { "/dev/stdin" } else { log };
-    match fs::metadata(rt, path) {
-        Ok(found) => !found.is_file(),
-        Err(_) => false,
-    }
-}
-
-// The server that doesn't reply; or the first log that can't be read, or else the state or the
-// picture.
+// The server that doesn't reply; or the first log that can't be read, or else the state, the
+// picture or the page.
 fn print_report_fault<R, E>(rt: &R, args: &ReportArgs<'_>, fault: &Fault, err: &mut E) -> bool
 where
-    R: Files + Net<Stream = TcpStream>,
+    R: Files + AllocGlobal + Net<Stream = TcpStream>,
     E: Write,
 {
     if let Fault::Ask(fault) = fault {
@@ -145,13 +142,28 @@ where
             return true;
         }
     }
-    match (fault, args.state, args.picture) {
-        (Fault::Report(ReportFault::Resource(ResourceFault::File)), Some(path), _) => {
-            print_irregular_log(rt, args.logs.as_slice(), err) || print_write_fault(rt, path, err)
+    match (fault, args.state) {
+        (Fault::Report(ReportFault::Resource(ResourceFault::File)), Some(path)) => {
+            print_write_fault(rt, path, err)
         }
-        (Fault::Resource(ResourceFault::File), _, Some(path)) => {
-            print_picture_fault(rt, path, err)
-        }
+        (Fault::Resource(ResourceFault::File), _) => print_output_fault(rt, args, err),
         _ => false,
+    }
+}
+
+// The picture that can't be written, or else the page.
+fn print_output_fault<R, E>(rt: &R, args: &ReportArgs<'_>, err: &mut E) -> bool
+where
+    R: Files + AllocGlobal,
+    E: Write,
+{
+    if let Some(path) = args.picture {
+        if print_picture_fault(rt, path, err) {
+            return true;
+        }
+    }
+    match args.page {
+        Some(path) => print_page_fault(rt, path, err),
+        None => false,
     }
 }

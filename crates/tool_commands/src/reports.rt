@@ -59,7 +59,15 @@ where
             Err(fault) => Err(Fault::Report(fault)),
         };
     }
-    match report_logs(rt, logs, args.since, args.until, form, args.picture) {
+    match report_logs(
+        rt,
+        logs,
+        args.since,
+        args.until,
+        form,
+        args.picture,
+        args.page,
+    ) {
         Ok(report) => Ok(ToolOutput::Reported { report, counters }),
         Err(fault) => Err(Fault::Resource(fault)),
     }

@@ -17,11 +17,11 @@ abbrev pub LacksNamedTime : Option Text → Type 0
 LacksNamedTime None = ⊥
 LacksNamedTime (Some text) = NamesNone text
 
--- `--state` with a moment or a picture
+-- `--state` with a moment, a picture or a page
 abbrev pub MixesState : List Row → Type 0
 MixesState rows = IsSome (first_of (codes "state") rows)
     × (IsSome (first_of (codes "since") rows) ⊎ IsSome (first_of (codes "until") rows)
-    ⊎ IsSome (first_of (codes "svg") rows))
+    ⊎ IsSome (first_of (codes "svg") rows) ⊎ IsSome (first_of (codes "html") rows))
 
 -- a report on logs, from one moment on and before another, or from the counts so far; with a
 -- server's counters, if its port is given
@@ -31,6 +31,7 @@ pub record HasReport (rows : List Row) (args : ReportArgs) : Type 0 where
   pub until : IsNamedTime (first_of (codes "until") rows) args.until
   pub prometheus : HasFlag (codes "prometheus") rows args.prometheus
   pub picture : option_copied args.picture ≡ first_of (codes "svg") rows
+  pub page : option_copied args.page ≡ first_of (codes "html") rows
   pub state : option_copied args.state ≡ first_of (codes "state") rows
   pub heads : HasFlag (codes "heads") rows args.heads
   pub port : IfSome args.operator (HasShort (codes "operator") rows)

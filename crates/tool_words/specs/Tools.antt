@@ -27,8 +27,8 @@ verbs =
     ∷ verb_rules (codes "order") verb.Order (input ∷ file (codes "OUT") ∷ [])
     ∷ verb_rules (codes "report") verb.Report
     (files (codes "LOG") ∷ option (codes "since") ∷ option (codes "until")
-    ∷ flag (codes "prometheus") ∷ option (codes "svg") ∷ option (codes "state")
-    ∷ flag (codes "heads") ∷ operator_port false ∷ [])
+    ∷ flag (codes "prometheus") ∷ option (codes "svg") ∷ option (codes "html")
+    ∷ option (codes "state") ∷ flag (codes "heads") ∷ operator_port false ∷ [])
     ∷ verb_rules (codes "simulate") verb.Simulate
     (manifest ∷ option (codes "against") ∷ option (codes "svg") ∷ option (codes "app")
     ∷ flag (codes "fail-on-lost") ∷ flag (codes "json") ∷ app_options)

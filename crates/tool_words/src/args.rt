@@ -61,7 +61,10 @@ pub struct ReportArgs<'a> {
     pub prometheus: bool,
     /// The file for a chart of the logs over time.
     pub picture: Option<&'a str>,
-    /// The file of the counts so far, which the report continues. Not with a moment or a chart.
+    /// The file for a page in HTML.
+    pub page: Option<&'a str>,
+    /// The file of the counts so far, which the report continues. Not with a moment, a chart or a
+    /// page.
     pub state: Option<&'a str>,
     /// Whether each group of lines has a head line.
     pub heads: bool,

@@ -36,18 +36,22 @@ pub(crate) fn read_report<'a>(
         until,
         prometheus: flag_of(found, "prometheus"),
         picture: optional_text(found, "svg"),
+        page: optional_text(found, "html"),
         state: optional_text(found, "state"),
         heads: flag_of(found, "heads"),
         operator: optional_number(found, "operator"),
     }))
 }
 
-// Whether `--state` is given with a moment or a picture.
+// Whether `--state` is given with a moment, a picture or a page.
 fn mixes_state(found: &ArgMatches<'_>) -> bool
     ensures { IsTrue result ↔ MixesState (rows_of (found_of found.now)) }
 {
     has_value(found, "state")
-        && (has_value(found, "since") || has_value(found, "until") || has_value(found, "svg"))
+        && (has_value(found, "since")
+            || has_value(found, "until")
+            || has_value(found, "svg")
+            || has_value(found, "html"))
 }
 
 fn has_value(found: &ArgMatches<'_>, id: &str) -> bool

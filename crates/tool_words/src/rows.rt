@@ -80,10 +80,15 @@ const REPORT: CommandRow<ToolVerb> = CommandRow {
             "Output file for a picture of the versions' shares over time, in SVG",
         ),
         CommandArgument::Text(
+            "html",
+            "FILE",
+            "Output file for a page of the report, in HTML",
+        ),
+        CommandArgument::Text(
             "state",
             "FILE",
             "File of the counts so far, from which the report continues, and\n\
-             into which it writes them; not with --since, --until or --svg",
+             into which it writes them; not with --since, --until, --svg or --html",
         ),
         CommandArgument::Flag("heads", "Print a head line before each group of lines"),
         CommandArgument::OptionalOperator(

@@ -11,11 +11,12 @@ returns-in-Ok g c =
       since = c.text_of.result;
       until = c.text_of-2.result;
     } in
-    has_reported _ c.args.since c.args.until c.args.form c.args.drawn c.in-Ok.output window
+    has_reported _ c.args.since c.args.until c.args.form c.args.drawn.picture c.args.drawn.page
+    c.in-Ok.output window
     c.args.report.now c.count_logs.new.report (c.text_of.ensures ∙ c.in_ok-since.ensures)
     (c.text_of-2.ensures ∙ c.in_ok-until.ensures) (c.requires window)
     c.in_ok-count_logs.ensures
     (c.in-Ok.ensures.text
     ∙ ap (λ (k : MetricKind). text_by c.args.form k c.count_logs.new.report)
     c.kind_of-kind.ensures)
-    c.in-Ok.ensures.picture
+    c.in-Ok.ensures.picture c.in-Ok.ensures.page
