@@ -2,5 +2,4 @@ pub mod Manifests
 pub mod Checks
 pub mod CheckObjects
 pub mod CheckedObjects
-pub mod ClientLines
 pub mod Simulations

@@ -1,6 +1,6 @@
 -- Manifests that are simulated: each is loaded over no arrays and evaluated for the clients in all
 -- buckets. Running out of memory is always allowed.
-use Rattle.std.specs.Prelude.{◌≡◌, ◌++◌, ℕ, List, [], Option, Some, None, IsSome, is_none}
+use Rattle.std.specs.Prelude.{◌≡◌, ℕ, List, [], Option, Some, None, IsSome, is_none}
 use Rattle.std.specs.Prelude.{Bool, true, false, is_some}
 use Rattle.std.specs.String.{string_bytes}
 use Rattle.simulate.specs.Moving.{is_lossy}
@@ -17,7 +17,6 @@ use Rattle.bounded_files.specs.declared.resource_fault.ResourceFault.TheVariants
 use Rattle.load.specs.declared.load_fault.PathFault.{PathFault}
 use Rattle.cells.specs.declared.array.CellArray.{CellArray}
 use Rattle.ruleset.specs.Rules.{Rules, app_in}
-use Rattle.manifest_tools.specs.ClientLines.{client_line}
 use Rattle.manifest_tools.specs.declared.manifest_tool_fault.ManifestToolFault.{ManifestToolFault}
 use Rattle.manifest_tools.specs.declared.manifest_tool_fault.ManifestToolFault.TheVariants as fault
 use Rattle.manifest_tools.specs.declared.simulation_output.SimulationOutput.{SimulationOutput}
@@ -39,16 +38,15 @@ abbrev pub lacks_app : (appid : Option (List ℕ)) → Rules → Bool
 lacks_app None rules = false
 lacks_app (Some appid) rules = is_none (app_in rules.apps appid)
 
--- how many get which release of each app, as some tables or as JSON
+-- how many get which release of each app, as JSON. No clause says how the tables look
 abbrev pub IsTextAlone : (json : Bool) → Simulation → List ℕ → Type 0
 IsTextAlone false next text = Unit {0}
 IsTextAlone true next text = text ≡ json_line (simulation_object next)
 
--- the same, and how many move from which release to which, below the line of the clients
-abbrev pub IsTextAgainst : (json : Bool) → Client → (now next : Simulation) → List ℕ → Type 0
-IsTextAgainst false client now next text =
-    (tables : List ℕ) × (text ≡ client_line client ++ tables)
-IsTextAgainst true client now next text = text ≡ json_line (comparison_object now next)
+-- the same, and how many move from which release to which
+abbrev pub IsTextAgainst : (json : Bool) → (now next : Simulation) → List ℕ → Type 0
+IsTextAgainst false now next text = Unit {0}
+IsTextAgainst true now next text = text ≡ json_line (comparison_object now next)
 
 -- the report on a simulation, and a picture, if a file is named for it
 pub record FormatsAlone (json : Bool) (next : Simulation) (file : Option (List ℕ))
@@ -58,9 +56,9 @@ pub record FormatsAlone (json : Bool) (next : Simulation) (file : Option (List �
   pub loses_is : output.loses ≡ false
 
 -- compared with another one
-pub record FormatsAgainst (json : Bool) (client : Client) (next now : Simulation)
-    (file : Option (List ℕ)) (output : SimulationOutput) : Type 0 where
-  pub text_is : IsTextAgainst json client now next (string_bytes output.text)
+pub record FormatsAgainst (json : Bool) (next now : Simulation) (file : Option (List ℕ))
+    (output : SimulationOutput) : Type 0 where
+  pub text_is : IsTextAgainst json now next (string_bytes output.text)
   pub picture : HasPicture (is_some file) output.picture
   pub loses_is : output.loses ≡ is_lossy now next
 
@@ -78,7 +76,7 @@ pub record ShowsAgainst (json : Bool) (client : Client) (rules serving : Rules)
   pub simulated : IsSimulationBy client rules appid next
   pub now : Simulation
   pub served : IsSimulationBy client serving appid now
-  pub formats : FormatsAgainst json client next now file output
+  pub formats : FormatsAgainst json next now file output
 
 -- ---- manifests
 

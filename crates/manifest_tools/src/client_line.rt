@@ -1,76 +1,38 @@
-//! Which clients a simulation is of, as a line.
-
-ghost use Rattle.std.specs.Prelude.{◌≡◌, IfOk, OnOk};
-ghost use Rattle.std.specs.String.{string_bytes};
-ghost use Rattle.printing.specs.Pushed.{Puts};
-ghost use Rattle.manifest_tools.specs.ClientLines as specs;
+//! Which clients a simulation is of, as a line. No clause says which words; rows compare them.
 
 use attrs::{Elapsed, Text};
-use printing::Printed;
+use printing::TextBuffer;
 use simulate::Client;
 use std::alloc::{AllocError, Global};
-use std::fmt::Write;
-
-fn push_version(text: &mut String, version: &Option<Text>) -> Result<(), AllocError>
-    ensures { OnOk result (Puts text.old text.new (specs.version_words version.now)) }
-{
-    match version {
-        Some(version) => {
-            let version = Printed(version.as_str());
-            write!(text, "version {version}")
-        }
-        None => text.push_str("no version"),
-    }
-}
-
-fn push_attribute(text: &mut String, name: &str, value: &Option<Text>) -> Result<(), AllocError>
-    ensures { OnOk result (Puts text.old text.new (specs.attribute_words name.now value.now)) }
-{
-    match value {
-        Some(value) => {
-            let value = Printed(value.as_str());
-            write!(text, ", {name} {value}")
-        }
-        None => Ok(()),
-    }
-}
-
-fn push_installed(text: &mut String, day: Option<u64>) -> Result<(), AllocError>
-    ensures { OnOk result (Puts text.old text.new (specs.installed_words day)) }
-{
-    match day {
-        Some(day) => write!(text, ", installed on day {day}"),
-        None => Ok(()),
-    }
-}
-
-fn push_if(text: &mut String, holds: bool, words: &str) -> Result<(), AllocError>
-    ensures { OnOk result (Puts text.old text.new (specs.words_if holds words.now)) }
-{
-    if holds { text.push_str(words) } else { Ok(()) }
-}
-
-fn push_attributes(text: &mut String, client: &Client) -> Result<(), AllocError>
-    ensures { OnOk result (Puts text.old text.new (specs.attributes_words client.now)) }
-{
-    push_attribute(text, "brand", &client.app.brand)?;
-    push_attribute(text, "ap", &client.app.ap)?;
-    push_attribute(text, "lang", &client.app.lang)?;
-    push_attribute(text, "platform", &client.request.platform)
-}
 
 /// The version, the day and the attributes that all clients send, as a line.
-pub(crate) fn client_line(alloc: Global, client: &Client) -> Result<String, AllocError>
-    ensures { IfOk result (λ line. string_bytes line ≡ specs.client_line client.now) }
-{
+pub(crate) fn client_line(alloc: Global, client: &Client) -> Result<String, AllocError> {
     let day = Elapsed::at(client.moment).days;
-    let mut text = String::from_str(alloc, "for ")?;
-    push_version(&mut text, &client.app.version)?;
-    write!(text, " on day {day}")?;
-    push_attributes(&mut text, client)?;
-    push_installed(&mut text, client.app.installdate)?;
-    push_if(&mut text, client.app.ping, ", ping")?;
-    push_if(&mut text, client.app.event, ", event")?;
-    text.push_str("\n")?;
-    Ok(text)
+    let mut text = TextBuffer::new(alloc);
+    match &client.app.version {
+        Some(version) => text.push_printed("for version ", version.as_str(), ""),
+        None => text.push("for no version"),
+    }
+    text.push_number(" on day ", day as u64, "");
+    push_attribute(&mut text, ", brand ", &client.app.brand);
+    push_attribute(&mut text, ", ap ", &client.app.ap);
+    push_attribute(&mut text, ", lang ", &client.app.lang);
+    push_attribute(&mut text, ", platform ", &client.request.platform);
+    if let Some(day) = client.app.installdate {
+        text.push_number(", installed on day ", day, "");
+    }
+    if client.app.ping {
+        text.push(", ping");
+    }
+    if client.app.event {
+        text.push(", event");
+    }
+    text.push("\n");
+    text.finish()
+}
+
+fn push_attribute(text: &mut TextBuffer, before: &str, value: &Option<Text>) {
+    if let Some(value) = value {
+        text.push_printed(before, value.as_str(), "");
+    }
 }

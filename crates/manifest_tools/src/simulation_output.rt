@@ -1,10 +1,8 @@
 //! The report on a simulation, as lines or as JSON, and its picture.
 
-ghost use Rattle.std.specs.Prelude.{◌≡◌, IfOk, is_some, option_copied};
+ghost use Rattle.std.specs.Prelude.{IfOk, is_some, option_copied};
 ghost use Rattle.std.specs.String.{string_bytes};
-ghost use Rattle.manifest_tools.specs.ClientLines.{client_line};
 ghost use Rattle.manifest_tools.specs.Simulations as specs;
-ghost use Rattle.simulate.specs.declared.client.Client as the_client;
 ghost use Rattle.markup.specs.WellFormed.{HasPicture};
 
 use simulate::{Simulated, draw, is_lossy, moves_json, push_moves, push_shares, shares_json};
@@ -60,8 +58,7 @@ pub(crate) fn format_against(
     file: Option<&str>,
     json: bool,
 ) -> Result<SimulationOutput, AllocError>
-    ensures { (client : the_client.Client) → clients.now ≡ client_line client
-        → IfOk result (specs.FormatsAgainst json client next.now now.now (option_copied file.entry)) }
+    ensures { IfOk result (specs.FormatsAgainst json next.now now.now (option_copied file.entry)) }
 {
     let text = text_against(alloc, clients, now, next, json)?;
     let loses = is_lossy(alloc, now, next)?;
@@ -80,17 +77,14 @@ fn text_against(
     next: &Simulated,
     json: bool,
 ) -> Result<String, AllocError>
-    ensures { (client : the_client.Client) → clients.now ≡ client_line client → IfOk result
-        (λ text. specs.IsTextAgainst json client now.now next.now (string_bytes text)) }
+    ensures { IfOk result (λ text. specs.IsTextAgainst json now.now next.now (string_bytes text)) }
 {
     if json {
         return moves_json(alloc, now, next);
     }
-    let mut tables = String::new(alloc);
-    push_shares(&mut tables, next)?;
-    push_moves(alloc, &mut tables, now, next)?;
     let mut text = String::from_str(alloc, clients)?;
-    text.push_str(tables.as_str())?;
+    push_shares(&mut text, next)?;
+    push_moves(alloc, &mut text, now, next)?;
     Ok(text)
 }
 

@@ -1,4 +1,3 @@
-use Rattle.std.proofs.Common.{◌∙◌}
 use Rattle.std.specs.Option.{option_copied}
 use Rattle.manifest_tools.proofs.Alike.{simulation_alike}
 use Rattle.manifest_tools.proofs.simulating.output_against.Goals as goal
@@ -11,5 +10,5 @@ returns g c = record {
   served = simulation_alike c.args.client.now c.simulation_of.new.client c.args.serving
       (option_copied c.args.appid) c.in_ok-now.now c.simulation_of.ensures.client
       c.in_ok-now.ensures.simulated;
-  formats = c.in_ok-output.ensures c.args.client.now (c.deref.ensures ∙ c.in_ok-clients.ensures);
+  formats = c.in_ok-output.ensures;
 }
