@@ -1,5 +1,5 @@
 -- The explanation of a request, and why there is none.
-use Rattle.std.proofs.Common.{◌≡◌, ◌≢◌, ◌∙◌, ◌++◌, ℕ, List, Ok, Err, ap, sym, subst}
+use Rattle.std.proofs.Common.{◌≡◌, ◌≢◌, ℕ, List, Ok, Err, sym, subst}
 use Rattle.std.specs.Prelude.{ℤ, Result}
 use Rattle.cells.specs.declared.array.CellArray.{CellArray}
 use Rattle.omaha_json.specs.Request.{Request, request_in}
@@ -8,7 +8,6 @@ use Rattle.omaha_json.specs.declared.omaha_fault.OmahaFault.TheVariants.{Json, S
 use Rattle.omaha_json.specs.declared.omaha_fault.OmahaFault.TheVariants.{TooManyApps, Memory}
 use Rattle.cell_assignments.specs.Assignments.{Assignment}
 use Rattle.dry_run.specs.Counters.{AreAssigned}
-use Rattle.dry_run.specs.IgnoredLines.{app_notes_in, request_note_in}
 use Rattle.dry_run.specs.OnCounters.{IsUnanswered}
 use Rattle.dry_run.specs.Why.{ExplainsRequest, IsWhyText}
 use Rattle.dry_run.specs.declared.dry_run_fault.DryRunFault.TheVariants as fault
@@ -19,30 +18,23 @@ abbrev ReadsAs : (body : List ℕ) → Result Request OmahaFault → Type 0
 ReadsAs body read = read ≢ Err Memory → read ≡ request_in body
 
 pub why_text_is : (o : OpenedWhy) (moment : ℤ) (served words : List Assignment)
-    (arrays : List CellArray)
-    (counters : List ℕ) (request : Request) (front : List ℕ) (notes : List (List ℕ))
-    (left text : List ℕ) → arrays ≡ o.manifest.directory → AreAssigned arrays served words counters
-    → ReadsAs o.body.items (Ok request) → front ≡ request_note_in o.body.items
-    → notes ≡ app_notes_in o.body.items
-    → ExplainsRequest o.manifest request.facts moment front notes counters request.apps left text
+    (arrays : List CellArray) (counters : List ℕ) (request : Request) (left text : List ℕ)
+    → arrays ≡ o.manifest.directory → AreAssigned arrays served words counters
+    → ReadsAs o.body.items (Ok request)
+    → ExplainsRequest o.manifest request.facts moment counters request.apps left text
     → IsWhyText o moment served words text
-why_text_is o moment served words arrays counters request front notes left text same set
-    read fronted
-    noted shown_text =
-    let N : List (List ℕ) → Type 0 = λ n. ExplainsRequest o.manifest request.facts moment front n
-    counters request.apps left text in
-    let all = subst N noted shown_text in
-    record {
-      counters = counters;
-      set = subst (λ (a : List CellArray). AreAssigned a served words counters) same set;
-      request = request;
-      requested = sym (read (λ e. cc));
-      choices = all.1.0;
-      left = left;
-      lines = all.0;
-      reasons = all.1.1;
-      text_is = all.2 ∙ ap (λ (f : List ℕ). f ++ all.0) fronted;
-    }
+why_text_is o moment served words arrays counters request left text same set read all = record {
+  counters = counters;
+  set = subst (λ (a : List CellArray). AreAssigned a served words counters) same set;
+  request = request;
+  requested = sym (read (λ e. cc));
+  choices = all.2.0;
+  left = left;
+  front = all.0;
+  lines = all.1;
+  reasons = all.2.1;
+  text_is = all.3;
+}
 
 module _ (directory : List CellArray) (body : List ℕ) (served words : List Assignment) where
   because : (counters : List ℕ) (why : OmahaFault) → AreAssigned directory served words counters

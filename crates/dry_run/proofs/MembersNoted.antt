@@ -1,5 +1,5 @@
 -- The lines of the members of an app and of a request are true.
-use Rattle.std.proofs.Common.{◌≡◌, ℕ, List, [], sym, subst, Option, Some, None}
+use Rattle.std.proofs.Common.{◌≡◌, ℕ, List, sym, subst, Option, Some, None}
 use Rattle.std.specs.Prelude.{ℤ, codes, option_map}
 use Rattle.serde_json.specs.Data.{Data}
 use Rattle.serde_json.specs.Find.{get}
@@ -7,10 +7,9 @@ use Rattle.attrs.specs.Attributes.{Attributes}
 use Rattle.attrs.specs.Facts.{attributes_of}
 use Rattle.attrs.specs.declared.facts.AppFacts.{AppFacts}
 use Rattle.omaha_json.specs.Request.{has_value, number_in, request_facts, text_in}
-use Rattle.dry_run.specs.IgnoredLines.{indented}
 use Rattle.dry_run.specs.Noted.{AppIsNoted, MembersAreNoted, RequestIsNoted}
 use Rattle.dry_run.proofs.Noted.{attribute_noted, day_noted, os_noted, platform_noted}
-use Rattle.dry_run.proofs.Noted.{text_noted, value_noted, version_noted}
+use Rattle.dry_run.proofs.Noted.{text_noted, value_noted}
 
 -- a result of a map comes from some value
 taken : {A B : Type 0} (made : A → B) (o : Option A) (b : B) → option_map made o ≡ Some b
@@ -36,24 +35,24 @@ app_noted : (request app : Data) (appid : List ℕ) (moment : ℤ)
     → AppIsNoted app (facts_with app appid)
     (attributes_of (facts_with app appid) (request_facts request) moment)
 app_noted request app appid moment = record {
-  version = version_noted indented (codes "version") (get (codes "version") app);
-  numbers = text_noted indented (codes "version") (get (codes "version") app);
-  brand = attribute_noted indented (codes "brand") (get (codes "brand") app);
-  ap = attribute_noted indented (codes "ap") (get (codes "ap") app);
-  lang = attribute_noted indented (codes "lang") (get (codes "lang") app);
-  cohort = attribute_noted indented (codes "cohort") (get (codes "cohort") app);
-  installdate = day_noted indented (codes "installdate") (get (codes "installdate") app);
-  updatecheck = value_noted indented (codes "updatecheck") (get (codes "updatecheck") app);
-  ping = value_noted indented (codes "ping") (get (codes "ping") app);
-  event = value_noted indented (codes "event") (get (codes "event") app);
+  version = attribute_noted (get (codes "version") app);
+  numbers = text_noted (get (codes "version") app);
+  brand = attribute_noted (get (codes "brand") app);
+  ap = attribute_noted (get (codes "ap") app);
+  lang = attribute_noted (get (codes "lang") app);
+  cohort = attribute_noted (get (codes "cohort") app);
+  installdate = day_noted (get (codes "installdate") app);
+  updatecheck = value_noted (get (codes "updatecheck") app);
+  ping = value_noted (get (codes "ping") app);
+  event = value_noted (get (codes "event") app);
 }
 
 request_noted : (request app : Data) (appid : List ℕ) (moment : ℤ)
     → RequestIsNoted request (request_facts request)
     (attributes_of (facts_with app appid) (request_facts request) moment)
 request_noted request app appid moment = record {
-  requestid = text_noted [] (codes "requestid") (get (codes "requestid") request);
-  sessionid = text_noted [] (codes "sessionid") (get (codes "sessionid") request);
+  requestid = text_noted (get (codes "requestid") request);
+  sessionid = text_noted (get (codes "sessionid") request);
   os = os_noted (get (codes "os") request);
   platform = platform_noted (get (codes "os") request);
 }

@@ -55,12 +55,12 @@ module _ (manifest : JudgedManifest) (facts : RequestFacts) (moment : ℤ) where
     pub runs : RunsApp rules facts moment app choice events
     pub grown : GrewBy IsEvent old events new
 
-  one_runs : {app : AppFacts} {note old : List ℕ} {choice : Option ℕ} {new text : List ℕ}
-      → ExplainsApp manifest facts moment app note old choice new text
+  one_runs : {app : AppFacts} {old : List ℕ} {choice : Option ℕ} {new text : List ℕ}
+      → ExplainsApp manifest facts moment app old choice new text
       → OneRuns app choice old new
-  one_runs {app} (unlisted found is) =
+  one_runs {app} (unlisted found) =
       record { events = []; runs = unknown (rules_lack manifest app.appid found); grown = refl }
-  one_runs (not_requested known found asks is) =
+  one_runs (not_requested known found asks) =
       record { events = []; runs = no_updatecheck asks; grown = refl }
   one_runs (was_run shown_text) =
       let run = shown_text.course_is.run in
@@ -72,9 +72,8 @@ module _ (manifest : JudgedManifest) (facts : RequestFacts) (moment : ℤ) where
     pub runs : RunsApps rules facts moment apps choices events
     pub grown : GrewBy IsEvent old events new
 
-  pub all_run : {notes : List (List ℕ)} {old : List ℕ} {apps : List AppFacts}
-      {choices : List (Option ℕ)} {new text : List ℕ}
-      → ExplainsApps manifest facts moment notes old apps choices new text
+  pub all_run : {old : List ℕ} {apps : List AppFacts} {choices : List (Option ℕ)}
+      {new text : List ℕ} → ExplainsApps manifest facts moment old apps choices new text
       → AllRun apps choices old new
   all_run no_reason = record { events = []; runs = none; grown = refl }
   all_run {old} (next_reason {between} {new} before here) =

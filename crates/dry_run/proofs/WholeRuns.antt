@@ -1,7 +1,8 @@
 -- Whole runs of an app's program: step by step, and by a rule that means the same.
 use Rattle.std.proofs.Common.{◌≡◌, ◌∙◌, ℕ, suc, ◌≤◌, List, [], ◌∷◌, length, refl, ap, sym, subst}
 use Rattle.std.proofs.Common.{Bool, Contains, Option, Some, None, arith, cond, false, true}
-use Rattle.std.specs.Prelude.{ℤ, All, IsTrue}
+use Rattle.std.specs.Prelude.{ℤ, All, IsTrue, String, string_bytes}
+use Rattle.std.specs.declared.alloc.Global.{Global}
 use Rattle.std.specs.Str.{bytes_eq}
 use Rattle.std.proofs.lemmas.List.Elements.{All-head, All-tail}
 use Rattle.std.proofs.lemmas.Option.{none-some, same_Some}
@@ -28,8 +29,8 @@ use Rattle.releases.specs.Appid.{is_appid}
 use Rattle.ruleset.specs.Rules.{AppRule, ChoosesAmong, ListsApp, Rules, app_in, app_of, appid_of}
 use Rattle.trace.specs.Trace.{IsTraced}
 use Rattle.trace.specs.declared.jump.Jump.{Jump}
-use Rattle.dry_run.specs.AppLines.{program_line}
 use Rattle.dry_run.specs.Courses.{ExplainsCourse, WholeRun}
+use Rattle.dry_run.specs.declared.app_runs.Course.TheVariants.{ByRule, ByRun}
 use Rattle.dry_run.proofs.Courses.{differs, choice_of, state_of, cell_of, op_of, next_of}
 
 -- ---- a run that ends well is short and chooses among the releases
@@ -66,19 +67,21 @@ brief {p} (operates {cell} {op} {next} e w) fits (operated {e = d} {es} e' r) =
 -- ---- by a rule, and step by step
 
 pub by_meaning : (p : ShapedProgram) (a : Attributes) (rule : List Statement)
-    (old : List ℕ) (choice : ℕ) (new text : List ℕ) (shape : AppShape) (before : List ℕ)
+    (old : List ℕ) (choice : ℕ) (new before : List ℕ) (lines : String Global) (shape : AppShape)
     → shape ≡ p.shape → before ≡ [] → ((b : Attributes) → Means b rule p)
     → HasContextRanges a.context → AreShort a.texts
     → ((b : Attributes) → AreShort b.texts → IsCovered p (opening b)) → RunsEndWell p
-    → RunsAreLawful p → ExplainsRule a shape rule old before text choice new
-    → ExplainsCourse p (Some rule) a old choice new text
-by_meaning p a rule old choice new text shape before same fresh means ranges short opens well
+    → RunsAreLawful p → ExplainsRule a shape rule old before (string_bytes lines) choice new
+    → ExplainsCourse p (Some rule) a old choice new (ByRule lines)
+by_meaning p a rule old choice new before lines shape same fresh means ranges short opens well
     lawful given =
-    let behind : ExplainsRule a shape rule old [] text choice new =
-    subst (λ (b : List ℕ). ExplainsRule a shape rule old b text choice new) fresh given in
-    let shown_text : ExplainsRule a p.shape rule old [] text choice new =
-    subst (λ (s : AppShape). ExplainsRule a s rule old [] text choice new) same behind in
-    let m = shown_text.meant in
+    let behind : ExplainsRule a shape rule old [] (string_bytes lines) choice new =
+    subst (λ (b : List ℕ). ExplainsRule a shape rule old b (string_bytes lines) choice new) fresh
+    given in
+    let explains : ExplainsRule a p.shape rule old [] (string_bytes lines) choice new =
+    subst (λ (s : AppShape). ExplainsRule a s rule old [] (string_bytes lines) choice new) same
+    behind in
+    let m = explains.meant in
     let run = means a ranges m.events choice m.trace in
     let covered = opens a short in
     let few = brief (well (opening a) covered (omega arith)) m.fits run.1 in
@@ -93,15 +96,14 @@ by_meaning p a rule old choice new text shape before same fresh means ranges sho
         fits = m.fits;
         lawful = lawful (opening a) m.events choice run.0 covered m.fits run.1;
       };
-      text_is = shown_text;
+      course_is = explains;
     }
 
 pub by_trace : (p : ShapedProgram) (a held : Attributes) (old new : List ℕ) (choice count : ℕ)
-    (steps text : List ℕ) (jump : Option Jump) → held ≡ a
+    (steps : List ℕ) (jump : Option Jump) → held ≡ a
     → IsTraced p (opening held) old new choice count steps jump → count ≤ length p.code
-    → choice ≤ p.shape.releases → text ≡ program_line (length p.code) count jump
-    → ExplainsCourse p None a old choice new text
-by_trace p a held old new choice count steps text jump same traced short among is =
+    → choice ≤ p.shape.releases → ExplainsCourse p None a old choice new (ByRun count jump)
+by_trace p a held old new choice count steps jump same traced short among =
     let run : IsTraced p (opening a) old new choice count steps jump =
     subst (λ (b : Attributes). IsTraced p (opening b) old new choice count steps jump) same traced
     in
@@ -116,7 +118,7 @@ by_trace p a held old new choice count steps text jump same traced short among i
         fits = run.fits;
         lawful = run.lawful;
       };
-      text_is = is ∙ ap (program_line (length p.code) count) run.jump_is;
+      course_is = (refl, run.jump_is);
     }
 
 -- ---- an app is answered by it

@@ -13,7 +13,7 @@ use Rattle.omaha_json.specs.Request.{of_request, of_value, or_fault, request_fac
 use Rattle.omaha_json.specs.declared.omaha_fault.OmahaFault.{OmahaFault}
 use Rattle.omaha_json.specs.declared.omaha_fault.OmahaFault.TheVariants.{Json, Shape}
 use Rattle.omaha_json.specs.declared.omaha_fault.OmahaFault.TheVariants.{Protocol, TooManyApps}
-use Rattle.dry_run.specs.IgnoredLines.{apps_written, notes_of}
+use Rattle.dry_run.specs.Members.{apps_written}
 use Rattle.dry_run.specs.Noted.{IsWritten, ReadMembersAreExplained}
 
 abbrev asked_or : Request → Result Request OmahaFault → Request
@@ -32,10 +32,10 @@ by_each ms items (Some each) requested list all is =
     record {
       written = object ms;
       apps = items;
+      written_is = refl;
       facts_are = sym (ap (λ (r : Request). r.facts) same);
-      note_is = refl;
+      list_is = list;
       apps_are = all ∙ ap (λ (r : Request). Some r.apps) same;
-      notes_are = ap notes_of list;
     }
 
 by_count : (ms : Members) (items : Items) (many : Bool) (requested : Request)

@@ -4,8 +4,7 @@ pub mod Counters
 pub mod OnCounters
 pub mod Files
 pub mod Texts
-pub mod AppLines
-pub mod IgnoredLines
+pub mod Members
 pub mod Noted
 pub mod Meanings
 pub mod Courses

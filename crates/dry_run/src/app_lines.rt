@@ -1,59 +1,66 @@
-//! The lines around the reasons of an app: who it is, and what it gets.
+//! The lines of an app around those of its rule: who it is, and what it gets. No clause says which
+//! words; rows compare them.
 
-ghost use Rattle.std.specs.Prelude.{◌≡◌, OnOk, option_copied};
-ghost use Rattle.printing.specs.Pushed.{Puts};
-ghost use Rattle.printing.specs.Printed.{printed};
-ghost use Rattle.dry_run.specs.AppLines as specs;
+ghost use Rattle.std.specs.Prelude.{◌≡◌, ◌-◌, ◌==◌, IfOk, None, if◌then◌else◌, slice_get};
+ghost use Rattle.std.specs.Prelude.{option_copied, string_bytes};
+ghost use Rattle.dry_run.specs.Courses as specs;
 
+use crate::app_runs::Course;
 use attrs::{AppFacts, Context, Text};
 use printing::Printed;
 use reasons::push_quoted;
 use releases::Release;
-use std::alloc::AllocError;
+use std::alloc::{AllocError, Global};
 use std::fmt::Write;
 use trace::Jump;
 
-/// Adds the line of an app that the ruleset doesn't know.
-pub(crate) fn push_unknown(text: &mut String, appid: &str) -> Result<(), AllocError>
-    ensures { OnOk result (Puts text.old text.new (specs.unknown_line appid.now)) }
-{
-    text.push_str("app ")?;
-    push_quoted(text, appid)?;
-    text.push_str(": unknown\n")
+/// The lines of an app that the ruleset doesn't know, followed by its notes.
+pub(crate) fn unknown_app(alloc: Global, appid: &str, note: &str) -> Result<String, AllocError> {
+    let mut text = String::from_str(alloc, "app ")?;
+    push_quoted(&mut text, appid)?;
+    text.push_str(": unknown\n")?;
+    text.push_str(note)?;
+    Ok(text)
 }
 
-/// Adds the first line of an app with this context.
-pub(crate) fn push_head(
-    text: &mut String,
+/// The lines of an app that requests no update, followed by its notes.
+pub(crate) fn no_request_app(
+    alloc: Global,
     app: &AppFacts,
     context: Context,
-) -> Result<(), AllocError>
-    ensures { OnOk result (Puts text.old text.new (specs.head_line app.now context)) }
-{
-    push_front(text, app.appid.as_str())?;
-    push_version(text, &app.version, context.flags)?;
-    push_bucket(text, context)
+    note: &str,
+) -> Result<String, AllocError> {
+    let mut text = head_line(alloc, app, context)?;
+    text.push_str("  has no updatecheck\n")?;
+    text.push_str(note)?;
+    Ok(text)
 }
 
-fn push_front(text: &mut String, appid: &str) -> Result<(), AllocError>
-    ensures { OnOk result (Puts text.old text.new (specs.app_front (printed appid.now))) }
-{
-    let appid = Printed(appid);
-    write!(text, "app {appid}: ")
+/// The first line of an app with this context.
+pub(crate) fn head_line(
+    alloc: Global,
+    app: &AppFacts,
+    context: Context,
+) -> Result<String, AllocError> {
+    let mut text = String::new(alloc);
+    let appid = Printed(app.appid.as_str());
+    write!(text, "app {appid}: ")?;
+    push_version(&mut text, &app.version, context.flags)?;
+    let bucket = context.bucket;
+    let day = context.today;
+    let by = bucket_source(context.flags);
+    writeln!(text, ", bucket {bucket} by its {by}, day {day}")?;
+    Ok(text)
 }
 
-fn push_version(text: &mut String, version: &Option<Text>, flags: u8) -> Result<(), AllocError>
-    ensures { OnOk result (Puts text.old text.new (specs.version_part version.now flags)) }
-{
+fn push_version(text: &mut String, version: &Option<Text>, flags: u8) -> Result<(), AllocError> {
     match version {
         Some(version) => push_written(text, version.as_str(), flags),
         None => text.push_str("no version"),
     }
 }
 
-fn push_written(text: &mut String, version: &str, flags: u8) -> Result<(), AllocError>
-    ensures { OnOk result (Puts text.old text.new (specs.version_written version.now flags)) }
-{
+fn push_written(text: &mut String, version: &str, flags: u8) -> Result<(), AllocError> {
     text.push_str("version ")?;
     if flags & Context::VERSION_KNOWN == 0 {
         push_quoted(text, version)?;
@@ -63,9 +70,7 @@ fn push_written(text: &mut String, version: &str, flags: u8) -> Result<(), Alloc
     write!(text, "{version}")
 }
 
-fn bucket_source(flags: u8) -> &'static str
-    ensures { result.now ≡ specs.bucket_source flags }
-{
+fn bucket_source(flags: u8) -> &'static str {
     if flags & Context::COHORT_KNOWN == 0 {
         "request"
     } else {
@@ -73,95 +78,74 @@ fn bucket_source(flags: u8) -> &'static str
     }
 }
 
-fn push_bucket(text: &mut String, context: Context) -> Result<(), AllocError>
-    ensures { OnOk result (Puts text.old text.new (specs.bucket_part context)) }
+/// The lines of how a program of `slots` slots makes its choice; those of a rule as they are.
+pub(crate) fn course_lines(
+    alloc: Global,
+    slots: usize,
+    course: Course,
+) -> Result<String, AllocError>
+    ensures { IfOk result (λ lines. specs.IsPrinted course (string_bytes lines)) }
 {
-    let bucket = context.bucket;
-    let day = context.today;
-    let by = bucket_source(context.flags);
-    writeln!(text, ", bucket {bucket} by its {by}, day {day}")
+    match course {
+        Course::ByRule(lines) => Ok(lines),
+        Course::ByRun { count, last_jump } => {
+            let line = run_line(alloc, slots, count, last_jump)?;
+            Ok(line)
+        }
+    }
 }
 
-/// Adds the line of a program that isn't a rule's.
-pub(crate) fn push_program(
-    text: &mut String,
+fn run_line(
+    alloc: Global,
     slots: usize,
     count: u32,
     last_jump: Option<Jump>,
-) -> Result<(), AllocError>
-    ensures { OnOk result (Puts text.old text.new (specs.program_line slots count last_jump)) }
-{
-    push_slots(text, slots)?;
-    write!(text, ", in {count} instructions, ")?;
-    push_jump(text, last_jump)
-}
-
-fn push_jump(text: &mut String, last_jump: Option<Jump>) -> Result<(), AllocError>
-    ensures { OnOk result (Puts text.old text.new (specs.jump_line last_jump)) }
-{
+) -> Result<String, AllocError> {
+    let mut text = String::new(alloc);
+    write!(
+        text,
+        "  by a program of {slots} slots, in {count} instructions, "
+    )?;
     match last_jump {
-        Some(jump) => push_taken(text, jump),
-        None => text.push_str("without a jump\n"),
+        Some(jump) => push_jump(&mut text, jump)?,
+        None => text.push_str("without a jump\n")?,
     }
+    Ok(text)
 }
 
-fn push_taken(text: &mut String, jump: Jump) -> Result<(), AllocError>
-    ensures { OnOk result (Puts text.old text.new (specs.taken_line jump)) }
-{
+fn push_jump(text: &mut String, jump: Jump) -> Result<(), AllocError> {
     let from = jump.from;
     let to = jump.to;
-    text.push_str(jump_words())?;
-    writeln!(text, "{from} to slot {to}")
+    writeln!(text, "the last jump from slot {from} to slot {to}")
 }
 
-fn push_slots(text: &mut String, slots: usize) -> Result<(), AllocError>
-    ensures { OnOk result (Puts text.old text.new (specs.slots_part slots)) }
-{
-    text.push_str(program_words())?;
-    write!(text, "{slots} slots")
-}
-
-#[tactic(auto, unfolding(crate::specs::AppLines::program_words))]
-fn program_words() -> &'static str
-    ensures { result.now ≡ specs.program_words }
-{
-    "  by a program of "
-}
-
-#[tactic(auto, unfolding(crate::specs::AppLines::jump_words))]
-fn jump_words() -> &'static str
-    ensures { result.now ≡ specs.jump_words }
-{
-    "the last jump from slot "
-}
-
-/// Adds the line of the release that a choice offers.
-pub(crate) fn push_offer(
-    text: &mut String,
+/// The line of the release that a choice offers, followed by the app's notes.
+pub(crate) fn offer_line(
+    alloc: Global,
     releases: &[Release],
     choice: u8,
-) -> Result<(), AllocError>
-    ensures { OnOk result (Puts text.old text.new (specs.offer_line releases.now choice)) }
+    note: &str,
+) -> Result<String, AllocError> {
+    let mut text = String::new(alloc);
+    match offered(releases, choice) {
+        Some(release) => {
+            let version = Printed(release.version());
+            writeln!(text, "  update to {version}")?;
+        }
+        None if choice == 0 => text.push_str("  no update\n")?,
+        None => writeln!(text, "  release {choice}")?,
+    }
+    text.push_str(note)?;
+    Ok(text)
+}
+
+// The release that a choice offers: 0 is none, and k the k-th release.
+fn offered(releases: &[Release], choice: u8) -> Option<&Release>
+    ensures { option_copied result
+        ≡ (if choice == 0 then None else slice_get releases.now (choice - 1)) }
 {
     if choice == 0 {
-        return text.push_str("  no update\n");
+        return None;
     }
-    push_release(text, choice, releases.get(choice as usize - 1))
-}
-
-fn push_release(text: &mut String, choice: u8, release: Option<&Release>) -> Result<(), AllocError>
-    ensures { OnOk result
-        (Puts text.old text.new (specs.release_line choice (option_copied release.entry))) }
-{
-    match release {
-        Some(release) => push_update(text, release.version()),
-        None => writeln!(text, "  release {choice}"),
-    }
-}
-
-fn push_update(text: &mut String, version: &str) -> Result<(), AllocError>
-    ensures { OnOk result (Puts text.old text.new (specs.update_line version.now)) }
-{
-    let version = Printed(version);
-    writeln!(text, "  update to {version}")
+    releases.get(choice as usize - 1)
 }

@@ -1,11 +1,10 @@
 //! How an app's program makes its choice, on counters of one thread: by its rule, line by line; or,
 //! if it isn't a rule's, by a run, step by step.
 
-ghost use Rattle.std.specs.Prelude.{IfOk, Some, None, string_bytes};
+ghost use Rattle.std.specs.Prelude.{IfOk, Some, None};
 ghost use Rattle.dry_run.specs.Courses as specs;
 ghost use Rattle.dry_run.specs.Meanings.{HasMeaning};
 
-use crate::app_lines::push_program;
 use attrs::Attrs;
 use bpf_verify::Verified;
 use cells::PlainPass;
@@ -13,13 +12,22 @@ use reasons::explain_rule;
 use rule_lang::Rule;
 use std::alloc::{AllocError, Global};
 use std::sync::Arc;
-use trace::{TracedRun, trace_on};
+use trace::{Jump, TracedRun, trace_on};
+
+/// How a program makes its choice.
+#[derive(Drop)]
+pub(crate) enum Course {
+    /// By its rule, line by line.
+    ByRule(String),
+    /// By a run of this many instructions, with this last jump, if it isn't a rule's.
+    ByRun { count: u32, last_jump: Option<Jump> },
+}
 
 /// A program's choice, and the explanation of it.
 #[derive(Drop)]
 pub(crate) struct ExplainedChoice {
     pub choice: u8,
-    pub text: String,
+    pub course: Course,
 }
 
 /// How a program makes its choice.
@@ -32,7 +40,7 @@ pub(crate) fn explain_course(
 ) -> Result<ExplainedChoice, AllocError>
     requires { HasMeaning program.now rule.now }
     ensures { IfOk result (λ c. specs.ExplainsCourse program.now rule.now attrs counters.old
-        c.choice counters.new (string_bytes c.text)) }
+        c.choice counters.new c.course) }
 {
     match rule {
         Some(rule) => explain_meaning(alloc, program, rule, &attrs, counters),
@@ -51,17 +59,17 @@ fn explain_meaning(
 ) -> Result<ExplainedChoice, AllocError>
     requires { HasMeaning program.now (Some rule.now) }
     ensures { IfOk result (λ c. specs.ExplainsCourse program.now (Some rule.now) attrs.now
-        counters.old c.choice counters.new (string_bytes c.text)) }
+        counters.old c.choice counters.new c.course) }
 {
     program.invariant_law();
     attrs.invariant_law();
     let mut text = String::new(alloc);
     let choice = explain_rule(alloc, &mut text, attrs, program.shape(), rule, counters)?;
-    Ok(ExplainedChoice { choice, text })
+    let course = Course::ByRule(text);
+    Ok(ExplainedChoice { choice, course })
 }
 
-// By a run; the lines have the number of its steps and its last jump.
-#[tactic(auto, using(crate::proofs::WholeRuns::by_trace))]
+// By a run.
 fn explain_run(
     alloc: Global,
     program: &Verified,
@@ -69,7 +77,7 @@ fn explain_run(
     counters: &mut PlainPass,
 ) -> Result<ExplainedChoice, AllocError>
     ensures { IfOk result (λ c. specs.ExplainsCourse program.now None attrs counters.old c.choice
-        counters.new (string_bytes c.text)) }
+        counters.new c.course) }
 {
     let Ok(attrs) = Arc::new(alloc, attrs) else {
         return Err(AllocError);
@@ -80,7 +88,6 @@ fn explain_run(
         count,
         last_jump,
     } = trace_on(alloc, program, attrs, counters)?;
-    let mut text = String::new(alloc);
-    push_program(&mut text, program.len(), count, last_jump)?;
-    Ok(ExplainedChoice { choice, text })
+    let course = Course::ByRun { count, last_jump };
+    Ok(ExplainedChoice { choice, course })
 }

@@ -19,13 +19,11 @@ mod app_runs;
 mod counters;
 mod dry_run_fault;
 mod files;
-mod ignored;
-mod ignored_lines;
 mod laws;
-mod length_lines;
-mod member_kinds;
+mod notes;
 mod on_counters;
 mod reply;
+mod wanted;
 mod why;
 mod why_files;
 

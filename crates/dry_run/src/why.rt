@@ -1,20 +1,20 @@
 //! Why the apps of a request get what they get.
 
-ghost use Rattle.std.specs.Prelude.{◌≡◌, ◌++◌, All, IfOk, IfErr, map, string_bytes};
+ghost use Rattle.std.specs.Prelude.{◌≡◌, All, IfOk, IfErr, string_bytes};
 ghost use Rattle.attrs.specs.Facts.{attributes_of};
-ghost use Rattle.dry_run.specs.AppLines as lines;
 ghost use Rattle.dry_run.specs.Meanings.{HasMeaning, IsMeantApp};
 ghost use Rattle.dry_run.specs.OnCounters.{IsUnanswered};
 ghost use Rattle.dry_run.specs.Why as specs;
 
-use crate::app_lines::{push_head, push_offer, push_unknown};
+use crate::app_lines::{course_lines, head_line, no_request_app, offer_line, unknown_app};
 use crate::app_runs::{ExplainedChoice, explain_course};
 use crate::dry_run_fault::DryRunFault;
-use crate::ignored::{Notes, note_at, notes_in};
+use crate::notes::{Notes, note_at, notes_in};
 use crate::on_counters::assigned_counters;
 use crate::why_files::OpenedWhy;
 use answering::NoObserver;
-use attrs::{AppFacts, Attrs, Context, Moment, RequestFacts, SharedFacts};
+use attrs::{AppFacts, Attrs, Moment, RequestFacts, SharedFacts};
+use bpf_verify::Verified;
 use cell_assignments::CellAssignment;
 use cells::PlainPass;
 use load::{JudgedApp, JudgedManifest};
@@ -58,7 +58,6 @@ pub fn why_on_counters(
 }
 
 // The lines of the request itself, followed by those of its apps.
-#[tactic(auto, using(crate::proofs::Explaining::behind))]
 fn explain_request(
     alloc: Global,
     manifest: &JudgedManifest,
@@ -69,8 +68,7 @@ fn explain_request(
 ) -> Result<String, AllocError>
     requires { All IsMeantApp manifest.now.apps.items }
     ensures { IfOk result (λ text. specs.ExplainsRequest manifest.now request.now.facts moment.now
-        (string_bytes notes.request) (map string_bytes notes.apps.items) counters.old
-        request.now.apps counters.new (string_bytes text)) }
+        counters.old request.now.apps counters.new (string_bytes text)) }
 {
     let Notes {
         request: front,
@@ -93,8 +91,7 @@ fn explain_apps(
 ) -> Result<String, AllocError>
     requires { All IsMeantApp manifest.now.apps.items }
     ensures { IfOk result (λ text. specs.ExplainsAll manifest.now request.now.facts moment.now
-        (map string_bytes notes.now) counters.old request.now.apps counters.new
-        (string_bytes text)) }
+        counters.old request.now.apps counters.new (string_bytes text)) }
 {
     let mut text = String::new(alloc);
     let facts = request.facts();
@@ -124,7 +121,7 @@ fn explain_app(
 ) -> Result<String, AllocError>
     requires { All IsMeantApp manifest.now.apps.items }
     ensures { IfOk result (λ text. specs.ExplainsOne manifest.now facts.now moment.now app.now
-        note.now counters.old counters.new (string_bytes text)) }
+        counters.old counters.new (string_bytes text)) }
 {
     let appid = app.appid();
     let stated = app.facts();
@@ -156,32 +153,6 @@ fn attrs_of(
     }
 }
 
-fn unknown_app(alloc: Global, appid: &str, note: &str) -> Result<String, AllocError>
-    ensures { IfOk result (λ text. string_bytes text
-        ≡ lines.unknown_line appid.now ++ note.now) }
-{
-    let mut text = String::new(alloc);
-    push_unknown(&mut text, appid)?;
-    text.push_str(note)?;
-    Ok(text)
-}
-
-fn no_request_app(
-    alloc: Global,
-    app: &AppFacts,
-    context: Context,
-    note: &str,
-) -> Result<String, AllocError>
-    ensures { IfOk result (λ text. string_bytes text
-        ≡ lines.head_line app.now context ++ lines.no_request_line ++ note.now) }
-{
-    let mut text = String::new(alloc);
-    push_head(&mut text, app, context)?;
-    text.push_str("  has no updatecheck\n")?;
-    text.push_str(note)?;
-    Ok(text)
-}
-
 // The lines of an app that the ruleset runs.
 fn run_app(
     alloc: Global,
@@ -192,17 +163,21 @@ fn run_app(
     counters: &mut PlainPass,
 ) -> Result<String, AllocError>
     requires { HasMeaning known.now.program known.now.rule }
-    ensures { IfOk result (λ text. specs.RunIsExplained known.now app.now attrs note.now
-        counters.old counters.new (string_bytes text)) }
+    ensures { IfOk result (λ text. specs.RunIsExplained known.now attrs counters.old counters.new
+        (string_bytes text)) }
 {
-    let mut text = String::new(alloc);
-    push_head(&mut text, app, attrs.context())?;
-    let ExplainedChoice {
-        choice,
-        text: course,
-    } = explain_course(alloc, &known.program, &known.rule, attrs, counters)?;
-    text.push_str(course.as_str())?;
-    push_offer(&mut text, known.sources.entry.releases(), choice)?;
-    text.push_str(note)?;
+    let mut text = head_line(alloc, app, attrs.context())?;
+    let program: &Verified = &known.program;
+    let ExplainedChoice { choice, course } = explain_course(
+        alloc,
+        program,
+        &known.rule,
+        attrs,
+        counters,
+    )?;
+    let lines = course_lines(alloc, program.len(), course)?;
+    let after = offer_line(alloc, known.sources.entry.releases(), choice, note)?;
+    text.push_str(lines.as_str())?;
+    text.push_str(after.as_str())?;
     Ok(text)
 }

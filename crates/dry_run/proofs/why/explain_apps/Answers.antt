@@ -1,4 +1,4 @@
-use Rattle.std.proofs.Common.{◌∙◌, ◌+◌, ◌++◌, ℕ, List, ap, map, string_bytes}
+use Rattle.std.proofs.Common.{◌∙◌, ◌+◌, ◌++◌, ℕ, List, ap, string_bytes}
 use Rattle.dry_run.proofs.Explaining.{one_more}
 use Rattle.dry_run.proofs.why.explain_apps.Goals as goal
 
@@ -9,9 +9,7 @@ loop-app-preserved c =
     c.in-Ok-push_str.ensures.bytes
     ∙ ap (λ (t : List ℕ). string_bytes c.loop-app.text ++ t) c.as_str.ensures.value in (
       ap (λ (n : ℕ). n + 1) so_far.0,
-      one_more c.args.manifest.now c.facts-facts.result.now
-          c.args.moment.now (map string_bytes c.args.notes.now) c.args.counters.now
-          c.apps-apps.result.now c.loop-app.app-index c.loop-app.place c.app-item.result
-          c.note_at-note.result.now _ _ _ _ _ c.loop-app-test.true c.app-item.is so_far.0
-          c.note_at-note.ensures so_far.1 c.in-Ok.ensures pushed,
+      one_more c.args.manifest.now c.facts-facts.result.now c.args.moment.now c.args.counters.now
+          c.apps-apps.result.now c.loop-app.app-index c.app-item.result _ _ _ _ _
+          c.loop-app-test.true c.app-item.is so_far.1 c.in-Ok.ensures pushed,
     )

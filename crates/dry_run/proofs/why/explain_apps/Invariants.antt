@@ -1,4 +1,4 @@
-use Rattle.std.proofs.Common.{◌≡◌, map, take, string_bytes}
+use Rattle.std.proofs.Common.{◌≡◌, take, string_bytes}
 use Rattle.dry_run.specs.Why.{ExplainsAll}
 use Rattle.dry_run.proofs.why.explain_apps.Given as goal
 
@@ -6,5 +6,5 @@ use Rattle.dry_run.proofs.why.explain_apps.Given as goal
 abbrev pub invariant-loop-app : goal.invariant-loop-app
 invariant-loop-app l =
     (l.place ≡ l.app-index)
-    × ExplainsAll l.manifest l.facts l.moment (map string_bytes l.notes)
-    l.initial.counters (take l.app-index l.apps) l.counters (string_bytes l.text)
+    × ExplainsAll l.manifest l.facts l.moment l.initial.counters (take l.app-index l.apps)
+    l.counters (string_bytes l.text)
