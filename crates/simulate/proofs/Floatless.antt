@@ -1,5 +1,6 @@
 -- Values without a float: the objects of a simulation have none.
-use Rattle.std.proofs.Common.{◌≡◌, refl, ℕ, List, [], ◌∷◌, ◌++◌, Bool, true, false, ◌||◌}
+use Rattle.std.proofs.Common.{◌≡◌, refl, ℕ, List, [], ◌∷◌, ◌++◌, Bool, true, false}
+use Rattle.std.proofs.lemmas.Bool.{or_from, or_parts}
 use Rattle.std.specs.Prelude.{◌==◌, if◌then◌else◌}
 use Rattle.std.specs.List.{flat_map}
 use Rattle.ruleset.specs.Rules.{AppRule}
@@ -19,25 +20,12 @@ use Rattle.simulate.specs.Shown.{Offer, Simulation, apps_gone, choices_among, of
 abbrev pub AreFloatless : List Data → Type 0
 AreFloatless values = items_have_float (items_of values) ≡ false
 
-or_neither : (a b : Bool) → a ≡ false → b ≡ false → (a || b) ≡ false
-or_neither true b first second = first
-or_neither false b first second = second
-
-or_first : (a b : Bool) → (a || b) ≡ false → a ≡ false
-or_first true b neither = neither
-or_first false b neither = refl
-
-or_second : (a b : Bool) → (a || b) ≡ false → b ≡ false
-or_second true true neither = neither
-or_second true false neither = refl
-or_second false b neither = neither
-
 both : (xs ys : List Data) → AreFloatless xs → AreFloatless ys → AreFloatless (xs ++ ys)
 both [] ys first second = second
 both (x ∷ xs) ys first second =
-    or_neither (has_float x) (items_have_float (items_of (xs ++ ys)))
-    (or_first (has_float x) (items_have_float (items_of xs)) first)
-    (both xs ys (or_second (has_float x) (items_have_float (items_of xs)) first) second)
+    or_from (has_float x) (items_have_float (items_of (xs ++ ys)))
+    (or_parts (has_float x) (items_have_float (items_of xs)) first).0
+    (both xs ys (or_parts (has_float x) (items_have_float (items_of xs)) first).1 second)
 
 each : {X : Type 0} (f : X → List Data) (xs : List X) → ((x : X) → AreFloatless (f x))
     → AreFloatless (flat_map f xs)
@@ -45,7 +33,7 @@ each f [] of_each = refl
 each f (x ∷ xs) of_each = both (f x) (flat_map f xs) (of_each x) (each f xs of_each)
 
 one : (x : Data) → has_float x ≡ false → AreFloatless (x ∷ [])
-one x none = or_neither (has_float x) false none refl
+one x none = or_from (has_float x) false none refl
 
 null_or : (b : Bool) (d : Data) → has_float d ≡ false
     → has_float (if b then null else d) ≡ false
@@ -64,7 +52,7 @@ release versions choice = null_or (choice == 0) _ refl
 
 share : (versions : List (List ℕ)) (choice count : ℕ)
     → has_float (share_object versions choice count) ≡ false
-share versions choice count = or_neither _ false (release versions choice) refl
+share versions choice count = or_from _ false (release versions choice) refl
 
 share_any : (versions : List (List ℕ)) (choice count : ℕ)
     → AreFloatless (share_if_any versions choice count)
@@ -73,7 +61,7 @@ share_any versions choice count = none_or (count == 0) (share_object versions ch
     (one (share_object versions choice count) (share versions choice count))
 
 app : (a : AppRule) (choices : List ℕ) → has_float (app_object a choices) ≡ false
-app a choices = or_neither _ false (each (share_of_choice (versions_of a) choices)
+app a choices = or_from _ false (each (share_of_choice (versions_of a) choices)
     (choices_among (versions_of a))
     (λ choice. share_any (versions_of a) choice (buckets_with choices choice))) refl
 
@@ -81,15 +69,15 @@ apps : (those : List AppRule) (chosen : List (List ℕ)) → AreFloatless (app_o
 apps [] chosen = refl
 apps (a ∷ those) [] = refl
 apps (a ∷ those) (choices ∷ chosen) =
-    or_neither (has_float (app_object a choices)) _ (app a choices) (apps those chosen)
+    or_from (has_float (app_object a choices)) _ (app a choices) (apps those chosen)
 
 pub alone : (simulation : Simulation) → has_float (simulation_object simulation) ≡ false
-alone simulation = or_neither _ false (apps simulation.apps simulation.chosen) refl
+alone simulation = or_from _ false (apps simulation.apps simulation.chosen) refl
 
 move : (now next : List (List ℕ)) (from to count : ℕ)
     → has_float (move_object now next from to count) ≡ false
-move now next from to count = or_neither _ _ (release next to)
-    (or_neither _ false (release now from) refl)
+move now next from to count = or_from _ _ (release next to)
+    (or_from _ false (release now from) refl)
 
 move_any : (now next : List (List ℕ)) (from to count : ℕ)
     → AreFloatless (move_object_if_any now next from to count)
@@ -109,7 +97,7 @@ moves now next =
 moving : (now next : Simulation) (appid : List ℕ)
     → has_float (moving_object now next appid) ≡ false
 moving now next appid =
-    or_neither _ false (moves (offer_of now appid) (offer_of next appid)) refl
+    or_from _ false (moves (offer_of now appid) (offer_of next appid)) refl
 
 moving_of : (now next : Simulation) (those : List AppRule)
     → AreFloatless (moving_objects_of now next those)
@@ -117,7 +105,7 @@ moving_of now next those = each (λ a. moving_object now next a.appid ∷ []) th
     (λ a. one (moving_object now next a.appid) (moving now next a.appid))
 
 pub against : (now next : Simulation) → has_float (comparison_object now next) ≡ false
-against now next = or_neither _ _ (apps next.apps next.chosen)
-    (or_neither _ false (both (moving_objects_of now next next.apps)
+against now next = or_from _ _ (apps next.apps next.chosen)
+    (or_from _ false (both (moving_objects_of now next next.apps)
     (moving_objects_of now next (apps_gone next.apps now.apps)) (moving_of now next next.apps)
     (moving_of now next (apps_gone next.apps now.apps))) refl)

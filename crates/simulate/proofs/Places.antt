@@ -1,7 +1,7 @@
 -- The place of an app is found by traversing the apps.
 use Rattle.std.proofs.Common.{◌≡◌, ◌∙◌, sym, ap, refl, ℕ, ◌+◌, ◌-◌, ◌<◌, List, [], ◌∷◌, length}
-use Rattle.std.proofs.Common.{true, false, Some, None, arith, drop, get_or, take}
-use Rattle.std.proofs.lemmas.List.{drop_more, get_or-drop, take_all}
+use Rattle.std.proofs.Common.{true, false, Some, None, arith, drop, get_or}
+use Rattle.std.proofs.lemmas.List.{drop_more, get_or-drop}
 use Rattle.std.proofs.lemmas.Option.{slice_get_read}
 use Rattle.std.specs.Str.{bytes_eq}
 use Rattle.ruleset.specs.Rules.{AppRule, app_in}

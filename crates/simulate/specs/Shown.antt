@@ -1,8 +1,8 @@
 -- The results of a simulation: for each app its releases, by their versions, and each bucket's
 -- choice. The choice 0 is none, and K, 1 to 64, is the K-th release. An app has 10000 choices, one
 -- for each bucket, in order.
-use Rattle.std.specs.Prelude.{ℕ, ◌+◌, ◌-◌, List, [], ◌∷◌, length, map, codes}
-use Rattle.std.specs.Prelude.{◌==◌, if◌then◌else◌, Option, Some, None, is_none, slice_index_or}
+use Rattle.std.specs.Prelude.{ℕ, ◌+◌, ◌-◌, List, [], ◌∷◌, length, map}
+use Rattle.std.specs.Prelude.{if◌then◌else◌, Option, Some, None, is_none, slice_index_or}
 use Rattle.std.specs.List.{filter, range_with_len}
 use Rattle.std.specs.Str.{bytes_eq}
 use Rattle.simulate.specs.Counts.{choices_or_none}

@@ -3,10 +3,10 @@
 use crate::choices::Choices;
 use crate::counts::count_buckets;
 use crate::labels::release_count;
+use markup::{Attribute, Document, Tag};
 use ruleset::App;
 use std::fmt;
 use std::fmt::{Display, Formatter, Write};
-use markup::{Attribute, Document, Tag};
 
 /// Draws the square of an app, with a path for each release that some bucket gets. A bucket is 4 by
 /// 4 pixels.

@@ -3,8 +3,8 @@
 use crate::choices::Choices;
 use crate::counts::count_buckets;
 use crate::labels::{ChoiceLabel, release_count};
-use ruleset::App;
 use markup::{Attribute, Document, Tag};
+use ruleset::App;
 
 /// Draws the legend of an app.
 pub(crate) fn draw_legend(picture: &mut Document, app: &App, choices: &Choices) {

@@ -10,7 +10,8 @@
 // history, run after run.
 //
 // A simulation is kept with its ruleset, so the releases of an app are available with the choices
-// of its buckets. Each text is written by appending part after part, and each part is a definition.
+// of its buckets. The members of the JSON are defined. Rows compare the tables and the picture, whose
+// counts are those of `count_buckets` and `count_moves`.
 
 mod bucket_square;
 mod choices;

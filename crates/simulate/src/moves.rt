@@ -1,8 +1,7 @@
 //! How many buckets move from which release to which: a table for each app. Rows compare the
 //! tables; the counts in them are those of `count_moves`, and `loses` marks a row.
 
-ghost use Rattle.std.specs.Prelude.{◌≡◌, ℕ, List, OnOk, None, length};
-ghost use Rattle.printing.specs.Pushed.{Puts};
+ghost use Rattle.std.specs.Prelude.{◌≡◌, None, length};
 ghost use Rattle.simulate.specs.Counts.{choices_or_none};
 
 use crate::choices::Choices;
@@ -32,25 +31,17 @@ pub fn push_moves(
     text: &mut String,
     now: &Simulated,
     next: &Simulated,
-) -> Result<(), AllocError>
-    ensures { OnOk result ((tables : List ℕ) × Puts text.old text.new tables) }
-{
-    let tables = tables_of(alloc, now, next)?;
-    text.push_str(tables.as_str())
-}
-
-fn tables_of(alloc: Global, now: &Simulated, next: &Simulated) -> Result<String, AllocError> {
+) -> Result<(), AllocError> {
     let none = Choices::none(alloc)?;
-    let mut tables = String::new(alloc);
     for app in next.apps() {
-        push_table(alloc, &mut tables, now, next, &none, app.appid())?;
+        push_table(alloc, text, now, next, &none, app.appid())?;
     }
     for app in now.apps() {
         if next.lacks(app.appid()) {
-            push_table(alloc, &mut tables, now, next, &none, app.appid())?;
+            push_table(alloc, text, now, next, &none, app.appid())?;
         }
     }
-    Ok(tables)
+    Ok(())
 }
 
 // The table of an app: a row for each move that some bucket makes.

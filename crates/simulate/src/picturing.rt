@@ -8,9 +8,9 @@ use crate::choices::Choices;
 use crate::labels::release_count;
 use crate::legends::draw_legend;
 use crate::simulated::Simulated;
+use markup::{Attribute, Document, Tag};
 use ruleset::App;
 use std::alloc::{AllocError, Global};
-use markup::{Attribute, Document, Tag};
 
 /// The height of what is above the first app, in pixels.
 const HEAD: u64 = 20;

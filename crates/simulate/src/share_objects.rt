@@ -1,6 +1,6 @@
 //! How many buckets get which release, as JSON: an object for each app.
 
-ghost use Rattle.std.specs.Prelude.{◌≡◌, ◌∷◌, ◌++◌, [], IfOk, OnOk, map, option_copied};
+ghost use Rattle.std.specs.Prelude.{◌≡◌, ◌++◌, IfOk, OnOk, map, option_copied};
 ghost use Rattle.serde_json.specs.View.{view};
 ghost use Rattle.simulate.specs.Objects as specs;
 ghost use Rattle.simulate.specs.Shown.{versions_of, versions_or_none};

@@ -1,9 +1,6 @@
 //! How many buckets get which release: a table for each app. Rows compare the tables; the counts in
 //! them are those of `count_buckets`.
 
-ghost use Rattle.std.specs.Prelude.{ℕ, List, OnOk};
-ghost use Rattle.printing.specs.Pushed.{Puts};
-
 use crate::choices::Choices;
 use crate::counts::count_buckets;
 use crate::labels::{ChoiceLabel, release_count, widest_version};
@@ -15,14 +12,11 @@ use std::fmt::Write;
 
 /// Appends the tables of all apps.
 // open: whether an allocation fails; the tables: rows.
-pub fn push_shares(text: &mut String, simulated: &Simulated) -> Result<(), AllocError>
-    ensures { OnOk result ((tables : List ℕ) × Puts text.old text.new tables) }
-{
-    let mut tables = String::new(*text.allocator());
+pub fn push_shares(text: &mut String, simulated: &Simulated) -> Result<(), AllocError> {
     for (app, choices) in simulated.apps().iter().zip(simulated.chosen().iter()) {
-        push_table(&mut tables, app, choices)?;
+        push_table(text, app, choices)?;
     }
-    text.push_str(tables.as_str())
+    Ok(())
 }
 
 fn push_table(text: &mut String, app: &App, choices: &Choices) -> Result<(), AllocError> {
