@@ -1,4 +1,4 @@
-"""Checks docs/OPERATING.md, "Several servers": two hosts with a share of a quota each, and nginx as
+"""Checks docs/INSTALL.md, "Several servers": two hosts with a share of a quota each, and nginx as
 their balancer. It runs the page's commands, with only paths and ports changed; `ssh` is replaced by
 a script.
 
@@ -40,7 +40,7 @@ class Fleet:
         ssh.write_text(SSH % (PORTS["8081"], PORTS["8091"], top, top))
         ssh.chmod(0o755)
         self.path = f"{top / 'bin'}:{os.environ['PATH']}"
-        self.sharing, self.loading = section("OPERATING.md", TITLE)[:2]
+        self.sharing, self.loading = section("INSTALL.md", TITLE)[:2]
 
     def run(self, name, block):
         """The output of a block in the folder of a host's manifests."""
@@ -142,4 +142,4 @@ def fleet_of_the_page(folder):
         )
 
 
-FLEET = {"several servers of docs/OPERATING.md": fleet_of_the_page}
+FLEET = {"several servers of docs/INSTALL.md": fleet_of_the_page}

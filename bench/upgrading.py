@@ -1,4 +1,4 @@
-"""Checks docs/OPERATING.md: the upgrade that loses no request. It runs the page's commands and the
+"""Checks docs/INSTALL.md: the upgrade that loses no request. It runs the page's commands and the
 template unit, with only paths and ports changed, while clients send requests through nginx without
 a pause.
 
@@ -134,7 +134,7 @@ def counted(log):
 def wrong_upgrade(site):
     """Upgrades from the old server to the new one under load; their counters say what each
     answered."""
-    host, [commands] = site.host, section("OPERATING.md", TITLE)
+    host, commands = site.host, section("INSTALL.md", TITLE)[0]
     with Load(host) as load:
         awaited(lambda: sum(load.whole) > LEAST / 2)
         begun, before = time.monotonic(), sum(load.whole)
@@ -167,4 +167,4 @@ def upgrade(folder):
             site.end()
 
 
-UPGRADES = {"the upgrade of docs/OPERATING.md": upgrade}
+UPGRADES = {"the upgrade of docs/INSTALL.md": upgrade}
