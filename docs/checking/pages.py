@@ -1,14 +1,17 @@
 """Checks of single pages: links lead to files, README is short and names the toolchain's logic, and
 all name one version; the page of help is that of the programs. Also prints long sentences for their
 writers."""
+import os
 import re
 import shutil
 import subprocess
+from functools import cache
+from pathlib import Path
 
-from checking.places import CHANGELOG, CRATES, HELP, OPEN, README, VERSION, pages
+from checking.places import CHANGELOG, CRATES, HELP, OPEN, README, ROOT, VERSION, pages
 
 # README is for visitors.
-MOST_LINES, MOST_WORDS = 150, 1400
+MOST_LINES, MOST_WORDS = 130, 1250
 LOGIC = re.compile(r"\blogic ([0-9a-f]+)")
 # Not a sentence: code, tables, headings, and the targets of links.
 NO_SENTENCE = re.compile(r"^```.*?^```|^\|.*?$|^#.*?$|^ {4}.*?$|(?<=\])\([^)]*\)", re.M | re.S)
@@ -25,11 +28,29 @@ def headings(page):
     return {it.replace(" ", "-") for it in texts if it}
 
 
+@cache
+def tracked():
+    """The files that git has, and their folders: a forge shows no other, and follows no symbolic
+    link. None outside of a checkout."""
+    if not (ROOT / ".git").exists():
+        return None
+    done = subprocess.run(["git", "ls-files", "-z"], cwd=ROOT, stdout=subprocess.PIPE, text=True)
+    files = {Path(it) for it in done.stdout.split("\0") if it}
+    return files.union(*(it.parents for it in files))
+
+
+def is_there(path):
+    known = tracked()
+    if known is None:
+        return path.exists()
+    return Path(os.path.relpath(path, ROOT)) in known and path.exists()
+
+
 def dead_links(page):
     for link, heading in LINK.findall(page.read_text()):
         there = page.parent / link if link else page
-        if not there.exists():
-            yield f"no file {link}"
+        if not is_there(there):
+            yield f"no file {link} in git"
         elif heading and heading not in headings(there):
             yield f"no heading {link}#{heading}"
 

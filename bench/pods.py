@@ -1,0 +1,109 @@
+"""Checks the pods of examples/deploy: the shares of a quota add up, a put in a pod replaces its files
+and loads them, and kubernetes.yaml agrees with the image and the unit. No cluster is used.
+
+Also tests the alerts. Each check returns nothing, or what was wrong.
+"""
+import io
+import os
+import re
+import subprocess
+import tarfile
+
+from hosts import DEPLOY, PATIENCE, ROOT, called, needs
+from operating import BUILT, PORTS, Day
+
+QUOTAS = [1, 2, 7, 1000, 9223372036854775807]
+# After SIGTERM: the seconds that rollout.service adds up, with some more.
+STOPPING = re.compile(r"^TimeoutStopSec=(\d+)$", re.M)
+ARRAY = '\n[[array]]\nname = "first"\nwidth = 64\nlength = 1\nquota = {}   # of all pods\n'
+
+
+def script(day):
+    """pod.sh for the folder of a day."""
+    text = (DEPLOY / "pod.sh").read_text().replace("place=/etc/rollout", f"place={day.folder}")
+    place = day.folder / "pod.sh"
+    place.write_text(text.replace("rollout stage put", f"rollout stage put --folder {day.folder}"))
+    return place
+
+
+def in_pod(day, number, pods, *words, given=None):
+    own = {"HOSTNAME": f"rollout-{number}", "REPLICAS": str(pods)}
+    how = day.place() | {"env": {**day.place()["env"], **own, "ROLLOUT_OPERATOR": PORTS["8081"]}}
+    done = subprocess.run(["sh", script(day), *words], input=given, timeout=PATIENCE,
+                          stdout=subprocess.PIPE, stderr=subprocess.STDOUT, **how)
+    return done.returncode, done.stdout.decode()
+
+
+def share(day, number, pods):
+    """The quota in the manifest with which a pod begins."""
+    (day.folder / "current.toml").unlink()
+    if (found := in_pod(day, number, pods, "first", "first")) != (0, ""):
+        raise OSError(f"{found}")
+    return int(re.search(r"^quota = (\d+)$", (day.folder / "current.toml").read_text(), re.M)[1])
+
+
+def wrong_shares(day):
+    first = day.folder / "first"
+    first.mkdir()
+    manifest = (day.folder / "current.toml").read_text()
+    for quota in QUOTAS:
+        whole = manifest.replace("\n\n", ARRAY.format(quota) + "\n", 1)
+        (first / "current.toml").write_text(whole)
+        for pods in range(1, 5):
+            shares = [share(day, it, pods) for it in range(pods)]
+            if sum(shares) != quota or max(shares) - min(shares) > 1:
+                return f"{quota} in {pods} pods: {shares}"
+    if in_pod(day, 1, 2, "first", "first") != (0, "") or share(day, 0, 1) != QUOTAS[-1]:
+        return "a pod with a manifest begins anew"
+    (day.folder / "current.toml").write_text(manifest)
+
+
+def wrong_put(day):
+    """A tar of the next rule, with the present manifest."""
+    packed = io.BytesIO()
+    rule = (day.folder / "editor.rule").read_text().replace("< 500", "< 2500")
+    (day.folder / "editor.rule.new").write_text(rule)
+    with tarfile.open(fileobj=packed, mode="w") as tar:
+        tar.add(day.folder / "current.toml", "current.toml")
+        tar.add(day.folder / "editor.rule.new", "editor.rule")
+    with day.served():
+        status, said = in_pod(day, 0, 2, "put", given=packed.getvalue())
+        if status or not said.endswith(f"server at {PORTS['8081']}: generation 2\n"):
+            return f"put: {status} {said}"
+    if (day.folder / "editor.rule").read_text() != rule:
+        return "put: the rule isn't in place"
+
+
+def wrong_settings():
+    text, image = ((DEPLOY / it).read_text() for it in ("kubernetes.yaml", "Dockerfile"))
+    unit = (DEPLOY / "rollout.service").read_text()
+    replicas, named = (re.findall(it, text) for it in (r"replicas: (\d+)", r'value: "(\d+)"}'))
+    if replicas != [named[0]]:
+        return f"replicas: {replicas} and {named}"
+    if f"limits: {{memory: {re.search(r'MemoryMax=(.*)M', unit)[1]}Mi}}" not in text:
+        return "the limit of memory isn't the unit's"
+    grace = int(re.search(r"terminationGracePeriodSeconds: (\d+)", text)[1])
+    if grace < int(STOPPING.search(unit)[1]) + 15:
+        return f"{grace} s to stop"
+    for it in ("entry.sh", "pod.sh"):
+        if it not in image or it not in text or not os.access(DEPLOY / it, os.X_OK):
+            return f"{it} isn't in both, or no program"
+
+
+def pods(folder, program=BUILT):
+    needs("tar")
+    day = Day(folder / "pods", program)
+    return wrong_settings() or wrong_shares(day) or wrong_put(day)
+
+
+def alerts(_folder):
+    """The alerts, tried on series of numbers."""
+    needs("promtool")
+    rules = DEPLOY.resolve() / "rollout.rules.yml"
+    for words in (["check", "rules", rules], ["test", "rules", ROOT / "bench" / "alerts_test.yml"]):
+        status, text = called("promtool", *map(str, words))
+        if status:
+            return text
+
+
+PODS = {"examples/deploy: pods": pods, "examples/deploy: alerts": alerts}

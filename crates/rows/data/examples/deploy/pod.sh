@@ -1,0 +1,47 @@
+#!/bin/sh
+# Puts manifests in place in one of several equal servers, each with its share of every quota: the
+# shares of all of them add up to the quota. In a pod of a StatefulSet its number is the end of its
+# name, and REPLICAS says how many pods there are.
+#
+#   pod.sh first FOLDER    copies the files of FOLDER, if the pod has no manifest yet
+#   pod.sh put             unpacks a tar of current.toml and its files from standard input, and loads
+set -eu
+place=/etc/rollout
+
+# The manifest with this pod's share. A quota of fewer than REPLICAS leaves a pod with 0, which is
+# refused.
+share() {
+    number=${HOSTNAME##*-}
+    while IFS= read -r line; do
+        case $line in
+        "quota = "[0-9]*)
+            all=${line#quota = } && all=${all%%[!0-9]*}
+            line="quota = $((all / REPLICAS + (number < all % REPLICAS)))"
+            ;;
+        esac
+        printf '%s\n' "$line"
+    done <"$1"
+}
+
+case ${1-} in
+first)
+    [ -e "$place/current.toml" ] && exit
+    for it in "$2"/*; do
+        [ "${it##*/}" = current.toml ] || cp "$it" "$place"
+    done
+    share "$2/current.toml" >"$place/current.toml"
+    ;;
+put)
+    new=$(mktemp -d)
+    trap 'rm -rf "$new"' EXIT
+    tar -x -C "$new"
+    share "$new/current.toml" >"$new/mine"
+    mv "$new/mine" "$new/current.toml"
+    shift
+    rollout stage put "$new/current.toml" "$@"
+    ;;
+*)
+    echo "usage: pod.sh first FOLDER | put [OPTION ..]" >&2
+    exit 2
+    ;;
+esac
