@@ -5,24 +5,23 @@ folder can be made, no served file may change.
 
 Commands that concern the host, such as systemctl, are replaced by ones that only succeed, or fail.
 """
-import os
 import re
 import shutil
 import subprocess
 
-from hosts import PATIENCE, ROOT, needs, placed
+from hosts import PATIENCE, ROOT, needs
 from operating import BUILT, PORTS, Day
 
 HOST_COMMANDS = [
-    "systemctl", "systemd-sysusers", "nginx", "ssh", "pgrep", "sha256sum", "ln", "curl", "git", "kill"
+    "systemctl", "systemd-sysusers", "nginx", "ssh", "pgrep", "sha256sum", "ln", "curl", "git"
 ]
 # Names that the blocks use, and that the folder already has.
 TAKEN = ["next", "served", "current.toml.new", "request.json", "editor-a.toml", "rollout.svg"]
 ARRAY = '\n[[array]]\nname = "first"\nwidth = 64\nlength = 1\nquota = 1000\n'
 TAKES = "when version < 2.1 and bucket(7319492859585677826) < 500 and take(first, 0) offer 1;\n"
 SERVED = ("current.toml", "editor.rule")
-COMMAND = re.compile(r"^(?:\w+=\$\(|rollout |cd |cp |tar |systemctl |sha256sum |sed |for |grep |jq )")
-EDITED = re.compile(r"was edited|refused|other apps")
+COMMAND = re.compile(r"^(?:\w+=\$\(|(?:rollout|cd|cp|tar|systemctl|sha256sum|sed|for|grep|jq) )")
+EDITED = re.compile(r"was edited|refused")
 
 
 def sections(page):
@@ -72,7 +71,7 @@ class Shell:
         for it in ("/opt", "/srv", "/var/log/rollout", "~"):
             text = re.sub(rf"(?<![\w/.]){it}/", f"{self.day.folder}/log/", text)
         text = text.replace("/etc/rollout", str(self.day.folder))
-        text = placed(text, self.day.folder / "host")
+        text = re.sub(r"(?<![\w/.])/(etc|var|run)/", rf"{self.day.folder}/host/\1/", text)
         words = self.day.words(text)
         how = self.day.place()
         how["env"] = {**how["env"], **environment}
@@ -117,7 +116,8 @@ def pasted(folder, program=BUILT, only=""):
                 continue
             count += len(blocks)
             with shell.day.served():
-                wrong = wrong_without_room(shell, title, blocks) or wrong_twice(shell, title, blocks)
+                wrong = wrong_without_room(shell, title, blocks)
+                wrong = wrong or wrong_twice(shell, title, blocks)
                 for it in HOST_COMMANDS:
                     (shell.day.folder / "bin" / it).unlink()
                 if wrong:

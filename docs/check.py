@@ -2,17 +2,19 @@
 """Checks that the pages describe what is there. ARCHITECTURE draws the layers of crates.txt, and
 has each crate in one short row and in one part, and in the parts of a program the crates below it.
 OPEN has each comment of the sources on what is open. What a library exports has a comment. Each
-link leads to a file that git has, and each clause that is cited after a call is in that call's contract. PROOF
-quotes its files to the letter; each name that it cites is in the sources, each definition is in the
+link leads to a file that git has, and each clause that is cited after a call is in that call's
+contract. PROOF quotes its files to the letter; each name that it cites is in the sources, each definition is in the
 file of its link, and its figures are no more than a tenth off. README is short, and names the logic
 of the installed toolchain; VERSION, README and CHANGELOG name one version. The pages by hand have
 few long sentences. Each wrong body can be put in place: what it replaces is in its file once.
 `plain.txt` and `weight.txt` bound the words of this house in comments, and the words of each page.
 Each crate of a line of crates.txt is named there, and `edges.txt` has a reason for each that is
 named for little and drags much.
-Each file of rows is run. The page of help that the launcher prints is that of the programs, and has
-each of their commands, as has each list of the commands of one program. CONTRIBUTING's recipes
-name each file that their searches find, and ERRORS has each code of the sources.
+Each file of rows is run, and its rows are counted anew. The page of help that the launcher prints
+is that of the programs, and has each of their commands, as has each list of the commands of one program. CONTRIBUTING's recipes
+name each file that their searches find, ERRORS has each code of the sources, and other pages each
+option, each warning, and each member of requests, manifests and the log. Tests that pages name are
+there.
 
 usage: docs/check.py [--write [FOLDER] | --long | --words CRATE]
 
@@ -26,8 +28,8 @@ import sys
 from pathlib import Path
 
 from checking import (
-    codes, commands, crates_page, edges, left_open, plain, quotes, recipes, reference, rows,
-    weight
+    codes, commands, crates_page, edges, left_open, members, plain, quotes, recipes, reference,
+    rows, weight
 )
 from checking.edits import lost_edits
 from checking.exports import lost_comments
@@ -75,9 +77,12 @@ def faults():
     yield from weight.too_heavy()
     yield from edges.faults()
     yield from rows.left_out()
+    yield from rows.false_counts()
     yield from commands.other_lists()
     yield from recipes.lost_files()
     yield from codes.lost_codes()
+    yield from members.unlisted()
+    yield from members.lost_tests()
     yield from lost_edits()
 
 

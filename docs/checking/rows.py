@@ -1,7 +1,13 @@
-"""The files of rows: the program `rows` runs each of them, and its stored output has each count."""
+"""The files of rows: the program `rows` runs each of them, and its stored output has each count, as
+they are counted here."""
+import re
+
 from checking.places import CRATES
 
 ROWS = CRATES / "rows"
+ROW = re.compile(r"[$<>^&(] ")
+# What begins a file or a command, and so ends a file's text.
+MARK = re.compile(r"(?:--|[+*%$@<>^&(:]) |\)$|each$|\^$")
 
 
 def left_out():
@@ -11,3 +17,36 @@ def left_out():
         if named != files:
             odd = sorted({*named} ^ {*files}) or ["another order"]
             yield f"crates/rows/{name}: not the files of crates/rows/data: {', '.join(odd)}"
+
+
+def count(text):
+    """The rows of a file: a table has those of its block once for each of its lines."""
+    found, each, table, in_file = 0, 0, None, False
+    for line in text.splitlines():
+        in_file = line.startswith("-- ") or in_file and not MARK.match(line)
+        if in_file:
+            continue
+        if line == "each":
+            each, table = 0, "block"
+        elif table == "block" and line == "rows":
+            table = "rows"
+        elif table == "rows":
+            if not line:
+                table = None
+            elif not line.startswith("# "):
+                found += each
+        elif ROW.match(line) or line == "^":
+            each, found = (each + 1, found) if table else (each, found + 1)
+    return found
+
+
+def counts():
+    """Each file's rows, by a second hand."""
+    return {it.name: count(it.read_text()) for it in (ROWS / "data").glob("*.rows")}
+
+
+def false_counts():
+    printed = dict(it.split(": ") for it in (ROWS / "stdout").read_text().splitlines())
+    for name, found in counts().items():
+        if printed.get(name) not in (f"{found} rows", f"{found} row"):
+            yield f"crates/rows/stdout: {name}: {printed.get(name)}, and here {found} are counted"
