@@ -1,9 +1,10 @@
 #!/usr/bin/env python3
 """Checks that the pages describe what is there. ARCHITECTURE draws the layers of crates.txt, and
 has each crate in one short row and in one part, and in the parts of a program the crates below it.
-OPEN has each comment of the sources on what is open. What a library exports has a comment. Each
-link leads to a file that git has, and each clause that is cited after a call is in that call's
-contract. PROOF quotes its files to the letter; each name that it cites is in the sources, each definition is in the
+OPEN has each comment of the sources on what is open, and each public call has a clause or such a
+comment, or is listed as lacking both. What a library exports has a comment. Each
+link leads to a file that git has, and each clause that is cited after a call is in that call's contract. PROOF
+quotes its files to the letter; each name that it cites is in the sources, each definition is in the
 file of its link, and its figures are no more than a tenth off. README is short, and names the logic
 of the installed toolchain; VERSION, README and CHANGELOG name one version. The pages by hand have
 few long sentences. Each wrong body can be put in place: what it replaces is in its file once.
@@ -69,6 +70,7 @@ def faults():
             yield f"{page.name}: not as the sources have it (docs/check.py --write)"
     yield from lost_comments()
     yield from left_open.lost_open()
+    yield from left_open.new_unclaimed()
     reference.texts()  # each install writes these, so none may fail
     yield from other_versions()
     yield from other_help()
@@ -77,6 +79,7 @@ def faults():
     yield from weight.too_heavy()
     yield from edges.faults()
     yield from rows.left_out()
+    yield from rows.lost_tests()
     yield from rows.false_counts()
     yield from commands.other_lists()
     yield from recipes.lost_files()

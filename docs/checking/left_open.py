@@ -1,6 +1,10 @@
-"""The page OPEN: what no clause determines, from the `// open:` comments at calls, by crate."""
+"""The page OPEN: what no clause determines, from the `// open:` comments at calls, by crate. Each
+public call has a clause or such a comment; `unclaimed.txt` lists the calls that still lack both."""
 from checking.exports import told_crates
+from checking.places import DOCS
 from checking.sources import OPEN
+
+UNCLAIMED = DOCS / "checking" / "unclaimed.txt"
 
 MARK = "<!-- docs/check.py --write writes the rest from crates/*/src. -->\n"
 
@@ -29,3 +33,21 @@ def lost_open():
         written = sum(it.path.read_text().count(OPEN) for it in crate.modules.values())
         if written != (found := sum(bool(it.open()) for _, it, _ in crate.calls())):
             yield f"{crate.name}: {written} comments {OPEN.strip()}, {found} of them at calls"
+
+
+def unclaimed():
+    """Public calls that have neither a clause nor a comment on what is open. A trait's functions
+    have the clauses that its implementors keep."""
+    for crate in told_crates():
+        if not crate.name.startswith(("test_", "bench_")):
+            for name, item, _ in crate.calls():
+                if item.is_pub and "ensures" not in "\n".join(item.front()) and not item.open():
+                    yield f"{crate.name} {name}"
+
+
+def new_unclaimed():
+    """Public calls that lack both and aren't listed, and listed ones that have one of the two."""
+    found, listed = {*unclaimed()}, {*UNCLAIMED.read_text().splitlines()}
+    yield from (f"{it}: neither a clause nor a comment // open:" for it in sorted(found - listed))
+    for it in sorted(listed - found):
+        yield f"docs/checking/unclaimed.txt: {it} has a clause or a comment, or is gone"

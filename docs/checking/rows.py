@@ -1,8 +1,8 @@
 """The files of rows: the program `rows` runs each of them, and its stored output has each count, as
-they are counted here."""
+they are counted here. `tests.txt` lists each test, so that none is lost without a word."""
 import re
 
-from checking.places import CRATES
+from checking.places import CRATES, DOCS
 
 ROWS = CRATES / "rows"
 ROW = re.compile(r"[$<>^&(] ")
@@ -50,3 +50,20 @@ def false_counts():
     for name, found in counts().items():
         if printed.get(name) not in (f"{found} rows", f"{found} row"):
             yield f"crates/rows/stdout: {name}: {printed.get(name)}, and here {found} are counted"
+
+
+TESTS = DOCS / "checking" / "tests.txt"
+TEST = re.compile(r"^#\[test\]\n(?:#.*\n)*fn (\w+)", re.M)
+
+
+def tests():
+    """Each test, by its crate and its name."""
+    for file in CRATES.glob("*/src/**/*.rt"):
+        crate = file.relative_to(CRATES).parts[0]
+        yield from (f"{crate} {it}" for it in TEST.findall(file.read_text()))
+
+
+def lost_tests():
+    found, listed = {*tests()}, {*TESTS.read_text().splitlines()}
+    yield from (f"docs/checking/tests.txt: {it} is no test" for it in sorted(listed - found))
+    yield from (f"docs/checking/tests.txt lacks the test {it}" for it in sorted(found - listed))
