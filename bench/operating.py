@@ -122,7 +122,8 @@ def wrong_stages(day):
 def wrong_status(day):
     """The status after a raise and a halt, but for the times, and then undoing the halt."""
     shown = section("OPERATING.md", "Steps, and going back")[0]
-    told = day.run("rollout stage status --operator 8081 && rollout stage back --operator 8081")
+    commands = [it.removeprefix("$ ") for it in shown.splitlines() if it.startswith("$ ")]
+    told = day.run(" && ".join(commands))
     wanted = [line for line in shown.splitlines() if not line.startswith("$ ")]
     for line, found in zip(wanted, told.splitlines(), strict=True):
         if re.sub(r" of \S+:", "", line.replace("8081", "18098")) != re.sub(r" of \S+:", "", found):

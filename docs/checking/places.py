@@ -26,7 +26,7 @@ STOREY = re.compile(r"^# (\w+): (.+)\n((?:\w.*\n)+)", re.M)
 
 def pages():
     found = [it for it in sorted(DOCS.glob("**/*.md")) if it.parent != REFERENCE]
-    return [*TOP, *found, *sorted((ROOT / "bench").glob("*.md"))]
+    return [*TOP, *found, *sorted((ROOT / "bench").glob("**/*.md"))]
 
 
 def names_in(lines):

@@ -1,6 +1,6 @@
 /* The header for rules in C (docs/C.md): the context, attributes, helpers and counters. For clang
-   from 14 on. On the host the helpers are functions that a test supplies (bench/programs/host.c has
-   them), and a rule is C like any other. */
+   from 14 on. On the host the helpers are functions that a test supplies (it may be
+   bench/studies/programs/host.c), and a rule is C like any other. */
 #ifndef ROLLOUT_H
 #define ROLLOUT_H
 

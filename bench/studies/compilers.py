@@ -9,8 +9,8 @@ from pathlib import Path
 
 from random_rules import random_rule
 
-ROOT = Path(__file__).resolve().parent.parent
-PROGRAMS, EXAMPLES = ROOT / "bench" / "programs", ROOT / "examples" / "c"
+STUDIES = Path(__file__).resolve().parent
+PROGRAMS, EXAMPLES = STUDIES / "programs", STUDIES.parent.parent / "examples" / "c"
 WORDS = ["-w", "-ffreestanding", "-ffunction-sections", "-I", PROGRAMS, "-I", EXAMPLES, "-x", "c"]
 CLANGS = ["clang"] + [f"clang-{version}" for version in range(14, 40)]
 LEVELS = ["v1", "v2", "v3", "v4"]
@@ -53,7 +53,7 @@ def example(path):
 
 
 def by_hand():
-    """The rules of bench/programs and examples/c, one source for each file."""
+    """The rules of bench/studies/programs and examples/c, one source for each file."""
     files = [file for file in sorted(PROGRAMS.glob("*.c")) if file.stem != "host"]
     examples = [Source(file.stem, example(file)) for file in sorted(EXAMPLES.glob("*.c"))]
     return [Source(file.stem, file.read_text()) for file in files] + examples

@@ -1,5 +1,5 @@
-/* What the rules of bench/compiled are written with: rollout.h, and RULE, so that a file may have
-   many. A rule has a name, its releases, and its arrays as `--arrays` declares them.
+/* What the rules of bench/studies/compiled are written with: rollout.h, and RULE, so that a file may
+   have many. A rule has a name, its releases, and its arrays as `--arrays` declares them.
 
    With PLAIN nothing is opaque, as where a writer does without TAKE and OFFER. With OFFERED each
    rule offers what it chooses. */
