@@ -1,15 +1,35 @@
 """How many words each page by hand has. `weight.txt` bounds them: whoever makes a page longer than
-that raises the bound there, knowingly."""
+that raises the bound there, knowingly. Parts that scripts write, or that commands print, don't
+count."""
+import re
 from pathlib import Path
 
-from checking.places import OPEN, ROOT, pages
+from checking.crates_page import PICTURE, TABLE
+from checking.places import CRATES_PAGE, DOCS, OPEN, PROOF, ROOT, pages
+from checking.quotes import QUOTE, SIZES
 
 BOUNDS = Path(__file__).with_suffix(".txt")
+# What a script writes of a page: the layers and the line of each crate, quotes and sizes, and the
+# table of seconds.
+WRITTEN = {
+    CRATES_PAGE: [PICTURE, TABLE],
+    PROOF: [QUOTE, SIZES],
+    DOCS / "internals" / "COSTS.md": [re.compile(r"^\| `\w+` \|.*$", re.M)],
+}
+# What commands print: bench/walkthrough, bench/transcripts and others compare it.
+PRINTED = re.compile(r"^```\n\$ .*?^```$", re.M | re.S)
+
+
+def by_hand(page):
+    text = page.read_text()
+    for it in [PRINTED, *WRITTEN.get(page, [])]:
+        text = it.sub("", text)
+    return text
 
 
 def words():
     found = [it for it in pages() if it != OPEN]
-    return {str(it.relative_to(ROOT)): len(it.read_text().split()) for it in found}
+    return {str(it.relative_to(ROOT)): len(by_hand(it).split()) for it in found}
 
 
 def bounds():
