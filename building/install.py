@@ -71,7 +71,7 @@ def make_folder(folder, undo):
 def write_reference(folder):
     """Writes the pages of contracts and definitions, which aren't in git, from the current
     sources."""
-    words = [sys.executable, "-B", "-X", "utf8", DOCS / "check.py", "--write", folder]
+    words = [sys.executable, "-B", "-X", "utf8", DOCS / "check.py", "--reference", folder]
     if subprocess.run(words).returncode:
         raise OSError("docs/check.py doesn't write the reference")
 

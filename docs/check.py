@@ -17,10 +17,10 @@ name each file that their searches find, ERRORS has each code of the sources, an
 option, each warning, and each member of requests, manifests and the log. Tests that pages name are
 there.
 
-usage: docs/check.py [--write [FOLDER] | --long | --words CRATE]
+usage: docs/check.py [--write | --reference FOLDER | --long | --words CRATE]
 
---write writes the layers and the rows of crates, OPEN, and PROOF's quotes and figures anew. With a
-FOLDER it writes the reference there instead: a page for each crate, with its contracts and
+--write writes the layers and the rows of crates, OPEN, and PROOF's quotes and figures anew.
+--reference writes the reference into a FOLDER: a page for each crate, with its contracts and
 definitions. The pages' links to sources work in the folder docs/reference, which git ignores.
 --long prints the sentences of over 35 words of each page by hand, --words the words of this house
 in a crate's comments.
@@ -95,7 +95,7 @@ def main():
         return tell_long()
     if words[:1] == ["--words"] and len(words) == 2:
         return plain.print_words(words[1])
-    if words[:1] == ["--write"] and len(words) == 2:
+    if words[:1] == ["--reference"] and len(words) == 2:
         return reference.write(Path(words[1]))
     if words not in ([], ["--write"]):
         sys.exit(__doc__)

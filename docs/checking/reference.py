@@ -10,7 +10,7 @@ from checking.markdown import Headings, fenced, linked, slug
 from checking.places import REFERENCE
 from checking.telling import constants, declaration, is_law, own, view
 
-MARK = "<!-- docs/check.py --write FOLDER wrote this page from the sources. -->\n\n"
+MARK = "<!-- docs/check.py --reference FOLDER wrote this page from the sources. -->\n\n"
 ALL = "[All crates](README.md)"
 
 
