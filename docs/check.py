@@ -2,8 +2,8 @@
 """Checks that the pages describe what is there. ARCHITECTURE draws the layers of crates.txt, and
 has each crate in one short row and in one part, and in the parts of a program the crates below it.
 OPEN has each comment of the sources on what is open, and each public call has a clause or such a
-comment, or is listed as lacking both. What a library exports has a comment. Each
-link leads to a file that git has, and each clause that is cited after a call is in that call's contract. PROOF
+comment, or is listed as lacking both. What a library exports has a comment. Each link leads to a
+file that git has, and each clause that is cited after a call is in that call's contract. PROOF
 quotes its files to the letter; each name that it cites is in the sources, each definition is in the
 file of its link, and its figures are no more than a tenth off. README is short, and names the logic
 of the installed toolchain; VERSION, README and CHANGELOG name one version. The pages by hand have

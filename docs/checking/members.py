@@ -19,6 +19,9 @@ NAMED = [
 # The number of bytes that were cut off: the page says this once for all of them.
 CUT = "_left_out"
 IN_CODE = re.compile(r"`[^`\n]+`|^```.*?^```", re.M | re.S)
+FIRST_CELLS = re.compile(r"^\| (.*? \| .*?) \|", re.M)
+# What is in the first two cells of a table's row: other places don't count.
+IN_ROWS = [("warning", "PROGRAM.md"), ("member", "CLIENTS.md")]
 TEST = re.compile(r"`(test_(?!holds\b)\w+|[\w-]+\.rows|bench/[\w/]+)`")
 
 

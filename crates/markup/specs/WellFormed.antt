@@ -1,9 +1,9 @@
 -- Markup, as the bytes of a text in UTF-8: a picture, which is well-formed XML 1.0 with the root
 -- `svg`, or the content of a page. A text is read from left to right. At each place it is known which
 -- elements are open (the innermost last), and which attributes a start tag has that isn't ended.
--- Elements, attributes and classes are those of `Names` and `Classes`, so there is no script, link or
+-- Elements, attributes and classes are those of `Names` and `Classes`: none is a script, link or
 -- style. A client's text is character data, or the value of an attribute in quotes: it has no quote,
--- no `<` and no `>`, and a `&` only where an entity begins.
+-- no `<` and no `>`, and a `&` only if an entity follows.
 use Rattle.std.specs.Prelude.{◌≡◌, ℕ, List, [], ◌∷◌, ◌++◌, codes, Bool, true, false}
 use Rattle.std.specs.Prelude.{◌&&◌, if◌then◌else◌}
 use Rattle.std.specs.Prelude.{Option, Some, None, is_some, IfSome, String, string_bytes}

@@ -3,7 +3,7 @@
 ghost use Rattle.std.specs.Prelude.{◌≡◌};
 ghost use Rattle.markup.specs.Classes as specs;
 
-/// A class of an element. There are no others, so no text becomes one.
+/// A class of an element. No other exists, so no text becomes one.
 #[derive(Clone, Copy)]
 pub enum Class {
     Act,

@@ -54,6 +54,7 @@ pub(crate) fn header_now<H: Clock>(rt: &H, port: u16) -> LineHeader
 }
 
 /// The time of a log line; the start of 1970 if the clock can't be read.
+// open: that it is the present time: nothing is proved about clocks.
 pub fn utc_now<H: Clock>(rt: &H) -> Utc {
     let since = match SystemTime::now(rt) {
         Ok(now) => now.duration_since(UNIX_EPOCH).unwrap_or(Duration::ZERO),

@@ -127,6 +127,26 @@ where
     }
 }
 
+// The first log that isn't a regular file, of which a report can't continue.
+fn print_irregular_log<R: Files, E: Write>(rt: &R, logs: &[&str], err: &mut E) -> bool {
+    for path in logs {
+        if is_irregular(rt, *path) {
+            let path = Printed(*path);
+            return writeln!(err, "{path}: it is no regular file").is_ok();
+        }
+    }
+    false
+}
+
+// Whether a log's file isn't regular; a hyphen is standard input.
+fn is_irregular<R: Files>(rt: &R, log: &str) -> bool {
+    let path = if log == "-" { "/dev/stdin" } else { log };
+    match fs::metadata(rt, path) {
+        Ok(found) => !found.is_file(),
+        Err(_) => false,
+    }
+}
+
 // The server that doesn't reply; or the first log that can't be read, or else the state, the
 // picture or the page.
 fn print_report_fault<R, E>(rt: &R, args: &ReportArgs<'_>, fault: &Fault, err: &mut E) -> bool
@@ -144,7 +164,7 @@ where
     }
     match (fault, args.state) {
         (Fault::Report(ReportFault::Resource(ResourceFault::File)), Some(path)) => {
-            print_write_fault(rt, path, err)
+            print_irregular_log(rt, args.logs.as_slice(), err) || print_write_fault(rt, path, err)
         }
         (Fault::Resource(ResourceFault::File), _) => print_output_fault(rt, args, err),
         _ => false,
