@@ -4,8 +4,8 @@ ghost use Rattle.std.specs.Prelude.{◌≡◌, IfErr, IfOk, OnOk, false, true};
 ghost use Rattle.stage_commands.specs.Actions.{IsStaged, IsUnchanged};
 ghost use Rattle.stage_commands.specs.Taken.{LeftBy};
 
+use crate::app_halts::halt;
 use crate::backs::go_back;
-use crate::halts::halt;
 use crate::loads::load_all;
 use crate::options::{StageAction, StageCall, StageOptions};
 use crate::outcome::{Lines, StageOutcome, Stop};

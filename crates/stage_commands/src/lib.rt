@@ -17,12 +17,12 @@
 
 mod actions;
 mod app_file;
+mod app_halts;
 mod backs;
 mod collected;
 mod comparison;
 mod counters;
 mod digest_line;
-mod halts;
 mod lifting;
 mod load_notes;
 mod loads;

@@ -3,10 +3,11 @@
 #![tactic(auto)]
 
 #[cfg(test)]
+mod app_halts;
+#[cfg(test)]
 mod ending;
 #[cfg(test)]
 mod gated;
-mod halts;
 #[cfg(test)]
 mod impaired;
 #[cfg(test)]

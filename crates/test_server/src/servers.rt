@@ -1,8 +1,8 @@
 //! Whole servers of manifests over loopback, with what is done at their ports until the operator
 //! stops them.
 
+use crate::app_halts::halted;
 use crate::ending::ending;
-use crate::halts::halted;
 use crate::impaired::Impaired;
 use crate::log_lines::Line;
 use crate::logged::is_requested;

@@ -1,5 +1,5 @@
 use Rattle.stage_commands.proofs.Plans.{halt}
-use Rattle.stage_commands.proofs.halts.file_by.Goals as goal
+use Rattle.stage_commands.proofs.app_halts.file_by.Goals as goal
 
 pub returns : goal.returns
 returns g c = λ known collected.
