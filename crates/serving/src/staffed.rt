@@ -24,6 +24,7 @@ use restart_laws::servers_count_as_one;
 use ruleset::LoadedRuleset;
 use server_log::utc_now;
 use shared_cells::{SharedCells, SharedPass, passes_gain_lists};
+use std::alloc::Global;
 use std::io::Write;
 use std::net::{Net, TcpListener, TcpStream};
 use std::sync::{Arc, Wait};
@@ -50,6 +51,18 @@ pub struct StaffedServer {
     ghost empty: { room.items ≡ [] },
     ghost enough: { length workers.items + 1 ≤ vec_capacity room },
     ghost many: { length values.items ≡ 8192 },
+}
+
+// Room for as many passes.
+fn room_for(alloc: Global, count: usize) -> Result<Vec<SharedPass>, ServingFault>
+    ensures items { IfOk result (λ room. room.items ≡ []) }
+    ensures capacity { IfOk result (λ room. count ≤ vec_capacity room) }
+    ensures fault { IfErr result IsStaffFault }
+{
+    match Vec::with_capacity(alloc, count) {
+        Ok(room) => Ok(room),
+        Err(_) => Err(ServingFault::Resource(ResourceFault::Memory)),
+    }
 }
 
 /// A server at these ports, with `workers` workers, whose counters open with these values. It
@@ -93,9 +106,7 @@ where
     let Ok(served) = Arc::try_clone(&rules) else {
         return Err(ServingFault::Resource(ResourceFault::Memory));
     };
-    let Ok(room) = Vec::with_capacity(alloc, workers + 1) else {
-        return Err(ServingFault::Resource(ResourceFault::Memory));
-    };
+    let room = room_for(alloc, workers + 1)?;
     let (cells, mut passes) = match SharedCells::opened(alloc, &values, workers + 1) {
         Ok(made) => made,
         Err(fault) => return Err(ServingFault::Cells(fault)),

@@ -25,7 +25,7 @@ invariant_of-result g c =
     ∙ ap (λ (r : Rules). r ∷ []) (c.in-Ok-try_clone.ensures ∙ c.in-Ok.ensures.ok) in
     let all = is.all in
     let many = made.many in
-    let room = c.in-Ok-with_capacity.ensures.capacity in
+    let room = c.in_ok-room.ensures.capacity in
     record {
       staff = is;
       only = knows_first c.new-in-Ok-worker_list.result c.args.loaded.directory
@@ -33,7 +33,7 @@ invariant_of-result g c =
           (ap (λ (l : LastLoad). l.rules) c.new-in-Ok-worker_list.ensures.last
           ∙ c.in-Ok.ensures.ok)
           listed c.requires.only;
-      empty = c.in-Ok-with_capacity.ensures.items;
+      empty = c.in_ok-room.ensures.items;
       enough = omega (arith, all, many, room);
       many = c.requires.cells.count;
     }
