@@ -1,9 +1,10 @@
 //! Judging what is kept of an app's file: it gives a program of the app's shape, or has a fault.
 
-ghost use Rattle.std.specs.Prelude.{◌≡◌, ◌↔◌, ◌<◌, ℕ, List, length, IfOk, IfErr, Some};
+ghost use Rattle.std.specs.Prelude.{◌≡◌, ◌↔◌, ◌<◌, ℕ, List, length, Err, IfOk, IfErr, None, Some};
 ghost use Rattle.std.specs.Prelude.{IsTrue, IsUtf8};
 ghost use Rattle.cells.specs.Arrays.{AppShape};
 ghost use Rattle.load.specs.JudgedApps.{IsGivenBy, IsGivenByBytes, IsGivenByKept, IsGivenByText};
+ghost use Rattle.load.specs.declared.load_fault.AppFault.TheVariants.{File};
 ghost use Rattle.load.specs.Kept.{IsLonger, RefusesKept};
 ghost use Rattle.load.specs.Source.{RefusesBytes, RefusesFile, RefusesText};
 
@@ -29,6 +30,7 @@ pub(crate) fn judge_file(
     ensures shape { IfOk result (λ p. p.program.shape ≡ shape.now) }
     ensures program { IfOk result (IsGivenByKept source.now kept.now) }
     ensures fault { IfErr result (RefusesKept source.now kept.now shape.now) }
+    ensures unread { kept.now ≡ None → result ≡ Err File }
 {
     match kept {
         Some(kept) => judge_kept(alloc, source, kept, shape),
