@@ -1,3 +1,4 @@
 pub mod Rfc3339
 pub mod Calendar
 pub mod Moments
+pub mod LogTimes

@@ -1,9 +1,11 @@
 //! Moments as an operator names them, and as times in a log.
 
-ghost use Rattle.std.specs.Prelude.{◌≡◌, ◌<◌, ◌≤◌, IfNone, IfSome};
+ghost use Rattle.std.specs.Prelude.{◌≡◌, ◌<◌, ◌≤◌, IfNone, IfOk, IfSome, string_bytes};
+ghost use Rattle.moments.specs.LogTimes as times;
 ghost use Rattle.moments.specs.Moments as specs;
 
 use crate::rfc3339::time_in;
+use arrayvec::ArrayString;
 use jiff_core::Timestamp;
 use jiff_core::constants::SECS_PER_CIVIL_DAY;
 use jiff_fmt::temporal::DateTimePrinter;
@@ -67,21 +69,39 @@ fn seconds_by(letter: char, unit: u64, text: &str) -> Option<u64>
 
 /// The time of a moment, given the present time, in the form of a server's log, with milliseconds
 /// and `Z`. A moment before the first time becomes the first time.
-pub fn time_text(alloc: Global, moment: NamedTime, now: Timestamp) -> Result<String, AllocError> {
-    let time = match moment {
-        NamedTime::At(time) => time,
-        NamedTime::Ago(seconds) => earlier(now, seconds),
-    };
-    let text = DateTimePrinter::new()
-        .precision(Some(3))
-        .timestamp_text(time);
+// open: whether an allocation fails, its one error; when it is the first time.
+#[tactic(auto, using(crate::proofs::LogTimes::text_of))]
+pub fn time_text(alloc: Global, moment: NamedTime, now: Timestamp) -> Result<String, AllocError>
+    ensures { IfOk result (λ text. times.IsTextOf now moment (string_bytes text)) }
+{
+    let time = time_of(moment, now);
+    let text = log_time(time);
     String::from_str(alloc, text.as_str())
 }
 
-fn earlier(now: Timestamp, seconds: u64) -> Timestamp {
-    let nanoseconds = seconds as i128 * 1_000_000_000;
-    match Timestamp::from_nanosecond(now.nanosecond - nanoseconds) {
-        Ok(time) => time,
-        Err(_) => Timestamp::MIN,
+fn time_of(moment: NamedTime, now: Timestamp) -> Timestamp
+    ensures { times.IsTimeOf now moment result }
+{
+    match moment {
+        NamedTime::At(time) => time,
+        NamedTime::Ago(seconds) => earlier(now, seconds),
     }
+}
+
+fn earlier(now: Timestamp, seconds: u64) -> Timestamp
+    ensures { times.IsBefore now seconds result }
+{
+    let nanoseconds = seconds as i128 * 1_000_000_000;
+    let Ok(time) = Timestamp::from_nanosecond(now.nanosecond - nanoseconds) else {
+        return Timestamp::MIN;
+    };
+    time
+}
+
+fn log_time(time: Timestamp) -> ArrayString<33>
+    ensures { times.IsLogTime time result.bytes }
+{
+    DateTimePrinter::new()
+        .precision(Some(3))
+        .timestamp_text(time)
 }
