@@ -20,7 +20,7 @@ from hosts import DEPLOY, Skipped, called, needs, needs_root
 from launching import BARE, BUILT_FROM, HELP, ROOT, Repository
 
 SHARED = ["README.md", "CHANGELOG.md", "VERSION", "built-from"]
-SHARED += ["docs/internals/COSTS.md", "docs/reference/README.md"]
+SHARED += ["docs/internals/TRAPS.md", "docs/reference/README.md"]
 SHARED += ["examples/one.rule", *(f"examples/deploy/{it.name}" for it in DEPLOY.iterdir())]
 INSTALLED = {"bin/rollout", "libexec/rollout", "libexec/rollout-tools"}
 INSTALLED |= {f"share/rollout/{it}" for it in SHARED}

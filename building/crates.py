@@ -1,4 +1,4 @@
-"""The repository's crates, from crates.txt, and their times, from COSTS.md."""
+"""The repository's crates, from crates.txt, and their times, from costs.txt."""
 import re
 import sys
 from pathlib import Path
@@ -67,6 +67,6 @@ def crates_of(programs):
 
 
 def seconds_recorded():
-    """The seconds of each crate from nothing, by the table of docs/internals/COSTS.md."""
-    text = (ROOT / "docs" / "internals" / "COSTS.md").read_text()
-    return {name: int(s) for name, s in re.findall(r"^\| `(\w+)` \| \d+ \| (\d+) \|", text, re.M)}
+    """The seconds of each crate from nothing, by building/costs.txt."""
+    text = (ROOT / "building" / "costs.txt").read_text()
+    return {name: int(s) for name, s in re.findall(r"^(\w+) (\d+)$", text, re.M)}

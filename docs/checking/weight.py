@@ -9,12 +9,10 @@ from checking.places import CRATES_PAGE, DOCS, OPEN, PROOF, ROOT, pages
 from checking.quotes import QUOTE, SIZES
 
 BOUNDS = Path(__file__).with_suffix(".txt")
-# What a script writes of a page: the layers and the line of each crate, quotes and sizes, and the
-# table of seconds.
+# What a script writes of a page: the layers and the line of each crate, quotes and sizes.
 WRITTEN = {
     CRATES_PAGE: [PICTURE, TABLE],
     PROOF: [QUOTE, SIZES],
-    DOCS / "internals" / "COSTS.md": [re.compile(r"^\| `\w+` \|.*$", re.M)],
 }
 # What commands print: bench/walkthrough, bench/transcripts and others compare it.
 PRINTED = re.compile(r"^```\n\$ .*?^```$", re.M | re.S)
