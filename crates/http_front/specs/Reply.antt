@@ -16,6 +16,7 @@ code_of status.LengthRequired = 411
 code_of status.ContentTooLarge = 413
 code_of status.HeaderFieldsTooLarge = 431
 code_of status.InternalServerError = 500
+code_of status.ServiceUnavailable = 503
 
 abbrev pub reason_of : Status → List ℕ
 reason_of status.Success = codes "OK"
@@ -26,6 +27,7 @@ reason_of status.LengthRequired = codes "Length Required"
 reason_of status.ContentTooLarge = codes "Content Too Large"
 reason_of status.HeaderFieldsTooLarge = codes "Request Header Fields Too Large"
 reason_of status.InternalServerError = codes "Internal Server Error"
+reason_of status.ServiceUnavailable = codes "Service Unavailable"
 
 -- a reply to a request is JSON, and a refusal is plain text
 abbrev pub type_of : Status → List ℕ

@@ -22,6 +22,8 @@ pub enum Status {
     HeaderFieldsTooLarge,
     /// 500
     InternalServerError,
+    /// 503
+    ServiceUnavailable,
 }
 
 impl Status {
@@ -38,6 +40,7 @@ impl Status {
             Status::ContentTooLarge => 413,
             Status::HeaderFieldsTooLarge => 431,
             Status::InternalServerError => 500,
+            Status::ServiceUnavailable => 503,
         }
     }
 
@@ -55,6 +58,7 @@ impl Status {
             Status::ContentTooLarge => b"Content Too Large",
             Status::HeaderFieldsTooLarge => b"Request Header Fields Too Large",
             Status::InternalServerError => b"Internal Server Error",
+            Status::ServiceUnavailable => b"Service Unavailable",
         }
     }
 

@@ -58,6 +58,12 @@ const REPLIES: &[Reply] = &[
         "HTTP/1.1 500 Internal Server Error\r\nContent-Type: text/plain\r\n\
             Content-Length: 0\r\nConnection: close\r\n\r\n",
     ),
+    (
+        Status::ServiceUnavailable,
+        "K4 Store\n",
+        "HTTP/1.1 503 Service Unavailable\r\nContent-Type: text/plain\r\n\
+            Content-Length: 9\r\nConnection: close\r\n\r\nK4 Store\n",
+    ),
 ];
 
 /// Whether the first `count` bytes of a reply are written, and the result says so, if a write takes
