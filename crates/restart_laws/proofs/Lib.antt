@@ -1,3 +1,4 @@
 mod Counts
+mod Covered
 mod Servers
 mod Starts

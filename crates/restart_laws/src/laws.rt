@@ -1,5 +1,6 @@
 //! Laws of several starts, by the definitions only. The functions do nothing.
 
+ghost use Rattle.restart_laws.specs.Moments.{CrashesLeaveEnough, CrashesLeaveOpenings};
 ghost use Rattle.restart_laws.specs.Servers.{EachCountsOn, ServersCountAsOne};
 ghost use Rattle.restart_laws.specs.Starts.{StartsGrantNoMore};
 
@@ -15,7 +16,15 @@ pub fn servers_count_as_one()
 /// Law: take starts of a server of which some were stopped and some crashed, each of which opened a
 /// quota's cell as the one before may leave it. All together send at most as many places as the
 /// quota has.
-// open: that a crash leaves such a value: a person chooses it before the next start.
 pub fn starts_grant_no_more()
     ensures { StartsGrantNoMore }
+{}
+
+/// Law: take a start that keeps two rules at each moment. No commit has a number below a place that
+/// was sent; and a place is sent only if each number that a crash may leave is above it. Then a
+/// crash leaves such a number at any moment.
+pub fn crashes_leave_openings()
+    ensures enough { CrashesLeaveEnough }
+    // So the next start may open the cell with it, as the law of starts requires.
+    ensures openings { CrashesLeaveOpenings }
 {}
