@@ -1,7 +1,7 @@
 -- Which reply a request has, and which events on counters its runs make, with a constructor for
 -- each outcome. When an allocation fails is unspecified, so "out of memory" is always possible.
 -- Every other refusal is determined by the bytes.
-use Rattle.std.specs.Prelude.{◌≡◌, ℕ, ℤ, List, [], Option, Some, Result, Ok, Err, Vec}
+use Rattle.std.specs.Prelude.{◌≡◌, Bool, true, ℕ, ℤ, List, [], Option, Some, Result, Ok, Err}
 use Rattle.cells.specs.declared.event.CellEvent.{CellEvent}
 use Rattle.hot_swap.specs.Published.{KnownPrefix, IsLatest}
 use Rattle.http_front.specs.Faults.{post_name}
@@ -17,9 +17,10 @@ use Rattle.cells.specs.Grown.{Grows}
 use Rattle.answering.specs.Apps.{RunsApps, RunsFew}
 use Rattle.answering.specs.Found.{reply_text}
 use Rattle.answering.specs.Reply.{HttpReply, success, rejection}
-use Rattle.answering.specs.Reply.{omaha_rejection, no_place, settled_reply}
+use Rattle.answering.specs.Reply.{omaha_rejection, no_place, uncovered, settled_reply}
 use Rattle.answering.specs.declared.answering.AnswerFault.{AnswerFault}
 use Rattle.answering.specs.declared.answering.AnswerFault.TheVariants as answer
+use Rattle.answering.specs.declared.covered_text.CoveredText.{CoveredText}
 
 -- the replies to a request, under the ruleset that the watcher read last
 pub data RepliesToRequest (request : Request) (watcher : KnownPrefix) (moment : ℤ)
@@ -62,6 +63,15 @@ pub data RepliesTo (input : Option (List ℕ)) (watcher : KnownPrefix) (moment :
       → status_of fault ≡ Some status
       → RepliesTo input watcher moment [] (rejection status (post_name fault))
 
+-- What is sent if this reply is due with these events: the reply itself; or, if replies may be
+-- withheld, 503 in place of Omaha's reply, since what its runs did isn't stored
+pub data Sends (withholds : Bool) (due : List CellEvent → HttpReply → Type 0)
+    : List CellEvent → HttpReply → Type 0 where
+  sent : {events : List CellEvent} {reply : HttpReply} → due events reply
+      → Sends withholds due events reply
+  withheld : {events : List CellEvent} {text : List ℕ} → withholds ≡ true
+      → due events (success text) → Sends withholds due events uncovered
+
 -- a body is this request, or has this refusal under every ruleset and at every moment
 abbrev pub IsReceivedBody : List ℕ → Result Request HttpReply → Type 0
 IsReceivedBody body (Ok request) = request_in body ≡ Ok request
@@ -81,16 +91,17 @@ WritesNothing answer.Ended = Unit {0}
 WritesNothing answer.Reading = Unit {0}
 WritesNothing (answer.Writing written) = ⊥
 
--- the reply is that to the bytes of the reader, and the pass (a ghost token) grew by the events of
--- its runs
-module _ {P : Type 0} (grew : P → CellEvent → P → Type 0) where
+-- the reply is what is sent to the bytes of the reader, and the pass (a ghost token) grew by the
+-- events of its runs
+module _ {P : Type 0} (withholds : Bool) (grew : P → CellEvent → P → Type 0) where
   abbrev pub RepliesByRuns : Option (List ℕ) → KnownPrefix → ℤ → P → P → HttpReply → Type 0
   RepliesByRuns input watcher moment before after reply =
-      Grows grew before after (λ events. RepliesTo input watcher moment events reply)
+      Grows grew before after
+      (λ events. Sends withholds (RepliesTo input watcher moment) events reply)
 
   -- the result before anything is written: a reply, or that there is none
-  abbrev pub Settles : {A : Type 0} → Option (List ℕ) → KnownPrefix → ℤ → P → P
-      → Result (Result (Vec ℕ A) HttpReply) AnswerFault → Type 0
+  abbrev pub Settles : {T : Type 0} → Option (List ℕ) → KnownPrefix → ℤ → P → P
+      → Result (Result (CoveredText T) HttpReply) AnswerFault → Type 0
   Settles input watcher moment before after (Ok outcome) =
       RepliesByRuns input watcher moment before after (settled_reply outcome)
   Settles input watcher moment before after (Err e) = WritesNothing e × (after ≡ before)

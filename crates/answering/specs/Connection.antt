@@ -1,5 +1,5 @@
 -- The outcome of a connection: a reply was written, or a prefix of it, or nothing.
-use Rattle.std.specs.Prelude.{◌≡◌, ◌≢◌, ℕ, ◌+◌, ◌≤◌, ℤ, List, length, take, Option}
+use Rattle.std.specs.Prelude.{◌≡◌, ◌≢◌, Bool, true, ℕ, ◌+◌, ◌≤◌, ℤ, List, length, take, Option}
 use Rattle.std.specs.Prelude.{Result, Err, IfOk, IfErr}
 use Rattle.std.specs.Io.KnownBytes.{Appends}
 use Rattle.cells.specs.declared.event.CellEvent.{CellEvent}
@@ -14,24 +14,25 @@ use Rattle.answering.specs.declared.answering.AnswerFault.{AnswerFault}
 use Rattle.answering.specs.declared.answering.AnswerFault.TheVariants as answer
 use Rattle.answering.specs.declared.sent.Sent.{Sent}
 
--- The parameters, in order: how a pass (a ghost token) grows, what a reader has left, and what a
--- writer holds; what the watcher knows, and the moment; the pass, the reader and the writer, each
--- before and after; and the outcome.
-pub record Answers {P R W : Type 0} (grew : P → CellEvent → P → Type 0)
+-- The parameters, in order: whether a reply may be withheld; how a pass (a ghost token) grows, what
+-- a reader has left, and what a writer holds; what the watcher knows, and the moment; the pass, the
+-- reader and the writer, each before and after; and the outcome.
+pub record Answers {P R W : Type 0} (withholds : Bool) (grew : P → CellEvent → P → Type 0)
     (remaining : R → Option (List ℕ)) (contents : W → Option (List ℕ))
     (known : KnownPrefix) (moment : ℤ) (pass pass' : P) (reader reader' : Counted R)
     (writer writer' : Counted W) (outcome : Result Sent AnswerFault) : Type 0 where
   -- what was written is the reply to what was read, under the ruleset that the watcher read
   pub replied : IfOk outcome (λ sent. (reply : HttpReply)
       × (code_of reply.status ≡ sent.status) × (sent.line.now ≡ refusal_line reply)
-      × RepliesByRuns grew (remaining reader.inner) known moment pass pass' reply
+      × RepliesByRuns withholds grew (remaining reader.inner) known moment pass pass' reply
       × Appends (contents writer.inner) (contents writer'.inner) (message_bytes reply))
   -- a refused request makes no run
-  pub idle : IfOk outcome (λ sent. sent.status ≢ 200 → sent.status ≢ 500 → pass' ≡ pass)
+  pub idle : IfOk outcome (λ sent. sent.status ≢ 200 → sent.status ≢ 500
+      → (withholds ≡ true → sent.status ≢ 503) → pass' ≡ pass)
   -- or a prefix of it was written, and the failure was counted
   pub begun : (n : ℕ) → outcome ≡ Err (answer.Writing n)
       → (reply : HttpReply) × (n ≤ length (message_bytes reply))
-      × RepliesByRuns grew (remaining reader.inner) known moment pass pass' reply
+      × RepliesByRuns withholds grew (remaining reader.inner) known moment pass pass' reply
       × Appends (contents writer.inner) (contents writer'.inner) (take n (message_bytes reply))
   pub unwritable : (n : ℕ) → outcome ≡ Err (answer.Writing n)
       → writer'.failures ≡ writer.failures + 1

@@ -1,5 +1,5 @@
 -- What is sent: a status and a text, which is Omaha's reply or the line of a refusal.
-use Rattle.std.specs.Prelude.{◌≢◌, ℕ, List, [], Result, Ok, Err, Vec}
+use Rattle.std.specs.Prelude.{◌≢◌, ℕ, List, [], codes, Result, Ok, Err}
 use Rattle.hot_swap.specs.Texts.{swap_text}
 use Rattle.hot_swap.specs.declared.swap_fault.SwapFault.TheVariants as swap
 use Rattle.ruleset.specs.Texts.{line}
@@ -9,6 +9,7 @@ use Rattle.http_front.specs.declared.status.Status.TheVariants as status
 use Rattle.omaha_json.specs.Faults.{omaha_name}
 use Rattle.omaha_json.specs.declared.omaha_fault.OmahaFault.{OmahaFault}
 use Rattle.omaha_json.specs.declared.omaha_fault.OmahaFault.TheVariants as omaha
+use Rattle.answering.specs.declared.covered_text.CoveredText.{CoveredText}
 
 -- a status with a text
 pub record HttpReply : Type 0 where
@@ -39,6 +40,10 @@ omaha_rejection fault = rejection (omaha_status fault) (omaha_name fault)
 abbrev pub no_place : HttpReply
 no_place = rejection status.InternalServerError (swap_text swap.NoPlace)
 
+-- what the runs did to the counters isn't stored
+abbrev pub uncovered : HttpReply
+uncovered = rejection status.ServiceUnavailable (codes "K4 Store")
+
 -- any status but that of Omaha's reply
 abbrev pub IsRefusalStatus : Status → Type 0
 IsRefusalStatus s = s ≢ status.Success
@@ -53,6 +58,6 @@ abbrev pub refusal_line : HttpReply → List ℕ
 refusal_line reply = line_by reply.status reply.text
 
 -- the result of the code, as a reply
-abbrev pub settled_reply : {A : Type 0} → Result (Vec ℕ A) HttpReply → HttpReply
-settled_reply (Ok text) = success text.items
+abbrev pub settled_reply : {T : Type 0} → Result (CoveredText T) HttpReply → HttpReply
+settled_reply (Ok covered) = success covered.text.items
 settled_reply (Err rejection) = rejection

@@ -1,5 +1,6 @@
 //! Buffers for a request and its reply, so that a worker thread can reuse them.
 
+use crate::covered_text::CoveredText;
 use crate::rejection::Rejection;
 use http_front::PostBuffers;
 use std::alloc::Global;
@@ -33,8 +34,14 @@ impl AnswerBuffers {
     }
 
     /// Keeps the buffer of a text that was sent.
-    pub(crate) fn keep(&mut self, outcome: Result<Vec<u8>, Rejection>) {
-        if let Ok(text) = outcome {
+    pub(crate) fn keep<T: Drop>(&mut self, outcome: Result<CoveredText<T>, Rejection>) {
+        if let Ok(
+            CoveredText {
+                text,
+                receipt: _receipt,
+            },
+        ) = outcome
+        {
             if text.capacity() <= KEPT_TEXT {
                 self.text = text;
             }

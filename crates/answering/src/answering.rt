@@ -1,6 +1,6 @@
 //! One request, from the bytes of a reader to those of a writer.
 
-ghost use Rattle.std.specs.Prelude.{◌-◌, ◌^◌, ◌<◌};
+ghost use Rattle.std.specs.Prelude.{◌-◌, ◌^◌, ◌<◌, false};
 ghost use Rattle.hot_swap.specs.Published.{Extends};
 ghost use Rattle.answering.specs.Connection.{Answers};
 
@@ -11,6 +11,7 @@ use crate::settling::answer_in;
 use crate::turn::Turn;
 use attrs::Moment;
 use cells::CellSteps;
+use cover::Uncovered;
 use hot_swap::Watcher;
 use http_front::{Counted, PostFault};
 use std::alloc::Global;
@@ -58,7 +59,8 @@ pub fn answer<R: Read, W: Write, C: CellSteps>(
     requires writes { writer.old.failures < 2 ^ 64 - 1 }
     ensures belongs { C.belongs cells.now pass.new }
     ensures watched { Extends watcher.old watcher.new }
-    ensures answers { Answers C.grew R.remaining W.contents watcher.new moment
+    // No reply is withheld.
+    ensures answers { Answers false C.grew R.remaining W.contents watcher.new moment
         pass.old pass.new reader.old reader.new writer.old writer.new result }
 {
     let turn = Turn {
@@ -69,6 +71,7 @@ pub fn answer<R: Read, W: Write, C: CellSteps>(
     let mut room = AnswerBuffers::new(alloc);
     answer_in(
         &turn,
+        &Uncovered,
         &mut room,
         reader,
         writer,

@@ -2,8 +2,9 @@
 //!
 //! A request is read and its body is checked. The newest ruleset is looked up once. For each app
 //! that requests an update and is in the ruleset, the app's program is run to its end, one app
-//! after the other. Then the reply is written. A bad request is refused by a line of text. What a
-//! run did to the server's counters stays, even if an allocation fails before the reply is made.
+//! after the other. Then the reply is written, if what the runs did to the server's counters is
+//! stored as far as it has to be. A bad request is refused by a line of text. What a run did to the
+//! counters stays, even if an allocation fails before the reply is made.
 //!
 //! `answer`, and `answer_in`, which it calls, have one contract, the definition `Answers`. It says
 //! that what was written is the reply to what was read, or a prefix of it. One relation, with a
@@ -17,6 +18,7 @@ mod answer_buffers;
 mod answering;
 mod apps;
 mod chosen;
+mod covered_text;
 mod observer;
 mod reading;
 mod rejection;

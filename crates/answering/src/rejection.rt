@@ -38,6 +38,16 @@ impl Rejection {
         }
     }
 
+    /// What the runs did to the counters isn't stored.
+    pub fn uncovered() -> Rejection
+        ensures { result ≡ specs.uncovered }
+    {
+        Rejection {
+            status: Status::ServiceUnavailable,
+            line: b"K4 Store\n",
+        }
+    }
+
     /// The refusal of a body.
     pub fn of_omaha(fault: OmahaFault) -> Rejection
         ensures { result ≡ specs.omaha_rejection fault }

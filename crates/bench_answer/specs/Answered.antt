@@ -1,5 +1,5 @@
 -- The result of serving one request over and over.
-use Rattle.std.specs.Prelude.{◌≡◌, ℕ, ◌+◌, ℤ, pos, List, [], length, Some}
+use Rattle.std.specs.Prelude.{◌≡◌, false, ℕ, ◌+◌, ℤ, pos, List, [], length, Some}
 use Rattle.attrs.specs.Hash.{fnv1a}
 use Rattle.cells.specs.Events.{AreZeros, IsEvent}
 use Rattle.cells.specs.declared.event.CellEvent.{CellEvent}
@@ -19,7 +19,7 @@ pub record IsSuccess {P : Type 0} (grew : P → CellEvent → P → Type 0) (req
     (watcher : KnownPrefix) (before after : P) (written : List ℕ) : Type 0 where
   pub reply : HttpReply
   pub success : code_of reply.status ≡ 200
-  pub is_reply : RepliesByRuns grew (Some request) watcher moment before after reply
+  pub is_reply : RepliesByRuns false grew (Some request) watcher moment before after reply
   pub bytes : written ≡ message_bytes reply
 
 -- n replies, one after the other, by one pass: the pass after them, the bytes of all replies, and

@@ -7,6 +7,7 @@ use answering::{AnswerBuffers, NoObserver, Turn, answer_in};
 use anyhow::{Context, Error, Result};
 use attrs::fnv1a;
 use cells::{CellSteps, PlainCells};
+use cover::Uncovered;
 use hot_swap::{Publisher, Watcher};
 use http_front::Counted;
 use ruleset::Ruleset;
@@ -43,6 +44,7 @@ fn answer_once<C: CellSteps>(
     let mut writer = Counted::new(written);
     let sent = answer_in(
         turn,
+        &Uncovered,
         buffers,
         &mut reader,
         &mut writer,

@@ -30,3 +30,5 @@ mod totals;
 mod turns;
 #[cfg(test)]
 mod whole_log;
+#[cfg(test)]
+mod withheld;

@@ -4,10 +4,11 @@ use Rattle.std.proofs.Common.{◌≡◌, ℕ, ◌+◌, ◌-◌, ◌^◌, min, Li
 use Rattle.std.proofs.Common.{length, refl, sym, subst, append-nil, arith, length-append}
 use Rattle.std.proofs.lemmas.List.Elements.{All-cons, All-nil}
 use Rattle.std.specs.List.{AllZip}
-use Rattle.std.specs.Prelude.{ℤ, Option, None, Result, Ok, Err, IfOk, IfErr}
+use Rattle.std.specs.Prelude.{ℤ, false, Option, None, Result, Ok, Err, IfOk, IfErr}
 use Rattle.std.specs.declared.thread.PromisedHandle.{PromisedHandle}
 use Rattle.std.proofs.lemmas.Grind.{flat_map-append}
 use Rattle.answering.specs.Answer.{RepliesByRuns, RepliesTo, WritesNothing, taken, rejected}
+use Rattle.answering.specs.Answer.{Sends, sent, withheld}
 use Rattle.answering.specs.Reply.{HttpReply}
 use Rattle.answering.specs.declared.answering.AnswerFault.{AnswerFault}
 use Rattle.answering.specs.declared.answering.AnswerFault.TheVariants.{Ended, Reading, Writing}
@@ -34,13 +35,19 @@ unknown_input input w moment events reply (taken body is replies) = taken body t
 unknown_input input w moment events reply (rejected fault status is code) =
     rejected fault status tt code
 
+-- no reply is withheld
+as_due : {due : List CellEvent → HttpReply → Type 0} {events : List CellEvent}
+    {reply : HttpReply} → Sends false due events reply → due events reply
+as_due (sent is) = is
+as_due (withheld may is) = absurd cc
+
 abbrev IsAt : ℤ → WorkerAnswer → Type 0
 IsAt moment answer = answer.moment ≡ moment
 
 module _ {P : Type 0} (belongs : P → Type 0) (grew : P → CellEvent → P → Type 0)
     (input : Option (List ℕ)) (v w : KnownPrefix) (moment : ℤ) (p q : P) (here : belongs q)
     (goes : Extends v w) where
-  by_reply : (reply : HttpReply) → RepliesByRuns grew input w moment p q reply
+  by_reply : (reply : HttpReply) → RepliesByRuns false grew input w moment p q reply
       → MomentBack belongs grew moment (p, v) (q, w)
   by_reply reply is =
       let answer : WorkerAnswer = record {
@@ -48,7 +55,7 @@ module _ {P : Type 0} (belongs : P → Type 0) (grew : P → CellEvent → P →
         moment = moment;
         events = is.events;
         reply = reply;
-        replies = unknown_input input w moment is.events reply is.of;
+        replies = unknown_input input w moment is.events reply (as_due is.of);
       } in
       let back : WorkerBack belongs grew (p, v) (q, w) = record {
         belongs_yet = here;
@@ -74,13 +81,14 @@ module _ {P : Type 0} (belongs : P → Type 0) (grew : P → CellEvent → P →
   -- for each outcome of `answer`
   pub by_answer : {S : Type 0} (outcome : Result S AnswerFault) (X Y Z : S → HttpReply → Type 0)
       (U V : ℕ → HttpReply → Type 0) (T : Type 0)
-      → IfOk outcome (λ sent. (reply : HttpReply) × X sent reply × Y sent reply
-      × RepliesByRuns grew input w moment p q reply × Z sent reply)
+      → IfOk outcome (λ out. (reply : HttpReply) × X out reply × Y out reply
+      × RepliesByRuns false grew input w moment p q reply × Z out reply)
       → ((n : ℕ) → outcome ≡ Err (Writing n)
-      → (reply : HttpReply) × U n reply × RepliesByRuns grew input w moment p q reply × V n reply)
+      → (reply : HttpReply) × U n reply
+      × RepliesByRuns false grew input w moment p q reply × V n reply)
       → IfErr outcome (λ e. WritesNothing e → (q ≡ p) × T)
       → MomentBack belongs grew moment (p, v) (q, w)
-  by_answer (Ok sent) X Y Z U V T replied begun unread = by_reply replied.0 replied.3
+  by_answer (Ok out) X Y Z U V T replied begun unread = by_reply replied.0 replied.3
   by_answer (Err (Writing n)) X Y Z U V T replied begun unread =
       let some = begun n refl in by_reply some.0 some.2
   by_answer (Err Ended) X Y Z U V T replied begun unread = did_nothing (unread tt).0

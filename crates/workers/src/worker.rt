@@ -10,6 +10,7 @@ use crate::parts::{Crew, ServeOptions};
 use crate::queue::Calls;
 use answering::{AnswerBuffers, AnswerFault, Sent, Turn, answer_in};
 use cells::{CellSteps, growth};
+use cover::Uncovered;
 use crossbeam_channel::Receiver;
 use hot_swap::Watcher;
 use net_io::{Counted, Timed, drain, take_rest};
@@ -167,6 +168,7 @@ where
     };
     let outcome = answer_in(
         &turn,
+        &Uncovered,
         &mut seat.buffers,
         &mut reader,
         &mut writer,

@@ -11,7 +11,8 @@ returns-in-Ok-clause-answers g c =
     record {
       replied =
           (settled_reply c.in_ok-outcome.outcome, sent.status, sent.line, settles, sent.bytes);
-      idle = λ h k. idle (g.C.CellSteps.grew) _ _ _ settles (λ e. h (is ∙ e)) (λ e. k (is ∙ e));
+      idle = λ h k n. idle _ (g.C.CellSteps.grew) _ _ _ settles (λ e. h (is ∙ e))
+          (λ e. k (is ∙ e)) (λ w e. n w (is ∙ e));
       begun = λ n e. absurd cc;
       unwritable = λ n e. absurd cc;
       unread = tt;
