@@ -37,6 +37,7 @@ start_members start =
     kind_member (codes "start") ++ path_members start.manifest
     ++ number_member (codes "operator") start.operator
     ++ optional_member (codes "digest") (option_copied start.digest)
+    ++ optional_member (codes "counters") (option_copied start.counters)
     ++ optional_member (codes "refusal") (option_copied start.refusal)
     ++ optional_excerpt (codes "cause") (codes "cause_left_out") start.cause
 
@@ -108,6 +109,7 @@ status_members totals =
     ++ number_member (codes "status_413") totals.content_too_large
     ++ number_member (codes "status_431") totals.header_fields_too_large
     ++ number_member (codes "status_500") totals.internal_server_error
+    ++ count_member (codes "status_503") totals.service_unavailable
 
 -- totals of the connections of a minute
 abbrev pub totals_members : Totals → List Token
@@ -116,6 +118,11 @@ totals_members totals =
     ++ number_member (codes "dropped") totals.dropped
     ++ number_member (codes "longest_wait") totals.longest_wait
     ++ number_member (codes "busy") totals.busy
+
+-- the file of the counters can't be written; or it can be again
+abbrev pub counters_members : Option (Bor (List ℕ)) → List Token
+counters_members refusal =
+    kind_member (codes "counters") ++ optional_member (codes "refusal") (option_copied refusal)
 
 abbrev pub stop_members : Option (Bor (List ℕ)) → List Token
 stop_members refusal =
@@ -137,6 +144,7 @@ members_of (log.Connection connection) = connection_members connection
 members_of (log.Unaccepted reason) = unaccepted_members reason.now
 members_of (log.Lost lines) = lost_members lines
 members_of (log.Totals totals) = totals_members totals
+members_of (log.Counters refusal) = counters_members refusal
 members_of (log.Stop refusal) = stop_members refusal
 members_of (log.Counter counter) = counter_members counter
 

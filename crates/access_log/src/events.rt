@@ -28,6 +28,7 @@ pub fn write_members(line: &mut LineBuffer, event: &LogEvent<'_>) -> Result<(), 
         LogEvent::Unaccepted(reason) => write_unaccepted(line, reason),
         LogEvent::Lost(lines) => write_lost(line, *lines),
         LogEvent::Totals(totals) => write_totals(line, totals),
+        LogEvent::Counters(refusal) => write_counters(line, *refusal),
         LogEvent::Stop(refusal) => write_stop(line, *refusal),
         LogEvent::Counter(counter) => write_counter(line, counter),
     }
@@ -40,6 +41,7 @@ fn write_start(line: &mut LineBuffer, start: &Start<'_>) -> Result<(), AllocErro
     write_path(line, &start.manifest)?;
     write_number(line, "operator", start.operator as u64)?;
     write_optional(line, "digest", start.digest)?;
+    write_optional(line, "counters", start.counters)?;
     write_optional(line, "refusal", start.refusal)?;
     write_optional_excerpt(line, "cause", "cause_left_out", &start.cause)?;
     Ok(())
@@ -164,6 +166,15 @@ fn write_statuses(line: &mut LineBuffer, totals: &Totals) -> Result<(), AllocErr
     write_number(line, "status_413", totals.content_too_large)?;
     write_number(line, "status_431", totals.header_fields_too_large)?;
     write_number(line, "status_500", totals.internal_server_error)?;
+    write_count(line, "status_503", totals.service_unavailable)?;
+    Ok(())
+}
+
+fn write_counters(line: &mut LineBuffer, refusal: Option<&str>) -> Result<(), AllocError>
+    ensures { OnOk result (AddsMembers line.old line.new (specs.counters_members refusal.entry)) }
+{
+    write_kind(line, "counters")?;
+    write_optional(line, "refusal", refusal)?;
     Ok(())
 }
 

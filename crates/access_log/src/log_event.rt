@@ -22,6 +22,8 @@ pub struct Start<'a> {
     pub operator: u16,
     /// The digest of its manifest and of the files that this names, in hexadecimal digits.
     pub digest: Option<&'a str>,
+    /// How the file of its counters was found, if it has one: `new`, `stopped` or `crashed`.
+    pub counters: Option<&'a str>,
     pub refusal: Option<&'a str>,
     /// A detail of the refusal, such as which array or which member is wrong.
     pub cause: Option<Excerpt<'a>>,
@@ -93,6 +95,7 @@ pub struct Totals {
     pub content_too_large: u64,
     pub header_fields_too_large: u64,
     pub internal_server_error: u64,
+    pub service_unavailable: u64,
     /// How many got no whole reply.
     pub dropped: u64,
     /// The longest wait for a worker, in microseconds.
@@ -124,6 +127,8 @@ pub enum LogEvent<'a> {
     Lost(u64),
     /// Totals of the connections since the last such line.
     Totals(Totals),
+    /// The file of the counters couldn't be written, for this reason; or it can be again.
+    Counters(Option<&'a str>),
     /// The operator stopped the server; and the error at its end, if there was one.
     Stop(Option<&'a str>),
     Counter(Counter<'a>),

@@ -20,6 +20,13 @@ const EVENTS: &[(LogEvent<'static>, &str)] = &[
     ),
     (
         LogEvent::Start(Start {
+            counters: Some("crashed"),
+            ..START
+        }),
+        r#""start","path":"m.toml","operator":8081,"counters":"crashed"}"#,
+    ),
+    (
+        LogEvent::Start(Start {
             manifest: CUT,
             ..START
         }),
@@ -124,6 +131,7 @@ const EVENTS: &[(LogEvent<'static>, &str)] = &[
             content_too_large: 6,
             header_fields_too_large: 7,
             internal_server_error: 8,
+            service_unavailable: 0,
             dropped: 9,
             longest_wait: 18446744073709551615,
             busy: 64,
@@ -131,6 +139,11 @@ const EVENTS: &[(LogEvent<'static>, &str)] = &[
         r#""totals","status_200":1,"status_400":2,"status_404":3,"status_405":4,"status_411":5,
 "status_413":6,"status_431":7,"status_500":8,"dropped":9,
 "longest_wait":18446744073709551615,"busy":64}"#,
+    ),
+    (LogEvent::Counters(None), r#""counters"}"#),
+    (
+        LogEvent::Counters(Some("K4 Store")),
+        r#""counters","refusal":"K4 Store"}"#,
     ),
     (LogEvent::Stop(None), r#""stop"}"#),
     (

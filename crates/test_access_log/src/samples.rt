@@ -18,6 +18,7 @@ pub(crate) const START: Start<'static> = Start {
     manifest: MANIFEST,
     operator: 8081,
     digest: None,
+    counters: None,
     refusal: None,
     cause: None,
 };
