@@ -11,6 +11,10 @@ use Rattle.command_words.specs.declared.verb.Verb.TheVariants as verb
 abbrev pub timeout : Rule
 timeout = ranged (codes "timeout") (pos 1) (pos 3600) false (codes "30" ∷ [])
 
+-- `--wait-counters S`
+abbrev pub wait_counters : Rule
+wait_counters = ranged (codes "wait-counters") (pos 1) (pos 3600) false []
+
 -- a command with these arguments and `--verbose`
 abbrev pub verb_rules : Text → Verb → List Rule → VerbRules Verb
 verb_rules name verb arguments =
@@ -33,7 +37,7 @@ verbs =
     ∷ verb_rules (codes "serve") verb.Serve
     (manifest ∷ required_number (codes "port") 1 65535 ∷ operator
     ∷ required_number (codes "workers") 1 64 ∷ timeout ∷ option (codes "counters")
-    ∷ flag (codes "log") ∷ [])
+    ∷ wait_counters ∷ flag (codes "log") ∷ [])
     ∷ verb_rules (codes "show") verb.Show (operator ∷ [])
     ∷ verb_rules (codes "state") verb.State (operator ∷ [])
     ∷ verb_rules (codes "stop") verb.Stop (operator ∷ flag (codes "wait") ∷ [])

@@ -1,8 +1,9 @@
 -- Which command the arguments of each command make.
-use Rattle.std.specs.Prelude.{◌≡◌, List, true, false, codes, option_copied}
-use Rattle.clap.specs.Words.{Row, first_of}
+use Rattle.std.specs.Prelude.{◌≡◌, ℕ, List, true, false, codes, option_copied}
+use Rattle.std.specs.Prelude.{Option, IfSome, IfNone}
+use Rattle.clap.specs.Words.{Row, Text, first_of}
 use Rattle.command_line.specs.Runs.{HasRun}
-use Rattle.command_line.specs.Values.{HasFlag, HasShape, HasShort, HasText}
+use Rattle.command_line.specs.Values.{HasFlag, HasShape, HasShort, HasText, LacksShort}
 use Rattle.command_line.specs.declared.run_args.RunArgs.{RunArgs}
 use Rattle.operator_request.specs.declared.request.OperatorRequest.TheVariants as sent
 use Rattle.command_words.specs.declared.request.Command.{Command}
@@ -11,12 +12,17 @@ use Rattle.command_words.specs.declared.request.Plan.{Plan}
 use Rattle.command_words.specs.declared.verb.Verb.{Verb}
 use Rattle.command_words.specs.declared.verb.Verb.TheVariants as verb
 
+-- the option has this number, or wasn't given one
+abbrev pub HasOptional : Text → List Row → Option ℕ → Type 0
+HasOptional id rows number = IfSome number (HasShort id rows) × IfNone number (LacksShort id rows)
+
 -- the options of `serve`
 pub record HasPlan (rows : List Row) (plan : Plan) : Type 0 where
   pub port : HasShort (codes "port") rows plan.port
   pub operator : HasShort (codes "operator") rows plan.operator
   pub workers : HasShort (codes "workers") rows plan.workers
   pub timeout : HasShort (codes "timeout") rows plan.timeout
+  pub wait : HasOptional (codes "wait-counters") rows plan.wait
   pub log : HasFlag (codes "log") rows plan.log
 
 abbrev pub LacksPlan : List Row → Type 0

@@ -53,13 +53,15 @@ pub enum Command<'a> {
 }
 
 /// How a server serves: its two ports, the number of its workers, the time limit of a connection in
-/// seconds, and whether it logs each connection.
+/// seconds, how many seconds it waits for the file of its counters, and whether it logs each
+/// connection.
 #[derive(Clone, Copy)]
 pub struct Plan {
     pub port: u16,
     pub operator: u16,
     pub workers: u16,
     pub timeout: u16,
+    pub wait: Option<u16>,
     pub log: bool,
     pub ghost some: { 1 ≤ workers },
     pub ghost few: { workers ≤ 64 },

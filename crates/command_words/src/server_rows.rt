@@ -84,6 +84,13 @@ pub const SERVE: CommandRow<Verb> = CommandRow {
             "Open with the counters of this file, and write them to it\n\
              at the end; if it isn't there, it is made, and all are 0",
         ),
+        CommandArgument::OptionalNumber(
+            "wait-counters",
+            "S",
+            NumberLimits(1, 3600),
+            "With --counters: seconds to wait while another server has\n\
+             the file, with the ports bound: 1 to 3600",
+        ),
         CommandArgument::Flag(
             "log",
             "Write the log to standard error: a line of JSON for each\n\

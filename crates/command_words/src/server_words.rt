@@ -8,7 +8,9 @@ ghost use Rattle.command_words.specs.Words.{HasPlan, LacksPlan, VerbMakes, VerbM
 use crate::request::{Command, Plan};
 use crate::verb::Verb;
 use clap::ArgMatches;
-use command_line::{ArgsError, ArgumentFault, flag_of, number_of, optional_text, text_of};
+use command_line::{
+    ArgsError, ArgumentFault, flag_of, number_of, optional_number, optional_text, text_of,
+};
 use operator_request::OperatorRequest;
 
 /// The command of `replay`.
@@ -44,6 +46,7 @@ fn plan_of(found: &ArgMatches<'_>) -> Result<Plan, ArgsError>
     let operator = number_of(found, "operator")?;
     let workers = number_of(found, "workers")?;
     let timeout = number_of(found, "timeout")?;
+    let wait = optional_number(found, "wait-counters");
     if workers < 1 || workers > 64 {
         return Err(ArgsError::Wrong(ArgumentFault::Missing));
     }
@@ -52,6 +55,7 @@ fn plan_of(found: &ArgMatches<'_>) -> Result<Plan, ArgsError>
         operator,
         workers,
         timeout,
+        wait,
         log: flag_of(found, "log"),
     })
 }

@@ -33,5 +33,6 @@ returns-clause-given c = record {
   operator = c.in_ok-operator.ensures.given;
   workers = c.in_ok-workers.ensures.given;
   timeout = c.in_ok-timeout.ensures.given;
+  wait = (c.optional_number-wait.ensures.given, c.optional_number-wait.ensures.lacking);
   log = c.flag_of.ensures;
 }
