@@ -1,0 +1,119 @@
+//! What the workers and the store share: the ceilings, and what is wanted of the store.
+
+ghost use Rattle.std.specs.Prelude.{◌≡◌, ◌<◌, ◌≤◌, ◌++◌, [], ◌∷◌, IfOk};
+ghost use Rattle.std.specs.Arc.{arc_value};
+ghost use mathlib.Core.List.{IsPrefix};
+ghost use Rattle.ceilings.specs.Rule.{stored_as, stored_in};
+ghost use Rattle.ceilings.specs.Seats.{IsAt};
+
+use crate::wanted::Wanted;
+use ceilings::{Ceilings, Reader, Writer};
+use cells::CellNo;
+use std::alloc::{AllocError, Global};
+use std::marker::Model;
+use std::sync::{Arc, Wait};
+use std::time::Duration;
+
+/// A ceiling for each 64-bit cell, and what is wanted of the store. In contracts it is the table
+/// of the ceilings.
+#[derive(Drop)]
+pub struct Kept {
+    ceilings: Ceilings,
+    wanted: Wanted,
+}
+
+impl Model for Kept {
+    ghost use Rattle.std.specs.Prelude.{◌≡◌};
+    ghost use Rattle.atomic_table.specs.Seated.{TableId};
+
+    ghost Value = { TableId };
+
+    ghost view = { λ k. k.ceilings };
+
+    ghost invariant = { λ k. k.ceilings.words ≡ 4096 };
+}
+
+impl Kept {
+    /// Ceilings that are all 0, and the right to raise them.
+    // open: whether an allocation fails.
+    pub fn new(alloc: Global) -> Result<(Arc<Kept>, Writer), AllocError>
+        ensures own { IfOk result (λ made. IsAt (arc_value made.0) made.1) }
+        ensures none { IfOk result (λ made. made.1.stored ≡ []) }
+    {
+        let wanted = Wanted::new(alloc)?;
+        let (ceilings, writer) = Ceilings::new(alloc, CellNo::FIRST_NARROW as usize)?;
+        let Ok(kept) = Arc::new(alloc, Kept { ceilings, wanted }) else {
+            return Err(AllocError);
+        };
+        Ok((kept, writer))
+    }
+
+    /// A reader of the ceilings, who knows what the writer knows.
+    pub fn reader(&self, writer: &mut Writer) -> Reader
+        requires own { IsAt self.now writer.old }
+        ensures writer { writer.new ≡ writer.old }
+        ensures reader { result ≡ writer.old }
+    {
+        self.ceilings.reader(writer)
+    }
+
+    /// Makes a number that was stored for a 64-bit cell its ceiling.
+    pub fn raise(&self, writer: &mut Writer, cell: usize, number: u64)
+        requires own { IsAt self.now writer.old }
+        requires cell { cell < 4096 }
+        ensures own { IsAt self.now writer.new }
+        ensures stored { writer.new.stored ≡ writer.old.stored ++ stored_as cell number ∷ [] }
+    {
+        self.ceilings.raise(writer, cell, number);
+    }
+
+    /// The greatest number that the workers wanted for a cell so far.
+    // open: which number: tests.
+    pub fn wanted(&self, cell: usize) -> u64 {
+        self.wanted.number(cell)
+    }
+
+    /// Notes whether the last commit failed. While that is so, no reply waits.
+    // open: that no reply waits: tests.
+    pub fn set_failing(&self, is_failing: bool) {
+        self.wanted.set_failing(is_failing);
+    }
+
+    /// Wakes the store.
+    // open: that it wakes: tests.
+    pub fn ring(&self) {
+        self.wanted.ring();
+    }
+
+    /// Waits until the store is woken, for at most this time. It may return early.
+    // open: how long it waits.
+    pub fn wait<H: Wait>(&self, rt: &H, most: Duration) {
+        self.wanted.wait(rt, most);
+    }
+
+    pub(crate) fn another(&self, reader: &mut Reader) -> Reader
+        requires own { IsAt self.now reader.old }
+        ensures same { reader.new ≡ reader.old }
+        ensures another { result ≡ reader.old }
+    {
+        self.ceilings.another(reader)
+    }
+
+    pub(crate) fn look(&self, reader: &mut Reader, cell: usize) -> u64
+        requires own { IsAt self.now reader.old }
+        requires cell { cell < 4096 }
+        ensures own { IsAt self.now reader.new }
+        ensures onwards { IsPrefix reader.old.stored reader.new.stored }
+        ensures stored { result ≤ stored_in cell reader.new.stored }
+    {
+        self.ceilings.look(reader, cell)
+    }
+
+    pub(crate) fn want(&self, cell: usize, number: u64) {
+        self.wanted.want(cell, number);
+    }
+
+    pub(crate) fn is_failing(&self) -> bool {
+        self.wanted.is_failing()
+    }
+}
