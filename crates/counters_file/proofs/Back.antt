@@ -13,14 +13,17 @@ use Rattle.std.proofs.lemmas.List.FromFn.{get_or-map-range_with_len, length-map-
 use Rattle.cells.specs.declared.array.CellArray.{CellArray}
 use Rattle.cells.specs.Apart.{ArraysLieApart}
 use Rattle.cells.specs.Arrays.{HasCell}
-use Rattle.counters_file.specs.Lines.{Counters, array_line}
+use Rattle.counters_file.specs.Halts.{halted_line}
+use Rattle.counters_file.specs.Lines.{Counters, counters, array_line}
 use Rattle.counters_file.specs.Text.{Contents, ending, heading, state_line, state_of, counters_from}
-use Rattle.counters_file.specs.Text.{contents_of, after_state, with_state, file_lines}
+use Rattle.counters_file.specs.Text.{contents_from, contents_of, after_state, with_counters}
+use Rattle.counters_file.specs.Text.{file_lines}
 use Rattle.counters_file.specs.Text.{is_counter, counted, AreCounters, ReadsBack, zeros}
 use Rattle.counters_file.specs.Text.{lines_of_array, nothing, counter_lines}
 use Rattle.counters_file.proofs.ArraysBack.{arrays_read, longer}
 use Rattle.counters_file.proofs.CountersBack.{IsOf, all_read, small_value}
 use Rattle.counters_file.proofs.Filling.{AreFilled, IsFilled}
+use Rattle.counters_file.proofs.HaltsBack.{halted_are_lines, halted_read}
 use Rattle.counters_file.proofs.Splits.{IsLine, lines_back, arrays_are_lines, counters_are_lines}
 use Rattle.counters_file.proofs.Values.{are_zeros}
 
@@ -121,26 +124,27 @@ file_is_lines : (k : Contents) → AreCounters k.counters → All IsLine (file_l
 file_is_lines k h =
     let c = k.counters in
     let ranges = h.directory.ranges in
+    let halted = map halted_line k.halted in
     let arrays = map array_line c.arrays in
     let lines = flat_map (lines_of_array c.values) c.arrays in
-    All-cons IsLine heading (state_line k.was_stopped ∷ (counter_lines c ++ ending ∷ []))
-    (search rules)
-    (All-cons IsLine (state_line k.was_stopped) (counter_lines c ++ ending ∷ [])
-    (state_is_line k.was_stopped)
+    let after = halted ++ (counter_lines c ++ ending ∷ []) in
+    All-cons IsLine heading (state_line k.was_stopped ∷ after) (search rules)
+    (All-cons IsLine (state_line k.was_stopped) after (state_is_line k.was_stopped)
+    (All-append IsLine halted (counter_lines c ++ ending ∷ []) (halted_are_lines k.halted)
     (All-append IsLine (arrays ++ lines) (ending ∷ [])
     (All-append IsLine arrays lines (arrays_are_lines c.arrays h.names ranges)
     (counters_are_lines c.values (λ cell. small_value cell _ (h.cells.fit cell)) c.arrays h.names
     ranges))
-    (All-cons IsLine ending [] (search rules) (All-nil IsLine))))
+    (All-cons IsLine ending [] (search rules) (All-nil IsLine)))))
 
-counters_back : (c : Counters) → AreCounters c → ArraysLieApart
-    → counters_from 3 ((counter_lines c ++ ending ∷ []) ++ [] ∷ []) nothing
+counters_back : (c : Counters) → AreCounters c → ArraysLieApart → (number : ℕ)
+    → counters_from number ((counter_lines c ++ ending ∷ []) ++ [] ∷ []) nothing
     ≡ Ok (record { arrays = c.arrays; values = counted c.arrays c.values })
-counters_back c h lie =
+counters_back c h lie number =
     let arrays = map array_line c.arrays in
     let lines = flat_map (lines_of_array c.values) c.arrays in
     let last = counted c.arrays c.values in
-    ap (λ (ls : List (List ℕ)). counters_from 3 ls nothing)
+    ap (λ (ls : List (List ℕ)). counters_from number ls nothing)
     (append_assoc (arrays ++ lines) (ending ∷ []) ([] ∷ [])
     ∙ append_assoc arrays lines (ending ∷ [] ∷ []))
     ∙ arrays_read c.arrays h.names h.directory zeros (lines ++ ending ∷ [] ∷ [])
@@ -149,12 +153,31 @@ counters_back c h lie =
     (λ number. all_read c.arrays h.names h.directory lie c.values last h.cells
     (count_kept c.arrays c.values) (kept_of c.arrays c.values) c.arrays [] refl zeros
     (at_first c.arrays c.values) number)
-    [] c.arrays refl 3
+    [] c.arrays refl number
+
+-- the lines after those of halted apps name none
+rest_back : (was_stopped : Bool) (halted : List (List ℕ)) (arrays : List CellArray)
+    (values : List ℕ) (out : Result Counters ℕ)
+    → ((number : ℕ) → counters_from number
+    ((counter_lines (counters arrays values) ++ ending ∷ []) ++ [] ∷ []) nothing ≡ out)
+    → (number : ℕ) → contents_from was_stopped number
+    ((counter_lines (counters arrays values) ++ ending ∷ []) ++ [] ∷ []) halted
+    ≡ with_counters was_stopped halted out
+rest_back was_stopped halted [] values out read number =
+    ap (with_counters was_stopped halted) (read number)
+rest_back was_stopped halted (a ∷ arrays) values out read number =
+    ap (with_counters was_stopped halted) (read number)
 
 pub reads_back : ArraysLieApart → ReadsBack
-reads_back lie k h =
+reads_back lie k texts h =
+    let c = k.counters in
+    let rest = counter_lines c ++ ending ∷ [] in
+    let kept = Ok (record { arrays = c.arrays; values = counted c.arrays c.values }) in
     ap contents_of (lines_back (file_lines k) (file_is_lines k h))
-    ∙ ap (λ (o : Option Bool). after_state o
-    ((counter_lines k.counters ++ ending ∷ []) ++ [] ∷ [])) (state_back k.was_stopped)
-    ∙ ap (λ (o : Result Counters ℕ). with_state k.was_stopped o)
-    (counters_back k.counters h lie)
+    ∙ ap (λ (o : Option Bool). after_state o ((map halted_line k.halted ++ rest) ++ [] ∷ []))
+    (state_back k.was_stopped)
+    ∙ ap (λ (ls : List (List ℕ)). contents_from k.was_stopped 3 ls [])
+    (append_assoc (map halted_line k.halted) rest ([] ∷ []))
+    ∙ halted_read k.was_stopped (rest ++ [] ∷ []) (with_counters k.was_stopped k.halted kept)
+    k.halted (rest_back k.was_stopped k.halted c.arrays c.values kept (counters_back c h lie))
+    k.halted [] texts refl 3

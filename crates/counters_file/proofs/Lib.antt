@@ -3,6 +3,10 @@ mod Back
 mod Committed
 mod CountersBack
 mod Filling
+mod HaltsBack
+mod HaltsOn
+mod HaltsPushed
+mod Unescaped
 mod LinesBack
 mod Names
 mod NewArrays

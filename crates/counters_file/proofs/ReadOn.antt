@@ -10,14 +10,14 @@ use Rattle.counters_file.specs.Text.{counters_from, is_over, when_right}
 use Rattle.counters_file.specs.declared.contents.ReadFault.TheVariants.{Damaged}
 
 -- what all lines give is what those that are left give, from these counters on
-pub record IsReadOn (lines : List (List ℕ)) (old : Counters) (number : ℕ) (left : List (List ℕ))
-    (now : Counters) : Type 0 where
-  pub same : counters_from 3 lines old ≡ counters_from number left now
+pub record IsReadOn (lines : List (List ℕ)) (old : Counters) (start number : ℕ)
+    (left : List (List ℕ)) (now : Counters) : Type 0 where
+  pub same : counters_from start lines old ≡ counters_from number left now
   pub cells : AreCells now.values
-  pub count : number + length left ≡ 3 + length lines
+  pub count : number + length left ≡ start + length lines
 
 -- the first of the lines that are left, and the others
-first_is : {A : Type 0} (f : A → List ℕ) (rest : List A) (d : A) (n : ℕ)
+pub first_is : {A : Type 0} (f : A → List ℕ) (rest : List A) (d : A) (n : ℕ)
     → 1 ≤ length rest → n ≡ length rest
     → map f rest ≡ f (get_or rest 0 d) ∷ map f (take (n - 1) (drop 1 rest))
 first_is {A} f rest d n some count = at rest some count
@@ -29,11 +29,11 @@ first_is {A} f rest d n some count = at rest some count
         ap (λ ys. f x ∷ map f ys) (sym (take_all (n - 1) xs (omega (arith, count))))
 
 module _ {A : Type 0} (f : A → List ℕ) (rest : List A) (d : A) (n : ℕ) {all : List (List ℕ)}
-    {old : Counters} {number : ℕ} {now : Counters} where
+    {old : Counters} {start number : ℕ} {now : Counters} where
   -- an ending
-  pub ends : 1 ≤ length rest → n ≡ length rest → IsReadOn all old number (map f rest) now
+  pub ends : 1 ≤ length rest → n ≡ length rest → IsReadOn all old start number (map f rest) now
       → (b : Bool) → b ≡ is_over (f (get_or rest 0 d)) (map f (take (n - 1) (drop 1 rest)))
-      → b ≡ true → counters_from 3 all old ≡ Ok now
+      → b ≡ true → counters_from start all old ≡ Ok now
   ends some count on b is_end is_true =
       let line = f (get_or rest 0 d) in
       let others = map f (take (n - 1) (drop 1 rest)) in
@@ -43,10 +43,10 @@ module _ {A : Type 0} (f : A → List ℕ) (rest : List A) (d : A) (n : ℕ) {al
       (sym is_end ∙ is_true)
 
   -- a line that isn't the ending
-  goes_on : 1 ≤ length rest → n ≡ length rest → IsReadOn all old number (map f rest) now
+  goes_on : 1 ≤ length rest → n ≡ length rest → IsReadOn all old start number (map f rest) now
       → (b : Bool) → b ≡ is_over (f (get_or rest 0 d)) (map f (take (n - 1) (drop 1 rest)))
       → b ≡ false → (made : Option Counters) → with_line (f (get_or rest 0 d)) now ≡ made
-      → counters_from 3 all old ≡ when_right made number
+      → counters_from start all old ≡ when_right made number
       (counters_from (number + 1) (map f (take (n - 1) (drop 1 rest))))
   goes_on some count on b is_end is_false made is =
       let line = f (get_or rest 0 d) in
@@ -58,11 +58,11 @@ module _ {A : Type 0} (f : A → List ℕ) (rest : List A) (d : A) (n : ℕ) {al
       ∙ ap (λ (o : Option Counters). when_right o number (counters_from (number + 1) others)) is
 
   -- a right one
-  pub read_one : 1 ≤ length rest → n ≡ length rest → IsReadOn all old number (map f rest) now
+  pub read_one : 1 ≤ length rest → n ≡ length rest → IsReadOn all old start number (map f rest) now
       → (b : Bool) → b ≡ is_over (f (get_or rest 0 d)) (map f (take (n - 1) (drop 1 rest)))
       → b ≡ false → (more : Counters) → with_line (f (get_or rest 0 d)) now ≡ Some more
       → AreCells more.values
-      → IsReadOn all old (number + 1) (map f (take (n - 1) (drop 1 rest))) more
+      → IsReadOn all old start (number + 1) (map f (take (n - 1) (drop 1 rest))) more
   read_one some count on b is_end is_false more is fit = record {
     same = goes_on some count on b is_end is_false (Some more) is;
     cells = fit;
@@ -72,17 +72,17 @@ module _ {A : Type 0} (f : A → List ℕ) (rest : List A) (d : A) (n : ℕ) {al
   }
 
   -- and a wrong one
-  pub stops : 1 ≤ length rest → n ≡ length rest → IsReadOn all old number (map f rest) now
+  pub stops : 1 ≤ length rest → n ≡ length rest → IsReadOn all old start number (map f rest) now
       → (b : Bool) → b ≡ is_over (f (get_or rest 0 d)) (map f (take (n - 1) (drop 1 rest)))
       → b ≡ false → with_line (f (get_or rest 0 d)) now ≡ None
-      → counters_from 3 all old ≡ Err number
+      → counters_from start all old ≡ Err number
   stops some count on b is_end is_false is = goes_on some count on b is_end is_false None is
 
 -- no line is left
 pub runs_out : {A : Type 0} (f : A → List ℕ) (rest : List A) {all : List (List ℕ)}
-    {old : Counters} {number : ℕ} {now : Counters} → length rest < 1
-    → IsReadOn all old number (map f rest) now → counters_from 3 all old ≡ Err number
-runs_out {A} f rest {all} {old} {number} {now} none on = on.same ∙ at rest none
+    {old : Counters} {start number : ℕ} {now : Counters} → length rest < 1
+    → IsReadOn all old start number (map f rest) now → counters_from start all old ≡ Err number
+runs_out {A} f rest {all} {old} {start} {number} {now} none on = on.same ∙ at rest none
   where
     at : (xs : List A) → length xs < 1 → counters_from number (map f xs) now ≡ Err number
     at [] none = refl

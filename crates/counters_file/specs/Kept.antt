@@ -1,11 +1,12 @@
--- The counters that a file keeps.
+-- The counters and halted apps that a file keeps.
 use Rattle.std.specs.Prelude.{◌≡◌, ℕ, List, Option, Some, None, Ok}
-use Rattle.counters_file.specs.Text.{Contents, contents_in, kept, nothing}
+use Rattle.counters_file.specs.Text.{Contents, contents_in, kept}
 
--- a server opens with what the file says, or without a file with no arrays
-abbrev pub IsOpenedFrom : Option (List ℕ) → Contents → Type 0
-IsOpenedFrom (Some text) k = contents_in text ≡ Ok k
-IsOpenedFrom None k = k.counters ≡ nothing
+-- this is what the file says, if there is one
+abbrev pub IsFoundIn : Option (List ℕ) → Option Contents → Type 0
+IsFoundIn (Some text) (Some k) = contents_in text ≡ Ok k
+IsFoundIn None None = Unit {0}
+IsFoundIn held found = ⊥
 
 -- the file says what is kept of these contents
 abbrev pub Keeps : Contents → Option (List ℕ) → Type 0

@@ -1,4 +1,5 @@
 pub mod Faults
+pub mod Halts
 pub mod Kept
 pub mod Lines
 pub mod Text

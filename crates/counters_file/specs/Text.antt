@@ -1,5 +1,5 @@
--- The text of a file of counters: a heading, how the server that wrote it ended, its arrays, those
--- of their counters that aren't 0, and an ending.
+-- The text of a file of counters: a heading, how the server that wrote it ended, its halted apps,
+-- its arrays, those of their counters that aren't 0, and an ending.
 use Rattle.std.specs.Prelude.{◌≡◌, ℕ, ◌+◌, ◌==◌, Bool, true, false, if◌then◌else◌, ◌&&◌}
 use Rattle.std.specs.Prelude.{nat_lt, nat_le, List, [], ◌∷◌, ◌++◌, codes, All, map, flat_map}
 use Rattle.std.specs.Prelude.{replicate, slice_index}
@@ -10,12 +10,15 @@ use Rattle.cells.specs.declared.array.CellArray.{CellArray}
 use Rattle.cells.specs.Directory.{IsDirectory}
 use Rattle.cells.specs.Events.{AreCells}
 use Rattle.cells.specs.Names.{IsName}
+use Rattle.counters_file.specs.Halts.{IsText, halted_in, halted_line}
 use Rattle.counters_file.specs.Lines.{Counters, counters, array_line, counter_line, with_line}
 use Rattle.counters_file.specs.Lines.{is_line_feed}
 
--- what a file says: whether its server was stopped, and the counters with which the next one opens
+-- what a file says: whether its server was stopped, and the appids of the halted apps and the
+-- counters with which the next one opens
 pub record Contents : Type 0 where
   pub was_stopped : Bool
+  pub halted : List (List ℕ)
   pub counters : Counters
 
 abbrev pub heading : List ℕ
@@ -51,7 +54,8 @@ counter_lines c =
 
 abbrev pub file_lines : Contents → List (List ℕ)
 file_lines k =
-    heading ∷ state_line k.was_stopped ∷ (counter_lines k.counters ++ ending ∷ [])
+    heading ∷ state_line k.was_stopped
+    ∷ (map halted_line k.halted ++ (counter_lines k.counters ++ ending ∷ []))
 
 abbrev pub ended : (line : List ℕ) → List ℕ
 ended line = line ++ 10 ∷ []
@@ -92,12 +96,30 @@ state_of line =
     if bytes_eq line stopped then Some true
     else if bytes_eq line serving then Some false else None
 
-abbrev pub with_state : (was_stopped : Bool) → Result Counters ℕ → Result Contents ℕ
-with_state was_stopped (Ok c) = Ok (record { was_stopped = was_stopped; counters = c })
-with_state was_stopped (Err number) = Err number
+abbrev pub with_counters : (was_stopped : Bool) → (halted : List (List ℕ)) → Result Counters ℕ
+    → Result Contents ℕ
+with_counters was_stopped halted (Ok c) =
+    Ok (record { was_stopped = was_stopped; halted = halted; counters = c })
+with_counters was_stopped halted (Err number) = Err number
+
+-- what follows a line: more, if it names a halted app, or else others
+abbrev pub when_halted : Option (List ℕ) → (List ℕ → Result Contents ℕ) → Result Contents ℕ
+    → Result Contents ℕ
+when_halted (Some appid) more others = more appid
+when_halted None more others = others
+
+-- what the lines from this number on say, after those of these halted apps: first come the lines of
+-- all halted apps
+abbrev pub contents_from : (was_stopped : Bool) → (number : ℕ) → List (List ℕ)
+    → (halted : List (List ℕ)) → Result Contents ℕ
+contents_from was_stopped number [] halted = Err number
+contents_from was_stopped number (line ∷ others) halted =
+    when_halted (halted_in line)
+    (λ appid. contents_from was_stopped (number + 1) others (halted ++ appid ∷ []))
+    (with_counters was_stopped halted (counters_from number (line ∷ others) nothing))
 
 abbrev pub after_state : Option Bool → List (List ℕ) → Result Contents ℕ
-after_state (Some was_stopped) lines = with_state was_stopped (counters_from 3 lines nothing)
+after_state (Some was_stopped) lines = contents_from was_stopped 3 lines []
 after_state None lines = Err 2
 
 abbrev pub after_heading : List (List ℕ) → Result Contents ℕ
@@ -131,6 +153,7 @@ kept k =
     let c = k.counters in
     record {
       was_stopped = k.was_stopped;
+      halted = k.halted;
       counters = counters c.arrays (counted c.arrays c.values);
     }
 
@@ -143,4 +166,5 @@ pub record AreCounters (c : Counters) : Type 0 where
 -- what is read is what was written
 abbrev pub ReadsBack : Type 0
 ReadsBack =
-    (k : Contents) → AreCounters k.counters → contents_in (file_text k) ≡ Ok (kept k)
+    (k : Contents) → All IsText k.halted → AreCounters k.counters
+    → contents_in (file_text k) ≡ Ok (kept k)

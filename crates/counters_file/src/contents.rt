@@ -1,19 +1,15 @@
 //! What a file of counters says.
 
-ghost use Rattle.std.specs.Prelude.{◌≡◌, IfOk, true};
-ghost use Rattle.cells.specs.Events.{AreCells};
-ghost use Rattle.counters_file.specs.Text.{nothing};
+ghost use Rattle.std.specs.Prelude.{◌≡◌, map, string_bytes};
 
-use crate::counters_fault::CountersFault;
-use crate::reading::zeros;
 use cells::Directory;
-use std::alloc::Global;
 use std::marker::Model;
 
-/// Whether the server that wrote the file was stopped, its arrays, and the value of each of the
-/// 8192 cells. A counter that no array has is 0.
+/// Whether the server that wrote the file was stopped, the appids of its halted apps, its arrays,
+/// and the value of each of the 8192 cells. A counter that no array has is 0.
 pub struct Contents {
     pub was_stopped: bool,
+    pub halted: Vec<String>,
     pub directory: Directory,
     pub values: Vec<u64>,
 }
@@ -23,46 +19,44 @@ impl Drop for Contents {
     fn drop(self) {
         let Self {
             was_stopped: _was_stopped,
+            halted: _halted,
             directory: _directory,
             values: _values,
         } = self;
     }
 }
 
-impl Contents {
-    /// No arrays, and 8192 zeros, as if a server was stopped that never counted. Returns B4 if an
-    /// allocation fails.
-    // open: when B4 is returned.
-    pub fn none(alloc: Global) -> Result<Contents, CountersFault>
-        ensures nothing { IfOk result (λ c. c.counters ≡ nothing) }
-        ensures stopped { IfOk result (λ c. c.was_stopped ≡ true) }
-        ensures cells { IfOk result (λ c. AreCells c.counters.values) }
-    {
-        match zeros(alloc) {
-            Ok(values) => Ok(Contents {
-                was_stopped: true,
-                directory: Directory::new(alloc),
-                values,
-            }),
-            Err(_) => Err(CountersFault::Memory),
-        }
-    }
+/// The parts of contents, without how the server ended.
+#[derive(Drop)]
+pub struct Parts {
+    pub halted: Vec<String>,
+    pub directory: Directory,
+    pub values: Vec<u64>,
+}
 
-    /// The arrays, and the value of each of the 8192 cells.
-    pub fn into_parts(self) -> (Directory, Vec<u64>)
-        ensures arrays { result.0 ≡ self.counters.arrays }
-        ensures values { result.1.items ≡ self.counters.values }
+impl Contents {
+    /// Its halted apps, its arrays, and the value of each of the 8192 cells.
+    pub fn into_parts(self) -> Parts
+        ensures halted { map string_bytes result.halted.items ≡ self.halted }
+        ensures arrays { result.directory ≡ self.counters.arrays }
+        ensures values { result.values.items ≡ self.counters.values }
     {
         let Self {
             was_stopped: _was_stopped,
+            halted,
             directory,
             values,
         } = self;
-        (directory, values)
+        Parts {
+            halted,
+            directory,
+            values,
+        }
     }
 }
 
 impl Model for Contents {
+    ghost use Rattle.std.specs.Prelude.{map, string_bytes};
     ghost use Rattle.counters_file.specs.Lines.{counters};
     ghost use Rattle.counters_file.specs.Text.{Contents};
 
@@ -70,6 +64,7 @@ impl Model for Contents {
 
     ghost view = { λ c. record {
       was_stopped = c.was_stopped;
+      halted = map string_bytes c.halted.items;
       counters = counters c.directory c.values.items;
     } };
 }

@@ -3,14 +3,19 @@
 use crate::counters_fault::CountersFault;
 use crate::kept_file::KeptFile;
 use bounded_files::{FileFault, IfDenied, Links, read_file, replace_file};
+use lexing::decimal_within;
 use std::alloc::Global;
 use std::fs::{File, OpenFile, OpenOptions, TryLockError};
-use std::io::{self, ErrorKind};
+use std::io::{self, ErrorKind, Write};
 use std::os::unix::fs::OpenOptionsExt;
 use std::rt::Files;
+use std::str;
 
 /// The most bytes of a file of counters: 1 MiB.
 const MOST_BYTES: u32 = 0x10_0000;
+
+/// The most bytes of a file with the number of a process.
+const MOST_STAT: u32 = 4096;
 
 /// A file of a device, about whose bytes nothing is known. It is locked until it is dropped.
 #[derive(Drop)]
@@ -22,7 +27,7 @@ pub struct DeviceFile<'a, R> {
 
 impl<'a, R: Files<File = File> + AllocGlobal> DeviceFile<'a, R> {
     /// The file at a path, if no other process has locked it: the system's lock is on `PATH.lock`,
-    /// which is made if it isn't there, and which stays. Returns K1 if another process has it, K4
+    /// which is made if it isn't there, and which stays. It gets the number of this process. Returns K1 if another process has it, K4
     /// if it can't be made or locked, and B4 if an allocation fails.
     // open: that the system's lock holds: rows and `bench/outside`.
     pub fn lock(rt: &'a R, path: &str) -> Result<DeviceFile<'a, R>, CountersFault> {
@@ -33,11 +38,14 @@ impl<'a, R: Files<File = File> + AllocGlobal> DeviceFile<'a, R> {
             return Err(CountersFault::Store);
         };
         match lock.try_lock() {
-            Ok(()) => Ok(DeviceFile {
-                rt,
-                path: own,
-                _lock: lock,
-            }),
+            Ok(()) => {
+                let _signed = sign(rt, &lock);
+                Ok(DeviceFile {
+                    rt,
+                    path: own,
+                    _lock: lock,
+                })
+            }
             Err(TryLockError::WouldBlock) => Err(CountersFault::InUse),
             Err(TryLockError::Error(_)) => Err(CountersFault::Store),
         }
@@ -51,19 +59,59 @@ fn open_lock<R: Files<File = File> + AllocGlobal>(rt: &R, path: &str) -> io::Res
     options.open(rt, name.as_str())
 }
 
+// Writes the number of this process, as the system has it, into the file of the lock.
+fn sign<R: Files<File = File> + AllocGlobal>(rt: &R, mut lock: &File) -> io::Result<()> {
+    let Some(process) = first_number(rt, "/proc/self/stat") else {
+        return Ok(());
+    };
+    let text = format!(in rt.alloc(); "{process}\n")?;
+    lock.set_len(0)?;
+    lock.write_all(text.as_bytes())
+}
+
+/// The number of the process that has locked the file at a path last, if that is known.
+// open: the bytes of a device's file.
+pub fn owner_of<R>(rt: &R, path: &str) -> Option<u64>
+where
+    R: Files<File = File> + AllocGlobal,
+{
+    let name = format!(in rt.alloc(); "{path}.lock").ok()?;
+    first_number(rt, name.as_str())
+}
+
+// The number with which a file begins.
+fn first_number<R: Files<File = File> + AllocGlobal>(rt: &R, path: &str) -> Option<u64> {
+    let bytes = read_file(rt, path, Links::Refused, MOST_STAT).ok()??;
+    let text = str::from_utf8(&bytes).ok()?;
+    let word = text.split_ascii_whitespace().next()?;
+    decimal_within(word, 0, u64::MAX)
+}
+
+/// The bytes of the file at a path, if there is one. Returns K2 if it can't be read.
+pub(crate) fn read_bytes<R>(rt: &R, path: &str) -> Result<Option<Vec<u8>>, CountersFault>
+where
+    R: Files<File = File> + AllocGlobal,
+{
+    match read_file(rt, path, Links::Refused, MOST_BYTES) {
+        Ok(found) => Ok(found),
+        Err(fault) => Err(memory_or(fault, CountersFault::File)),
+    }
+}
+
 impl<'a, R: Files<File = File> + AllocGlobal> KeptFile for DeviceFile<'a, R> {
     ghost use Rattle.std.specs.Prelude.{None};
 
     ghost known = { λ _. None };
 
     fn read(&self, _alloc: Global) -> Result<Option<Vec<u8>>, CountersFault> {
-        match read_file(self.rt, self.path.as_str(), Links::Refused, MOST_BYTES) {
-            Ok(found) => Ok(found),
-            Err(fault) => Err(memory_or(fault, CountersFault::File)),
-        }
+        read_bytes(self.rt, self.path.as_str())
     }
 
+    // A file that couldn't be read is never written.
     fn replace(&mut self, bytes: &[u8]) -> Result<(), CountersFault> {
+        if bytes.len() > MOST_BYTES as usize {
+            return Err(CountersFault::Store);
+        }
         match replace_file(self.rt, self.path.as_str(), bytes, 0o644, IfDenied::Fail) {
             Ok(()) => Ok(()),
             Err(fault) => Err(memory_or(fault, CountersFault::Store)),

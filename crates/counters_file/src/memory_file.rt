@@ -1,5 +1,7 @@
 //! A file in memory, for tests.
 
+ghost use Rattle.std.specs.Prelude.{◌≡◌, None};
+
 use crate::counters_fault::CountersFault;
 use crate::kept_file::KeptFile;
 use std::alloc::Global;
@@ -12,8 +14,10 @@ pub struct MemoryFile {
 }
 
 impl MemoryFile {
-    /// No file.
-    pub fn none(alloc: Global) -> MemoryFile {
+    /// A file that isn't there yet. Its first `replace` makes it.
+    pub fn none(alloc: Global) -> MemoryFile
+        ensures { result.bytes ≡ None }
+    {
         MemoryFile { alloc, bytes: None }
     }
 }

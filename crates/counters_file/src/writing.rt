@@ -4,29 +4,35 @@ ghost use Rattle.std.specs.Prelude.{◌≡◌, ◌++◌, All, IfOk, OnOk, map, f
 ghost use Rattle.std.specs.Prelude.{◌+◌, slice_index};
 ghost use Rattle.cells.specs.Names.{IsName};
 ghost use Rattle.declarations.specs.Texts.{width_text};
+ghost use Rattle.counters_file.specs.Halts.{IsText};
 ghost use Rattle.counters_file.specs.Lines as lines;
 ghost use Rattle.counters_file.specs.Text as specs;
 
+use crate::halted::push_halted;
 use cells::{CellArray, CellWidth, Directory};
 use std::alloc::{AllocError, Global};
 use std::fmt::Write;
 
-/// The text of these arrays and values, which a server has that was stopped, or else serves. A cell
-/// of no array has no line.
+/// The text of these halted apps, arrays and values, which a server has that was stopped, or else
+/// serves. A cell of no array has no line.
 // open: whether an allocation fails.
 pub fn file_text(
     alloc: Global,
     was_stopped: bool,
+    halted: &[String],
     directory: &Directory,
     values: &[u64],
 ) -> Result<String, AllocError>
     ensures text { let counters = lines.counters directory.now values.now in
-        IfOk result (λ text. string_bytes text
-        ≡ specs.file_text (record { was_stopped = was_stopped; counters = counters })) }
+        let halted = map string_bytes halted.now in
+        IfOk result (λ text. string_bytes text ≡ specs.file_text
+        (record { was_stopped = was_stopped; halted = halted; counters = counters })) }
+    ensures texts { IfOk result (λ _. All IsText (map string_bytes halted.now)) }
     ensures names { IfOk result (λ _. All (λ a. IsName a.name) directory.now) }
 {
     let mut text = String::from_str(alloc, "rollout counters 1\n")?;
     text.push_str(state_line(was_stopped))?;
+    push_halted(&mut text, halted)?;
     push_arrays(&mut text, directory.arrays())?;
     push_counters(&mut text, directory.arrays(), values)?;
     text.push_str("end\n")?;

@@ -11,6 +11,8 @@ use std::test::Fail;
 const TEXT: &str = "\
 rollout counters 1
 stopped
+halted caf%C3%A9%20%25%0A
+halted x
 array early 64 2 500
 array seen 32 1
 early 1 283
@@ -33,31 +35,50 @@ fn keep<F: KeptFile>(alloc: Global, file: &mut F, was_stopped: bool) -> Result<(
         alloc,
         file,
         was_stopped,
+        &contents.halted,
         &contents.directory,
         &contents.values,
     )
 }
 
-/// Whether the next start reads these counters.
-fn has_them<F: KeptFile>(alloc: Global, file: &F) -> Result<bool, CountersFault> {
-    let contents = read_counters(alloc, file)?;
-    match file_text(alloc, true, &contents.directory, &contents.values) {
-        Ok(text) => Ok(text.as_str() == TEXT),
+/// Whether the file has these counters, of a server that was stopped, or that serves.
+fn has_them<F: KeptFile>(
+    alloc: Global,
+    file: &F,
+    was_stopped: bool,
+) -> Result<bool, CountersFault> {
+    let Some(contents) = read_counters(alloc, file)? else {
+        return Ok(false);
+    };
+    let is_escaped = match contents.halted.first() {
+        Some(appid) => appid.as_str() == "caf\u{e9} %\n",
+        None => false,
+    };
+    let same_end = contents.was_stopped == was_stopped;
+    match file_text(
+        alloc,
+        true,
+        &contents.halted,
+        &contents.directory,
+        &contents.values,
+    ) {
+        Ok(text) => Ok(is_escaped && same_end && text.as_str() == TEXT),
         Err(_) => Err(CountersFault::Memory),
     }
 }
 
-/// Whether there is none before the first commit, and whether a server that serves is refused.
+/// Whether there is none before the first commit, and then that of a server that serves, and that
+/// of one that was stopped.
 fn is_kept<F: KeptFile>(alloc: Global, file: &mut F) -> Result<bool, CountersFault> {
-    if has_them(alloc, &*file)? {
+    if read_counters(alloc, &*file)?.is_some() {
         return Ok(false);
     }
     keep(alloc, file, false)?;
-    if !matches!(has_them(alloc, &*file), Err(CountersFault::Crashed)) {
+    if !has_them(alloc, &*file, false)? {
         return Ok(false);
     }
     keep(alloc, file, true)?;
-    has_them(alloc, &*file)
+    has_them(alloc, &*file, true)
 }
 
 fn kept_in_memory(alloc: Global) -> bool {

@@ -1,0 +1,61 @@
+//! The line of a halted app.
+
+ghost use Rattle.std.specs.Prelude.{◌≡◌, ◌++◌, IfOk, OnOk, map, option_map, string_bytes};
+ghost use Rattle.std.specs.Prelude.{All, flat_map};
+ghost use Rattle.percent_encoding.specs.Percent.{percent_decode};
+ghost use Rattle.counters_file.specs.Halts as specs;
+ghost use Rattle.counters_file.specs.Text.{ended};
+
+use percent_encoding::{AsciiSet, CONTROLS, ascii_set, percent_decode, utf8_percent_encode};
+use std::alloc::{AllocError, Global};
+
+/// What is escaped besides all that is outside ASCII: so an appid has no blank, and is one line.
+const ESCAPES: AsciiSet = ascii_set!(CONTROLS.add(b' ').add(b'%'));
+
+/// Appends the lines of halted apps.
+pub(crate) fn push_halted(text: &mut String, halted: &[String]) -> Result<(), AllocError>
+    ensures text { OnOk result (string_bytes text.new ≡ string_bytes text.old
+        ++ flat_map ended (map specs.halted_line (map string_bytes halted.now))) }
+    ensures texts { OnOk result (All specs.IsText (map string_bytes halted.now)) }
+{
+    let mut left = halted;
+    while let [appid, others @ ..] = left {
+        push_one(text, appid.as_str())?;
+        left = others;
+    }
+    Ok(())
+}
+
+fn push_one(text: &mut String, appid: &str) -> Result<(), AllocError>
+    ensures text { OnOk result
+        (string_bytes text.new ≡ string_bytes text.old ++ ended (specs.halted_line appid.now)) }
+    ensures is_text { specs.IsText appid.now }
+{
+    text.push_str("halted ")?;
+    utf8_percent_encode(appid, ESCAPES).append_to(text)?;
+    text.push_str("\n")
+}
+
+/// The appid that a line names, if it is the line of a halted app.
+pub(crate) fn halted_in(alloc: Global, line: &str) -> Result<Option<String>, AllocError>
+    ensures { IfOk result (λ o. option_map string_bytes o ≡ specs.halted_in line.now) }
+{
+    let word: &[u8] = b"halted ";
+    match line.as_bytes().strip_prefix(word) {
+        Some(escaped) => unescaped(alloc, escaped),
+        None => Ok(None),
+    }
+}
+
+// The text that is escaped, unless its bytes aren't UTF-8.
+fn unescaped(alloc: Global, escaped: &[u8]) -> Result<Option<String>, AllocError>
+    ensures { IfOk result
+        (λ o. option_map string_bytes o ≡ specs.text_in (percent_decode escaped.now)) }
+{
+    let mut bytes = Vec::new(alloc);
+    percent_decode(escaped).append_to(&mut bytes)?;
+    match String::from_utf8(bytes) {
+        Ok(text) => Ok(Some(text)),
+        Err(_) => Ok(None),
+    }
+}
