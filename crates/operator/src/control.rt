@@ -2,7 +2,7 @@
 //! has to stop. Only its operator changes them, and a request changes all that belongs to it, or
 //! nothing.
 
-ghost use Rattle.std.specs.Prelude.{◌≡◌, [], All, IfOk, IfErr, OnErr, OnOk, false, map};
+ghost use Rattle.std.specs.Prelude.{◌≡◌, All, IfOk, IfErr, OnErr, OnOk, false, map};
 ghost use Rattle.std.specs.Prelude.{string_bytes};
 ghost use Rattle.operator.specs.Control.{IsInstalled, IsInstalledWith, IsNotInstalled};
 ghost use Rattle.operator.specs.Control.{IsRefusedLoad, stopping};
@@ -53,19 +53,25 @@ impl Control {
     ghost use Rattle.ruleset.specs.Rules.{IsRuleset};
 
     /// The control of a server that serves this publisher's ruleset, over these arrays. It was
-    /// loaded as `last` says, and no app is halted. It allocates nothing.
-    pub fn new(alloc: Global, publisher: Publisher, directory: Directory, last: LastLoad) -> Control
+    /// loaded as `last` says, while these apps are halted, the one that was halted last first. The
+    /// publisher's ruleset has to be the loaded one as it is served then.
+    pub fn new(
+        publisher: Publisher,
+        directory: Directory,
+        last: LastLoad,
+        halted: Vec<String>,
+    ) -> Control
         ensures publishing { result.publishing ≡ publisher }
         ensures arrays { result.arrays ≡ directory }
         ensures last { result.last ≡ last }
-        ensures halted { result.halted ≡ [] }
+        ensures halted { result.halted ≡ map string_bytes halted.items }
         ensures goes_on { result.is_stopping ≡ false }
     {
         Control {
             publisher,
             directory,
             last,
-            halted: Vec::new(alloc),
+            halted,
             is_stopping: false,
         }
     }
@@ -143,6 +149,14 @@ impl Control {
         ensures { result ≡ self.old.arrays }
     {
         mem::replace(&mut self.directory, Directory::new(alloc))
+    }
+
+    /// Takes the appids of the halted apps out of the control of a server that has ended.
+    pub fn take_halted(&mut self, alloc: Global) -> Vec<String>
+        ensures halted { map string_bytes result.items ≡ self.old.halted }
+        ensures arrays { self.new.arrays ≡ self.old.arrays }
+    {
+        mem::replace(&mut self.halted, Vec::new(alloc))
     }
 
     /// Loads the manifest at a path, and installs its ruleset as the next generation, with the same
