@@ -37,6 +37,20 @@ def verified_units(folder):
             return text.splitlines()[-1]
 
 
+def page_units(folder):
+    """What systemd reports about the unit of the page, and about its timer."""
+    needs("systemd-analyze")
+    host = Host(folder / "page")
+    service, timer = (host.file(f"rollout-report.{it}") for it in ("service", "timer"))
+    found = called("systemd-analyze", "verify", "--man=no", str(service), str(timer))
+    if found != (0, ""):
+        return f"{found}"
+    words = ["security", "--offline=yes", f"--threshold={MOST_EXPOSED}", "--no-pager"]
+    status, text = called("systemd-analyze", *words, str(service))
+    if status != 0:
+        return text.splitlines()[-1]
+
+
 def settings(text):
     """The lines of a unit that aren't comments."""
     return [it for it in text.splitlines() if it and it[0] != "#"]
@@ -210,6 +224,7 @@ def rotated_log(folder):
 
 DEPLOYS = {
     "examples/deploy: the units, by systemd": verified_units,
+    "examples/deploy: the page's unit, by systemd": page_units,
     "examples/deploy: the template is the unit": template,
     "examples/deploy: the unit's commands": unit_commands,
     "examples/deploy: the unit's system calls": system_calls,

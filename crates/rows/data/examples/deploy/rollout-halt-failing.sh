@@ -1,0 +1,25 @@
+#!/bin/sh
+# Halts an app when its page says that a version of it fails: at least three of the version's newest 20
+# installs failed, and more than 5 percent. Nobody is asked first, so it is only an example.
+#
+#   cp rollout-halt-failing.sh /etc/rollout/halt-failing
+#   echo '* * * * * root /etc/rollout/halt-failing editor' > /etc/cron.d/rollout-halt-failing
+#
+# Clients aren't authenticated: anyone who reports three failed installs can stop a release so. Each
+# version is halted once: after `rollout resume` and `rollout stage resume` it goes on, failing or not.
+# Its second argument is the page, its third the file of what it has halted.
+set -eu
+PATH=/opt/rollout/bin:$PATH
+app=$1 page=${2-/run/rollout-report/index.html} halted=${3-/var/lib/rollout-halted}
+
+# The names of a page are escaped, so a line that begins like this one is the page's own.
+failing=$(sed -n "s|^<section><h2><span class=\"name\">$app</span> <b class=\"bad\">||p" "$page")
+[ "$failing" ] || exit 0
+touch "$halted"
+grep -qxF "$app $failing" "$halted" && exit 0
+
+# The server first, as that takes no file; then the files, which a restart reads.
+rollout halt "$app" --operator 8081
+rollout stage halt "$app" --operator 8081
+echo "$app $failing" >> "$halted"
+echo "$app is halted: a version of it fails, by $page"
