@@ -1,0 +1,2 @@
+mod Backing
+mod Stored

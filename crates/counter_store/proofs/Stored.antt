@@ -1,0 +1,88 @@
+-- A place below a ceiling is below its cell's number.
+use Rattle.std.proofs.Common.{◌≡◌, ℕ, ◌+◌, ◌≤◌, max, min, Bool, true, false, List, [], ◌∷◌}
+use Rattle.std.proofs.Common.{refl, ap, subst, ◌∙◌, arith}
+use Rattle.std.specs.Prelude.{◌==◌, nat_le, nat_lt, if◌then◌else◌, All, Contains}
+use Rattle.std.specs.Prelude.{slice_index}
+use Rattle.std.proofs.lemmas.Bool.{leb-true, le-leb, eqb-true}
+use Rattle.std.proofs.lemmas.Bool.Decides.{Decides-and, Decides-ltb, not_from_Decides}
+use Rattle.std.proofs.lemmas.List.Elements.{All-nil, All-cons, All-head, All-tail, All-weaker}
+use Rattle.std.proofs.lemmas.List.Elements.{All-contains, All-contains_itself}
+use Rattle.std.specs.Bool.{Decides}
+use mathlib.Core.Logic.{⊎_elim, ◌⊎◌, inl, inr}
+use Rattle.cells.specs.declared.array.CellArray.{CellArray}
+use Rattle.cells.specs.Apart.{ArraysLieApart}
+use Rattle.cells.specs.Arrays.{HasCell}
+use Rattle.cells.specs.Directory.{IsDirectory}
+use Rattle.ceilings.specs.declared.rule.Stored.{Stored}
+use Rattle.ceilings.specs.Rule.{stored_in}
+use Rattle.counter_store.specs.Ledger.{IsBacked}
+use Rattle.counter_store.specs.Places.{has_cell, places_in, places_of}
+use Rattle.counter_store.specs.Quotas.{PlacesAreStored}
+
+both_below : (p a b v : ℕ) → min p a ≤ v → min p b ≤ v → min p (max a b) ≤ v
+both_below p a b v first rest = omega (arith, first, rest)
+
+most : (arrays : List CellArray) (numbers : List ℕ) (cell : ℕ) (raised : List Stored)
+    → All (IsBacked arrays numbers) raised
+    → min (places_in arrays cell) (stored_in cell raised) ≤ slice_index numbers cell
+most arrays numbers cell [] all = omega arith
+most arrays numbers cell (s ∷ raised) all =
+    by_cell (s.cell == cell) refl (All-head (IsBacked arrays numbers) s raised all).places
+    (most arrays numbers cell raised (All-tail (IsBacked arrays numbers) s raised all))
+  where
+    by_cell : (t : Bool) → (s.cell == cell) ≡ t
+        → min (places_in arrays s.cell) s.number ≤ slice_index numbers s.cell
+        → min (places_in arrays cell) (stored_in cell raised) ≤ slice_index numbers cell
+        → min (places_in arrays cell)
+        (if t then max s.number (stored_in cell raised) else stored_in cell raised)
+        ≤ slice_index numbers cell
+    by_cell true e first rest =
+        both_below (places_in arrays cell) s.number (stored_in cell raised)
+        (slice_index numbers cell)
+        (subst (λ (c : ℕ). min (places_in arrays c) s.number ≤ slice_index numbers c)
+        (eqb-true s.cell cell e) first) rest
+    by_cell false e first rest = rest
+
+-- the cell's places are those of the only array that has it, or none has it
+only_places : (a : CellArray) (cell : ℕ) (arrays : List CellArray)
+    → All (λ b. HasCell b cell → b ≡ a) arrays
+    → (places_in arrays cell ≡ places_of a.quota) ⊎ All (λ b. ¬ HasCell b cell) arrays
+only_places a cell [] all = inr (All-nil (λ b. ¬ HasCell b cell))
+only_places a cell (b ∷ arrays) all =
+    by_array (has_cell b cell) refl
+    (All-head (λ (x : CellArray). HasCell x cell → x ≡ a) b arrays all)
+    (only_places a cell arrays
+    (All-tail (λ (x : CellArray). HasCell x cell → x ≡ a) b arrays all))
+  where
+    decides : Decides (has_cell b cell) (HasCell b cell)
+    decides =
+        Decides-and (nat_le b.base cell) (nat_lt cell (b.base + b.length))
+        (leb-true b.base cell, le-leb b.base cell) (Decides-ltb cell (b.base + b.length))
+
+    by_array : (t : Bool) → has_cell b cell ≡ t → (HasCell b cell → b ≡ a)
+        → (places_in arrays cell ≡ places_of a.quota) ⊎ All (λ x. ¬ HasCell x cell) arrays
+        → ((if t then places_of b.quota else places_in arrays cell) ≡ places_of a.quota)
+        ⊎ All (λ x. ¬ HasCell x cell) (b ∷ arrays)
+    by_array true e same rest =
+        inl (ap (λ (x : CellArray). places_of x.quota) (same (decides.0 e)))
+    by_array false e same rest =
+        ⊎_elim (λ is. inl is)
+        (λ none. inr (All-cons (λ x. ¬ HasCell x cell) b arrays
+        (not_from_Decides (has_cell b cell) decides e) none)) rest
+
+places_are : ArraysLieApart → (arrays : List CellArray) (a : CellArray) (cell : ℕ)
+    → IsDirectory arrays → Contains arrays a → HasCell a cell
+    → places_in arrays cell ≡ places_of a.quota
+places_are apart arrays a cell directory there has =
+    ⊎_elim (λ is. is)
+    (λ none. absurd (All-contains (λ x. ¬ HasCell x cell) arrays a none there has))
+    (only_places a cell arrays
+    (All-weaker (Contains arrays) (λ (b : CellArray). HasCell b cell → b ≡ a)
+    (λ b also has'. apart arrays b a cell directory also there has' has)
+    arrays (All-contains_itself arrays)))
+
+pub stored : ArraysLieApart → PlacesAreStored
+stored apart arrays numbers raised a cell quota place directory there has is backed less below =
+    let places = places_are apart arrays a cell directory there has ∙ ap places_of is in
+    let number = most arrays numbers cell raised backed in
+    omega (arith, places, number, less, below)

@@ -1,0 +1,208 @@
+//! The numbers that a file has for cells, and the ceilings, which are never above them.
+
+ghost use Rattle.std.specs.Prelude.{◌≡◌, ℕ, List, ◌<◌, ◌≤◌, min, All, IfOk};
+ghost use Rattle.std.specs.Arc.{arc_value};
+ghost use Rattle.cells.specs.Events.{AreCells};
+ghost use Rattle.ceilings.specs.Seats.{IsAt};
+ghost use Rattle.counter_store.specs.Ledger.{AreNotLower, IsBacked};
+ghost use Rattle.counter_store.specs.Places.{ArePlaces};
+
+use crate::next_number::plan;
+use crate::places::{are_no_more, places};
+use ceilings::{Reader, Writer};
+use cells::{CellNo, Directory};
+use kept_cells::Kept;
+use std::alloc::{AllocError, Global};
+use std::marker::Model;
+use std::mem;
+use std::sync::Arc;
+
+/// The numbers of the last commit, and the ceilings that were raised by them.
+#[derive(Drop)]
+pub(crate) struct Ledger {
+    kept: Arc<Kept>,
+    writer: Writer,
+    directory: Directory,
+    places: Vec<u64>,
+    numbers: Vec<u64>,
+    next: Vec<u64>,
+}
+
+impl Model for Ledger {
+    ghost use Rattle.std.specs.Arc.{arc_value};
+    ghost use Rattle.counter_store.specs.Ledger.{IsLedger, LedgerView};
+
+    ghost Value = { LedgerView };
+
+    ghost view = { λ l. record {
+      ceilings = arc_value l.kept;
+      raised = l.writer.stored;
+      arrays = l.directory;
+      numbers = l.numbers.items;
+      next = l.next.items;
+    } };
+
+    ghost invariant = { λ l. IsLedger (arc_value l.kept) l.writer l.directory l.places.items
+        l.numbers.items l.next.items };
+}
+
+impl Ledger {
+    /// The ledger of a file with these arrays and numbers.
+    pub(crate) fn new(
+        alloc: Global,
+        directory: Directory,
+        numbers: Vec<u64>,
+    ) -> Result<Ledger, AllocError>
+        requires { AreCells numbers.items }
+        ensures arrays { IfOk result (λ l. l.arrays ≡ directory) }
+        ensures numbers { IfOk result (λ l. l.numbers ≡ numbers.items) }
+    {
+        let places = places(alloc, directory.arrays())?;
+        let next = numbers.to_vec(alloc)?;
+        let (kept, writer) = Kept::new(alloc)?;
+        let mut ledger = Ledger {
+            kept,
+            writer,
+            directory,
+            places,
+            numbers,
+            next,
+        };
+        ledger.open();
+        Ok(ledger)
+    }
+
+    /// Law: each ceiling that was raised is backed by the numbers.
+    pub(crate) fn invariant_law(&self)
+        ensures backed { All (IsBacked self.now.arrays self.now.numbers) self.now.raised }
+        ensures cells { AreCells self.now.numbers }
+        ensures next { AreCells self.now.next }
+    {
+        let _numbers = &self.numbers;
+    }
+
+    /// What is shared with the workers.
+    pub(crate) fn kept(&self) -> &Arc<Kept>
+        ensures { arc_value result.now ≡ self.now.ceilings }
+    {
+        &self.kept
+    }
+
+    pub(crate) fn directory(&self) -> &Directory
+        ensures { result.now ≡ self.now.arrays }
+    {
+        &self.directory
+    }
+
+    /// The numbers of the next commit.
+    pub(crate) fn next(&self) -> &[u64]
+        ensures next { result.now ≡ self.now.next }
+        ensures cells { AreCells result.now }
+    {
+        &self.next
+    }
+
+    /// A reader of the ceilings.
+    pub(crate) fn reader(&mut self) -> Reader
+        ensures same { self.new ≡ self.old }
+        ensures own { IsAt self.new.ceilings result }
+    {
+        self.kept.reader(&mut self.writer)
+    }
+
+    /// Plans the next numbers. Returns whether one is new.
+    pub(crate) fn plan(&mut self) -> bool
+        ensures numbers { self.new.numbers ≡ self.old.numbers }
+        ensures arrays { self.new.arrays ≡ self.old.arrays }
+        ensures raised { self.new.raised ≡ self.old.raised }
+        ensures ceilings { self.new.ceilings ≡ self.old.ceilings }
+        ensures not_lower { AreNotLower self.new.numbers self.new.next }
+    {
+        plan(&self.kept, &self.places, &self.numbers, &mut self.next);
+        self.next.as_slice() != self.numbers.as_slice()
+    }
+
+    /// Takes the next numbers, which were stored, and raises the ceilings by them.
+    pub(crate) fn take_next(&mut self)
+        requires { AreNotLower self.old.numbers self.old.next }
+        ensures numbers { self.new.numbers ≡ self.old.next }
+        ensures arrays { self.new.arrays ≡ self.old.arrays }
+        ensures ceilings { self.new.ceilings ≡ self.old.ceilings }
+    {
+        mem::swap(&mut self.numbers, &mut self.next);
+        self.raise_grown();
+    }
+
+    // Raises the ceilings of the cells whose numbers are higher than the others.
+    fn raise_grown(&mut self)
+        ensures numbers { self.new.numbers ≡ self.old.numbers }
+        ensures next { self.new.next ≡ self.old.next }
+        ensures arrays { self.new.arrays ≡ self.old.arrays }
+        ensures ceilings { self.new.ceilings ≡ self.old.ceilings }
+    {
+        for cell in 0..CellNo::FIRST_NARROW {
+            let at = usize::from(cell);
+            if self.next[at] < self.numbers[at] {
+                self.raise(at);
+            }
+        }
+    }
+
+    /// Adopts a longer directory, and opens its cells without a quota. A directory in which a cell
+    /// has more places than before isn't longer, and is ignored.
+    pub(crate) fn learn(&mut self, alloc: Global, directory: Directory) -> Result<(), AllocError>
+        ensures numbers { self.new.numbers ≡ self.old.numbers }
+        ensures ceilings { self.new.ceilings ≡ self.old.ceilings }
+    {
+        let places = places(alloc, directory.arrays())?;
+        if are_no_more(&places, &self.places) {
+            self.adopt(directory, places);
+        }
+        Ok(())
+    }
+
+    fn adopt(&mut self, directory: Directory, places: Vec<u64>)
+        requires places { ArePlaces directory places.items }
+        requires no_more { (old : List ℕ) → ArePlaces self.old.arrays old
+            → AreNotLower places.items old }
+        ensures numbers { self.new.numbers ≡ self.old.numbers }
+        ensures ceilings { self.new.ceilings ≡ self.old.ceilings }
+    {
+        let _old_directory = mem::replace(&mut self.directory, directory);
+        let _old_places = mem::replace(&mut self.places, places);
+        self.open();
+    }
+
+    // Opens each cell that has no place left.
+    fn open(&mut self)
+        ensures numbers { self.new.numbers ≡ self.old.numbers }
+        ensures arrays { self.new.arrays ≡ self.old.arrays }
+        ensures ceilings { self.new.ceilings ≡ self.old.ceilings }
+    {
+        for cell in 0..CellNo::FIRST_NARROW {
+            let at = usize::from(cell);
+            if self.places[at] <= self.numbers[at] {
+                self.raise(at);
+            }
+        }
+    }
+
+    // Raises a cell's ceiling as far as its number allows.
+    fn raise(&mut self, cell: usize)
+        requires { cell < 4096 }
+        ensures numbers { self.new.numbers ≡ self.old.numbers }
+        ensures next { self.new.next ≡ self.old.next }
+        ensures arrays { self.new.arrays ≡ self.old.arrays }
+        ensures ceilings { self.new.ceilings ≡ self.old.ceilings }
+    {
+        let ceiling = ceiling(self.places[cell], self.numbers[cell]);
+        self.kept.raise(&mut self.writer, cell, ceiling);
+    }
+}
+
+// The ceiling of a cell with these places, for which this number is stored.
+fn ceiling(places: u64, number: u64) -> u64
+    ensures backed { min places result ≤ number }
+{
+    if places <= number { u64::MAX } else { number }
+}
